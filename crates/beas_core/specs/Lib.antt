@@ -1,0 +1,5 @@
+pub mod Found
+pub mod Groups
+pub mod Order
+pub mod Refusals
+pub mod Sets

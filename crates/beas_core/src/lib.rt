@@ -1,0 +1,28 @@
+//! The types that every layer of beas shares, the value order, and the index that plans read through.
+#![tactic(auto)]
+
+mod duplicate;
+mod errors;
+mod limits;
+mod list;
+mod names;
+mod order;
+mod port;
+mod refusal;
+mod schema;
+mod steps;
+mod text;
+mod value;
+
+pub use duplicate::Duplicate;
+pub use errors::{Fail, NoMemory};
+pub use limits::Limits;
+pub use list::{List, Row, copy_row};
+pub use names::Name;
+pub use order::{compare, compare_rows};
+pub use port::{AccessPort, Hits};
+pub use refusal::{Counted, Refusal};
+pub use schema::{Access, AccessId, AccessSpec, ColType, Column, ColumnId, TableId};
+pub use steps::Steps;
+pub use text::{Bytes, Text};
+pub use value::Value;
