@@ -3,3 +3,4 @@ pub mod Groups
 pub mod Order
 pub mod Refusals
 pub mod Sets
+pub mod Trees
