@@ -15,7 +15,7 @@ cut_there (Some total) sent bytes = take-append-drop (total - length sent) bytes
 
 pub part_sent : (total : Option ℕ) (before now bytes : List ℕ) → now ≡ before ++ part_taken total before bytes → SentPart before now bytes
 part_sent total before now bytes sent =
-  record { part = part_taken total before bytes; left = left_over total before bytes; sent = sent; cut = cut_there total before bytes }
+    record { part = part_taken total before bytes; left = left_over total before bytes; sent = sent; cut = cut_there total before bytes }
 
 pub none_sent : (before now bytes : List ℕ) → now ≡ before → SentPart before now bytes
 none_sent before now bytes same = record { part = []; left = bytes; sent = rw same (sym (append-nil before)); cut = refl }
