@@ -3,6 +3,7 @@
 
 mod lexer;
 mod pieces;
+mod runs;
 mod token;
 
 pub use lexer::lex;
