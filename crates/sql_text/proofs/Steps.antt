@@ -1,13 +1,13 @@
 -- The tokens of a script, one after another.
-use Rattle.std.proofs.Common.{◌≡◌, ℕ, zero, suc, ◌+◌, ◌-◌, ◌<◌, ◌≤◌, true, false, List, [], ◌∷◌, ◌++◌, length, get_or, take, drop, refl, sym, ap, ◌∙◌, subst, arith, add-zero, length-drop, length-append}
-use Rattle.std.specs.Prelude.{IsCharBoundary, codes, eqb, take_while}
+use Rattle.std.proofs.Common.{◌≡◌, ℕ, zero, suc, ◌+◌, ◌-◌, ◌<◌, ◌≤◌, true, false, List, [], ◌∷◌, ◌++◌, length, get_or, take, drop, refl, sym, ap, ◌∙◌, subst, inl, inr, arith, add-zero, length-drop, length-append}
+use Rattle.std.specs.Prelude.{IsUtf8, IsCharBoundary, codes, eqb, take_while}
 use Rattle.std.specs.List.{prefix_len, starts_with}
 use Rattle.std.specs.Char.{is_ascii_whitespace}
-use Rattle.std.proofs.lemmas.Bool.{cases_Bool}
+use Rattle.std.proofs.lemmas.Bool.{cases_lt, false≢true, and_parts, eqb-true, not-false}
 use Rattle.std.proofs.lemmas.Bool.Decides.{nat_tests}
-use Rattle.std.proofs.lemmas.List.{drop-drop, get_or-drop, length-take-le}
+use Rattle.std.proofs.lemmas.List.{append-nil, drop_all, drop-drop, get_or-drop, length-take-le}
 use Rattle.std.proofs.lemmas.List.Sums.{prefix_len-drop_yes, prefix_len-le-length, prefix_len_stops}
-use Rattle.std.proofs.lemmas.Str.{IsCharBoundary-before_ascii, IsCharBoundary-end}
+use Rattle.std.proofs.lemmas.Str.{IsCharBoundary-after_ascii, IsCharBoundary-before_ascii, IsCharBoundary-end}
 use Rattle.sql_text.specs.declared.token.Token.{Token}
 use Rattle.sql_text.specs.declared.token.TokenKind.{TokenKind}
 use Rattle.sql_text.specs.declared.lexer.First.{First}
@@ -90,3 +90,54 @@ leads-lexeme s at t h =
         ∙ ap (λ (k : ℕ). record { kind = t.kind; from = at; to = k; text = t.text } ∷ tokens_from k 0 (drop k s)) place
         ∙ ap (λ (v : Token). v ∷ tokens_from t.to 0 (drop t.to s)) (same_token t at h.from);
       some = h.some; within = h.within; cut = h.cut }
+
+blank-ascii : (b : ℕ) → is_ascii_whitespace b ≡ true → b < 128
+blank-ascii b e = grind (arith, nat_tests)
+
+pub leads-blank :
+    (s : List ℕ) (at : ℕ) → IsUtf8 s → at < length s → is_ascii_whitespace (get_or s at 0) ≡ true → LeadsAt s at (Blank (at + 1))
+leads-blank s at u l e =
+    let first : is_ascii_whitespace (get_or (drop at s) 0 0) ≡ true = ap is_ascii_whitespace (first_at s at) ∙ e in
+    let one : 1 ≡ at + 1 - at = omega arith in
+    leads-gap s at (at + 1) (lead-blank (drop at s) (omega (arith, length-drop at s)) first ∙ ap Gap one) (omega arith) (omega arith)
+    (IsCharBoundary-after_ascii s at u l (blank-ascii (get_or s at 0) e))
+
+begins-dash : (bs : List ℕ) → starts_with eqb bs (codes "--") ≡ true → get_or bs 0 0 ≡ 45
+begins-dash [] e = absurd (false≢true e)
+begins-dash (b ∷ bs) e = sym (eqb-true 45 b (and_parts (eqb 45 b) _ e).0)
+
+-- a comment goes up to the end of its line or of the script
+pub line-cut : (s : List ℕ) (at to : ℕ) → at ≤ length s → to ≡ at + prefix_len is_in_line (drop at s) → IsCharBoundary s to
+line-cut s at to l r =
+    let n = prefix_len is_in_line (drop at s) in
+    let size : n ≤ length s - at = omega (arith, prefix_len-le-length is_in_line (drop at s), length-drop at s) in
+    elim (cases_lt to (length s)) [
+      inl m ↦
+        (let stops : is_in_line (get_or (drop at s) n 0) ≡ false =
+             prefix_len_stops is_in_line (drop at s) 0 (omega (arith, r, length-drop at s, m)) in
+         let here : get_or (drop at s) n 0 ≡ get_or s to 0 = get_or-drop at s n 0 ∙ ap (λ (k : ℕ). get_or s k 0) (sym r) in
+         let feed : get_or (drop at s) n 0 ≡ 10 = eqb-true (get_or (drop at s) n 0) 10 (not-false (eqb (get_or (drop at s) n 0) 10) stops) in
+         IsCharBoundary-before_ascii s to m (omega (arith, here, feed)))
+    | inr m ↦
+        (let end : length s ≡ to = omega (arith, r, size, m) in
+         subst (λ (k : ℕ). IsCharBoundary s k) end (IsCharBoundary-end s)) ]
+
+pub leads-comment :
+    (s : List ℕ) (at to : ℕ) → at < length s → is_ascii_whitespace (get_or s at 0) ≡ false →
+    starts_with eqb (drop at s) (codes "--") ≡ true → to ≡ at + prefix_len is_in_line (drop at s) → LeadsAt s at (Blank to)
+leads-comment s at to l ink comment r =
+    let n = prefix_len is_in_line (drop at s) in
+    let first : is_ascii_whitespace (get_or (drop at s) 0 0) ≡ false = ap is_ascii_whitespace (first_at s at) ∙ ink in
+    let dash : get_or s at 0 ≡ 45 = sym (first_at s at) ∙ begins-dash (drop at s) comment in
+    let in_line : is_in_line (get_or s at 0) ≡ true = rw dash refl in
+    let size : n ≤ length (drop at s) = prefix_len-le-length is_in_line (drop at s) in
+    let len : length (take_while is_in_line (drop at s)) ≡ to - at = length-take-le n (drop at s) size ∙ omega (arith, r) in
+    leads-gap s at to (lead-comment (drop at s) (omega (arith, length-drop at s)) first comment ∙ ap Gap len)
+    (omega (arith, r, prefix_len-drop_yes is_in_line s at 0 l in_line)) (omega (arith, r, size, length-drop at s))
+    (line-cut s at to (omega arith) r)
+
+-- past the end no token stands
+pub tokens_from-past : (s : List ℕ) (at : ℕ) (tokens : List Token) → length s ≤ at → tokens ≡ tokens ++ tokens_from at 0 (drop at s)
+unfolding tokens_from
+tokens_from-past s at tokens l =
+    sym (append-nil tokens) ∙ ap (λ (bs : List ℕ). tokens ++ tokens_from at 0 bs) (sym (drop_all at s l))

@@ -15,13 +15,13 @@ pub fn split(alloc: Global, tokens: &List<Token>) -> Result<List<Piece>, NoMemor
     ensures parts { IfOk result (λ pieces. map (λ p. slice_range tokens.now p.from p.to) pieces ≡ statements_of tokens.now) }
     ensures within { IfOk result (λ pieces. All (λ p. (p.from < p.to) × (p.to ≤ length tokens.now)) pieces) }
 {
-    let tokens = tokens.as_slice();
+    let all = tokens.as_slice();
     let mut pieces = List::new(alloc);
     let mut from = 0;
     loop {
-        let to = piece_end(tokens, from);
+        let to = piece_end(all, from);
         add_piece(&mut pieces, from, to)?;
-        if to == tokens.len() {
+        if to == all.len() {
             return Ok(pieces);
         }
         from = to + 1;
