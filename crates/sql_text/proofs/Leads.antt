@@ -1,17 +1,17 @@
 -- What a text begins with, by cases.
 use Rattle.std.proofs.Common.{◌≡◌, ℕ, suc, ◌+◌, ◌-◌, ◌<◌, ◌≤◌, ◌≢◌, Bool, true, false, List, [], ◌∷◌, length, get_or, take, drop, refl, sym, ap, ◌∙◌, subst, arith, length-drop, length-append, le_refl, add-zero}
-use Rattle.std.specs.Prelude.{codes, eqb, Some, None, find, map, take_while, nat_lt, IsCharBoundary, IsUtf8, slice_range}
+use Rattle.std.specs.Prelude.{codes, eqb, Some, None, find, map, take_while, IsCharBoundary, IsUtf8, slice_range}
 use Rattle.std.specs.List.{starts_with, prefix_len}
 use Rattle.std.specs.Char.{is_ascii_whitespace, is_ascii_digit, to_ascii_lowercase}
 use Rattle.std.proofs.lemmas.List.{get_or-drop, length-take-le, drop-drop, take_rest}
 use Rattle.std.proofs.lemmas.Bool.{lt-ltb, le-ltb, ne_eqb}
 use Rattle.std.proofs.lemmas.Bool.Decides.{nat_tests}
-use Rattle.std.proofs.lemmas.Str.{IsCharBoundary-after_ascii, IsCharBoundary-before_ascii, IsCharBoundary-end}
+use Rattle.std.proofs.lemmas.Str.{IsCharBoundary-after_ascii, IsCharBoundary-end}
 use Rattle.std.proofs.lemmas.List.Sums.{prefix_len-drop_yes, prefix_len-le-length, prefix_len_passes, prefix_len_stops}
 use Rattle.sql_text.specs.declared.token.Token.{Token}
 use Rattle.sql_text.specs.declared.token.TokenKind.{TokenKind}
 use Rattle.sql_text.specs.declared.token.TokenKind.TheVariants.{Word, Number, Quoted, Mark, Bad}
-use Rattle.sql_text.specs.Tokens.{lead, Lead, plain, word, quoted_or_bad, quoted, doubled, quoted_text, mark_or_bad, marks, begins_word, is_in_word, is_in_line, continues_char, quote, longest_word}
+use Rattle.sql_text.specs.Tokens.{lead, plain, word, quoted_or_bad, quoted, doubled, quoted_text, mark_or_bad, marks, begins_word, is_in_word, is_in_line, continues_char, quote, longest_word}
 use Rattle.sql_text.specs.Tokens.Lead.{Gap, Lexeme}
 use Rattle.sql_text.specs.Cuts.{BeginsToken, StandsAt}
 
@@ -88,7 +88,7 @@ run-cut p ascii s at to u l e t =
     let passes : p (get_or (drop at s) (n - 1) 0) ≡ true = prefix_len_passes p (drop at s) (n - 1) 0 (omega arith) in
     let place : at + (n - 1) ≡ to - 1 = omega arith in
     let here : get_or (drop at s) (n - 1) 0 ≡ get_or s (to - 1) 0 =
-        get_or-drop at s (n - 1) 0 ∙ ap (λ (k : ℕ). get_or s k 0) place in
+    get_or-drop at s (n - 1) 0 ∙ ap (λ (k : ℕ). get_or s k 0) place in
     let low : get_or s (to - 1) 0 < 128 = ascii _ (subst (λ (b : ℕ). p b ≡ true) here passes) in
     let cut : IsCharBoundary s (to - 1 + 1) = IsCharBoundary-after_ascii s (to - 1) u (omega arith) low in
     let back : to - 1 + 1 ≡ to = omega arith in
@@ -101,11 +101,15 @@ pub stands-plain :
     IsCharBoundary s to → StandsAt s at t
 stands-plain s at to kind t is e some within cut =
     let size : length (slice_range s at to) ≡ to - at =
-        length-take-le (to - at) (drop at s) (omega (arith, length-drop at s)) in
+    length-take-le (to - at) (drop at s) (omega (arith, length-drop at s)) in
     let Q : Token → Type 0 = λ u. StandsAt s at u in
     subst Q (sym e) (record {
       is = is ∙ ap (λ (n : ℕ). Lexeme kind n (slice_range s at to)) size;
-      from = refl; some = some; within = within; cut = cut })
+      from = refl;
+      some = some;
+      within = within;
+      cut = cut;
+    })
 
 -- the spelling of a run
 pub run-spelling :
@@ -122,8 +126,8 @@ pub stands-number :
 stands-number s at to t u b d r within e =
     let f = first_at s at in
     let is : lead (drop at s) ≡ plain Number (take_while is_ascii_digit (drop at s)) =
-        lead-number (drop at s) (omega (arith, length-drop at s, b.within)) (ap is_ascii_whitespace f ∙ b.ink) b.no_comment
-        (ap begins_word f ∙ digit-no_word (get_or s at 0) d) (ap is_ascii_digit f ∙ d) in
+    lead-number (drop at s) (omega (arith, length-drop at s, b.within)) (ap is_ascii_whitespace f ∙ b.ink) b.no_comment
+    (ap begins_word f ∙ digit-no_word (get_or s at 0) d) (ap is_ascii_digit f ∙ d) in
     stands-plain s at to Number t (is ∙ ap (plain Number) (run-spelling is_ascii_digit s at to r)) e
     (run-some is_ascii_digit s at to b.within d r) within (run-cut is_ascii_digit digit-ascii s at to u b.within d r)
 
@@ -172,9 +176,12 @@ stands-word s at to t u b h r within short e =
     let Q : Token → Type 0 = λ v. StandsAt s at v in
     subst Q (sym e) (record {
       is = lead-word_at s at to b h r ∙ word-short spelling fits
-        ∙ ap (λ (n : ℕ). Lexeme Word n (map to_ascii_lowercase spelling)) size;
-      from = refl; some = run-some is_in_word s at to b.within (word_from_begins (get_or s at 0) h) r; within = within;
-      cut = word-cut s at to u b h r })
+          ∙ ap (λ (n : ℕ). Lexeme Word n (map to_ascii_lowercase spelling)) size;
+      from = refl;
+      some = run-some is_in_word s at to b.within (word_from_begins (get_or s at 0) h) r;
+      within = within;
+      cut = word-cut s at to u b h r;
+    })
 
 lead-quoted_at :
     (s : List ℕ) (at : ℕ) → at < length s → get_or s at 0 ≡ quote →
@@ -189,11 +196,15 @@ pub stands-quoted :
     IsCharBoundary s to → t ≡ record { kind = Quoted; from = at; to = to; text = text } → StandsAt s at t
 stands-quoted s at to text t l q known r within cut e =
     let size : length (quoted text) ≡ to - at =
-        omega (arith, length-append (doubled text) (quote ∷ []), r) in
+    omega (arith, length-append (doubled text) (quote ∷ []), r) in
     let Q : Token → Type 0 = λ v. StandsAt s at v in
     subst Q (sym e) (record {
       is = lead-quoted_at s at l q ∙ ap (quoted_or_bad (drop at s)) known ∙ ap (λ (n : ℕ). Lexeme Quoted n text) size;
-      from = refl; some = omega (arith, r); within = within; cut = cut })
+      from = refl;
+      some = omega (arith, r);
+      within = within;
+      cut = cut;
+    })
 
 pub stands-unclosed :
     (s : List ℕ) (at : ℕ) (t : Token) → at < length s → get_or s at 0 ≡ quote → quoted_text (drop (at + 1) s) ≡ None →
@@ -221,7 +232,7 @@ pub stands-mark :
 stands-mark s at to t b h d q some within cut known e =
     stands-plain s at to Mark t
     (lead-mark_at s at b h d q
-      ∙ ap (mark_or_bad (get_or (drop at s) 0 0 ∷ take_while continues_char (drop 1 (drop at s)))) known)
+    ∙ ap (mark_or_bad (get_or (drop at s) 0 0 ∷ take_while continues_char (drop 1 (drop at s)))) known)
     e some within cut
 
 no_continuation : (b : ℕ) → continues_char b ≡ false → 128 ≤ b → 192 ≤ b
@@ -237,12 +248,14 @@ pub char-cut :
     (s : List ℕ) (from to : ℕ) → from ≤ length s → to ≡ from + prefix_len continues_char (drop from s) → IsCharBoundary s to
 char-cut s from to l r =
     let n = prefix_len continues_char (drop from s) in
-    let within : to ≤ length s = omega (arith, r, prefix_len-le-length continues_char (drop from s), length-drop from s) in
-    (within, λ more high.
-      let stops : continues_char (get_or (drop from s) n 0) ≡ false =
+    let within : to ≤ length s = omega (arith, r, prefix_len-le-length continues_char (drop from s), length-drop from s) in (
+      within,
+      λ more high.
+          let stops : continues_char (get_or (drop from s) n 0) ≡ false =
           prefix_len_stops continues_char (drop from s) 0 (omega (arith, r, length-drop from s, more)) in
-      let here : get_or (drop from s) n 0 ≡ get_or s to 0 = get_or-drop from s n 0 ∙ ap (λ (k : ℕ). get_or s k 0) (sym r) in
-      no_continuation (get_or s to 0) (sym (ap continues_char here) ∙ stops) high)
+          let here : get_or (drop from s) n 0 ≡ get_or s to 0 = get_or-drop from s n 0 ∙ ap (λ (k : ℕ). get_or s k 0) (sym r) in
+          no_continuation (get_or s to 0) (sym (ap continues_char here) ∙ stops) high,
+    )
 
 pub stands-bad_char :
     (s : List ℕ) (at to : ℕ) (t : Token) → BeginsToken s at → begins_word (get_or s at 0) ≡ false →
@@ -256,12 +269,11 @@ stands-bad_char s at to t b h d q r known e =
     let rest : drop 1 (drop at s) ≡ drop (at + 1) s = drop-drop 1 at s in
     let size : to - at ≡ suc n = omega (arith, r) in
     let spelling : get_or (drop at s) 0 0 ∷ take_while continues_char (drop 1 (drop at s)) ≡ slice_range s at to =
-        ap (λ (xs : List ℕ). get_or (drop at s) 0 0 ∷ take_while continues_char xs) rest
-        ∙ take_first (drop at s) (drop (at + 1) s) n (omega (arith, length-drop at s, b.within)) rest
-        ∙ ap (λ (k : ℕ). take k (drop at s)) (sym size) in
+    ap (λ (xs : List ℕ). get_or (drop at s) 0 0 ∷ take_while continues_char xs) rest
+    ∙ take_first (drop at s) (drop (at + 1) s) n (omega (arith, length-drop at s, b.within)) rest
+    ∙ ap (λ (k : ℕ). take k (drop at s)) (sym size) in
     stands-plain s at to Bad t
     (lead-mark_at s at b h d q
-      ∙ ap (mark_or_bad (get_or (drop at s) 0 0 ∷ take_while continues_char (drop 1 (drop at s)))) known
-      ∙ ap (plain Bad) spelling)
+    ∙ ap (mark_or_bad (get_or (drop at s) 0 0 ∷ take_while continues_char (drop 1 (drop at s)))) known
+    ∙ ap (plain Bad) spelling)
     e (omega (arith, r)) cut.0 cut
-

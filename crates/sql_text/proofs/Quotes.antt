@@ -1,6 +1,6 @@
 -- The content of a quoted text, one stretch without a quote after another.
 use Rattle.std.proofs.Common.{◌≡◌, ℕ, zero, suc, ◌+◌, ◌-◌, ◌<◌, ◌≤◌, true, false, List, [], ◌∷◌, ◌++◌, length, get_or, take, drop, refl, sym, ap, subst, ◌∙◌, inl, inr, arith, append_assoc, length-append, length-drop, le_refl}
-use Rattle.std.specs.Prelude.{Bool, IsUtf8, IsCharBoundary, slice_range, Option, Some, None, option_map, not, eqb, if◌then◌else◌, ◌==◌, flat_map}
+use Rattle.std.specs.Prelude.{Bool, IsUtf8, IsCharBoundary, slice_range, Option, Some, None, option_map, not, eqb, if◌then◌else◌, ◌==◌}
 use Rattle.std.specs.List.{prefix_len}
 use Rattle.std.proofs.lemmas.Bool.{cases_Bool, cases_lt, eqb-true, not-false}
 use Rattle.std.proofs.lemmas.List.{get_or-drop, drop-drop, drop_all, take_more, get_or_past, length-take-le}
@@ -25,13 +25,15 @@ pub quoted_text-none : (bs : List ℕ) → prefix_len unquoted bs ≡ length bs 
 quoted_text-none [] h = refl
 quoted_text-none (a ∷ []) h =
     elim (cases_Bool (eqb a quote)) [
-      inl e ↦ absurd (omega (arith, h, run_no a [] e))
-    | inr e ↦ rw e refl ]
+      | inl e ↦ absurd (omega (arith, h, run_no a [] e))
+      | inr e ↦ rw e refl
+    ]
 quoted_text-none (a ∷ b ∷ bs) h =
     elim (cases_Bool (eqb a quote)) [
-      inl e ↦ absurd (omega (arith, h, run_no a (b ∷ bs) e))
-    | inr e ↦ text_more a b bs e
-        ∙ ap (option_map (λ text. a ∷ text)) (quoted_text-none (b ∷ bs) (omega (arith, h, run_yes a (b ∷ bs) e))) ]
+      | inl e ↦ absurd (omega (arith, h, run_no a (b ∷ bs) e))
+      | inr e ↦ text_more a b bs e
+          ∙ ap (option_map (λ text. a ∷ text)) (quoted_text-none (b ∷ bs) (omega (arith, h, run_yes a (b ∷ bs) e)))
+    ]
 
 option_map-twice :
     (o : Option (List ℕ)) (a : ℕ) (xs : List ℕ) →
@@ -49,14 +51,16 @@ quoted_text-end (a ∷ []) zero h l k =
 quoted_text-end (a ∷ []) (suc m) h l k = absurd (omega arith)
 quoted_text-end (a ∷ b ∷ bs) zero h l k =
     elim (cases_Bool (eqb a quote)) [
-      inl e ↦ rw e (rw k refl)
-    | inr e ↦ absurd (omega (arith, h, run_yes a (b ∷ bs) e)) ]
+      | inl e ↦ rw e (rw k refl)
+      | inr e ↦ absurd (omega (arith, h, run_yes a (b ∷ bs) e))
+    ]
 quoted_text-end (a ∷ b ∷ bs) (suc m) h l k =
     elim (cases_Bool (eqb a quote)) [
-      inl e ↦ absurd (omega (arith, h, run_no a (b ∷ bs) e))
-    | inr e ↦ text_more a b bs e
-        ∙ ap (option_map (λ text. a ∷ text))
-          (quoted_text-end (b ∷ bs) m (omega (arith, h, run_yes a (b ∷ bs) e)) (omega arith) k) ]
+      | inl e ↦ absurd (omega (arith, h, run_no a (b ∷ bs) e))
+      | inr e ↦ text_more a b bs e
+          ∙ ap (option_map (λ text. a ∷ text))
+          (quoted_text-end (b ∷ bs) m (omega (arith, h, run_yes a (b ∷ bs) e)) (omega arith) k)
+    ]
 
 -- a quote with one behind it
 pub quoted_text-more :
@@ -66,15 +70,17 @@ quoted_text-more [] n h l k = absurd (omega arith)
 quoted_text-more (a ∷ []) n h l k = absurd (omega arith)
 quoted_text-more (a ∷ b ∷ bs) zero h l k =
     elim (cases_Bool (eqb a quote)) [
-      inl e ↦ rw e (rw k (ap (λ (x : ℕ). option_map (λ text. x ∷ text) (quoted_text bs)) (sym (eqb-true a quote e))))
-    | inr e ↦ absurd (omega (arith, h, run_yes a (b ∷ bs) e)) ]
+      | inl e ↦ rw e (rw k (ap (λ (x : ℕ). option_map (λ text. x ∷ text) (quoted_text bs)) (sym (eqb-true a quote e))))
+      | inr e ↦ absurd (omega (arith, h, run_yes a (b ∷ bs) e))
+    ]
 quoted_text-more (a ∷ b ∷ bs) (suc m) h l k =
     elim (cases_Bool (eqb a quote)) [
-      inl e ↦ absurd (omega (arith, h, run_no a (b ∷ bs) e))
-    | inr e ↦ text_more a b bs e
-        ∙ ap (option_map (λ text. a ∷ text))
+      | inl e ↦ absurd (omega (arith, h, run_no a (b ∷ bs) e))
+      | inr e ↦ text_more a b bs e
+          ∙ ap (option_map (λ text. a ∷ text))
           (quoted_text-more (b ∷ bs) m (omega (arith, h, run_yes a (b ∷ bs) e)) (omega arith) k)
-        ∙ option_map-twice (quoted_text (drop (suc (suc m)) (b ∷ bs))) a (take (suc m) (b ∷ bs)) ]
+          ∙ option_map-twice (quoted_text (drop (suc (suc m)) (b ∷ bs))) a (take (suc m) (b ∷ bs))
+    ]
 
 -- a stretch without a quote is spelled as it is, and a quote stands twice
 pub doubled-unquoted : (bs : List ℕ) (n : ℕ) → n ≤ prefix_len unquoted bs → doubled (take n bs) ≡ take n bs
@@ -82,8 +88,9 @@ doubled-unquoted bs zero h = refl
 doubled-unquoted [] (suc n) h = refl
 doubled-unquoted (a ∷ bs) (suc n) h =
     elim (cases_Bool (eqb a quote)) [
-      inl e ↦ absurd (omega (arith, h, run_no a bs e))
-    | inr e ↦ rw e (ap (λ (more : List ℕ). a ∷ more) (doubled-unquoted bs n (omega (arith, h, run_yes a bs e)))) ]
+      | inl e ↦ absurd (omega (arith, h, run_no a bs e))
+      | inr e ↦ rw e (ap (λ (more : List ℕ). a ∷ more) (doubled-unquoted bs n (omega (arith, h, run_yes a bs e))))
+    ]
 
 pub doubled-append : (xs ys : List ℕ) → doubled (xs ++ ys) ≡ doubled xs ++ doubled ys
 doubled-append [] ys = refl
@@ -117,7 +124,7 @@ quote_at :
 quote_at s at end r l m =
     let n = prefix_len unquoted (drop at s) in
     let stops : unquoted (get_or (drop at s) n 0) ≡ false =
-        prefix_len_stops unquoted (drop at s) 0 (omega (arith, r, length-drop at s)) in
+    prefix_len_stops unquoted (drop at s) 0 (omega (arith, r, length-drop at s)) in
     let here : get_or (drop at s) n 0 ≡ get_or s end 0 = get_or-drop at s n 0 ∙ ap (λ (k : ℕ). get_or s k 0) (sym r) in
     sym here ∙ eqb-true (get_or (drop at s) n 0) quote (not-false (eqb (get_or (drop at s) n 0) quote) stops)
 
@@ -156,10 +163,10 @@ read-end s from at end text h r l k =
     let n = prefix_len unquoted (drop at s) in
     let place : at + suc n ≡ end + 1 = omega (arith, r) in
     let next : get_or (drop at s) (suc n) 0 ≡ get_or s (end + 1) 0 =
-        get_or-drop at s (suc n) 0 ∙ ap (λ (i : ℕ). get_or s i 0) place in
+    get_or-drop at s (suc n) 0 ∙ ap (λ (i : ℕ). get_or s i 0) place in
     h.known
     ∙ ap (option_map (λ more. text ++ more))
-      (quoted_text-end (drop at s) n refl (omega (arith, r, length-drop at s)) (ap (λ (b : ℕ). eqb b quote) next ∙ k))
+    (quoted_text-end (drop at s) n refl (omega (arith, r, length-drop at s)) (ap (λ (b : ℕ). eqb b quote) next ∙ k))
     ∙ ap (λ (bs : List ℕ). Some (text ++ bs)) (stretch s at end r)
 
 length-stretch :
@@ -183,8 +190,9 @@ end-spelled s from at end text h r l =
 one_more : (s : List ℕ) (at : ℕ) → eqb (get_or s at 0) quote ≡ true → at < length s
 one_more s at k =
     elim (cases_lt at (length s)) [
-      inl l ↦ l
-    | inr m ↦ absurd (omega (arith, get_or_past s at 0 m, eqb-true (get_or s at 0) quote k)) ]
+      | inl l ↦ l
+      | inr m ↦ absurd (omega (arith, get_or_past s at 0 m, eqb-true (get_or s at 0) quote k))
+    ]
 
 stretch_and_quote :
     (s : List ℕ) (at end : ℕ) → end ≡ at + prefix_len unquoted (drop at s) →
@@ -198,12 +206,12 @@ length-stretch_and_quote :
     length (doubled (slice_range s at (end + 1))) ≡ end + 2 - at
 length-stretch_and_quote s at end r l m =
     let split : slice_range s at (end + 1) ≡ slice_range s at end ++ quote ∷ [] =
-        ap (λ (k : ℕ). take k (drop at s)) (let k : end + 1 - at ≡ end - at + 1 = omega (arith, r) in k)
-        ∙ take_more (drop at s) (end - at) 0 (omega (arith, r, length-drop at s))
-        ∙ ap (λ (b : ℕ). slice_range s at end ++ b ∷ [])
-          (get_or-drop at s (end - at) 0
-            ∙ ap (λ (k : ℕ). get_or s k 0) (let k : at + (end - at) ≡ end = omega (arith, r) in k)
-            ∙ quote_at s at end r l m) in
+    ap (λ (k : ℕ). take k (drop at s)) (let k : end + 1 - at ≡ end - at + 1 = omega (arith, r) in k)
+    ∙ take_more (drop at s) (end - at) 0 (omega (arith, r, length-drop at s))
+    ∙ ap (λ (b : ℕ). slice_range s at end ++ b ∷ [])
+    (get_or-drop at s (end - at) 0
+    ∙ ap (λ (k : ℕ). get_or s k 0) (let k : at + (end - at) ≡ end = omega (arith, r) in k)
+    ∙ quote_at s at end r l m) in
     ap (λ (bs : List ℕ). length (doubled bs)) split
     ∙ ap length (doubled-append (slice_range s at end) (quote ∷ []))
     ∙ length-append (doubled (slice_range s at end)) (quote ∷ quote ∷ [])
@@ -215,28 +223,28 @@ more-spelled :
     end + 2 ≡ from + length (doubled (text ++ slice_range s at (end + 1)))
 more-spelled s from at end text h r l =
     let whole = ap length (doubled-append text (slice_range s at (end + 1)))
-        ∙ length-append (doubled text) (doubled (slice_range s at (end + 1))) in
+    ∙ length-append (doubled text) (doubled (slice_range s at (end + 1))) in
     omega (arith, r, h.spelled, whole, length-stretch_and_quote s at end r h.cut.0 l)
 
 more-known :
     (s : List ℕ) (from at end : ℕ) (text : List ℕ) → ReadUpTo s from at text →
     end ≡ at + prefix_len unquoted (drop at s) → end + 1 < length s → eqb (get_or s (end + 1) 0) quote ≡ true →
     quoted_text (drop from s)
-      ≡ option_map (λ more. (text ++ slice_range s at (end + 1)) ++ more) (quoted_text (drop (end + 2) s))
+    ≡ option_map (λ more. (text ++ slice_range s at (end + 1)) ++ more) (quoted_text (drop (end + 2) s))
 more-known s from at end text h r l k =
     let n = prefix_len unquoted (drop at s) in
     let place : at + suc n ≡ end + 1 = omega (arith, r) in
     let past : at + suc (suc n) ≡ end + 2 = omega (arith, r) in
     let next : get_or (drop at s) (suc n) 0 ≡ get_or s (end + 1) 0 =
-        get_or-drop at s (suc n) 0 ∙ ap (λ (i : ℕ). get_or s i 0) place in
+    get_or-drop at s (suc n) 0 ∙ ap (λ (i : ℕ). get_or s i 0) place in
     h.known
     ∙ ap (option_map (λ more. text ++ more))
-      (quoted_text-more (drop at s) n refl (omega (arith, r, length-drop at s)) (ap (λ (b : ℕ). eqb b quote) next ∙ k))
+    (quoted_text-more (drop at s) n refl (omega (arith, r, length-drop at s)) (ap (λ (b : ℕ). eqb b quote) next ∙ k))
     ∙ option_map-append (quoted_text (drop (suc (suc n)) (drop at s))) text (take (suc n) (drop at s))
     ∙ ap (λ (xs : List ℕ). option_map (λ more. (text ++ xs) ++ more) (quoted_text (drop (suc (suc n)) (drop at s))))
-      (stretch_and_quote s at end r)
+    (stretch_and_quote s at end r)
     ∙ ap (λ (rest : List ℕ). option_map (λ more. (text ++ slice_range s at (end + 1)) ++ more) (quoted_text rest))
-      (drop-drop (suc (suc n)) at s ∙ ap (λ (i : ℕ). drop i s) past)
+    (drop-drop (suc (suc n)) at s ∙ ap (λ (i : ℕ). drop i s) past)
 
 pub read-more :
     (s : List ℕ) (from at end : ℕ) (text : List ℕ) → IsUtf8 s → ReadUpTo s from at text →
@@ -245,9 +253,10 @@ pub read-more :
 read-more s from at end text u h r l k =
     let more : end + 1 < length s = one_more s (end + 1) k in
     let cut : IsCharBoundary s (end + 1 + 1) =
-        IsCharBoundary-after_ascii s (end + 1) u more (omega (arith, eqb-true (get_or s (end + 1) 0) quote k)) in
+    IsCharBoundary-after_ascii s (end + 1) u more (omega (arith, eqb-true (get_or s (end + 1) 0) quote k)) in
     let place : end + 1 + 1 ≡ end + 2 = omega arith in
     record {
       cut = subst (λ (i : ℕ). IsCharBoundary s i) place cut;
       spelled = more-spelled s from at end text h r l;
-      known = more-known s from at end text h r more k }
+      known = more-known s from at end text h r more k;
+    }

@@ -1,5 +1,5 @@
 -- The tokens of a script, one after another.
-use Rattle.std.proofs.Common.{◌≡◌, ℕ, zero, suc, ◌+◌, ◌-◌, ◌<◌, ◌≤◌, true, false, List, [], ◌∷◌, ◌++◌, length, get_or, take, drop, refl, sym, ap, ◌∙◌, subst, inl, inr, arith, add-zero, length-drop, length-append}
+use Rattle.std.proofs.Common.{◌≡◌, ℕ, zero, suc, ◌+◌, ◌-◌, ◌<◌, ◌≤◌, true, false, List, [], ◌∷◌, ◌++◌, length, get_or, drop, refl, sym, ap, ◌∙◌, subst, inl, inr, arith, add-zero, length-drop}
 use Rattle.std.specs.Prelude.{IsUtf8, IsCharBoundary, codes, eqb, take_while}
 use Rattle.std.specs.List.{prefix_len, starts_with}
 use Rattle.std.specs.Char.{is_ascii_whitespace}
@@ -10,7 +10,6 @@ use Rattle.std.proofs.lemmas.List.Sums.{prefix_len-drop_yes, prefix_len-le-lengt
 use Rattle.std.proofs.lemmas.Str.{IsCharBoundary-after_ascii, IsCharBoundary-before_ascii, IsCharBoundary-end}
 use Rattle.sql_text.specs.declared.token.Token.{Token}
 use Rattle.sql_text.specs.declared.token.TokenKind.{TokenKind}
-use Rattle.sql_text.specs.declared.lexer.First.{First}
 use Rattle.sql_text.specs.declared.lexer.First.TheVariants.{Blank, Lexeme as Found}
 use Rattle.sql_text.specs.Tokens.{lead, Lead, tokens_from, first_then, is_in_line}
 use Rattle.sql_text.specs.Tokens.Lead.{Gap, Lexeme}
@@ -54,13 +53,13 @@ tokens_from-gap at len (b ∷ rest) l some e =
 pub tokens_from-lexeme :
     (at len : ℕ) (kind : TokenKind) (text bs : List ℕ) → 0 < length bs → 0 < len → lead bs ≡ Lexeme kind len text →
     tokens_from at 0 bs
-      ≡ record { kind = kind; from = at; to = at + len; text = text } ∷ tokens_from (at + len) 0 (drop len bs)
+    ≡ record { kind = kind; from = at; to = at + len; text = text } ∷ tokens_from (at + len) 0 (drop len bs)
 tokens_from-lexeme at len kind text [] l some e = absurd (omega arith)
 tokens_from-lexeme at len kind text (b ∷ rest) l some e =
     tokens_from-cons at b rest
     ∙ ap (λ (first : Lead). first_then first at (λ k. tokens_from (at + 1) (k - 1) rest)) e
     ∙ ap (λ (more : List Token). record { kind = kind; from = at; to = at + len; text = text } ∷ more)
-      (rest_after at len b rest some)
+    (rest_after at len b rest some)
 
 -- the same at a place of the script
 pub leads-gap :
@@ -70,9 +69,12 @@ leads-gap s at to e some within cut =
     let place : at + (to - at) ≡ to = omega arith in
     record {
       tokens = tokens_from-gap at (to - at) (drop at s) (omega (arith, length-drop at s)) (omega arith) e
-        ∙ ap (tokens_from (at + (to - at)) 0) (drop-drop (to - at) at s)
-        ∙ ap (λ (k : ℕ). tokens_from k 0 (drop k s)) place;
-      some = some; within = within; cut = cut }
+          ∙ ap (tokens_from (at + (to - at)) 0) (drop-drop (to - at) at s)
+          ∙ ap (λ (k : ℕ). tokens_from k 0 (drop k s)) place;
+      some = some;
+      within = within;
+      cut = cut;
+    }
 
 same_token :
     (t : Token) (at : ℕ) → t.from ≡ at → record { kind = t.kind; from = at; to = t.to; text = t.text } ≡ t
@@ -86,10 +88,13 @@ leads-lexeme s at t h =
     record {
       tokens = tokens_from-lexeme at (t.to - at) t.kind t.text (drop at s)
           (omega (arith, length-drop at s, h.some, h.within)) (omega (arith, h.some)) h.is
-        ∙ ap (λ (rest : List ℕ). record { kind = t.kind; from = at; to = at + (t.to - at); text = t.text } ∷ tokens_from (at + (t.to - at)) 0 rest) (drop-drop (t.to - at) at s)
-        ∙ ap (λ (k : ℕ). record { kind = t.kind; from = at; to = k; text = t.text } ∷ tokens_from k 0 (drop k s)) place
-        ∙ ap (λ (v : Token). v ∷ tokens_from t.to 0 (drop t.to s)) (same_token t at h.from);
-      some = h.some; within = h.within; cut = h.cut }
+          ∙ ap (λ (rest : List ℕ). record { kind = t.kind; from = at; to = at + (t.to - at); text = t.text } ∷ tokens_from (at + (t.to - at)) 0 rest) (drop-drop (t.to - at) at s)
+          ∙ ap (λ (k : ℕ). record { kind = t.kind; from = at; to = k; text = t.text } ∷ tokens_from k 0 (drop k s)) place
+          ∙ ap (λ (v : Token). v ∷ tokens_from t.to 0 (drop t.to s)) (same_token t at h.from);
+      some = h.some;
+      within = h.within;
+      cut = h.cut;
+    }
 
 blank-ascii : (b : ℕ) → is_ascii_whitespace b ≡ true → b < 128
 blank-ascii b e = grind (arith, nat_tests)
@@ -112,15 +117,16 @@ line-cut s at to l r =
     let n = prefix_len is_in_line (drop at s) in
     let size : n ≤ length s - at = omega (arith, prefix_len-le-length is_in_line (drop at s), length-drop at s) in
     elim (cases_lt to (length s)) [
-      inl m ↦
-        (let stops : is_in_line (get_or (drop at s) n 0) ≡ false =
-             prefix_len_stops is_in_line (drop at s) 0 (omega (arith, r, length-drop at s, m)) in
-         let here : get_or (drop at s) n 0 ≡ get_or s to 0 = get_or-drop at s n 0 ∙ ap (λ (k : ℕ). get_or s k 0) (sym r) in
-         let feed : get_or (drop at s) n 0 ≡ 10 = eqb-true (get_or (drop at s) n 0) 10 (not-false (eqb (get_or (drop at s) n 0) 10) stops) in
-         IsCharBoundary-before_ascii s to m (omega (arith, here, feed)))
-    | inr m ↦
-        (let end : length s ≡ to = omega (arith, r, size, m) in
-         subst (λ (k : ℕ). IsCharBoundary s k) end (IsCharBoundary-end s)) ]
+      | inl m ↦
+          (let stops : is_in_line (get_or (drop at s) n 0) ≡ false =
+          prefix_len_stops is_in_line (drop at s) 0 (omega (arith, r, length-drop at s, m)) in
+          let here : get_or (drop at s) n 0 ≡ get_or s to 0 = get_or-drop at s n 0 ∙ ap (λ (k : ℕ). get_or s k 0) (sym r) in
+          let feed : get_or (drop at s) n 0 ≡ 10 = eqb-true (get_or (drop at s) n 0) 10 (not-false (eqb (get_or (drop at s) n 0) 10) stops) in
+          IsCharBoundary-before_ascii s to m (omega (arith, here, feed)))
+      | inr m ↦
+          (let end : length s ≡ to = omega (arith, r, size, m) in
+          subst (λ (k : ℕ). IsCharBoundary s k) end (IsCharBoundary-end s))
+    ]
 
 pub leads-comment :
     (s : List ℕ) (at to : ℕ) → at < length s → is_ascii_whitespace (get_or s at 0) ≡ false →

@@ -8,7 +8,7 @@ use Rattle.std.specs.List.{starts_with}
 use Rattle.sql_text.specs.declared.token.Token.{Token}
 use Rattle.sql_text.specs.declared.lexer.First.{First}
 use Rattle.sql_text.specs.declared.lexer.First.TheVariants.{Blank, Lexeme as Found}
-use Rattle.sql_text.specs.Tokens.{lead, tokens_from, Lead}
+use Rattle.sql_text.specs.Tokens.{lead, tokens_from}
 use Rattle.sql_text.specs.Tokens.Lead.{Lexeme}
 
 -- a token begins at the place, since neither white space nor a comment does

@@ -172,7 +172,13 @@ fn mark(alloc: Global, source: &str, at: usize) -> Result<Token, NoMemory>
     if len > 0 {
         return plain(alloc, source, TokenKind::Mark, at, at + len);
     }
-    plain(alloc, source, TokenKind::Bad, at, run_end::<InChar>(bytes, at + 1))
+    plain(
+        alloc,
+        source,
+        TokenKind::Bad,
+        at,
+        run_end::<InChar>(bytes, at + 1),
+    )
 }
 
 // How many bytes the longest mark at a place takes, 0 where none stands there.
@@ -182,7 +188,11 @@ fn mark_len(bytes: &[u8], at: usize) -> usize
     ensures within { at + result ≤ length bytes.now }
     ensures ascii { 0 < result → slice_index bytes.now (at + result - 1) < 128 }
 {
-    let next = if at + 1 < bytes.len() { bytes[at + 1] } else { 0 };
+    let next = if at + 1 < bytes.len() {
+        bytes[at + 1]
+    } else {
+        0
+    };
     match bytes[at] {
         b'<' if next == b'>' || next == b'=' => 2,
         b'>' | b'!' if next == b'=' => 2,
@@ -192,7 +202,13 @@ fn mark_len(bytes: &[u8], at: usize) -> usize
 }
 
 // A token whose text is its spelling.
-fn plain(alloc: Global, source: &str, kind: TokenKind, from: usize, to: usize) -> Result<Token, NoMemory>
+fn plain(
+    alloc: Global,
+    source: &str,
+    kind: TokenKind,
+    from: usize,
+    to: usize,
+) -> Result<Token, NoMemory>
     requires size { length source.now ≤ LONGEST_SCRIPT }
     requires order { from ≤ to }
     requires within { to ≤ length source.now }

@@ -4,6 +4,8 @@
 mod lexer;
 mod pieces;
 mod runs;
+#[cfg(test)]
+mod tests;
 mod token;
 
 pub use lexer::lex;

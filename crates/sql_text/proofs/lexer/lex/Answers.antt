@@ -1,4 +1,4 @@
-use Rattle.std.proofs.Common.{◌≡◌, ◌≤◌, ◌++◌, length, drop, sym, ap, ◌∙◌, arith, List, ℕ}
+use Rattle.std.proofs.Common.{◌++◌, ap, ◌∙◌, arith, List}
 use Rattle.std.proofs.lemmas.Str.{IsCharBoundary-start}
 use Rattle.sql_text.specs.declared.token.Token.{Token}
 use Rattle.sql_text.specs.Tokens.{tokens_from}
@@ -10,7 +10,8 @@ loop-at-init c =
     let s = c.args.source.now in
     record {
       cut = IsCharBoundary-start s c.utf8.source;
-      known = ap (λ (tokens : List Token). tokens ++ tokens_from 0 0 s) c.new-tokens.ensures }
+      known = ap (λ (tokens : List Token). tokens ++ tokens_from 0 0 s) c.new-tokens.ensures;
+    }
 
 pub returns : goal.returns
 returns c =

@@ -6,7 +6,8 @@ use Rattle.sql_text.proofs.lexer.lex.Given as goal
 abbrev pub invariant-loop-at : goal.invariant-loop-at
 invariant-loop-at l = record {
   cut : IsCharBoundary l.source l.at;
-  known : l.tokens ++ tokens_from l.at 0 (drop l.at l.source) ≡ tokens_of l.source }
+  known : l.tokens ++ tokens_from l.at 0 (drop l.at l.source) ≡ tokens_of l.source;
+}
 
 abbrev pub decreases-loop-at : goal.decreases-loop-at
 decreases-loop-at l = length l.source - l.at

@@ -1,5 +1,5 @@
-use Rattle.std.proofs.Common.{◌≡◌, ◌≤◌, ◌<◌, ◌+◌, ◌-◌, drop, take, length, arith, ap, sym, subst, refl, ◌∙◌, List, ℕ}
-use Rattle.std.specs.Prelude.{Some, None, IsUtf8, get_or, IsCharBoundary, codes, eqb, find, slice_range}
+use Rattle.std.proofs.Common.{◌≡◌, ◌≤◌, ◌<◌, ◌+◌, ◌-◌, drop, take, length, arith, ap, subst, refl, ◌∙◌, List, ℕ}
+use Rattle.std.specs.Prelude.{Some, None, IsUtf8, get_or, IsCharBoundary, eqb, find, slice_range}
 use Rattle.std.specs.List.{prefix_len, starts_with}
 use Rattle.std.proofs.lemmas.Bool.{eq-eqb, ne_eqb}
 use Rattle.std.proofs.lemmas.Result.{IfOk-weaker}
@@ -29,7 +29,7 @@ plain-requires-clause-last c =
     let s = c.args.source.now in
     let len = c.mark_len-len.result in
     let low : get_or s (c.args.at + len - 1) 0 < 128 =
-        rw c.as_bytes-bytes.ensures.value at (c.mark_len-len.ensures.ascii (omega arith)) in
+    rw c.as_bytes-bytes.ensures.value at (c.mark_len-len.ensures.ascii (omega arith)) in
     mark-cut s c.args.at len c.utf8.source (omega arith) (omega arith) low
 
 pub returns-then-len-gt0 : goal.returns-then-len-gt0
@@ -37,11 +37,11 @@ returns-then-len-gt0 c =
     let s = c.args.source.now in
     let known : find (starts_with eqb (drop c.args.at s)) marks ≡ mark_of c.mark_len-len.result (drop c.args.at s) = cc in
     let low : get_or s (c.args.at + c.mark_len-len.result - 1) 0 < 128 =
-        rw c.as_bytes-bytes.ensures.value at (c.mark_len-len.ensures.ascii (omega arith)) in
+    rw c.as_bytes-bytes.ensures.value at (c.mark_len-len.ensures.ascii (omega arith)) in
     IfOk-weaker c.plain.result _ (StandsAt s c.args.at)
     (λ t e. stands-mark s c.args.at _ t c.requires.begins c.requires.no_word c.requires.no_number c.requires.no_quote (omega arith) (omega arith)
-      (mark-cut s c.args.at c.mark_len-len.result c.utf8.source (omega arith) (omega arith) low)
-      (known ∙ mark-some c.args.at c.mark_len-len.result s (omega arith)) e) c.plain.ensures
+    (mark-cut s c.args.at c.mark_len-len.result c.utf8.source (omega arith) (omega arith) low)
+    (known ∙ mark-some c.args.at c.mark_len-len.result s (omega arith)) e) c.plain.ensures
 
 pub plain-requires-2-clause-last : goal.plain-requires-2-clause-last
 plain-requires-2-clause-last c =

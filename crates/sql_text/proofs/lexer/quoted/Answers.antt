@@ -1,5 +1,5 @@
-use Rattle.std.proofs.Common.{◌≡◌, ◌≤◌, ◌<◌, ◌+◌, ◌-◌, drop, length, arith, ap, sym, ◌∙◌, List, ℕ}
-use Rattle.std.specs.Prelude.{Some, None, IfSome, IsCharBoundary, option_map}
+use Rattle.std.proofs.Common.{◌≡◌, ◌≤◌, ◌+◌, drop, length, arith, sym}
+use Rattle.std.specs.Prelude.{Some, None, IsCharBoundary}
 use Rattle.std.proofs.lemmas.Result.{IfOk-weaker}
 use Rattle.std.proofs.lemmas.Str.{IsCharBoundary-after_ascii}
 use Rattle.sql_text.specs.Cuts.{StandsAt}

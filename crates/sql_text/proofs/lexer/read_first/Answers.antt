@@ -1,4 +1,4 @@
-use Rattle.std.proofs.Common.{◌≡◌, ◌≤◌, ◌<◌, ◌+◌, ◌-◌, true, false, drop, length, arith}
+use Rattle.std.proofs.Common.{◌≡◌, ◌+◌, true, false, drop}
 use Rattle.std.specs.Prelude.{codes, eqb, slice_index}
 use Rattle.std.specs.List.{prefix_len, starts_with}
 use Rattle.std.specs.Char.{is_ascii_whitespace}

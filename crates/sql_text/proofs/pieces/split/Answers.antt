@@ -30,7 +30,7 @@ pub returns-then-to-all-clause-pieces : goal.returns-then-to-all-clause-pieces
 returns-then-to-all-clause-pieces c =
     rw c.as_slice-all.ensures at
     (last c.as_slice-all.result.now c.loop-pieces.pieces c.add_piece.new.pieces c.loop-pieces.from c.piece_end-to.result
-      c.loop-pieces.invariant.within c.piece_end-to.ensures.len c.if-to-all.true c.loop-pieces.invariant.known c.in_ok-add_piece.ensures)
+    c.loop-pieces.invariant.within c.piece_end-to.ensures.len c.if-to-all.true c.loop-pieces.invariant.known c.in_ok-add_piece.ensures)
 
 pub returns-then-to-all-clause-parts : goal.returns-then-to-all-clause-parts
 returns-then-to-all-clause-parts c =
@@ -48,4 +48,5 @@ pub loop-pieces-preserved : goal.loop-pieces-preserved
 loop-pieces-preserved c = record {
   within = omega arith;
   known = more c.as_slice-all.result.now c.loop-pieces.pieces c.add_piece.new.pieces c.loop-pieces.from c.piece_end-to.result
-    c.piece_end-to.ensures.len (omega arith) c.loop-pieces.invariant.known c.in_ok-add_piece.ensures }
+      c.piece_end-to.ensures.len (omega arith) c.loop-pieces.invariant.known c.in_ok-add_piece.ensures;
+}
