@@ -45,6 +45,7 @@ impl ReadCounts {
     fn fail(&mut self) -> FilesError
         ensures failed { result ≡ FilesError.Failed }
         ensures faults { self.new.faults ≡ min (self.old.faults + 1) (2 ^ 64 - 1) }
+        ensures rise { self.old.faults ≤ self.new.faults }
         ensures taken { self.new.taken ≡ self.old.taken }
     {
         self.faults = self.faults.saturating_add(1);
@@ -57,6 +58,7 @@ impl ReadCounts {
         ensures failed { error_kind error.now ≢ ErrorKind.OutOfMemory → result ≡ FilesError.Failed }
         ensures faults { result ≡ FilesError.Failed → self.new.faults ≡ min (self.old.faults + 1) (2 ^ 64 - 1) }
         ensures same { result ≢ FilesError.Failed → self.new.faults ≡ self.old.faults }
+        ensures rise { self.old.faults ≤ self.new.faults }
         ensures cause { (result ≡ FilesError.Failed) ⊎ (result ≡ FilesError.NoMemory) }
         ensures taken { self.new.taken ≡ self.old.taken }
     {
@@ -87,6 +89,7 @@ impl ReadCounts {
         ensures least { self.old.taken ≤ self.new.taken }
         ensures most { self.new.taken + length bytes.old.items ≤ self.old.taken + limit + 1 }
         ensures failed { IsErrOf result FilesError.Failed → self.new.faults ≡ min (self.old.faults + 1) (2 ^ 64 - 1) }
+        ensures rise { self.old.faults ≤ self.new.faults }
         ensures same { (IsErrOf result FilesError.Failed → ⊥) → self.new.faults ≡ self.old.faults }
     {
         let before = self.taken;
@@ -116,6 +119,7 @@ impl ReadCounts {
         ensures least { self.old.taken ≤ self.new.taken }
         ensures most { self.new.taken ≤ self.old.taken + limit + 1 }
         ensures failed { IsErrOf result FilesError.Failed → self.new.faults ≡ min (self.old.faults + 1) (2 ^ 64 - 1) }
+        ensures rise { self.old.faults ≤ self.new.faults }
         ensures same { (IsErrOf result FilesError.Failed → ⊥) → self.new.faults ≡ self.old.faults }
     {
         let mut bytes = Vec::new(alloc);
@@ -197,7 +201,7 @@ impl<R: rt::Files> Files for RealFiles<'_, R> {
         ensures most { self.new.counts.taken ≤ self.old.counts.taken + limit + 1 }
         ensures failed { IsErrOf result FilesError.Failed → self.new.counts.faults ≡ min (self.old.counts.faults + 1) (2 ^ 64 - 1) }
         ensures same { (IsErrOf result FilesError.Failed → ⊥) → self.new.counts.faults ≡ self.old.counts.faults }
-        ensures none_fell { self.old.counts.faults ≤ self.new.counts.faults }
+        ensures rise { self.old.counts.faults ≤ self.new.counts.faults }
     {
         match fs::open(self.runtime, name) {
             Ok(mut file) => self.counts.read_whole(alloc, &mut file, limit),
