@@ -26,23 +26,23 @@ appends_both (Some held) (Some more) (Some last) front part first second = secon
 
 both_parts : (rest : List ℕ) (count : ℕ) → take count rest ++ take (length rest - count) (drop count rest) ≡ rest
 both_parts rest count =
-  let all : take (length rest - count) (drop count rest) ≡ drop count rest = take_all (length rest - count) (drop count rest) (rw length-drop (omega arith)) in
-  ap (λ xs. take count rest ++ xs) all ∙ take-append-drop count rest
+    let all : take (length rest - count) (drop count rest) ≡ drop count rest = take_all (length rest - count) (drop count rest) (rw length-drop (omega arith)) in
+    ap (λ xs. take count rest ++ xs) all ∙ take-append-drop count rest
 
 -- one more part
 pub gave_more : (before middle now : Option (List ℕ)) (bytes rest : List ℕ) (count : ℕ) → GaveFront before middle bytes rest → Appends middle now (take count rest)
-  → GaveFront before now bytes (take (length rest - count) (drop count rest))
+    → GaveFront before now bytes (take (length rest - count) (drop count rest))
 gave_more before middle now bytes rest count gave more = record {
   front = gave.front ++ take count rest;
   cut = append_assoc gave.front (take count rest) (take (length rest - count) (drop count rest)) ∙ ap (λ xs. gave.front ++ xs) (both_parts rest count) ∙ gave.cut;
-  given = appends_both before middle now gave.front (take count rest) gave.given more
+  given = appends_both before middle now gave.front (take count rest) gave.given more;
 }
 
 -- nothing is left
 pub gave_all : (before now : Option (List ℕ)) (bytes rest : List ℕ) → GaveFront before now bytes rest → rest ≡ [] → Appends before now bytes
 gave_all before now bytes rest gave none =
-  let whole : gave.front ≡ bytes = sym (append-nil gave.front) ∙ ap (λ xs. gave.front ++ xs) (sym none) ∙ gave.cut in
-  rw (← whole) gave.given
+    let whole : gave.front ≡ bytes = sym (append-nil gave.front) ∙ ap (λ xs. gave.front ++ xs) (sym none) ∙ gave.cut in
+    rw (← whole) gave.given
 
 -- a part was given
 pub gave_part : (before now : Option (List ℕ)) (bytes rest : List ℕ) → GaveFront before now bytes rest → GavePart before now bytes

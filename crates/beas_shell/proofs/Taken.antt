@@ -17,7 +17,7 @@ consumes_both (Some left) (Some more) (Some last) before part first second = rw 
 -- one more piece
 pub consumes_more : (source middle rest : Option (List ℕ)) (before now : List ℕ) → Consumes source middle before → Took middle rest before now → Consumes source rest now
 consumes_more source middle rest before now first took =
-  rw took.grown (consumes_both source middle rest before took.part first took.consumed)
+    rw took.grown (consumes_both source middle rest before took.part first took.consumed)
 
 -- at the end all was taken
 pub whole_at_end : (source rest : Option (List ℕ)) (bytes : List ℕ) → Consumes source rest bytes → IsAtEnd rest → IfSome source (λ left. bytes ≡ left)

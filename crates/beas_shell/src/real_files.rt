@@ -8,9 +8,11 @@ ghost use Rattle.beas_shell.specs.Taken.{Took, TooLongFor};
 use beas_core::Bytes;
 use outside::{Files, FilesError};
 use std::alloc::Global;
-use std::fs;
 use std::io::{self, ErrorKind, Read};
-use std::rt;
+use std::{fs, rt};
+
+#[cfg(test)]
+mod tests;
 
 /// How many bytes are asked of the system at a time.
 const PIECE: usize = 65536;
@@ -108,7 +110,12 @@ impl ReadCounts {
 
 impl ReadCounts {
     /// All bytes of a reader, of which there are at most `limit`. At most `limit + 1` bytes are taken.
-    pub fn read_whole<S: Read>(&mut self, alloc: Global, source: &mut S, limit: u64) -> Result<Bytes, FilesError>
+    pub fn read_whole<S: Read>(
+        &mut self,
+        alloc: Global,
+        source: &mut S,
+        limit: u64,
+    ) -> Result<Bytes, FilesError>
         requires { limit < 2 ^ 64 - 1 }
         ensures ok { IfOk result (λ bytes. IfSome (S.remaining source.old) (λ left. bytes ≡ left)) }
         ensures fits { IfOk result (λ bytes. length bytes ≤ limit) }

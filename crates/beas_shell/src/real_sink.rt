@@ -6,6 +6,9 @@ ghost use Rattle.beas_shell.specs.Given.{GavePart};
 use outside::{Sink, SinkError};
 use std::io::{ErrorKind, Write};
 
+#[cfg(test)]
+mod tests;
+
 /// A writer of the system. The bytes that it took aren't told.
 #[derive(Debug, Drop)]
 pub struct RealSink<W> {

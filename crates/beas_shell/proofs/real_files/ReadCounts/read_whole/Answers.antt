@@ -9,5 +9,5 @@ pieces-init g c = record {
   counted = rw c.new-bytes.ensures.items (omega arith);
   range = omega arith;
   faults = refl;
-  consumed = rw c.new-bytes.ensures.items (consumes_none (g.S.Read.remaining c.args.source.now))
+  consumed = rw c.new-bytes.ensures.items (consumes_none (g.S.Read.remaining c.args.source.now));
 }

@@ -9,5 +9,5 @@ invariant-pieces g l = record {
   counted : l.self.taken ≡ min (l.fn.self.taken + length l.bytes.items) (2 ^ 64 - 1);
   range : l.fn.self.taken ≤ 2 ^ 64 - 1;
   faults : l.self.faults ≡ l.fn.self.faults;
-  consumed : Consumes (g.S.Read.remaining l.fn.source) (g.S.Read.remaining l.source) l.bytes.items
+  consumed : Consumes (g.S.Read.remaining l.fn.source) (g.S.Read.remaining l.source) l.bytes.items;
 }

@@ -18,5 +18,5 @@ read-tells g c = record {
   failed = λ failed. omega (arith, c.ensures.failed failed);
   limit = c.ensures.limit;
   too_long = λ l long told. cc;
-  too_many_taken = λ l long untold. omega (arith, c.ensures.all_taken l long)
+  too_many_taken = λ l long untold. omega (arith, c.ensures.all_taken l long);
 }
