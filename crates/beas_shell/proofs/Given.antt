@@ -1,8 +1,7 @@
 -- Parts that were given to a writer one after another.
-use Rattle.std.proofs.Common.{◌≡◌, ◌++◌, ◌-◌, ◌≤◌, [], ◌∙◌, sym, ap, refl, ℕ, List, Option, Some, None, take, drop, length, arith}
+use Rattle.std.proofs.Common.{◌≡◌, ◌++◌, ◌-◌, [], ◌∙◌, sym, ap, refl, ℕ, List, Option, Some, None, take, drop, length, arith}
 use Rattle.std.proofs.lemmas.List.{append_assoc, append-nil, take-append-drop, take_all, length-drop}
 use Rattle.std.specs.Io.KnownBytes.{Appends, Keeps}
-use Rattle.outside.specs.Parts.{SentPart}
 use Rattle.beas_shell.specs.Given.{GavePart}
 
 -- the bytes in front of the rest were given

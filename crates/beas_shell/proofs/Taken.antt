@@ -1,5 +1,5 @@
 -- Pieces that were taken from a reader one after another.
-use Rattle.std.proofs.Common.{◌≡◌, ◌++◌, ◌+◌, ◌<◌, [], sym, ap, refl, ◌∙◌, ℕ, List, Option, Some, None, length, IfSome, arith}
+use Rattle.std.proofs.Common.{◌≡◌, ◌++◌, ◌<◌, [], sym, ap, refl, ◌∙◌, ℕ, List, Option, Some, None, length, IfSome}
 use Rattle.std.proofs.lemmas.List.{append_assoc, append-nil, length-append}
 use Rattle.std.specs.Io.KnownBytes.{Consumes, IsAtEnd}
 use Rattle.beas_shell.specs.Taken.{Took, TooLongFor}

@@ -106,9 +106,7 @@ impl ReadCounts {
             Err(error) => Err(self.fault(&error)),
         }
     }
-}
 
-impl ReadCounts {
     /// All bytes of a reader, of which there are at most `limit`. At most `limit + 1` bytes are taken.
     pub fn read_whole<S: Read>(
         &mut self,

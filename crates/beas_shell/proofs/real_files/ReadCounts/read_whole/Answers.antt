@@ -1,5 +1,5 @@
-use Rattle.std.proofs.Common.{◌≡◌, ◌<◌, ◌≤◌, length, rules, refl, arith}
-use Rattle.beas_shell.proofs.Taken.{consumes_none, consumes_more, whole_at_end, too_long_in_all}
+use Rattle.std.proofs.Common.{rules, refl, arith}
+use Rattle.beas_shell.proofs.Taken.{consumes_none}
 use Rattle.beas_shell.proofs.real_files.ReadCounts.read_whole.Goals as goal
 
 pub pieces-init : goal.pieces-init

@@ -1,4 +1,4 @@
-use Rattle.std.proofs.Common.{◌≡◌, ◌+◌, ◌-◌, ◌^◌, ◌≤◌, ℕ, List, Result, Ok, Err, Option, Some, None, true, false, min, IfOk, refl, arith}
+use Rattle.std.proofs.Common.{◌≡◌, ℕ, List, Result, Ok, Err, Some, None, true, false, IfOk, refl, arith}
 use Rattle.outside.specs.declared.files.FilesError.{FilesError}
 use Rattle.beas_shell.proofs.real_files.RealFilesFiles.TheImpl.Goals as goal
 

@@ -1,4 +1,4 @@
-use Rattle.std.proofs.Common.{◌≡◌, arith}
+use Rattle.std.proofs.Common.{arith}
 use Rattle.beas_shell.proofs.Given.{gave_more}
 use Rattle.beas_shell.proofs.real_sink.RealSinkSink.put.Goals as goal
 
