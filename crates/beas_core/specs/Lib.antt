@@ -3,3 +3,13 @@ pub mod Groups
 pub mod Order
 pub mod Refusals
 pub mod Sets
+pub mod Trees
+pub mod Shapes
+pub mod Full
+pub mod Classes
+pub mod Coverage
+pub mod Derivations
+pub mod Numbers
+pub mod Valuations
+pub mod Reads
+pub mod Fits
