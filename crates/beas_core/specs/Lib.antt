@@ -13,3 +13,4 @@ pub mod Numbers
 pub mod Valuations
 pub mod Reads
 pub mod Fits
+pub mod Spelling

@@ -1,0 +1,10 @@
+//! The top of beas: a script is cut into statements, each is carried out, and each report is written.
+#![tactic(auto)]
+
+mod form;
+mod lists;
+mod tokens;
+
+pub use form::{Condition, Form};
+pub use lists::{Part, parts};
+pub use tokens::{behind_word, bracketed};
