@@ -8,6 +8,7 @@ use Rattle.std.specs.Prelude.{ℕ, ℤ, pos, neg_ℤ, ◌&&◌, ◌^◌, Bool, t
 
 use Rattle.std.specs.List.{slice_split, before_first, after_first}
 use Rattle.std.specs.Option.{option_map_or}
+use Rattle.std.specs.Str.{all_ascii_digits}
 use Rattle.std.specs.Str.Parse.{digits_value}
 use Rattle.beas_core.specs.declared.value.Value.{Value}
 use Rattle.beas_core.specs.declared.value.Value.TheVariants.{Int}
@@ -48,8 +49,11 @@ abbrev pub in_range : Bool → ℕ → Option ℤ
 in_range false n = if nat_lt n (2 ^ 63) then Some (pos n) else None
 in_range true n = if nat_le n (2 ^ 63) then Some (neg_ℤ (pos n)) else None
 
+abbrev pub signed : Bool → List ℕ → Option ℤ
+signed negative digits = if all_ascii_digits digits && nat_lt 0 (length digits) then in_range negative (digits_value 10 digits) else None
+
 abbrev pub number : Bool → Token → Option Value
-number negative token = if_number token.kind (option_map (λ z. Int z) (in_range negative (digits_value 10 token.text))) None
+number negative token = if_number token.kind (option_map (λ z. Int z) (signed negative token.text)) None
 
 -- ---- what stands alone, or between separators
 
@@ -112,10 +116,13 @@ abbrev pub bracketed : List Token → Option (List Token × List Token)
 bracketed [] = None
 bracketed (first ∷ tokens) = if is_mark (codes "(") first then cut (is_end Close) tokens else None
 
--- an identifier, and what follows
-abbrev pub named : List Token → Option (List ℕ × List Token)
-named [] = None
-named (name ∷ tokens) = option_map (λ text. (text, tokens)) (identifier name)
+abbrev pub first_name : List Token → Option (List ℕ)
+first_name [] = None
+first_name (token ∷ tokens) = identifier token
+
+abbrev pub behind_first : List Token → List Token
+behind_first [] = []
+behind_first (token ∷ tokens) = tokens
 
 abbrev pub if_none_left : {A : Type 0} → List Token → Option A → Option A
 if_none_left [] found = found
@@ -129,45 +136,50 @@ o >>= f = option_and_then f o
 
 unfoldable pub create_table : List Token → Option Form
 create_table tokens = do
-  name ← named tokens
-  inside ← bracketed name.1
+  name ← first_name tokens
+  inside ← bracketed (behind_first tokens)
   columns ← if_none_left inside.1 (parts column_part (is_end Comma) inside.0)
-  Some (CreateTable name.0 columns)
+  Some (CreateTable name columns)
 
 abbrev pub limit : List Token → Option ℕ
 limit (digits ∷ []) = if_number digits.kind (limit_in digits.text) None
 limit _ = None
 
+-- FETCH ( ids ) LIMIT number
+unfoldable pub fetch : List ℕ → List ℕ → List (List ℕ) → List Token → Option Form
+fetch name table key tokens = do
+  columns ← behind_word (codes "fetch") tokens
+  inside ← bracketed columns
+  fetched ← parts identifier_part (is_end Comma) inside.0
+  last ← behind_word (codes "limit") inside.1
+  bound ← limit last
+  Some (CreateAccess name table key fetched bound)
+
 unfoldable pub create_access : List Token → Option Form
 create_access tokens = do
-  name ← named tokens
-  on ← behind_word (codes "on") name.1
-  table ← named on
-  key ← bracketed table.1
-  keys ← parts identifier_part (is_end Comma) key.0
-  fetch ← behind_word (codes "fetch") key.1
-  fetched ← bracketed fetch
-  columns ← parts identifier_part (is_end Comma) fetched.0
-  last ← behind_word (codes "limit") fetched.1
-  bound ← limit last
-  Some (CreateAccess name.0 table.0 keys columns bound)
+  name ← first_name tokens
+  on ← behind_word (codes "on") (behind_first tokens)
+  table ← first_name on
+  inside ← bracketed (behind_first on)
+  key ← parts identifier_part (is_end Comma) inside.0
+  fetch name table key inside.1
 
 unfoldable pub insert : List Token → Option Form
 insert tokens = do
-  table ← named tokens
-  values ← behind_word (codes "values") table.1
+  table ← first_name tokens
+  values ← behind_word (codes "values") (behind_first tokens)
   inside ← bracketed values
   row ← if_none_left inside.1 (parts literal_part (is_end Comma) inside.0)
-  Some (Insert table.0 row)
+  Some (Insert table row)
 
 unfoldable pub select : List Token → Option Form
 select tokens = do
-  from ← cut (is_end From) tokens
-  items ← parts identifier_part (is_end Comma) from.0
-  table ← named from.1
-  where_ ← behind_word (codes "where") table.1
+  both ← cut (is_end From) tokens
+  items ← parts identifier_part (is_end Comma) both.0
+  table ← first_name both.1
+  where_ ← behind_word (codes "where") (behind_first both.1)
   conditions ← parts condition_part (is_end And) where_
-  Some (Select items table.0 conditions)
+  Some (Select items table conditions)
 
 abbrev pub create : List Token → Option Form
 create tokens = option_map_or create_table (behind_word (codes "table") tokens) (behind_word (codes "access") tokens >>= create_access)

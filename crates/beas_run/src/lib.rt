@@ -3,8 +3,9 @@
 
 mod form;
 mod lists;
+mod numbers;
+mod reading;
 mod tokens;
 
 pub use form::{Condition, Form};
-pub use lists::{Part, parts};
-pub use tokens::{behind_word, bracketed};
+pub use reading::form_of;
