@@ -8,7 +8,6 @@
 use Rattle.std.specs.Prelude.{◌&&◌, ◌||◌, ◌==◌, Bool, not, ℕ, List, [], ◌∷◌, ◌++◌, length, map, filter, flat_map, Contains}
 use Rattle.std.specs.List.{list_any, position_or_len, enumerate_from, range_with_len}
 use Rattle.beas_core.specs.declared.schema.ColumnId.{ColumnId}
-use Rattle.beas_core.specs.declared.value.Value.{Value}
 use Rattle.beas_core.specs.declared.query.Atom.{Atom}
 use Rattle.beas_core.specs.declared.query.Place.{Place}
 use Rattle.beas_core.specs.declared.query.Operand.{Operand}
@@ -63,7 +62,7 @@ abbrev pub needed_columns : Block → ℕ → ℕ → List ColumnId
 needed_columns block atom width =
     map (λ c. record { 0 = c }) (filter (λ c. list_any (same_place (record { atom = atom; column = record { 0 = c } })) (used_places block)) (range_with_len 0 width))
 
-abbrev pub normal_of : Block → Normal
+unfoldable pub normal_of : Block → Normal
 normal_of block = record {
   atoms = block.atoms;
   classes = map (λ a. map (λ c. class_of block (record { atom = a.0; column = record { 0 = c } })) (range_with_len 0 a.1.width)) (enumerate_from 0 block.atoms);
@@ -71,4 +70,5 @@ normal_of block = record {
   constants = map (λ c. (class_of block c.0, c.1)) block.constants;
   needed = map (λ a. needed_columns block a.0 a.1.width) (enumerate_from 0 block.atoms);
   comparisons = block.comparisons;
-  output = block.output }
+  output = block.output;
+}

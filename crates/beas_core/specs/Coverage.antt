@@ -1,12 +1,12 @@
--- Which classes a block's constraints cover (Cao, Fan, Wo and Yu: Bounded Conjunctive Queries, PVLDB 2014; Cao and Fan: An Effective
--- Syntax for Bounded Relational Queries, SIGMOD 2016). A set of classes is a list of truth values, one for each class.
+-- Which classes a block's constraints cover (Cao and Fan: An Effective Syntax for Bounded Relational Queries, SIGMOD 2016).
+-- A set of classes is a list of truth values, one for each class.
 --     uses accesses normal                 each atom with each constraint on its table, by atom and then in order of creation
 --     covered_set normal accesses start    the least set that holds the start and, of each use, the fetched classes where it holds those of the key
 --     IsLeastClosed ..                     what makes it the least
 --     serves normal set u                  the set holds the key's classes, and the atom's needed columns are all in key or fetched
 --     is_covered normal accesses set       the set holds each needed column's class, and each atom has a use that serves it
 --     reason normal accesses set           the first needed column whose class isn't in the set, else the first atom that nothing serves
-use Rattle.std.specs.Prelude.{◌≡◌, ◌+◌, ◌&&◌, ◌||◌, ◌==◌, Bool, true, false, not, ℕ, zero, suc, List, [], ◌∷◌, ◌++◌, length, map, filter, flat_map, fold, find, replicate, slice_index_or, slice_set, IsTrue, Contains, Option, option_map}
+use Rattle.std.specs.Prelude.{◌&&◌, ◌||◌, ◌==◌, Bool, true, false, not, ℕ, zero, suc, List, [], length, map, filter, flat_map, fold, find, replicate, slice_index_or, slice_set, IsTrue, Contains, Option, option_map}
 use Rattle.std.specs.List.{list_any, list_all, enumerate_from, range_with_len}
 use Rattle.std.specs.Option.{option_or}
 use Rattle.beas_core.specs.declared.schema.ColumnId.{ColumnId}
@@ -50,14 +50,14 @@ holds_classes set classes = list_all (has set) classes
 abbrev pub grow : Normal → List Access → List Bool → List Bool
 grow normal accesses set =
     map (λ c. has set c || list_any (λ u. holds_classes set (key_classes normal u) && list_any (λ d. d == c) (fetched_classes normal u)) (uses accesses normal))
-        (range_with_len 0 normal.count)
+    (range_with_len 0 normal.count)
 
 abbrev pub grown : ℕ → Normal → List Access → List Bool → List Bool
 grown zero normal accesses set = set
 grown (suc n) normal accesses set = grow normal accesses (grown n normal accesses set)
 
 -- each turn but the last adds a class, so there are no more turns than classes
-abbrev pub covered_set : Normal → List Access → List Bool → List Bool
+unfoldable pub covered_set : Normal → List Access → List Bool → List Bool
 covered_set normal accesses start = grown normal.count normal accesses start
 
 abbrev pub Within : List Bool → List Bool → Type 0
@@ -93,12 +93,22 @@ is_open normal set place = not (has set (place_class normal place))
 abbrev pub atoms_of : Normal → List ℕ
 atoms_of normal = range_with_len 0 (length normal.atoms)
 
-abbrev pub is_covered : Normal → List Access → List Bool → Bool
+unfoldable pub is_covered : Normal → List Access → List Bool → Bool
 is_covered normal accesses set =
     not (list_any (is_open normal set) (needed_places normal)) && list_all (is_served normal accesses set) (atoms_of normal)
 
-abbrev pub reason : Normal → List Access → List Bool → Option NotCovered
+unfoldable pub reason : Normal → List Access → List Bool → Option NotCovered
 reason normal accesses set =
     option_or
     (option_map (λ p. ColumnOpen p.atom p.column) (find (is_open normal set) (needed_places normal)))
     (option_map (λ atom. AtomUnindexed atom) (find (λ atom. not (is_served normal accesses set atom)) (atoms_of normal)))
+
+-- a block by itself starts with its constant classes
+abbrev pub own_cover : Normal → List Access → List Bool
+own_cover normal accesses = covered_set normal accesses (constant_classes normal)
+
+abbrev pub is_covered_alone : Normal → List Access → Bool
+is_covered_alone normal accesses = is_covered normal accesses (own_cover normal accesses)
+
+abbrev pub own_reason : Normal → List Access → Option NotCovered
+own_reason normal accesses = reason normal accesses (own_cover normal accesses)

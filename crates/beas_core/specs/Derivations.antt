@@ -1,18 +1,17 @@
 -- Derivations: the steps by which a block's rows are fetched. A step uses a constraint on an atom; `rule` gives the constraint of an id,
 -- `knows` says which ids are live, and `start` is the set of classes that are bound before the first step.
 --     bound_after normal rule start steps       the classes bound after these steps
---     Sound normal knows rule start steps       the steps fetch all that the block needs, and each says rightly whether it adds a class
+--     IsSound normal knows rule start steps       the steps fetch all that the block needs, and each says rightly whether it adds a class
 --     derivation normal accesses start          the canonical derivation, nothing where the block isn't covered
-use Rattle.std.specs.Prelude.{◌≡◌, ◌+◌, ◌&&◌, ◌||◌, ◌==◌, ◌<◌, Bool, true, false, not, if◌then◌else◌, nat_lt, ℕ, zero, suc, List, [], ◌∷◌, ◌++◌, length, map, filter, fold, find, slice_index_or, IsTrue, All, Option, Some, None, option_map, unwrap_or}
+use Rattle.std.specs.Prelude.{◌&&◌, ◌==◌, Bool, true, not, if◌then◌else◌, nat_lt, ℕ, zero, suc, List, [], ◌∷◌, ◌++◌, length, map, filter, fold, find, slice_index_or, IsTrue, All, Option, Some, None, option_map, unwrap_or}
 use Rattle.std.specs.List.{list_any, list_all, best_of}
 use Rattle.beas_core.specs.declared.schema.AccessId.{AccessId}
 use Rattle.beas_core.specs.declared.schema.TableId.{TableId}
 use Rattle.beas_core.specs.declared.schema.Access.{Access}
-use Rattle.beas_core.specs.declared.query.Atom.{Atom}
 use Rattle.beas_core.specs.declared.plan.DStep.{DStep}
 use Rattle.beas_core.specs.declared.plan.Normal.{Normal}
 use Rattle.beas_core.specs.Groups.{member_columns}
-use Rattle.beas_core.specs.Coverage.{has, with_classes, class_at, uses, key_classes, fetched_classes, holds_classes, needed_places, holds_needed, serves, is_open, is_covered, atoms_of}
+use Rattle.beas_core.specs.Coverage.{with_classes, class_at, uses, key_classes, fetched_classes, holds_classes, constant_classes, needed_places, holds_needed, serves, is_open, is_covered, atoms_of}
 
 -- the constraint with this id in a list, and one that fetches nothing where there is none
 abbrev pub rule_in : List Access → AccessId → Access
@@ -59,7 +58,7 @@ adds_rightly normal rule set s = if s.adds then adds_class normal set (use_of ru
 abbrev pub is_served_by : Normal → (AccessId → Access) → List DStep → ℕ → Bool
 is_served_by normal rule steps atom = list_any (λ s. (s.atom == atom) && holds_needed normal (use_of rule s)) steps
 
-pub record Sound (normal : Normal) (knows : AccessId → Type 0) (rule : AccessId → Access) (start : List Bool) (steps : List DStep) : Type 0 where
+pub record IsSound (normal : Normal) (knows : AccessId → Type 0) (rule : AccessId → Access) (start : List Bool) (steps : List DStep) : Type 0 where
   pub live : All (λ s. knows s.access) steps
   pub tables : IsTrue (list_all (is_on_table normal rule) steps)
   pub keys : IsTrue (each_step normal rule (key_is_bound normal rule) start steps)
@@ -99,10 +98,14 @@ serving_steps normal accesses steps set [] = []
 serving_steps normal accesses steps set (atom ∷ atoms) =
     if is_served_by normal (rule_in accesses) steps atom then serving_steps normal accesses steps set atoms
     else then_step (least_bound (filter (λ u. (u.0 == atom) && serves normal set u) (uses accesses normal)))
-        (serving_steps normal accesses steps set atoms)
-        (λ u. step_of normal set u ∷ serving_steps normal accesses steps (with_use normal set u) atoms)
+    (serving_steps normal accesses steps set atoms)
+    (λ u. step_of normal set u ∷ serving_steps normal accesses steps (with_use normal set u) atoms)
 
-abbrev pub derivation : Normal → List Access → List Bool → Option (List DStep)
+unfoldable pub derivation : Normal → List Access → List Bool → Option (List DStep)
 derivation normal accesses start =
     option_map (λ steps. steps ++ serving_steps normal accesses steps (bound_after normal (rule_in accesses) start steps) (atoms_of normal))
     (adding_steps normal.count normal accesses start)
+
+-- of a block by itself
+abbrev pub own_derivation : Normal → List Access → Option (List DStep)
+own_derivation normal accesses = derivation normal accesses (constant_classes normal)

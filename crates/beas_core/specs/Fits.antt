@@ -9,11 +9,11 @@ use Rattle.beas_core.specs.declared.query.Block.{Block}
 use Rattle.beas_core.specs.declared.plan.Normal.{Normal}
 use Rattle.beas_core.specs.declared.plan.Derivation.{Derivation}
 use Rattle.beas_core.specs.declared.plan.Prepared.{Prepared}
-use Rattle.beas_core.specs.Trees.{tree, blocks_of}
+use Rattle.beas_core.specs.Trees.{tree_of, blocks_of}
 use Rattle.beas_core.specs.Shapes.{QueryIsWellFormed, AccessIsWellFormed, width_of}
 use Rattle.beas_core.specs.Classes.{normal_of}
 use Rattle.beas_core.specs.Coverage.{constant_classes}
-use Rattle.beas_core.specs.Derivations.{Sound}
+use Rattle.beas_core.specs.Derivations.{IsSound}
 use Rattle.beas_core.specs.Numbers.{announced_of_all}
 
 -- each row of each atom's table has the atom's width
@@ -22,16 +22,16 @@ RowsHaveWidth rows block = All (λ a. All (λ row. length row ≡ a.width) (rows
 
 -- the derivation is sound for the block by itself, and its constraints are well formed
 pub record PlanIsSound (knows : AccessId → Type 0) (rule : AccessId → Access) (normal : Normal) (plan : Derivation) : Type 0 where
-  pub sound : Sound normal knows rule (constant_classes normal) plan.steps
+  pub sound : IsSound normal knows rule (constant_classes normal) plan.steps
   pub rules : All (λ s. AccessIsWellFormed (width_of normal.atoms s.atom) (rule s.access)) plan.steps
 
 -- the part that speaks of no row
 pub record PlanFits (knows : AccessId → Type 0) (rule : AccessId → Access) (prepared : Prepared) : Type 0 where
-  pub query : QueryIsWellFormed (tree prepared.query)
-  pub normals : prepared.normals ≡ map normal_of (blocks_of (tree prepared.query))
+  pub query : QueryIsWellFormed (tree_of prepared.query)
+  pub normals : prepared.normals ≡ map normal_of (blocks_of (tree_of prepared.query))
   pub plans : AllZip (PlanIsSound knows rule) prepared.normals prepared.derivations
   pub bound : prepared.bound ≡ announced_of_all rule prepared.derivations
 
-pub record Fits (knows : AccessId → Type 0) (rule : AccessId → Access) (rows : TableId → List (List Value)) (prepared : Prepared) : Type 0 where
+pub record PreparedFits (knows : AccessId → Type 0) (rule : AccessId → Access) (rows : TableId → List (List Value)) (prepared : Prepared) : Type 0 where
   pub plan : PlanFits knows rule prepared
-  pub widths : All (RowsHaveWidth rows) (blocks_of (tree prepared.query))
+  pub widths : All (RowsHaveWidth rows) (blocks_of (tree_of prepared.query))

@@ -2,7 +2,7 @@
 --     choices rows atoms         all ways to choose one row for each atom
 --     meets block choice         the choice meets every equality, constant and comparison
 --     full_of_block rows block   the choices that meet all, projected to the output, as a set in order
---     full rows t                UNION is set union, EXCEPT is set difference
+--     full_of rows t                UNION is set union, EXCEPT is set difference
 use Rattle.std.specs.Prelude.{◌&&◌, Bool, not, List, [], ◌∷◌, ◌++◌, map, filter, flat_map, slice_index_or}
 use Rattle.std.specs.List.{list_any, list_all}
 use Rattle.std.specs.declared.cmp.Ordering.{Ordering}
@@ -20,7 +20,7 @@ use Rattle.beas_core.specs.declared.query.Block.{Block}
 use Rattle.beas_core.specs.Order.{value_cmp, row_cmp}
 use Rattle.beas_core.specs.Sets.{distinct}
 use Rattle.beas_core.specs.Groups.{value_at, same_row}
-use Rattle.beas_core.specs.Trees.{Tree, Leaf, Both, Minus}
+use Rattle.beas_core.specs.Trees.{Tree, Single, Either, Minus}
 
 abbrev pub same_value : Value → Value → Bool
 same_value = eq_by_cmp value_cmp
@@ -55,7 +55,7 @@ meets block choice =
     && list_all (λ c. same_value (chosen choice c.0) c.1) block.constants
     && list_all (comparison_holds (chosen choice)) block.comparisons
 
-abbrev pub full_of_block : (TableId → List (List Value)) → Block → List (List Value)
+unfoldable pub full_of_block : (TableId → List (List Value)) → Block → List (List Value)
 full_of_block rows block =
     distinct row_cmp (map (λ choice. map (chosen choice) block.output) (filter (meets block) (choices rows block.atoms)))
 
@@ -65,7 +65,7 @@ united left right = distinct row_cmp (left ++ right)
 abbrev pub subtracted : List (List Value) → List (List Value) → List (List Value)
 subtracted left right = filter (λ row. not (list_any (same_row row) right)) left
 
-abbrev pub full : (TableId → List (List Value)) → Tree → List (List Value)
-full rows (Leaf block) = full_of_block rows block
-full rows (Both l r) = united (full rows l) (full rows r)
-full rows (Minus l r) = subtracted (full rows l) (full rows r)
+abbrev pub full_of : (TableId → List (List Value)) → Tree → List (List Value)
+full_of rows (Single block) = full_of_block rows block
+full_of rows (Either l r) = united (full_of rows l) (full_of rows r)
+full_of rows (Minus l r) = subtracted (full_of rows l) (full_of rows r)

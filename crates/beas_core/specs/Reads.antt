@@ -1,7 +1,7 @@
 -- The reads that a derivation takes over some rows.
 --     keys_for ..                               the distinct keys that the valuations before a step give to it
 --     step_reads ..                             for each of them the greater of 1 and the size of its group, summed
---     reads rows normal rule start starts steps     the sum over the steps
+--     reads_of rows normal rule start starts steps     the sum over the steps
 use Rattle.std.specs.Prelude.{◌+◌, Bool, ℕ, List, [], ◌∷◌, ◌++◌, length, map, max, sum_by}
 use Rattle.beas_core.specs.declared.schema.AccessId.{AccessId}
 use Rattle.beas_core.specs.declared.schema.TableId.{TableId}
@@ -38,12 +38,12 @@ reads_after rows normal rule start starts done (s ∷ steps) =
     step_reads rows normal rule s (bound_after normal rule start done) (valuations rows normal rule start starts done)
     + reads_after rows normal rule start starts (done ++ s ∷ []) steps
 
-abbrev pub reads : (TableId → List (List Value)) → Normal → (AccessId → Access) → List Bool → List (List (ℕ × Value)) → List DStep → ℕ
-reads rows normal rule start starts steps = reads_after rows normal rule start starts [] steps
+abbrev pub reads_of : (TableId → List (List Value)) → Normal → (AccessId → Access) → List Bool → List (List (ℕ × Value)) → List DStep → ℕ
+reads_of rows normal rule start starts steps = reads_after rows normal rule start starts [] steps
 
 -- the reads of a block by itself
 abbrev pub own_reads : (TableId → List (List Value)) → Normal → (AccessId → Access) → List DStep → ℕ
-own_reads rows normal rule steps = reads rows normal rule (constant_classes normal) (own_start normal) steps
+own_reads rows normal rule steps = reads_of rows normal rule (constant_classes normal) (own_start normal) steps
 
 -- the reads of a query, over its blocks
 abbrev pub reads_of_all : (TableId → List (List Value)) → (AccessId → Access) → List Normal → List Derivation → ℕ

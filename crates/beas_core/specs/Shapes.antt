@@ -3,7 +3,7 @@
 --     BlockIsWellFormed block       1 to 16 atoms of 1 to 64 columns each, and places alone that name a column of an atom
 --     QueryIsWellFormed t           its blocks are, and their outputs have one length
 --     AccessIsWellFormed width a    it fetches at least one column of its table, names none twice in one list, and has a bound of at least 1
-use Rattle.std.specs.Prelude.{◌≡◌, ◌≢◌, ◌<◌, ◌≤◌, ℕ, List, [], ◌∷◌, length, map, All, AllPairs, slice_index_or}
+use Rattle.std.specs.Prelude.{◌≡◌, ◌≢◌, ◌<◌, ◌≤◌, ℕ, List, length, map, All, AllPairs, slice_index_or}
 use Rattle.beas_core.specs.declared.schema.ColumnId.{ColumnId}
 use Rattle.beas_core.specs.declared.schema.Access.{Access}
 use Rattle.beas_core.specs.declared.query.Atom.{Atom}
@@ -13,7 +13,7 @@ use Rattle.beas_core.specs.declared.query.Operand.TheVariants.{At, Fixed}
 use Rattle.beas_core.specs.declared.query.Comparison.{Comparison}
 use Rattle.beas_core.specs.declared.query.Sign.TheVariants.{Equal}
 use Rattle.beas_core.specs.declared.query.Block.{Block}
-use Rattle.beas_core.specs.Trees.{Tree, Leaf, Both, Minus, blocks_of}
+use Rattle.beas_core.specs.Trees.{Tree, blocks_of}
 
 -- the number of columns of an atom, 0 where there is no such atom
 abbrev pub width_of : List Atom → ℕ → ℕ

@@ -4,14 +4,13 @@
 --     valuations rows normal rule start starts steps    the values of the bound classes, ascending by class, of each way that agrees with
 --                                                   itself and meets the comparisons whose columns are all bound; as a set in order
 --     answers_of ..                                 the valuations, projected to the output
-use Rattle.std.specs.Prelude.{◌≡◌, ◌+◌, ◌&&◌, ◌||◌, ◌==◌, if◌then◌else◌, Bool, true, not, ℕ, pos, List, [], ◌∷◌, ◌++◌, length, map, filter, flat_map, fold, zip}
+use Rattle.std.specs.Prelude.{◌&&◌, ◌||◌, ◌==◌, if◌then◌else◌, Bool, true, not, ℕ, pos, List, [], ◌∷◌, ◌++◌, length, map, filter, flat_map, fold, zip}
 use Rattle.std.specs.List.{list_all, range_with_len}
 use Rattle.beas_core.specs.declared.schema.AccessId.{AccessId}
 use Rattle.beas_core.specs.declared.schema.TableId.{TableId}
 use Rattle.beas_core.specs.declared.schema.Access.{Access}
 use Rattle.beas_core.specs.declared.value.Value.{Value}
 use Rattle.beas_core.specs.declared.value.Value.TheVariants.{Int}
-use Rattle.beas_core.specs.declared.query.Place.{Place}
 use Rattle.beas_core.specs.declared.query.Operand.{Operand}
 use Rattle.beas_core.specs.declared.query.Operand.TheVariants.{At, Fixed}
 use Rattle.beas_core.specs.declared.query.Comparison.{Comparison}
@@ -61,7 +60,7 @@ is_consistent normal set bindings = agrees bindings && list_all (comparison_is_m
 abbrev pub classes_in : List Bool → List ℕ
 classes_in set = filter (has set) (range_with_len 0 (length set))
 
-abbrev pub valuations : (TableId → List (List Value)) → Normal → (AccessId → Access) → List Bool → List (List (ℕ × Value)) → List DStep → List (List Value)
+unfoldable pub valuations : (TableId → List (List Value)) → Normal → (AccessId → Access) → List Bool → List (List (ℕ × Value)) → List DStep → List (List Value)
 valuations rows normal rule start starts steps =
     let bound = bound_after normal rule start steps in
     distinct row_cmp (map (λ w. map (value_of w) (classes_in bound)) (filter (is_consistent normal bound) (ways rows normal rule starts steps)))
@@ -73,7 +72,7 @@ as_bindings set valuation = zip (classes_in set) valuation
 abbrev pub projected : Normal → List Bool → List Value → List Value
 projected normal set valuation = map (λ p. value_of (as_bindings set valuation) (place_class normal p)) normal.output
 
-abbrev pub answers_of : (TableId → List (List Value)) → Normal → (AccessId → Access) → List Bool → List (List (ℕ × Value)) → List DStep → List (List Value)
+unfoldable pub answers_of : (TableId → List (List Value)) → Normal → (AccessId → Access) → List Bool → List (List (ℕ × Value)) → List DStep → List (List Value)
 answers_of rows normal rule start starts steps =
     distinct row_cmp (map (projected normal (bound_after normal rule start steps)) (valuations rows normal rule start starts steps))
 

@@ -1,6 +1,6 @@
 // Queries after their names are bound: every column is a place, an atom and a column of it.
 ghost use Rattle.std.specs.Prelude.{◌≡◌, IfOk};
-ghost use Rattle.beas_core.specs.Trees.{tree};
+ghost use Rattle.beas_core.specs.Trees.{tree_of};
 
 use crate::duplicate::Duplicate;
 use crate::errors::NoMemory;
@@ -114,7 +114,7 @@ impl Duplicate for Block {
 impl Query {
     /// A query with the same blocks, joined in the same way.
     pub fn copy(&self, alloc: Global) -> Result<Query, NoMemory>
-        ensures { IfOk result (λ copy. tree copy ≡ tree self.now) }
+        ensures { IfOk result (λ copy. tree_of copy ≡ tree_of self.now) }
     {
         match self {
             Query::Block(block) => Ok(Query::Block(block.copy(alloc)?)),

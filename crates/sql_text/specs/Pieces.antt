@@ -23,5 +23,8 @@ abbrev pub places : ℕ → List (List Token) → List Piece
 places at [] = []
 places at (part ∷ parts) = record { from = at; to = at + length part } ∷ places (at + length part + 1) parts
 
+abbrev pub without_empty : List Piece → List Piece
+without_empty pieces = filter (λ piece. nat_lt piece.from piece.to) pieces
+
 abbrev pub pieces_of : List Token → List Piece
-pieces_of tokens = filter (λ piece. nat_lt piece.from piece.to) (places 0 (slice_split is_semicolon tokens))
+pieces_of tokens = without_empty (places 0 (slice_split is_semicolon tokens))

@@ -3,6 +3,9 @@
 
 mod lexer;
 mod pieces;
+mod runs;
+#[cfg(test)]
+mod tests;
 mod token;
 
 pub use lexer::lex;
