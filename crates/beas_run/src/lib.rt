@@ -1,0 +1,4 @@
+//! One table with at most one constraint.
+#![tactic(auto)]
+
+mod tuples;
