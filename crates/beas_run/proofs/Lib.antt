@@ -1,2 +1,3 @@
+pub mod InTuples
 pub mod Places
 pub mod Stretches

@@ -1,4 +1,5 @@
 //! One table with at most one constraint.
 #![tactic(auto)]
 
+mod columns;
 mod tuples;
