@@ -87,6 +87,19 @@ pub all_from : {K : Type 0} (P : K → Type 0) (xs : List K) → ((y : K) → Ha
 all_from P [] f = tt
 all_from P (x ∷ xs) f = (f x (inl refl), all_from P xs (λ y h. f y (inr h)))
 
+pub Has-get_or : {K : Type 0} (xs : List K) (i : ℕ) (d : K) → i < length xs → Has xs (get_or xs i d)
+Has-get_or [] i d l = absurd (omega (arith, l))
+Has-get_or (x ∷ xs) zero d l = inl refl
+Has-get_or (x ∷ xs) (suc i) d l = inr (Has-get_or xs i d (omega arith))
+
+-- each member stands before all later ones, by places
+pub IsInOrder-at : {K : Type 0} (cmp : K → K → Ordering) (xs : List K) (i j : ℕ) (d : K) → IsInOrder cmp xs → i < j → j < length xs
+    → cmp (get_or xs i d) (get_or xs j d) ≡ Less
+IsInOrder-at cmp [] i j d h l m = absurd (omega (arith, m))
+IsInOrder-at cmp (x ∷ xs) i zero d h l m = absurd (omega (arith, l))
+IsInOrder-at cmp (x ∷ xs) zero (suc j) d h l m = all_at (λ y. cmp x y ≡ Less) xs (get_or xs j d) h.0 (Has-get_or xs j d (omega arith))
+IsInOrder-at cmp (x ∷ xs) (suc i) (suc j) d h l m = IsInOrder-at cmp xs i j d h.1 (omega arith) (omega arith)
+
 pub IsInOrder-filter : {K : Type 0} (cmp : K → K → Ordering) (p : K → Bool) (xs : List K) → IsInOrder cmp xs → IsInOrder cmp (filter p xs)
 IsInOrder-filter cmp p [] h = tt
 IsInOrder-filter {K} cmp p (x ∷ xs) h = by (p x) (IsInOrder-filter cmp p xs h.1)

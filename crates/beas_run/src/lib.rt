@@ -1,11 +1,14 @@
 //! The top of beas: a script is cut into statements, each is carried out, and each report is written.
 #![tactic(auto)]
 
+mod columns;
 mod form;
 mod lists;
 mod numbers;
 mod reading;
+mod store;
 mod tokens;
+mod tuples;
 
 pub use form::{Condition, Form};
 pub use reading::form_of;
