@@ -4,7 +4,6 @@
 mod joined;
 mod parts;
 mod refusals;
+mod reports;
 
-pub use joined::push_parts;
-pub use parts::Part;
-pub use refusals::push_refusal;
+pub use reports::{Report, text};

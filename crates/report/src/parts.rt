@@ -25,7 +25,7 @@ pub fn push_number(text: &mut Text, number: u128) -> Result<(), NoMemory>
     text.push_str(buffer.format(number))
 }
 
-fn push_signed(text: &mut Text, number: i64) -> Result<(), NoMemory>
+pub fn push_signed(text: &mut Text, number: i64) -> Result<(), NoMemory>
     ensures ok { OnOk result (text.new ≡ text.old ++ signed_decimal number) }
 {
     let mut buffer = Buffer::new();

@@ -26,11 +26,15 @@ pub fn push_refusal(text: &mut Text, why: &Refusal) -> Result<(), NoMemory>
         Refusal::BreaksBound { row, access, key } => push_breaks(text, *row, access, key),
         Refusal::WrongWidth { row, found, wanted } => push_width(text, *row, *found, *wanted),
         Refusal::NumberRange { negative, digits } => push_range(text, *negative, digits),
-        Refusal::Unreadable { file } => push_parts(text, &[Words("cannot read "), Quoted(file.as_str())]),
+        Refusal::Unreadable { file } => push_file(text, file),
         Refusal::BadField { nth, column } => push_field(text, *nth, column),
         Refusal::RecordWidth { nth, found, wanted } => push_record(text, *nth, *found, *wanted),
         Refusal::HeaderMismatch => push_words(text, "header mismatch"),
-        Refusal::NotCovered { block, atom, column } => push_reason(text, *block, *atom, column),
+        Refusal::NotCovered {
+            block,
+            atom,
+            column,
+        } => push_reason(text, *block, *atom, column),
         Refusal::TooLarge => push_words(text, "bound past 128 bits"),
         Refusal::OverBudget { bound, budget } => push_budget(text, *bound, *budget),
         Refusal::TooMany { what, limit } => push_too_many(text, *what, *limit),
@@ -53,39 +57,64 @@ fn push_named(text: &mut Text, before: &str, name: &Name, after: &str) -> Result
     push_parts(text, &[Words(before), Words(name.as_str()), Words(after)])
 }
 
-fn push_column<'a>(
-    text: &mut Text,
-    table: &'a Option<Name>,
-    column: &'a Name,
-) -> Result<(), NoMemory>
+fn push_column(text: &mut Text, table: &Option<Name>, column: &Name) -> Result<(), NoMemory>
     ensures ok { OnOk result (text.new ≡ text.old ++ joined (column_parts table.now column.now)) }
 {
     match table {
-        None => push_parts(text, &[Words("unknown column "), Words(column.as_str())]),
-        Some(table) => push_parts(
-            text,
-            &[
-                Words("unknown column "),
-                Words(table.as_str()),
-                Words("."),
-                Words(column.as_str()),
-            ],
-        ),
+        None => push_named(text, "unknown column ", column, ""),
+        Some(table) => push_dotted(text, table, column),
     }
+}
+
+fn push_dotted<'a>(text: &mut Text, table: &'a Name, column: &'a Name) -> Result<(), NoMemory>
+    ensures ok { OnOk result (text.new ≡ text.old
+        ++ joined (codes "unknown column " ∷ table.now ∷ codes "." ∷ column.now ∷ [])) }
+{
+    push_parts(
+        text,
+        &[
+            Words("unknown column "),
+            Words(table.as_str()),
+            Words("."),
+            Words(column.as_str()),
+        ],
+    )
+}
+
+fn push_numbers<'a>(
+    text: &mut Text,
+    before: &'a str,
+    first: u128,
+    between: &'a str,
+    second: u128,
+    after: &'a str,
+) -> Result<(), NoMemory>
+    ensures ok { OnOk result (text.new ≡ text.old
+        ++ joined (before.now ∷ decimal first ∷ between.now ∷ decimal second ∷ after.now ∷ [])) }
+{
+    push_parts(
+        text,
+        &[
+            Words(before),
+            Number(first),
+            Words(between),
+            Number(second),
+            Words(after),
+        ],
+    )
 }
 
 fn push_mixed(text: &mut Text, block: u32, condition: u32) -> Result<(), NoMemory>
     ensures ok { OnOk result (text.new ≡ text.old
         ++ joined (codes "type mismatch in block " ∷ decimal block ∷ codes " condition " ∷ decimal condition ∷ [])) }
 {
-    push_parts(
+    push_numbers(
         text,
-        &[
-            Words("type mismatch in block "),
-            Number(u128::from(block)),
-            Words(" condition "),
-            Number(u128::from(condition)),
-        ],
+        "type mismatch in block ",
+        u128::from(block),
+        " condition ",
+        u128::from(condition),
+        "",
     )
 }
 
@@ -107,7 +136,10 @@ fn push_wrong_type(text: &mut Text, row: u32, column: &Name) -> Result<(), NoMem
 fn push_shape(text: &mut Text, block: u32) -> Result<(), NoMemory>
     ensures ok { OnOk result (text.new ≡ text.old ++ joined (codes "shape mismatch at block " ∷ decimal block ∷ [])) }
 {
-    push_parts(text, &[Words("shape mismatch at block "), Number(u128::from(block))])
+    push_parts(
+        text,
+        &[Words("shape mismatch at block "), Number(u128::from(block))],
+    )
 }
 
 fn push_limit(text: &mut Text, digits: &Text) -> Result<(), NoMemory>
@@ -128,14 +160,13 @@ fn push_broken(text: &mut Text, needed: u32, bound: u32) -> Result<(), NoMemory>
     ensures ok { OnOk result (text.new ≡ text.old
         ++ joined (codes "greatest group " ∷ decimal needed ∷ codes " above limit " ∷ decimal bound ∷ [])) }
 {
-    push_parts(
+    push_numbers(
         text,
-        &[
-            Words("greatest group "),
-            Number(u128::from(needed)),
-            Words(" above limit "),
-            Number(u128::from(bound)),
-        ],
+        "greatest group ",
+        u128::from(needed),
+        " above limit ",
+        u128::from(bound),
+        "",
     )
 }
 
@@ -184,10 +215,30 @@ fn push_range(text: &mut Text, negative: bool, digits: &Text) -> Result<(), NoMe
     ensures ok { OnOk result (text.new ≡ text.old ++ joined (number_parts negative digits.now)) }
 {
     if negative {
-        push_parts(text, &[Words("number -"), Words(digits.as_str()), Words(" out of range")])
+        push_parts(
+            text,
+            &[
+                Words("number -"),
+                Words(digits.as_str()),
+                Words(" out of range"),
+            ],
+        )
     } else {
-        push_parts(text, &[Words("number "), Words(digits.as_str()), Words(" out of range")])
+        push_parts(
+            text,
+            &[
+                Words("number "),
+                Words(digits.as_str()),
+                Words(" out of range"),
+            ],
+        )
     }
+}
+
+fn push_file(text: &mut Text, file: &Text) -> Result<(), NoMemory>
+    ensures ok { OnOk result (text.new ≡ text.old ++ joined (codes "cannot read " ∷ quoted file.now ∷ [])) }
+{
+    push_parts(text, &[Words("cannot read "), Quoted(file.as_str())])
 }
 
 fn push_field(text: &mut Text, nth: u32, column: &Name) -> Result<(), NoMemory>
@@ -232,6 +283,23 @@ fn push_reason(
 ) -> Result<(), NoMemory>
     ensures ok { OnOk result (text.new ≡ text.old ++ joined (reason_parts block atom column.now)) }
 {
+    match column {
+        None => push_numbers(
+            text,
+            "not covered: block ",
+            u128::from(block),
+            " atom ",
+            u128::from(atom),
+            " has no serving constraint",
+        ),
+        Some(column) => push_uncovered(text, block, atom, column),
+    }
+}
+
+fn push_uncovered(text: &mut Text, block: u32, atom: u32, column: &Name) -> Result<(), NoMemory>
+    ensures ok { OnOk result (text.new ≡ text.old ++ joined (codes "not covered: block " ∷ decimal block
+        ∷ codes " atom " ∷ decimal atom ∷ codes " column " ∷ column.now ∷ [])) }
+{
     push_parts(
         text,
         &[
@@ -239,26 +307,23 @@ fn push_reason(
             Number(u128::from(block)),
             Words(" atom "),
             Number(u128::from(atom)),
+            Words(" column "),
+            Words(column.as_str()),
         ],
-    )?;
-    match column {
-        None => push_words(text, " has no serving constraint"),
-        Some(column) => push_named(text, " column ", column, ""),
-    }
+    )
 }
 
 fn push_budget(text: &mut Text, bound: u128, budget: u64) -> Result<(), NoMemory>
     ensures ok { OnOk result (text.new ≡ text.old
         ++ joined (codes "bound " ∷ decimal bound ∷ codes " above budget " ∷ decimal budget ∷ [])) }
 {
-    push_parts(
+    push_numbers(
         text,
-        &[
-            Words("bound "),
-            Number(bound),
-            Words(" above budget "),
-            Number(u128::from(budget)),
-        ],
+        "bound ",
+        bound,
+        " above budget ",
+        u128::from(budget),
+        "",
     )
 }
 
@@ -294,5 +359,8 @@ fn counted_words(what: Counted) -> &'static str
 fn push_long(text: &mut Text, before: &str, limit: u64) -> Result<(), NoMemory>
     ensures ok { OnOk result (text.new ≡ text.old ++ joined (before.now ∷ decimal limit ∷ codes " bytes" ∷ [])) }
 {
-    push_parts(text, &[Words(before), Number(u128::from(limit)), Words(" bytes")])
+    push_parts(
+        text,
+        &[Words(before), Number(u128::from(limit)), Words(" bytes")],
+    )
 }
