@@ -1,0 +1,9 @@
+//! The texts of reports: what is written for each statement.
+#![tactic(auto)]
+
+mod joined;
+mod parts;
+mod refusals;
+mod reports;
+
+pub use reports::{Report, text};

@@ -1,0 +1,76 @@
+// The parts of which lines are made, and how they are joined.
+ghost use Rattle.std.specs.Prelude.{◌≡◌, ◌++◌, [], ◌∷◌, OnOk, decimal, map};
+ghost use Rattle.std.specs.Fmt.{signed_decimal};
+ghost use Rattle.std.specs.List.{flat_map};
+ghost use Rattle.report.specs.Texts.{quoted, literal_text, doubled, spaced};
+
+use beas_core::{NoMemory, Text, Value};
+use itoa::Buffer;
+
+/// A part of a line.
+#[derive(Clone, Copy)]
+pub enum Part<'a> {
+    Words(&'a str),
+    Number(u128),
+    /// A text in quotes, with its quotes doubled.
+    Quoted(&'a str),
+    /// Values as literals, with commas between them.
+    Literals(&'a [Value]),
+}
+
+pub fn push_number(text: &mut Text, number: u128) -> Result<(), NoMemory>
+    ensures ok { OnOk result (text.new ≡ text.old ++ decimal number) }
+{
+    let mut buffer = Buffer::new();
+    text.push_str(buffer.format(number))
+}
+
+pub fn push_signed(text: &mut Text, number: i64) -> Result<(), NoMemory>
+    ensures ok { OnOk result (text.new ≡ text.old ++ signed_decimal number) }
+{
+    let mut buffer = Buffer::new();
+    text.push_str(buffer.format(number))
+}
+
+pub fn push_quoted(text: &mut Text, words: &str) -> Result<(), NoMemory>
+    ensures ok { OnOk result (text.new ≡ text.old ++ quoted words.now) }
+{
+    text.push_str("'")?;
+    push_doubled(text, words)?;
+    text.push_str("'")
+}
+
+fn push_doubled(text: &mut Text, words: &str) -> Result<(), NoMemory>
+    ensures ok { OnOk result (text.new ≡ text.old ++ doubled words.now) }
+{
+    let mut rest = words;
+    while let Some((front, back)) = rest.split_once('\'') {
+        text.push_str(front)?;
+        text.push_str("''")?;
+        rest = back;
+    }
+    text.push_str(rest)
+}
+
+fn push_literal(text: &mut Text, value: &Value) -> Result<(), NoMemory>
+    ensures ok { OnOk result (text.new ≡ text.old ++ literal_text value.now) }
+{
+    match value {
+        Value::Int(number) => push_signed(text, *number),
+        Value::Str(words) => push_quoted(text, words.as_str()),
+    }
+}
+
+pub fn push_literals(text: &mut Text, values: &[Value]) -> Result<(), NoMemory>
+    ensures ok { OnOk result (text.new ≡ text.old ++ spaced (map literal_text values.now)) }
+{
+    let [first, after @ ..] = values else {
+        return Ok(());
+    };
+    push_literal(text, first)?;
+    for value in after {
+        text.push_str(", ")?;
+        push_literal(text, value)?;
+    }
+    Ok(())
+}
