@@ -1,3 +1,6 @@
 pub mod Forms
+pub mod Meaning
+pub mod Queries
+pub mod Scripts
 pub mod Store
 pub mod Stretches
