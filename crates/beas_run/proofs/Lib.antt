@@ -1,3 +1,4 @@
 pub mod InTuples
+pub mod Keeping
 pub mod Places
 pub mod Stretches

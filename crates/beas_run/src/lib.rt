@@ -2,4 +2,5 @@
 #![tactic(auto)]
 
 mod columns;
+mod store;
 mod tuples;
