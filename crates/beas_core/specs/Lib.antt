@@ -1,5 +1,16 @@
+pub mod Classes
+pub mod Coverage
+pub mod Derivations
+pub mod Fits
 pub mod Found
+pub mod Full
 pub mod Groups
+pub mod Numbers
 pub mod Order
+pub mod Reads
 pub mod Refusals
 pub mod Sets
+pub mod Shapes
+pub mod Spelling
+pub mod Trees
+pub mod Valuations

@@ -1,4 +1,5 @@
 pub mod InTuples
 pub mod Keeping
 pub mod Places
+pub mod Probing
 pub mod Stretches

@@ -4,3 +4,5 @@
 mod columns;
 mod store;
 mod tuples;
+
+pub use store::Store;

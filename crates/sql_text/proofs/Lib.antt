@@ -1,0 +1,4 @@
+pub mod Leads
+pub mod Parts
+pub mod Quotes
+pub mod Steps

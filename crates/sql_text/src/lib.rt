@@ -1,6 +1,13 @@
 //! The text of a script: its tokens, and the pieces between semicolons.
 #![tactic(auto)]
 
+mod lexer;
+mod pieces;
+mod runs;
+#[cfg(test)]
+mod tests;
 mod token;
 
+pub use lexer::lex;
+pub use pieces::split;
 pub use token::{Piece, Token, TokenKind};

@@ -1,0 +1,35 @@
+-- What texts spell: identifiers, and the bound of a constraint.
+--     name_of text       the text in lower case, where it is an identifier: a word that isn't reserved
+--     limit_in digits    the value of decimal digits, where it is from 1 to 4294967295
+use Rattle.std.specs.Prelude.{◌&&◌, ◌||◌, ◌==◌, Bool, not, if◌then◌else◌, nat_le, ℕ, List, [], ◌∷◌, length, codes, Option, Some, None, slice_index}
+use Rattle.std.specs.List.{list_any, list_all}
+use Rattle.std.specs.Char.{is_ascii_digit, is_ascii_alphabetic}
+use Rattle.std.specs.Str.{str_to_ascii_lowercase, bytes_eq}
+use Rattle.std.specs.Str.Parse.{digits_value}
+
+abbrev pub begins_word : ℕ → Bool
+begins_word c = is_ascii_alphabetic c || (c == 95)
+
+abbrev pub continues_word : ℕ → Bool
+continues_word c = begins_word c || is_ascii_digit c
+
+abbrev pub is_word : List ℕ → Bool
+is_word text = begins_word (slice_index text 0) && list_all continues_word text && nat_le (length text) 64
+
+unfoldable pub reserved : List (List ℕ)
+reserved =
+    codes "access" ∷ codes "all" ∷ codes "and" ∷ codes "as" ∷ codes "between" ∷ codes "by" ∷ codes "case" ∷ codes "create" ∷ codes "cross"
+    ∷ codes "delete" ∷ codes "discover" ∷ codes "distinct" ∷ codes "drop" ∷ codes "except" ∷ codes "exists" ∷ codes "explain" ∷ codes "fetch"
+    ∷ codes "from" ∷ codes "full" ∷ codes "group" ∷ codes "having" ∷ codes "in" ∷ codes "inner" ∷ codes "insert" ∷ codes "int" ∷ codes "integer"
+    ∷ codes "intersect" ∷ codes "into" ∷ codes "is" ∷ codes "join" ∷ codes "left" ∷ codes "like" ∷ codes "limit" ∷ codes "load" ∷ codes "natural"
+    ∷ codes "not" ∷ codes "null" ∷ codes "offset" ∷ codes "on" ∷ codes "or" ∷ codes "order" ∷ codes "outer" ∷ codes "right" ∷ codes "select"
+    ∷ codes "table" ∷ codes "text" ∷ codes "union" ∷ codes "using" ∷ codes "values" ∷ codes "where" ∷ codes "with" ∷ []
+
+abbrev pub is_reserved : List ℕ → Bool
+is_reserved word = list_any (λ r. bytes_eq r word) reserved
+
+abbrev pub name_of : List ℕ → Option (List ℕ)
+name_of text = if is_word text && not (is_reserved (str_to_ascii_lowercase text)) then Some (str_to_ascii_lowercase text) else None
+
+abbrev pub limit_in : List ℕ → Option ℕ
+limit_in digits = if list_all is_ascii_digit digits && nat_le 1 (digits_value 10 digits) && nat_le (digits_value 10 digits) 4294967295 then Some (digits_value 10 digits) else None

@@ -1,0 +1,4 @@
+pub mod Contents
+pub mod Counts
+pub mod Parts
+pub mod Room

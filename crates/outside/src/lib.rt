@@ -1,0 +1,15 @@
+//! What lies outside the engine: files that are read whole, sinks that bytes are put into, and kinds of both in memory.
+#![tactic(auto)]
+
+mod files;
+mod memory_files;
+mod memory_sink;
+mod shelf;
+mod sink;
+#[cfg(test)]
+mod tests;
+
+pub use files::{Files, FilesError};
+pub use memory_files::{MemoryFiles, SteadyFiles};
+pub use memory_sink::{MemorySink, SteadySink};
+pub use sink::{Sink, SinkError};

@@ -1,0 +1,241 @@
+// Cutting a script into tokens.
+ghost use Rattle.sql_text.specs.Cuts.{BeginsToken, StandsAt, LeadsAt, mark_of};
+ghost use Rattle.sql_text.specs.Tokens.{tokens_of, begins_word, doubled, quote, quoted_text, marks};
+ghost use Rattle.std.specs.Char.{is_ascii_digit, is_ascii_whitespace};
+ghost use Rattle.std.specs.List.{starts_with};
+ghost use Rattle.std.specs.Prelude.{◌≡◌, ◌≢◌, ◌==◌, ◌<◌, ◌≤◌, ◌+◌, ◌-◌, [], ◌∷◌, false, length, drop, codes, eqb, find, option_map, slice_index, slice_range, IfOk, IfSome, IsCharBoundary, IsTrue};
+
+use crate::runs::{InChar, InLine, InNumber, InWord, Unquoted, begins_word, run_end};
+use crate::token::{Token, TokenKind};
+use beas_core::{List, NoMemory, Text};
+use std::alloc::Global;
+
+/// The most bytes of a script.
+const LONGEST_SCRIPT: usize = 16_777_216;
+
+/// The most bytes of a word.
+const LONGEST_WORD: usize = 64;
+
+/// What a place of a script begins with: white space or a comment up to a place, or a token.
+#[derive(Drop)]
+enum First {
+    Blank(usize),
+    Lexeme(Token),
+}
+
+/// The content of a quoted text, and where its last quote ends.
+#[derive(Drop)]
+struct Content {
+    text: Text,
+    to: usize,
+}
+
+/// The tokens of a script of at most 16,777,216 bytes, in order.
+pub fn lex(alloc: Global, source: &str) -> Result<List<Token>, NoMemory>
+    requires { length source.now ≤ LONGEST_SCRIPT }
+    ensures { IfOk result (λ tokens. tokens ≡ tokens_of source.now) }
+{
+    let mut tokens = List::new(alloc);
+    let mut at = 0;
+    while at < source.len() {
+        at = match read_first(alloc, source, at)? {
+            First::Blank(to) => to,
+            First::Lexeme(token) => {
+                let to = token.to as usize;
+                tokens.push(token)?;
+                to
+            }
+        };
+    }
+    Ok(tokens)
+}
+
+// What stands first from a place on.
+fn read_first(alloc: Global, source: &str, at: usize) -> Result<First, NoMemory>
+    requires size { length source.now ≤ LONGEST_SCRIPT }
+    requires at { at < length source.now }
+    requires cut { IsCharBoundary source.now at }
+    ensures { IfOk result (LeadsAt source.now at) }
+{
+    let bytes = source.as_bytes();
+    if bytes[at].is_ascii_whitespace() {
+        return Ok(First::Blank(at + 1));
+    }
+    if begins_comment(bytes, at) {
+        return Ok(First::Blank(run_end::<InLine>(bytes, at)));
+    }
+    Ok(First::Lexeme(lexeme(alloc, source, at)?))
+}
+
+// The token at a place where neither white space nor a comment begins.
+fn lexeme(alloc: Global, source: &str, at: usize) -> Result<Token, NoMemory>
+    requires size { length source.now ≤ LONGEST_SCRIPT }
+    requires begins { BeginsToken source.now at }
+    ensures { IfOk result (StandsAt source.now at) }
+{
+    let byte = source.as_bytes()[at];
+    if begins_word(byte) {
+        return word(alloc, source, at);
+    }
+    if byte.is_ascii_digit() {
+        return number(alloc, source, at);
+    }
+    if byte == b'\'' {
+        return quoted(alloc, source, at);
+    }
+    mark(alloc, source, at)
+}
+
+// The word, or the bad token, of the letters and digits from a place on.
+fn word(alloc: Global, source: &str, at: usize) -> Result<Token, NoMemory>
+    requires size { length source.now ≤ LONGEST_SCRIPT }
+    requires begins { BeginsToken source.now at }
+    requires class { IsTrue (begins_word (slice_index source.now at)) }
+    ensures { IfOk result (StandsAt source.now at) }
+{
+    let to = run_end::<InWord>(source.as_bytes(), at);
+    if to - at > LONGEST_WORD {
+        return plain(alloc, source, TokenKind::Bad, at, to);
+    }
+    let text = Text::from_string(source[at..to].to_ascii_lowercase(alloc)?);
+    Ok(token(TokenKind::Word, at, to, text))
+}
+
+fn number(alloc: Global, source: &str, at: usize) -> Result<Token, NoMemory>
+    requires size { length source.now ≤ LONGEST_SCRIPT }
+    requires begins { BeginsToken source.now at }
+    requires class { IsTrue (is_ascii_digit (slice_index source.now at)) }
+    ensures { IfOk result (StandsAt source.now at) }
+{
+    let to = run_end::<InNumber>(source.as_bytes(), at);
+    plain(alloc, source, TokenKind::Number, at, to)
+}
+
+// The quoted text from a place on, or all the rest as a bad token where it has no end.
+fn quoted(alloc: Global, source: &str, at: usize) -> Result<Token, NoMemory>
+    requires size { length source.now ≤ LONGEST_SCRIPT }
+    requires begins { BeginsToken source.now at }
+    requires class { slice_index source.now at ≡ quote }
+    ensures { IfOk result (StandsAt source.now at) }
+{
+    match read_content(alloc, source, at + 1)? {
+        Some(content) => Ok(token(TokenKind::Quoted, at, content.to, content.text)),
+        None => plain(alloc, source, TokenKind::Bad, at, source.len()),
+    }
+}
+
+// The content of the quoted text whose first quote ends at a place, or none where the last quote is missing.
+fn read_content(alloc: Global, source: &str, from: usize) -> Result<Option<Content>, NoMemory>
+    requires from { from ≤ length source.now }
+    requires cut { IsCharBoundary source.now from }
+    ensures text { IfOk result (λ found. option_map (λ content. content.text) found ≡ quoted_text (drop from source.now)) }
+    ensures to { IfOk result (λ found. IfSome found (λ content. content.to ≡ from + length (doubled content.text) + 1)) }
+    ensures within { IfOk result (λ found. IfSome found (λ content. content.to ≤ length source.now)) }
+    ensures end { IfOk result (λ found. IfSome found (λ content. IsCharBoundary source.now content.to)) }
+{
+    let bytes = source.as_bytes();
+    let mut text = Text::new(alloc);
+    let mut at = from;
+    while at < bytes.len() {
+        let end = run_end::<Unquoted>(bytes, at);
+        if end == bytes.len() {
+            return Ok(None);
+        }
+        if !has_quote(bytes, end + 1) {
+            text.push_str(&source[at..end])?;
+            return Ok(Some(Content { text, to: end + 1 }));
+        }
+        text.push_str(&source[at..end + 1])?;
+        at = end + 2;
+    }
+    Ok(None)
+}
+
+// Whether a quote stands at a place, which may lie past the end.
+fn has_quote(bytes: &[u8], at: usize) -> bool
+    ensures { result ≡ (slice_index bytes.now at == quote) }
+{
+    at < bytes.len() && bytes[at] == b'\''
+}
+
+// The mark at a place where nothing else begins, or else the character as a bad token.
+fn mark(alloc: Global, source: &str, at: usize) -> Result<Token, NoMemory>
+    requires size { length source.now ≤ LONGEST_SCRIPT }
+    requires begins { BeginsToken source.now at }
+    requires no_word { begins_word (slice_index source.now at) ≡ false }
+    requires no_number { is_ascii_digit (slice_index source.now at) ≡ false }
+    requires no_quote { slice_index source.now at ≢ quote }
+    ensures { IfOk result (StandsAt source.now at) }
+{
+    let bytes = source.as_bytes();
+    let len = mark_len(bytes, at);
+    if len > 0 {
+        return plain(alloc, source, TokenKind::Mark, at, at + len);
+    }
+    plain(
+        alloc,
+        source,
+        TokenKind::Bad,
+        at,
+        run_end::<InChar>(bytes, at + 1),
+    )
+}
+
+// How many bytes the longest mark at a place takes, 0 where none stands there.
+fn mark_len(bytes: &[u8], at: usize) -> usize
+    requires { at < length bytes.now }
+    ensures mark { find (starts_with eqb (drop at bytes.now)) marks ≡ mark_of result (drop at bytes.now) }
+    ensures within { at + result ≤ length bytes.now }
+    ensures ascii { 0 < result → slice_index bytes.now (at + result - 1) < 128 }
+{
+    let next = if at + 1 < bytes.len() {
+        bytes[at + 1]
+    } else {
+        0
+    };
+    match bytes[at] {
+        b'<' if next == b'>' || next == b'=' => 2,
+        b'>' | b'!' if next == b'=' => 2,
+        b'(' | b')' | b',' | b';' | b'.' | b'*' | b'+' | b'-' | b'=' | b'<' | b'>' => 1,
+        _ => 0,
+    }
+}
+
+// A token whose text is its spelling.
+fn plain(
+    alloc: Global,
+    source: &str,
+    kind: TokenKind,
+    from: usize,
+    to: usize,
+) -> Result<Token, NoMemory>
+    requires size { length source.now ≤ LONGEST_SCRIPT }
+    requires order { from ≤ to }
+    requires within { to ≤ length source.now }
+    requires first { IsCharBoundary source.now from }
+    requires last { IsCharBoundary source.now to }
+    ensures { IfOk result (λ token. token ≡ record { kind = kind; from = from; to = to; text = slice_range source.now from to }) }
+{
+    let text = Text::from_str(alloc, &source[from..to])?;
+    Ok(token(kind, from, to, text))
+}
+
+fn token(kind: TokenKind, from: usize, to: usize, text: Text) -> Token
+    requires order { from ≤ to }
+    requires size { to ≤ LONGEST_SCRIPT }
+    ensures { result ≡ record { kind = kind; from = from; to = to; text = text } }
+{
+    Token {
+        kind,
+        from: from as u32,
+        to: to as u32,
+        text,
+    }
+}
+
+fn begins_comment(bytes: &[u8], at: usize) -> bool
+    requires { at < length bytes.now }
+    ensures { result ≡ starts_with eqb (drop at bytes.now) (codes "--") }
+{
+    bytes[at] == b'-' && at + 1 < bytes.len() && bytes[at + 1] == b'-'
+}

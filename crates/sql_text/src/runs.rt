@@ -1,0 +1,88 @@
+// Runs of bytes of one class.
+ghost use Rattle.sql_text.specs.Tokens.{begins_word, is_in_word, is_in_line, continues_char, quote};
+ghost use Rattle.std.specs.Char.{is_ascii_digit};
+ghost use Rattle.std.specs.List.{prefix_len};
+ghost use Rattle.std.specs.Prelude.{◌≡◌, ◌≤◌, ◌+◌, ◌==◌, not, length, drop, Bool, ℕ};
+
+/// A class of bytes.
+pub trait Class {
+    ghost test: { ℕ → Bool };
+
+    fn has(byte: u8) -> bool
+        ensures { result ≡ test byte };
+}
+
+/// The bytes of a word.
+pub struct InWord;
+
+/// The digits.
+pub struct InNumber;
+
+/// All but the line feed.
+pub struct InLine;
+
+/// All but the quote.
+pub struct Unquoted;
+
+/// The bytes of a character after its first.
+pub struct InChar;
+
+impl Class for InWord {
+    ghost test = { is_in_word };
+
+    fn has(byte: u8) -> bool {
+        begins_word(byte) || byte.is_ascii_digit()
+    }
+}
+
+impl Class for InNumber {
+    ghost test = { is_ascii_digit };
+
+    fn has(byte: u8) -> bool {
+        byte.is_ascii_digit()
+    }
+}
+
+impl Class for InLine {
+    ghost test = { is_in_line };
+
+    fn has(byte: u8) -> bool {
+        byte != b'\n'
+    }
+}
+
+impl Class for Unquoted {
+    ghost test = { λ byte. not (byte == quote) };
+
+    fn has(byte: u8) -> bool {
+        byte != b'\''
+    }
+}
+
+impl Class for InChar {
+    ghost test = { continues_char };
+
+    fn has(byte: u8) -> bool {
+        0x80 <= byte && byte < 0xC0
+    }
+}
+
+/// Whether a byte begins a word.
+pub fn begins_word(byte: u8) -> bool
+    ensures { result ≡ begins_word byte }
+{
+    byte.is_ascii_alphabetic() || byte == b'_'
+}
+
+/// Where the longest run of the class ends that begins at a place.
+pub fn run_end<C: Class>(bytes: &[u8], from: usize) -> usize
+    requires { from ≤ length bytes.now }
+    ensures len { result ≡ from + prefix_len C.test (drop from bytes.now) }
+    ensures within { result ≤ length bytes.now }
+{
+    let mut to = from;
+    while to < bytes.len() && C::has(bytes[to]) {
+        to += 1;
+    }
+    to
+}
