@@ -1,18 +1,17 @@
 -- What one row more means for a store: whether its constraint still holds, and what its index is then.
-use Rattle.std.proofs.Common.{◌≡◌, ◌≤◌, ◌<◌, ◌+◌, ◌^◌, ℕ, zero, suc, Bool, true, false, cond, leb, leb-true, List, [], ◌∷◌, ◌++◌, length, map, take, drop, get_or, filter, ◌⊎◌, inl, inr, Option, Some, None, IfSome, IsSomeAnd, Result, Ok, Err, OnOk, OnErr, refl, ap, sym, ◌∙◌, subst, arith}
-use Rattle.std.specs.List.{All, Contains}
+use Rattle.std.proofs.Common.{◌≡◌, ◌≤◌, ◌<◌, ◌^◌, ℕ, true, cond, List, [], ◌∷◌, ◌++◌, length, map, take, filter, ◌⊎◌, inl, inr, Option, Some, None, IfSome, IsSomeAnd, Result, Ok, Err, OnOk, OnErr, refl, ap, sym, ◌∙◌, subst, arith}
+use Rattle.std.specs.List.{Contains}
 use Rattle.std.specs.Option.{option_map}
 use Rattle.std.specs.declared.cmp.Ordering.{Ordering}
 use Rattle.std.specs.declared.cmp.Ordering.TheVariants.{Less, Equal, Greater}
-use Rattle.std.proofs.lemmas.Bool.{cases_lt, le-leb, lt-leb, leb-false}
-use Rattle.std.proofs.lemmas.List.{take_at, map_push, length-append, length_push}
+use Rattle.std.proofs.lemmas.Bool.{cases_lt, le-leb, lt-leb}
+use Rattle.std.proofs.lemmas.List.{take_at, map_push, length_push}
 use Rattle.std.proofs.lemmas.List.Elements.{All-push}
 use Rattle.beas_core.specs.declared.value.Value.{Value}
 use Rattle.beas_core.specs.declared.schema.Access.{Access}
 use Rattle.beas_core.specs.declared.errors.Fail.{Fail}
 use Rattle.beas_core.specs.declared.errors.Fail.TheVariants.{NoMemory as Want, Refused as Refusing}
 use Rattle.beas_core.specs.declared.refusal.Counted.TheVariants.{Rows}
-use Rattle.beas_core.specs.declared.refusal.Refusal.{Refusal}
 use Rattle.beas_core.specs.declared.refusal.Refusal.TheVariants.{BreaksBound, TooMany}
 use Rattle.beas_core.specs.Groups.{Holds, group_of, greatest, same_row, project, member_columns}
 use Rattle.beas_core.specs.Order.{row_cmp, row_cmp_total}
@@ -21,7 +20,7 @@ use Rattle.beas_core.proofs.ValueOrder.{row_cmp_tells}
 use Rattle.beas_core.proofs.Sets.{Has, Has-from_contains, Contains-from_has, Has-filter, Has-from_filter, IsInOrder-distinct, add_known, distinct_push, length-add-le}
 use Rattle.beas_core.proofs.Groups.{group_is_filter, group_push_own, begins_project, same_row_itself, length-project, project-append, Holds-push, Holds-from_greatest, greatest-from_Holds}
 use Rattle.beas_run.specs.Stretches.{begins}
-use Rattle.beas_run.specs.Store.{Kept, Fits, IsSound, HasRoom, tuples_over, tuples_of, holds, bound_refusal, insert_refusal}
+use Rattle.beas_run.specs.Store.{Kept, IsSound, HasRoom, tuples_over, tuples_of, bound_refusal, insert_refusal}
 
 -- a row that makes a set no longer is in it
 has-from_add : (k : List Value) (xs : List (List Value)) → length (add_in_order row_cmp k xs) ≤ length xs → Has xs k
@@ -58,29 +57,34 @@ in_own_group : (rows : List (List Value)) (rule : Access) (row : List Value) →
     → Has (group_of rows rule (project rule.key row)) (project (member_columns rule) row)
 in_own_group rows rule row c =
     subst (λ g. Has g (project (member_columns rule) row)) (sym (group_is_filter rows rule.key rule.fetched (project rule.key row) (length-project rule.key row)))
-        (Has-filter (begins (project rule.key row)) (tuples_over rule rows) (project (member_columns rule) row)
-            (Has-from_contains (tuples_over rule rows) (project (member_columns rule) row) c) (tuple_begins rule row))
+    (Has-filter (begins (project rule.key row)) (tuples_over rule rows) (project (member_columns rule) row)
+    (Has-from_contains (tuples_over rule rows) (project (member_columns rule) row) c) (tuple_begins rule row))
 
 in_all_groups : (rows : List (List Value)) (rule : Access) (row : List Value) → Has (group_of rows rule (project rule.key row)) (project (member_columns rule) row)
     → Contains (tuples_over rule rows) (project (member_columns rule) row)
 in_all_groups rows rule row h =
     Contains-from_has (tuples_over rule rows) (project (member_columns rule) row)
-        (Has-from_filter (begins (project rule.key row)) (tuples_over rule rows) (project (member_columns rule) row)
-            (subst (λ g. Has g (project (member_columns rule) row)) (group_is_filter rows rule.key rule.fetched (project rule.key row) (length-project rule.key row)) h)).0
+    (Has-from_filter (begins (project rule.key row)) (tuples_over rule rows) (project (member_columns rule) row)
+    (subst (λ g. Has g (project (member_columns rule) row)) (group_is_filter rows rule.key rule.fetched (project rule.key row) (length-project rule.key row)) h)).0
 
 -- the constraint holds with one row more exactly where the row's group has room
 pub holds_with_room : (rows : List (List Value)) (rule : Access) (row : List Value) → Holds rows rule
     → HasRoom rule (tuples_over rule rows) (project (member_columns rule) row) → Holds (rows ++ row ∷ []) rule
 holds_with_room rows rule row h (inl l) =
     Holds-push rows rule row h
-        (omega (arith, l, ap length (own_group rows rule row), ap length (grown_group rows rule row),
-            length-add-le row_cmp_total row_cmp_tells (project (member_columns rule) row) (group_of rows rule (project rule.key row))))
+    (omega (
+      arith,
+      l,
+      ap length (own_group rows rule row),
+      ap length (grown_group rows rule row),
+      length-add-le row_cmp_total row_cmp_tells (project (member_columns rule) row) (group_of rows rule (project rule.key row)),
+    ))
 holds_with_room rows rule row h (inr c) =
     let g = group_of rows rule (project rule.key row) in
     let fits = h (project rule.key row) in
     let same : add_in_order row_cmp (project (member_columns rule) row) g ≡ g =
-        add_known row_cmp_total row_cmp_tells (project (member_columns rule) row) g (IsInOrder-distinct row_cmp_total row_cmp_tells
-            (map (project (member_columns rule)) (filter (λ r. same_row (project rule.key r) (project rule.key row)) rows))) (in_own_group rows rule row c) in
+    add_known row_cmp_total row_cmp_tells (project (member_columns rule) row) g (IsInOrder-distinct row_cmp_total row_cmp_tells
+    (map (project (member_columns rule)) (filter (λ r. same_row (project rule.key r) (project rule.key row)) rows))) (in_own_group rows rule row c) in
     Holds-push rows rule row h (omega (arith, fits, ap length (grown_group rows rule row ∙ same)))
 
 pub room_where_holds : (rows : List (List Value)) (rule : Access) (row : List Value)
@@ -88,17 +92,19 @@ pub room_where_holds : (rows : List (List Value)) (rule : Access) (row : List Va
 room_where_holds rows rule row h =
     let g = group_of rows rule (project rule.key row) in
     let fits = h (project rule.key row) in
-    elim (cases_lt (length g) rule.bound)
-    [ inl l ↦ inl (omega (arith, l, ap length (own_group rows rule row)))
-    | inr m ↦ inr (in_all_groups rows rule row (has-from_add (project (member_columns rule) row) g (omega (arith, m, fits, ap length (grown_group rows rule row))))) ]
+    elim (cases_lt (length g) rule.bound) [
+      | inl l ↦ inl (omega (arith, l, ap length (own_group rows rule row)))
+      | inr m ↦ inr (in_all_groups rows rule row (has-from_add (project (member_columns rule) row) g (omega (arith, m, fits, ap length (grown_group rows rule row)))))
+    ]
 
 -- the refusal of a row, computed
 refused_where_broken : (rows : List (List Value)) (row : List Value) (rule : Access) → (Holds (rows ++ row ∷ []) rule → ⊥)
     → bound_refusal rows row (Some rule) ≡ Some (BreaksBound 1 rule.name (project rule.key row))
 refused_where_broken rows row rule n =
-    elim (cases_lt rule.bound (greatest (rows ++ row ∷ []) rule.key rule.fetched))
-    [ inl l ↦ ap (λ b. cond b None (Some (BreaksBound 1 rule.name (project rule.key row)))) (lt-leb _ _ l)
-    | inr m ↦ absurd (n (Holds-from_greatest (rows ++ row ∷ []) rule m)) ]
+    elim (cases_lt rule.bound (greatest (rows ++ row ∷ []) rule.key rule.fetched)) [
+      | inl l ↦ ap (λ b. cond b None (Some (BreaksBound 1 rule.name (project rule.key row)))) (lt-leb _ _ l)
+      | inr m ↦ absurd (n (Holds-from_greatest (rows ++ row ∷ []) rule m))
+    ]
 
 taken_where_holds : (rows : List (List Value)) (row : List Value) (rule : Access) → Holds (rows ++ row ∷ []) rule → bound_refusal rows row (Some rule) ≡ None
 taken_where_holds rows row rule h =
@@ -107,9 +113,10 @@ taken_where_holds rows row rule h =
 holds_where_taken : (rows : List (List Value)) (row : List Value) (rule : Option Access) → bound_refusal rows row rule ≡ None → IfSome rule (Holds (rows ++ row ∷ []))
 holds_where_taken rows row None e = tt
 holds_where_taken rows row (Some rule) e =
-    elim (cases_lt rule.bound (greatest (rows ++ row ∷ []) rule.key rule.fetched))
-    [ inl l ↦ absurd (let f = ap (λ b. cond b None (Some (BreaksBound 1 rule.name (project rule.key row)))) (lt-leb _ _ l) in let g = sym f ∙ e in cc)
-    | inr m ↦ Holds-from_greatest (rows ++ row ∷ []) rule m ]
+    elim (cases_lt rule.bound (greatest (rows ++ row ∷ []) rule.key rule.fetched)) [
+      | inl l ↦ absurd (let f = ap (λ b. cond b None (Some (BreaksBound 1 rule.name (project rule.key row)))) (lt-leb _ _ l) in let g = sym f ∙ e in cc)
+      | inr m ↦ Holds-from_greatest (rows ++ row ∷ []) rule m
+    ]
 
 below_limit : (kept : Kept) (row : List Value) (limit : ℕ) → length kept.rows < limit → insert_refusal kept row limit ≡ bound_refusal kept.rows row kept.rule
 below_limit kept row limit l = ap (λ b. cond b (Some (TooMany Rows limit)) (bound_refusal kept.rows row kept.rule)) (lt-leb _ _ l)
@@ -134,10 +141,10 @@ explained width rows o kept tuples row limit rule why view l is index (inr said)
     let inside : Kept = record { width = width; rows = rows; rule = o } in
     let up : tuples ≡ tuples_over rule rows = index ∙ ap (λ p. tuples_of p rows) is in
     let path : insert_refusal inside row limit ≡ Some (BreaksBound 1 rule.name (project rule.key row)) =
-        below_limit inside row limit l ∙ ap (bound_refusal rows row) is
-        ∙ refused_where_broken rows row rule (λ h. said.1 (subst (λ t. HasRoom rule t (project (member_columns rule) row)) (sym up) (room_where_holds rows rule row h))) in
+    below_limit inside row limit l ∙ ap (bound_refusal rows row) is
+    ∙ refused_where_broken rows row rule (λ h. said.1 (subst (λ t. HasRoom rule t (project (member_columns rule) row)) (sym up) (room_where_holds rows rule row h))) in
     inr (subst (λ k. IsSomeAnd (insert_refusal k row limit) (λ refusal. why ≡ Refusing refusal)) view
-        (subst (λ p. IsSomeAnd p (λ refusal. why ≡ Refusing refusal)) (sym path) said.0))
+    (subst (λ p. IsSomeAnd p (λ refusal. why ≡ Refusing refusal)) (sym path) said.0))
 
 pub taken_with_room : (width : ℕ) (rows : List (List Value)) (o : Option Access) (kept : Kept) (tuples : List (List Value)) (row : List Value) (limit : ℕ) (rule : Access)
     → record { width = width; rows = rows; rule = o } ≡ kept → length rows < limit → o ≡ Some rule → IfSome o (λ r. Holds rows r) → tuples ≡ tuples_of o rows
@@ -147,8 +154,8 @@ taken_with_room width rows o kept tuples row limit rule view l is h index room =
     let up : tuples ≡ tuples_over rule rows = index ∙ ap (λ p. tuples_of p rows) is in
     let now : Holds rows rule = let P : Option Access → Type 0 = λ p. IfSome p (λ r. Holds rows r) in subst P is h in
     subst (λ k. insert_refusal k row limit ≡ None) view
-        (below_limit inside row limit l ∙ ap (bound_refusal rows row) is
-        ∙ taken_where_holds rows row rule (holds_with_room rows rule row now (subst (λ t. HasRoom rule t (project (member_columns rule) row)) up room)))
+    (below_limit inside row limit l ∙ ap (bound_refusal rows row) is
+    ∙ taken_where_holds rows row rule (holds_with_room rows rule row now (subst (λ t. HasRoom rule t (project (member_columns rule) row)) up room)))
 
 -- the store with one row more
 tuples_push : (rule : Access) (rows : List (List Value)) (row : List Value) → tuples_over rule (rows ++ row ∷ []) ≡ add_in_order row_cmp (project (member_columns rule) row) (tuples_over rule rows)
@@ -164,7 +171,8 @@ grown width rows o tuples more row limit s w l f h e = record {
   wide = All-push (λ r. length r ≡ width) rows row s.wide w;
   fits = s.fits;
   holds = h;
-  index = e }
+  index = e;
+}
 
 pub sound_after_put : (r : Result (Unit {0}) Fail) (width : ℕ) (rows more_rows : List (List Value)) (o : Option Access) (kept : Kept) (tuples more : List (List Value)) (row tuple : List Value) (limit : ℕ)
     → record { width = width; rows = rows; rule = o } ≡ kept → IsSound width rows o tuples
@@ -176,10 +184,10 @@ sound_after_put (Err e) width rows more_rows o kept tuples more row tuple limit 
     subst (λ rs. IsSound width rs o more) (sym c) (subst (IsSound width rows o) (sym d) s)
 sound_after_put (Ok u) width rows more_rows o kept tuples more row tuple limit view s w n f t a b c d =
     subst (λ rs. IsSound width rs o more) (sym a)
-        (grown width rows o tuples more row limit s (w ∙ sym (ap (λ k. k.width) view))
-            (subst (λ k. length k.rows < limit) (sym view) (taken_below_limit kept row limit n)) f
-            (let P : Kept → Type 0 = λ k. IfSome k.rule (Holds (k.rows ++ row ∷ [])) in subst P (sym view) (taken_holds kept row limit n))
-            (b ∙ index o s.index (t ∙ ap (λ k. option_map (λ rule. project (member_columns rule) row) k.rule) (sym view))))
+    (grown width rows o tuples more row limit s (w ∙ sym (ap (λ k. k.width) view))
+    (subst (λ k. length k.rows < limit) (sym view) (taken_below_limit kept row limit n)) f
+    (let P : Kept → Type 0 = λ k. IfSome k.rule (Holds (k.rows ++ row ∷ [])) in subst P (sym view) (taken_holds kept row limit n))
+    (b ∙ index o s.index (t ∙ ap (λ k. option_map (λ rule. project (member_columns rule) row) k.rule) (sym view))))
   where
     index : (p : Option Access) → tuples ≡ tuples_of p rows → Some tuple ≡ option_map (λ rule. project (member_columns rule) row) p
         → add_in_order row_cmp tuple tuples ≡ tuples_of p (rows ++ row ∷ [])
@@ -198,10 +206,10 @@ sound_after_push (Err e) width rows more_rows o kept tuples row limit view s w n
     subst (λ rs. IsSound width rs o tuples) (sym c) s
 sound_after_push (Ok u) width rows more_rows o kept tuples row limit view s w n f t a c =
     subst (λ rs. IsSound width rs o tuples) (sym a)
-        (grown width rows o tuples tuples row limit s (w ∙ sym (ap (λ k. k.width) view))
-            (subst (λ k. length k.rows < limit) (sym view) (taken_below_limit kept row limit n)) f
-            (let P : Kept → Type 0 = λ k. IfSome k.rule (Holds (k.rows ++ row ∷ [])) in subst P (sym view) (taken_holds kept row limit n))
-            (index o s.index (t ∙ ap (λ k. option_map (λ rule. project (member_columns rule) row) k.rule) (sym view))))
+    (grown width rows o tuples tuples row limit s (w ∙ sym (ap (λ k. k.width) view))
+    (subst (λ k. length k.rows < limit) (sym view) (taken_below_limit kept row limit n)) f
+    (let P : Kept → Type 0 = λ k. IfSome k.rule (Holds (k.rows ++ row ∷ [])) in subst P (sym view) (taken_holds kept row limit n))
+    (index o s.index (t ∙ ap (λ k. option_map (λ rule. project (member_columns rule) row) k.rule) (sym view))))
   where
     index : (p : Option Access) → tuples ≡ tuples_of p rows → None ≡ option_map (λ rule. project (member_columns rule) row) p → tuples ≡ tuples_of p (rows ++ row ∷ [])
     index None i m = i

@@ -1,18 +1,17 @@
 -- What a probe of a store finds.
-use Rattle.std.proofs.Common.{◌≡◌, ◌≤◌, ◌<◌, ◌+◌, ◌^◌, ℕ, cond, eqb, eq-eqb, List, [], ◌∷◌, ◌++◌, length, map, take, drop, get_or, filter, Option, Some, None, IfSome, IsSomeAnd, refl, ap, sym, ◌∙◌, subst, arith}
+use Rattle.std.proofs.Common.{◌≡◌, ◌≤◌, ◌<◌, ◌+◌, ◌^◌, ℕ, cond, eq-eqb, List, [], length, map, take, drop, get_or, filter, Option, Some, None, IsSomeAnd, ap, sym, ◌∙◌, subst, arith}
 use Rattle.std.proofs.lemmas.List.{length-map}
 use Rattle.beas_core.specs.declared.value.Value.{Value}
 use Rattle.beas_core.specs.declared.schema.Access.{Access}
 use Rattle.beas_core.specs.declared.schema.AccessId.{AccessId}
 use Rattle.beas_core.specs.Found.{Found}
-use Rattle.beas_core.specs.Groups.{Holds, group_of, project, member_columns}
-use Rattle.beas_core.specs.Order.{row_cmp, row_cmp_total}
-use Rattle.beas_core.specs.Sets.{distinct}
+use Rattle.beas_core.specs.Groups.{group_of, project, member_columns}
+use Rattle.beas_core.specs.Order.{row_cmp_total}
 use Rattle.beas_core.proofs.ValueOrder.{row_cmp_tells}
 use Rattle.beas_core.proofs.Sets.{Has, Has-get_or, Has-from_distinct, Has-from_map, length-distinct-le}
 use Rattle.beas_core.proofs.Groups.{group_is_filter, length-project}
 use Rattle.beas_run.specs.Stretches.{begins}
-use Rattle.beas_run.specs.Store.{Kept, Fits, IsSound, tuples_over, tuples_of, rows_at, Knows, rule_or_none, members_at, Stands}
+use Rattle.beas_run.specs.Store.{Kept, IsSound, tuples_over, tuples_of, rows_at, Knows, rule_or_none, members_at, Stands}
 
 -- there are no more tuples than rows
 tuples_le : (o : Option Access) (rows : List (List Value)) → length (tuples_of o rows) ≤ length rows
@@ -46,11 +45,11 @@ pub probed : (width : ℕ) (rows : List (List Value)) (o : Option Access) (kept 
     → members_at kept found ≡ group_of (rows_at kept (rule_or_none kept.rule).table) (rule_or_none kept.rule) key
 probed width rows o kept tuples id key found from len view s k l e p n =
     let P : Kept → Type 0 = λ k. Knows k id → length key ≡ length (rule_or_none k.rule).key
-        → members_at k found ≡ group_of (rows_at k (rule_or_none k.rule).table) (rule_or_none k.rule) key in
+    → members_at k found ≡ group_of (rows_at k (rule_or_none k.rule).table) (rule_or_none k.rule) key in
     subst P view (λ m h.
-        ap (λ t. take found.len (drop found.place t)) (sym s.index)
-        ∙ ap (λ i. take found.len (drop i tuples)) p ∙ ap (λ i. take i (drop from tuples)) n ∙ e
-        ∙ stretch_is_group width rows o tuples id key s m h) k l
+    ap (λ t. take found.len (drop found.place t)) (sym s.index)
+    ∙ ap (λ i. take found.len (drop i tuples)) p ∙ ap (λ i. take i (drop from tuples)) n ∙ e
+    ∙ stretch_is_group width rows o tuples id key s m h) k l
 
 pub probed_within : (width : ℕ) (rows : List (List Value)) (o : Option Access) (kept : Kept) (tuples : List (List Value)) (id : AccessId) (key : List Value) (len : ℕ)
     → record { width = width; rows = rows; rule = o } ≡ kept → IsSound width rows o tuples → Knows kept id → length key ≡ length (rule_or_none kept.rule).key
@@ -72,7 +71,7 @@ inside_width rows None tuples id at e k l = absurd k
 inside_width rows (Some rule) tuples id at e k l =
     let here : Has (tuples_over rule rows) (get_or tuples at []) = subst (λ t. Has t (get_or tuples at [])) e (Has-get_or tuples at [] l) in
     let there = Has-from_map (project (member_columns rule)) rows (get_or tuples at [])
-        (Has-from_distinct row_cmp_total row_cmp_tells (map (project (member_columns rule)) rows) (get_or tuples at []) here) in
+    (Has-from_distinct row_cmp_total row_cmp_tells (map (project (member_columns rule)) rows) (get_or tuples at []) here) in
     ap length there.2 ∙ length-project (member_columns rule) there.0
 
 pub tuple_width : (width : ℕ) (rows : List (List Value)) (o : Option Access) (kept : Kept) (tuples : List (List Value)) (id : AccessId) (at : ℕ) (tuple : List Value) (rule : Access)

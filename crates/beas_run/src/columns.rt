@@ -7,7 +7,12 @@ use beas_core::{Access, ColumnId, Duplicate, List, NoMemory, Row, Value};
 use std::alloc::Global;
 
 /// Adds a row's values in some columns to a tuple.
-fn push_columns(alloc: Global, tuple: &mut Row, row: &[Value], columns: &[ColumnId]) -> Result<(), NoMemory>
+fn push_columns(
+    alloc: Global,
+    tuple: &mut Row,
+    row: &[Value],
+    columns: &[ColumnId],
+) -> Result<(), NoMemory>
     requires { All (λ column. column.0 < length row.now) columns.now }
     ensures { OnOk result (tuple.new ≡ tuple.old ++ project columns.now row.now) }
 {

@@ -12,7 +12,10 @@ ghost use Rattle.beas_run.specs.Store.{Kept, Fits, HasRoom, insert_refusal, rows
 
 use crate::columns::{key_of, tuple_of, value_of};
 use crate::tuples::Tuples;
-use beas_core::{Access, AccessId, AccessPort, ColumnId, Counted, Duplicate, Fail, Hits, Refusal, Row, Steps, Value};
+use beas_core::{
+    Access, AccessId, AccessPort, ColumnId, Counted, Duplicate, Fail, Hits, Refusal, Row, Steps,
+    Value,
+};
 use row_store::Rows;
 use std::alloc::Global;
 use std::marker::Model;
