@@ -6,12 +6,6 @@ use Rattle.beas_core.specs.declared.value.Value.{Value}
 use Rattle.beas_core.specs.declared.schema.ColumnId.{ColumnId}
 use Rattle.beas_core.specs.Groups.{value_in, has_column}
 
-pub All-append_left : {A : Type 0} (P : A → Type 0) (xs ys : List A) → All P (xs ++ ys) → All P xs
-All-append_left P xs ys h k d l = subst P (get_or_append_left xs ys d k l) (h k d (omega (arith, length-append xs ys)))
-
-pub All-append_right : {A : Type 0} (P : A → Type 0) (xs ys : List A) → All P (xs ++ ys) → All P ys
-All-append_right P xs ys h k d l = subst P (get_or-append-add xs ys k d) (h (length xs + k) d (omega (arith, length-append xs ys)))
-
 -- where a column stands
 abbrev place : ColumnId → List ColumnId → ℕ
 place c columns = position_or_len (λ x. eqb x.0 c.0) columns

@@ -17,6 +17,7 @@ use Rattle.beas_core.specs.Found.{Found}
 use Rattle.beas_core.specs.Groups.{Holds, greatest, project, member_columns}
 use Rattle.beas_core.specs.Order.{row_cmp}
 use Rattle.beas_core.specs.Sets.{distinct}
+use Rattle.beas_core.specs.Shapes.{AccessIsWellFormed}
 use Rattle.beas_run.specs.Stretches.{begins}
 
 -- the rows of the table with number 0, the number of its columns, and the constraint
@@ -25,10 +26,10 @@ pub record Kept : Type 0 where
   pub rows : List (List Value)
   pub rule : Option Access
 
--- the constraint is one of the table with number 0, and its columns are the table's
+-- the constraint is one of the table with number 0, of this many columns
 pub record Fits (rule : Access) (width : ℕ) : Type 0 where
   pub table : rule.table.0 ≡ 0
-  pub columns : All (λ column. column.0 < width) (member_columns rule)
+  pub form : AccessIsWellFormed width rule
 
 abbrev pub tuples_over : Access → List (List Value) → List (List Value)
 tuples_over rule rows = distinct row_cmp (map (project (member_columns rule)) rows)

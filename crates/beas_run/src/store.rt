@@ -51,7 +51,8 @@ fn has_room(rule: &Access, tuples: &Tuples, tuple: &Row) -> bool
 
 /// The tuple of a row over a constraint's columns, refused where its group has no room for it.
 fn admitted(alloc: Global, rule: &Access, tuples: &Tuples, row: &Row) -> Result<Row, Fail>
-    requires { All (λ column. column.0 < length row.now) (member_columns rule.now) }
+    requires key { All (λ column. column.0 < length row.now) rule.now.key }
+    requires fetched { All (λ column. column.0 < length row.now) rule.now.fetched }
     ensures tuple { IfOk result (λ tuple. tuple ≡ project (member_columns rule.now) row.now) }
     ensures room { OnOk result (HasRoom rule.now tuples.now (project (member_columns rule.now) row.now)) }
     ensures refused { IfErr result (λ why. (why ≡ Want)
@@ -98,16 +99,19 @@ impl Store {
         }
     }
 
-    /// How many rows there are.
+    /// How many rows there are. Each has the table's width.
     pub fn rows_len(&self) -> u32
-        ensures { result ≡ length self.now.rows }
+        ensures len { result ≡ length self.now.rows }
+        ensures wide { All (λ row. length row ≡ self.now.width) self.now.rows }
     {
         self.rows.len()
     }
 
-    /// The constraint, if there is one.
+    /// The constraint, if there is one: a well-formed one of this table, which holds.
     pub fn rule(&self) -> Option<&Access>
-        ensures { option_copied result ≡ self.now.rule }
+        ensures rule { option_copied result ≡ self.now.rule }
+        ensures fits { IfSome self.now.rule (λ rule. Fits rule self.now.width) }
+        ensures holds { IfSome self.now.rule (Holds self.now.rows) }
     {
         self.rule.as_ref()
     }
