@@ -1,17 +1,10 @@
 -- Columns of a constraint, and their values in its tuples.
-use Rattle.std.proofs.Common.{◌≡◌, ◌≤◌, ◌<◌, ◌+◌, ℕ, zero, suc, Bool, true, false, cond, not, eqb, ◌||◌, List, [], ◌∷◌, ◌++◌, length, take, drop, get_or, ◌⊎◌, inl, inr, refl, ap, sym, ◌∙◌, subst, arith}
-use Rattle.std.specs.List.{All, position_or_len, list_any}
-use Rattle.std.proofs.lemmas.Bool.{cases_lt}
-use Rattle.std.proofs.lemmas.List.{length-append, length-take, length-drop, get_or-append-add, get_or_append_left, get_or-take, get_or-drop}
+use Rattle.std.proofs.Common.{◌≡◌, ◌≤◌, ◌<◌, ◌+◌, ℕ, suc, Bool, true, false, cond, not, eqb, ◌||◌, List, [], ◌∷◌, ◌++◌, length, take, drop, get_or, refl, ap, sym, ◌∙◌, subst, arith}
+use Rattle.std.specs.List.{All, position_or_len}
+use Rattle.std.proofs.lemmas.List.{length-append, length-take, get_or-append-add, get_or_append_left}
 use Rattle.beas_core.specs.declared.value.Value.{Value}
 use Rattle.beas_core.specs.declared.schema.ColumnId.{ColumnId}
 use Rattle.beas_core.specs.Groups.{value_in, has_column}
-
-pub All-append_left : {A : Type 0} (P : A → Type 0) (xs ys : List A) → All P (xs ++ ys) → All P xs
-All-append_left P xs ys h k d l = subst P (get_or_append_left xs ys d k l) (h k d (omega (arith, length-append xs ys)))
-
-pub All-append_right : {A : Type 0} (P : A → Type 0) (xs ys : List A) → All P (xs ++ ys) → All P ys
-All-append_right P xs ys h k d l = subst P (get_or-append-add xs ys k d) (h (length xs + k) d (omega (arith, length-append xs ys)))
 
 -- where a column stands
 abbrev place : ColumnId → List ColumnId → ℕ
@@ -86,6 +79,7 @@ read_rest c xs ys ks zs tuple front back n at to v ek ez en ef eb wide there ea 
     let a : at ≡ place c xs = ea ∙ ap (place c) ek in
     let t : to ≡ place c ys = et ∙ ap (place c) ez in
     let long : length xs ≤ length tuple = omega (arith, wide, length-append xs ys) in
-    let found = value_in_rest c xs ys tuple v wide (omega (arith, l, a, ap length f, length-take (length xs) tuple)) there in
-    (omega (arith, found.0, t, ap length b),
-     λ r. r ∙ ap (λ u. get_or u to v) b ∙ ap (λ i. get_or (drop (length xs) tuple) i v) t ∙ sym found.1)
+    let found = value_in_rest c xs ys tuple v wide (omega (arith, l, a, ap length f, length-take (length xs) tuple)) there in (
+      omega (arith, found.0, t, ap length b),
+      λ r. r ∙ ap (λ u. get_or u to v) b ∙ ap (λ i. get_or (drop (length xs) tuple) i v) t ∙ sym found.1,
+    )

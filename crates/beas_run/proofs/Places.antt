@@ -1,9 +1,8 @@
 -- Where a row stands in a list of rows in order, or would stand.
-use Rattle.std.proofs.Common.{◌≡◌, ◌≤◌, ◌<◌, ◌+◌, ℕ, zero, suc, Bool, true, false, IsTrue, ◌↔◌, Result, Ok, Err, IfOk, is_ok, List, [], ◌∷◌, ◌++◌, length, take, drop, get_or, inl, inr, refl, ap, sym, ◌∙◌, subst, arith}
-use Rattle.std.specs.declared.cmp.Ordering.{Ordering}
+use Rattle.std.proofs.Common.{◌≡◌, ◌≤◌, ◌<◌, ◌+◌, ℕ, zero, suc, Bool, true, false, IsTrue, ◌↔◌, Result, Ok, Err, IfOk, is_ok, List, [], ◌∷◌, length, get_or, inl, inr, refl, ap, sym, ◌∙◌, subst, arith}
 use Rattle.std.specs.declared.cmp.Ordering.TheVariants.{Less, Equal, Greater}
 use Rattle.std.specs.Ordering.{is_lt, ordering_index, ordering_reverse}
-use Rattle.std.specs.List.{AllByRecursion, Contains, HoldsAt, insert, remove}
+use Rattle.std.specs.List.{Contains, HoldsAt, insert, remove}
 use Rattle.std.specs.List.Sorted.{IsNonDecreasingBy, IsPartitionPoint, IsSorted, IsSearchInRange, IsBinarySearchResult}
 use Rattle.std.proofs.lemmas.Bool.{cases_lt}
 use Rattle.std.proofs.lemmas.Cmp.{tied_itself}
@@ -12,7 +11,7 @@ use Rattle.beas_core.specs.declared.value.Value.{Value}
 use Rattle.beas_core.specs.Order.{row_cmp, row_cmp_total}
 use Rattle.beas_core.specs.Sets.{IsInOrder, add_in_order}
 use Rattle.beas_core.proofs.ValueOrder.{row_cmp_tells}
-use Rattle.beas_core.proofs.Sets.{Has, Has-from_contains, IsInOrder-at, all_at, all_from, add_at, add_known, less_from_greater, greater_from_less}
+use Rattle.beas_core.proofs.Sets.{Has, Has-from_contains, IsInOrder-at, all_at, all_from, add_at, add_known, greater_from_less}
 
 sorted_from_order : (xs : List (List Value)) → IsInOrder row_cmp xs → IsSorted row_cmp xs
 sorted_from_order xs h k d l m =
@@ -26,9 +25,10 @@ pub contains_found : (xs : List (List Value)) (x : List Value) (i : ℕ) → i <
 contains_found xs x i l h = (i, l, row_cmp_tells (get_or xs i x) x (h x))
 
 pub lacks_missed : (xs : List (List Value)) (x : List Value) (i : ℕ) → IsPartitionPoint (λ y. row_cmp y x ≡ Less) (λ y. row_cmp y x ≡ Greater) xs i → Contains xs x → ⊥
-lacks_missed xs x i p c = elim (cases_lt c.0 i)
-    [ inl l ↦ let a = p.0 c.0 x (omega arith) l in let b = ap (λ y. row_cmp y x) c.2 in let t = tied_itself row_cmp_total x in cc
-    | inr g ↦ let a = p.1 c.0 x g c.1 in let b = ap (λ y. row_cmp y x) c.2 in let t = tied_itself row_cmp_total x in cc ]
+lacks_missed xs x i p c = elim (cases_lt c.0 i) [
+  | inl l ↦ let a = p.0 c.0 x (omega arith) l in let b = ap (λ y. row_cmp y x) c.2 in let t = tied_itself row_cmp_total x in cc
+  | inr g ↦ let a = p.1 c.0 x g c.1 in let b = ap (λ y. row_cmp y x) c.2 in let t = tied_itself row_cmp_total x in cc
+]
 
 pub add_found : (xs : List (List Value)) (x : List Value) → IsInOrder row_cmp xs → Contains xs x → add_in_order row_cmp x xs ≡ xs
 add_found xs x h c = add_known row_cmp_total row_cmp_tells x xs h (Has-from_contains xs x c)
@@ -63,9 +63,10 @@ pub has_searched : (xs ys : List (List Value)) (x : List Value) (r : Result ℕ 
     → IsTrue b ↔ Contains xs x
 has_searched xs ys x (Ok i) b e h l at p t =
     (λ _. subst (λ zs. Contains zs x) e (contains_found ys x i l at), λ _. t)
-has_searched xs ys x (Err i) b e h l at p t =
-    (λ u. absurd (let f : true ≡ false = sym u ∙ t in cc),
-     λ c. absurd (lacks_missed ys x i (p (searchable ys x (subst (IsInOrder row_cmp) (sym e) h))) (subst (λ zs. Contains zs x) (sym e) c)))
+has_searched xs ys x (Err i) b e h l at p t = (
+  λ u. absurd (let f : true ≡ false = sym u ∙ t in cc),
+  λ c. absurd (lacks_missed ys x i (p (searchable ys x (subst (IsInOrder row_cmp) (sym e) h))) (subst (λ zs. Contains zs x) (sym e) c)),
+)
 
 pub add_when_found : (xs ys : List (List Value)) (x : List Value) (i : ℕ) → ys ≡ xs → IsInOrder row_cmp xs
     → i < length ys → HoldsAt (λ y. row_cmp y x ≡ Equal) ys i → xs ≡ add_in_order row_cmp x xs

@@ -1,9 +1,8 @@
 -- In a list of rows in order, those that begin with a key are neighbours.
-use Rattle.std.proofs.Common.{◌≡◌, ◌≤◌, ◌<◌, ◌+◌, ◌-◌, ℕ, zero, suc, Bool, true, false, cond, ◌&&◌, ◌||◌, List, [], ◌∷◌, ◌++◌, length, take, drop, get_or, ◌⊎◌, inl, inr, refl, ap, sym, ◌∙◌, subst, arith}
+use Rattle.std.proofs.Common.{◌≡◌, ◌≤◌, ◌<◌, ◌+◌, ◌-◌, ℕ, zero, suc, Bool, true, false, cond, ◌&&◌, List, [], ◌∷◌, length, take, drop, get_or, inl, inr, refl, ap, sym, ◌∙◌, subst, arith}
 use Rattle.std.specs.declared.cmp.Ordering.{Ordering}
 use Rattle.std.specs.declared.cmp.Ordering.TheVariants.{Less, Equal, Greater}
-use Rattle.std.specs.Ordering.{eq_by_cmp, is_eq, is_lt, ordering_then, ordering_reverse}
-use Rattle.std.specs.Cmp.Lexicographic.{slice_cmp, pointwise}
+use Rattle.std.specs.Ordering.{is_eq, is_lt, ordering_then, ordering_reverse}
 use Rattle.std.specs.List.{filter, AllWithin}
 use Rattle.std.specs.List.Sorted.{IsPartitionedBy}
 use Rattle.std.proofs.lemmas.Bool.{cases_order}
@@ -39,12 +38,13 @@ begins_between (x ∷ row) (y ∷ other) (k ∷ key) a l b = by (value_cmp k y) 
     step Less a l e rest = cc
     step Equal a l e rest = ap (λ d. is_eq d && begins key row) e ∙ rest a l
     step Greater a l e rest = cc
+
     by : (o : Ordering) → value_cmp k y ≡ o → (is_eq o && begins key other) ≡ true
         → (is_lt (row_cmp row key) ≡ false → row_cmp row other ≡ Less → begins key other ≡ true → begins key row ≡ true) → begins (k ∷ key) (x ∷ row) ≡ true
     by Less e h rest = cc
     by Equal e h rest =
         step (value_cmp x k) a (subst (λ d. ordering_then d (row_cmp row other) ≡ Less) (sym (alike_right value_cmp_total k y x e)) l)
-            (value_cmp_total.antisymm k x) (λ n m. rest n m h)
+        (value_cmp_total.antisymm k x) (λ n m. rest n m h)
     by Greater e h rest = cc
 
 less_from_lt : (d : Ordering) → is_lt d ≡ true → d ≡ Less
@@ -54,25 +54,29 @@ less_from_lt Greater e = cc
 
 -- in a list in order the rows that are less than a key come first
 pub less_partitions : (rows : List (List Value)) (key : List Value) → IsInOrder row_cmp rows → IsPartitionedBy (λ row. is_lt (row_cmp row key)) rows
-less_partitions rows key h i j d l m e = elim (cases_order i j)
-  [ inl s ↦ let P : ℕ → Type 0 = λ n. is_lt (row_cmp (get_or rows n d) key) ≡ true in subst P (sym s) e
-  | inr t ↦ elim t
-    [ inl b ↦ ap is_lt (row_cmp_total.trans (get_or rows i d) (get_or rows j d) key (IsInOrder-at row_cmp rows i j d h b m) (less_from_lt (row_cmp (get_or rows j d) key) e))
-    | inr a ↦ absurd (omega arith) ] ]
+less_partitions rows key h i j d l m e = elim (cases_order i j) [
+  | inl s ↦ let P : ℕ → Type 0 = λ n. is_lt (row_cmp (get_or rows n d) key) ≡ true in subst P (sym s) e
+  | inr t ↦ elim t [
+    | inl b ↦ ap is_lt (row_cmp_total.trans (get_or rows i d) (get_or rows j d) key (IsInOrder-at row_cmp rows i j d h b m) (less_from_lt (row_cmp (get_or rows j d) key) e))
+    | inr a ↦ absurd (omega arith)
+  ]
+]
 
 -- and of those that are not less, the ones that begin with it
 pub begins_partitions : (rows : List (List Value)) (key : List Value) (from : ℕ) → IsInOrder row_cmp rows
     → ((k : ℕ) (d : List Value) → from ≤ k → k < length rows → is_lt (row_cmp (get_or rows k d) key) ≡ false)
     → IsPartitionedBy (begins key) (drop from rows)
-begins_partitions rows key from h above i j d l m e = elim (cases_order i j)
-  [ inl s ↦ let P : ℕ → Type 0 = λ n. begins key (get_or (drop from rows) n d) ≡ true in subst P (sym s) e
-  | inr t ↦ elim t
-    [ inl b ↦
+begins_partitions rows key from h above i j d l m e = elim (cases_order i j) [
+  | inl s ↦ let P : ℕ → Type 0 = λ n. begins key (get_or (drop from rows) n d) ≡ true in subst P (sym s) e
+  | inr t ↦ elim t [
+    | inl b ↦
         let n : from + j < length rows = omega (arith, length-drop from rows) in
         let at = get_or-drop from rows i d in
         rw at (begins_between (get_or rows (from + i) d) (get_or rows (from + j) d) key (above (from + i) d (omega arith) (omega arith))
-            (IsInOrder-at row_cmp rows (from + i) (from + j) d h (omega arith) n) (ap (begins key) (sym (get_or-drop from rows j d)) ∙ e))
-    | inr a ↦ absurd (omega arith) ] ]
+        (IsInOrder-at row_cmp rows (from + i) (from + j) d h (omega arith) n) (ap (begins key) (sym (get_or-drop from rows j d)) ∙ e))
+    | inr a ↦ absurd (omega arith)
+  ]
+]
 
 none_pass : {A : Type 0} (p : A → Bool) (xs : List A) → ((k : ℕ) (d : A) → k < length xs → p (get_or xs k d) ≡ false) → filter p xs ≡ []
 none_pass p [] h = refl
@@ -101,13 +105,14 @@ pub stretch_is : (xs zs : List (List Value)) (key : List Value) (from len : ℕ)
     → take len (drop from xs) ≡ filter (begins key) xs
 stretch_is xs zs key from len e below l within first rest =
     filter_between (begins key) from len xs
-        (λ k d m. less_begins (get_or xs k d) key (less_from_lt (row_cmp (get_or xs k d) key) (below k d (omega arith) m)))
-        (λ k d m n. ap (begins key) (sym (at k d m)) ∙ first (k - from) d (omega arith) (omega arith))
-        (λ k d m n. ap (begins key) (sym (at k d (omega arith))) ∙ rest (k - from) d (omega arith) (omega (arith, long)))
-        (omega (arith, long))
+    (λ k d m. less_begins (get_or xs k d) key (less_from_lt (row_cmp (get_or xs k d) key) (below k d (omega arith) m)))
+    (λ k d m n. ap (begins key) (sym (at k d m)) ∙ first (k - from) d (omega arith) (omega arith))
+    (λ k d m n. ap (begins key) (sym (at k d (omega arith))) ∙ rest (k - from) d (omega arith) (omega (arith, long)))
+    (omega (arith, long))
   where
     long : length zs ≡ length xs - from
     long = ap length e ∙ length-drop from xs
+
     at : (k : ℕ) (d : List Value) → from ≤ k → get_or zs (k - from) d ≡ get_or xs k d
     at k d m =
         let n : from + (k - from) ≡ k = omega arith in
@@ -131,6 +136,7 @@ pub stretch_found : (xs ys zs : List (List Value)) (key : List Value) (from len 
 stretch_found xs ys zs key from len e f within below l first rest =
     let P : List (List Value) → Type 0 = λ us. AllWithin (λ row. is_lt (row_cmp row key) ≡ true) us 0 from in
     let same : take (length zs - from) (drop from zs) ≡ drop from xs = take_rest zs from ∙ ap (drop from) f in
-    let inside : from ≤ length xs = omega (arith, within, ap length e) in
-    (omega (arith, l, inside, ap length same, length-drop from xs),
-     stretch_is xs (take (length zs - from) (drop from zs)) key from len same (subst P e below) l inside first rest)
+    let inside : from ≤ length xs = omega (arith, within, ap length e) in (
+      omega (arith, l, inside, ap length same, length-drop from xs),
+      stretch_is xs (take (length zs - from) (drop from zs)) key from len same (subst P e below) l inside first rest,
+    )

@@ -4,7 +4,8 @@
 --     tuples_of rule rows             the constraint's index: the distinct tuples over its columns, in order
 --     holds rows rule                 whether the constraint holds
 --     insert_refusal kept row limit   why a row isn't taken, if it isn't
-use Rattle.std.specs.Prelude.{◌≡◌, ◌<◌, ◌≤◌, ◌+◌, ◌^◌, ◌==◌, if◌then◌else◌, ℕ, Bool, nat_le, List, [], ◌∷◌, ◌++◌, length, map, take, drop, All, Option, Some, None, IfSome, IsSomeAnd}
+use Rattle.std.specs.Prelude.{◌≡◌, ◌<◌, ◌≤◌, ◌+◌, ◌^◌, ◌==◌, if◌then◌else◌, ℕ, Bool, nat_le, List, [], ◌∷◌, ◌++◌, length, map, take, drop, All, Option, Some, None, IfSome, IsSomeAnd, ◌⊎◌, filter}
+use Rattle.std.specs.List.{Contains}
 use Rattle.beas_core.specs.declared.value.Value.{Value}
 use Rattle.beas_core.specs.declared.schema.Access.{Access}
 use Rattle.beas_core.specs.declared.schema.AccessId.{AccessId}
@@ -16,6 +17,8 @@ use Rattle.beas_core.specs.Found.{Found}
 use Rattle.beas_core.specs.Groups.{Holds, greatest, project, member_columns}
 use Rattle.beas_core.specs.Order.{row_cmp}
 use Rattle.beas_core.specs.Sets.{distinct}
+use Rattle.beas_core.specs.Shapes.{AccessIsWellFormed}
+use Rattle.beas_run.specs.Stretches.{begins}
 
 -- the rows of the table with number 0, the number of its columns, and the constraint
 pub record Kept : Type 0 where
@@ -23,10 +26,10 @@ pub record Kept : Type 0 where
   pub rows : List (List Value)
   pub rule : Option Access
 
--- the constraint is one of the table with number 0, and its columns are the table's
+-- the constraint is one of the table with number 0, of this many columns
 pub record Fits (rule : Access) (width : ℕ) : Type 0 where
   pub table : rule.table.0 ≡ 0
-  pub columns : All (λ column. column.0 < width) (member_columns rule)
+  pub form : AccessIsWellFormed width rule
 
 abbrev pub tuples_over : Access → List (List Value) → List (List Value)
 tuples_over rule rows = distinct row_cmp (map (project (member_columns rule)) rows)
@@ -54,6 +57,10 @@ bound_refusal rows row (Some rule) = if holds (rows ++ row ∷ []) rule then Non
 -- a row too many is refused first
 abbrev pub insert_refusal : Kept → List Value → ℕ → Option Refusal
 insert_refusal kept row limit = if nat_le limit (length kept.rows) then Some (TooMany Rows limit) else bound_refusal kept.rows row kept.rule
+
+-- the group of a tuple has room for it, or has it already
+abbrev pub HasRoom : Access → List (List Value) → List Value → Type 0
+HasRoom rule tuples tuple = (length (filter (begins (take (length rule.key) tuple)) tuples) < rule.bound) ⊎ Contains tuples tuple
 
 -- as an index that plans read through
 abbrev pub rows_at : Kept → TableId → List (List Value)

@@ -7,7 +7,12 @@ use beas_core::{Access, ColumnId, Duplicate, List, NoMemory, Row, Value};
 use std::alloc::Global;
 
 /// Adds a row's values in some columns to a tuple.
-fn push_columns(alloc: Global, tuple: &mut Row, row: &[Value], columns: &[ColumnId]) -> Result<(), NoMemory>
+fn push_columns(
+    alloc: Global,
+    tuple: &mut Row,
+    row: &[Value],
+    columns: &[ColumnId],
+) -> Result<(), NoMemory>
     requires { All (λ column. column.0 < length row.now) columns.now }
     ensures { OnOk result (tuple.new ≡ tuple.old ++ project columns.now row.now) }
 {
@@ -19,7 +24,7 @@ fn push_columns(alloc: Global, tuple: &mut Row, row: &[Value], columns: &[Column
 
 /// A row's values in the key columns of a constraint.
 pub fn key_of(alloc: Global, rule: &Access, row: &Row) -> Result<Row, NoMemory>
-    requires { All (λ column. column.0 < length row.now) (member_columns rule.now) }
+    requires { All (λ column. column.0 < length row.now) rule.now.key }
     ensures { IfOk result (λ key. key ≡ project rule.now.key row.now) }
 {
     let mut key = List::new(alloc);
@@ -29,7 +34,8 @@ pub fn key_of(alloc: Global, rule: &Access, row: &Row) -> Result<Row, NoMemory>
 
 /// A row's values in the key columns of a constraint and then in the columns that it fetches.
 pub fn tuple_of(alloc: Global, rule: &Access, row: &Row) -> Result<Row, NoMemory>
-    requires { All (λ column. column.0 < length row.now) (member_columns rule.now) }
+    requires key { All (λ column. column.0 < length row.now) rule.now.key }
+    requires fetched { All (λ column. column.0 < length row.now) rule.now.fetched }
     ensures { IfOk result (λ tuple. tuple ≡ project (member_columns rule.now) row.now) }
 {
     let mut tuple = key_of(alloc, rule, row)?;

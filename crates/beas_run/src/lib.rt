@@ -7,9 +7,11 @@ mod lists;
 mod numbers;
 mod query;
 mod reading;
+mod store;
 mod tokens;
 mod tuples;
 
 pub use form::{Condition, Form};
 pub use query::{Query, Test};
 pub use reading::form_of;
+pub use store::Store;

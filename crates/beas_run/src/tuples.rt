@@ -80,6 +80,7 @@ impl Tuples {
     /// The tuples that begin with a key: in value order they are neighbours.
     pub fn stretch(&self, key: &[Value]) -> Stretch
         ensures within { result.from + result.len ≤ length self.now }
+        ensures len { result.len ≡ length (filter (begins key.now) self.now) }
         ensures members { take result.len (drop result.from self.now) ≡ filter (begins key.now) self.now }
     {
         let from = first_from(&self.items, key);
@@ -111,11 +112,14 @@ impl Tuples {
         }
     }
 
-    /// Takes a tuple out again.
-    pub fn remove(&mut self, at: usize)
-        requires { at < length self.old }
-        ensures { self.new ≡ remove self.old at }
+    /// Takes the tuple at this place out again, if there is one.
+    pub fn undo(&mut self, place: Option<usize>)
+        requires { IfSome place (λ at. at < length self.old) }
+        ensures none { IsNone place → self.new ≡ self.old }
+        ensures some { IfSome place (λ at. self.new ≡ remove self.old at) }
     {
-        self.items.remove(at);
+        if let Some(at) = place {
+            self.items.remove(at);
+        }
     }
 }
