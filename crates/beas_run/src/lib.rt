@@ -4,6 +4,7 @@
 mod columns;
 mod form;
 mod lists;
+mod names;
 mod numbers;
 mod query;
 mod reading;
@@ -12,6 +13,7 @@ mod tokens;
 mod tuples;
 
 pub use form::{Condition, Form};
+pub use names::{all_differ, column_number, column_numbers, different_numbers, tests_of};
 pub use query::{Query, Test};
 pub use reading::form_of;
 pub use store::Store;
