@@ -19,7 +19,7 @@ use Rattle.beas_run.specs.declared.query.Test.{Test}
 use Rattle.beas_run.specs.declared.query.Query.{Query}
 use Rattle.beas_run.specs.Forms.{all_some}
 use Rattle.beas_run.specs.Queries.{open_column, is_served, full_answer, reads}
-use Rattle.beas_run.specs.Store.{insert_refusal}
+use Rattle.beas_run.specs.Store.{Kept, insert_refusal}
 
 -- the table, its rows in the order of insertion, and the constraint
 pub record Relation : Type 0 where
@@ -27,6 +27,10 @@ pub record Relation : Type 0 where
   pub columns : List (List ℕ)
   pub rows : List (List Value)
   pub rule : Option Access
+
+-- as the store of the table keeps it
+abbrev pub kept_of : Relation → Kept
+kept_of relation = record { width = length relation.columns; rows = relation.rows; rule = relation.rule }
 
 pub record Outcome : Type 0 where
   pub state : Option Relation
@@ -103,7 +107,7 @@ append relation row None = record { state = Some (record relation { rows = relat
 abbrev pub insert : Relation → List ℕ → List Value → Outcome
 insert relation table row =
     if bytes_eq relation.name table && (length row == length relation.columns)
-    then append relation row (insert_refusal (record { width = length relation.columns; rows = relation.rows; rule = relation.rule }) row most_rows)
+    then append relation row (insert_refusal (kept_of relation) row most_rows)
     else refused (Some relation) Syntax
 
 -- ---- SELECT

@@ -9,6 +9,7 @@ mod numbers;
 mod query;
 mod reading;
 mod store;
+mod table;
 mod tokens;
 mod tuples;
 
@@ -17,3 +18,4 @@ pub use names::{all_differ, column_number, column_numbers, different_numbers, te
 pub use query::{Query, Test};
 pub use reading::form_of;
 pub use store::Store;
+pub use table::Table;
