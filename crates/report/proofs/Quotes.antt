@@ -1,6 +1,6 @@
 -- How a text is doubled, part by part.
-use Rattle.std.proofs.Common.{◌≡◌, ◌++◌, ◌∷◌, [], List, ℕ, ◌<◌, ◌+◌, length, get_or, refl, ap, ◌∙◌, sym, arith, eqb, false, append_assoc, append-nil, add-one, suc, Option, Some, None}
-use Rattle.std.specs.Prelude.{◌≢◌, MatchOption}
+use Rattle.std.proofs.Common.{◌≡◌, ◌++◌, ◌∷◌, [], List, ℕ, ◌<◌, length, get_or, refl, ap, ◌∙◌, sym, arith, eqb, false, append_assoc, append-nil, suc, Option, Some, None}
+use Rattle.std.specs.Prelude.{◌≢◌}
 use Rattle.std.specs.Borrow.{Bor}
 use Rattle.std.proofs.lemmas.Bool.Decides.{nat_tests}
 use Rattle.std.proofs.lemmas.Str.Pattern.{split_parts, IsSplitOnceResult}

@@ -1,7 +1,7 @@
 -- The texts of refusals, as bytes.
 --     literal_text value        a value as a literal: a number in decimal, a text in quotes with its quotes doubled
 --     refusal_parts why         the parts of what a report says of a refusal after its number
-use Rattle.std.specs.Prelude.{◌≡◌, ◌==◌, if◌then◌else◌, ℕ, Bool, true, false, List, [], ◌∷◌, ◌++◌, map, codes, decimal, Option, Some, None}
+use Rattle.std.specs.Prelude.{◌==◌, if◌then◌else◌, ℕ, Bool, true, false, List, [], ◌∷◌, ◌++◌, map, codes, decimal, Option, Some, None}
 use Rattle.std.specs.Fmt.{signed_decimal}
 use Rattle.std.specs.List.{flat_map}
 use Rattle.beas_core.specs.declared.value.Value.{Value}

@@ -5,5 +5,7 @@ mod joined;
 mod parts;
 mod refusals;
 mod reports;
+#[cfg(test)]
+mod tests;
 
 pub use reports::{Report, text};

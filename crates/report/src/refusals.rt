@@ -1,5 +1,5 @@
 // What a report says of a refusal.
-ghost use Rattle.std.specs.Prelude.{◌≡◌, ◌++◌, [], ◌∷◌, OnOk, codes, decimal, map, Option, None, Some};
+ghost use Rattle.std.specs.Prelude.{◌≡◌, ◌++◌, [], ◌∷◌, OnOk, codes, decimal, map};
 ghost use Rattle.report.specs.Texts.{joined, quoted, literal_text, spaced, counted_text, refusal_parts, column_parts, reason_parts, number_parts};
 
 use crate::joined::push_parts;

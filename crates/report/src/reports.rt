@@ -132,23 +132,12 @@ fn push_refused(text: &mut Text, number: u32, why: &Refusal) -> Result<(), NoMem
     ensures ok { OnOk result (text.new ≡ text.old
         ++ line number (codes "refused " ∷ decimal (number_of why.now) ∷ codes " " ∷ refusal_parts why.now)) }
 {
-    push_numbered(text, "", u128::from(number), " ")?;
-    push_numbered(text, "refused ", u128::from(why.number()), " ")?;
+    push_number(text, u128::from(number))?;
+    text.push_str(" refused ")?;
+    push_number(text, u128::from(why.number()))?;
+    text.push_str(" ")?;
     push_refusal(text, why)?;
     text.push_str("\n")
-}
-
-fn push_numbered<'a>(
-    text: &mut Text,
-    before: &'a str,
-    number: u128,
-    after: &'a str,
-) -> Result<(), NoMemory>
-    ensures ok { OnOk result (text.new ≡ text.old ++ before.now ++ decimal number ++ after.now) }
-{
-    text.push_str(before)?;
-    push_number(text, number)?;
-    text.push_str(after)
 }
 
 fn push_header(text: &mut Text, header: &[Name]) -> Result<(), NoMemory>

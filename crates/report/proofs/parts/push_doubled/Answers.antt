@@ -1,6 +1,5 @@
-use Rattle.std.proofs.Common.{◌++◌, ◌∷◌, [], rules, ◌∙◌, ap, sym}
+use Rattle.std.proofs.Common.{◌++◌, rules, ◌∙◌, ap, sym}
 use Rattle.std.proofs.lemmas.Result.{IfOk-equal}
-use Rattle.report.specs.Texts.{doubled}
 use Rattle.report.proofs.Quotes.{doubled_turn, doubled_end}
 use Rattle.report.proofs.parts.push_doubled.Goals as goal
 
