@@ -1,5 +1,5 @@
 -- What one row more means for a store: whether its constraint still holds, and what its index is then.
-use Rattle.std.proofs.Common.{◌≡◌, ◌≤◌, ◌<◌, ◌^◌, ℕ, true, cond, List, [], ◌∷◌, ◌++◌, length, map, take, filter, ◌⊎◌, inl, inr, Option, Some, None, IfSome, IsSomeAnd, Result, Ok, Err, OnOk, OnErr, refl, ap, sym, ◌∙◌, subst, arith}
+use Rattle.std.proofs.Common.{◌≡◌, ◌≤◌, ◌<◌, ◌^◌, ℕ, true, cond, List, [], ◌∷◌, ◌++◌, length, map, take, filter, ◌⊎◌, inl, inr, Option, Some, None, IfSome, IsSomeAnd, Result, Ok, Err, OnOk, OnErr, IfErr, refl, ap, sym, ◌∙◌, subst, arith}
 use Rattle.std.specs.List.{Contains}
 use Rattle.std.specs.Option.{option_map}
 use Rattle.std.specs.declared.cmp.Ordering.{Ordering}
@@ -12,6 +12,7 @@ use Rattle.beas_core.specs.declared.schema.Access.{Access}
 use Rattle.beas_core.specs.declared.errors.Fail.{Fail}
 use Rattle.beas_core.specs.declared.errors.Fail.TheVariants.{NoMemory as Want, Refused as Refusing}
 use Rattle.beas_core.specs.declared.refusal.Counted.TheVariants.{Rows}
+use Rattle.beas_core.specs.declared.refusal.Refusal.{Refusal}
 use Rattle.beas_core.specs.declared.refusal.Refusal.TheVariants.{BreaksBound, TooMany}
 use Rattle.beas_core.specs.Groups.{Holds, group_of, greatest, same_row, project, member_columns}
 use Rattle.beas_core.specs.Order.{row_cmp, row_cmp_total}
@@ -218,3 +219,30 @@ sound_after_push (Ok u) width rows more_rows o kept tuples row limit view s w n 
 pub on_ok : {T E : Type 0} (r : Result T E) (P : Type 0) → P → OnOk r P
 on_ok (Ok x) P p = p
 on_ok (Err e) P p = tt
+
+-- a row is refused for the bound only where the constraint would not hold
+breaks_bound : (rows : List (List Value)) (row : List Value) (o : Option Access) (n : ℕ) (access : List ℕ) (key : List Value)
+    → bound_refusal rows row o ≡ Some (BreaksBound n access key) → IsSomeAnd o (λ rule. Holds (rows ++ row ∷ []) rule → ⊥)
+breaks_bound rows row None n access key e = cc
+breaks_bound rows row (Some rule) n access key e = λ h. let f = taken_where_holds rows row rule h in let g = sym f ∙ e in cc
+
+some_of : (o : Option Refusal) (r : Refusal) → IsSomeAnd o (λ refusal. Refusing r ≡ Refusing refusal) → o ≡ Some r
+some_of None r h = absurd h
+some_of (Some s) r h = let e : r ≡ s = cc in ap Some (sym e)
+
+pub breaks_where_refused : (result : Result (Unit {0}) Fail) (kept : Kept) (row : List Value) (limit n : ℕ) (access : List ℕ) (key : List Value)
+    → IfErr result (λ why. (why ≡ Want) ⊎ IsSomeAnd (insert_refusal kept row limit) (λ refusal. why ≡ Refusing refusal))
+    → result ≡ Err (Refusing (BreaksBound n access key)) → IsSomeAnd kept.rule (λ rule. Holds (kept.rows ++ row ∷ []) rule → ⊥)
+breaks_where_refused result kept row limit n access key said e =
+    let P : Result (Unit {0}) Fail → Type 0 = λ r. IfErr r (λ why. (why ≡ Want) ⊎ IsSomeAnd (insert_refusal kept row limit) (λ refusal. why ≡ Refusing refusal)) in
+    by (subst P e said)
+  where
+    by : (Refusing (BreaksBound n access key) ≡ Want) ⊎ IsSomeAnd (insert_refusal kept row limit) (λ refusal. Refusing (BreaksBound n access key) ≡ Refusing refusal)
+        → IsSomeAnd kept.rule (λ rule. Holds (kept.rows ++ row ∷ []) rule → ⊥)
+    by (inl w) = cc
+    by (inr h) =
+        let o = some_of (insert_refusal kept row limit) (BreaksBound n access key) h in
+        elim (cases_lt (length kept.rows) limit) [
+          | inl l ↦ breaks_bound kept.rows row kept.rule n access key (sym (below_limit kept row limit l) ∙ o)
+          | inr m ↦ absurd (let f = refused_at_limit kept row limit m in let g = sym f ∙ o in cc)
+        ]

@@ -1,5 +1,6 @@
 // One table's rows, at most one constraint over them, and the constraint's index.
-ghost use Rattle.std.specs.Prelude.{◌≡◌, ◌+◌, ◌<◌, ◌≤◌, ◌↔◌, ◌⊎◌, ◌++◌, ◌∷◌, [], length, take, filter, max, All, slice_index_or, IsTrue, IfOk, IfErr, OnOk, OnErr, IsErrOf, IsErr, IsSomeAnd, IfSome, Option, Some, None};
+ghost use Rattle.std.specs.Prelude.{◌≡◌, ◌+◌, ◌<◌, ◌≤◌, ◌↔◌, ◌⊎◌, ◌++◌, ◌∷◌, [], length, take, filter, max, All, slice_index_or, IsTrue, IfOk, IfErr, OnOk, OnErr, IsErrOf, IsErr, IsSomeAnd, IfSome, Option, Some, None, ℕ, List};
+ghost use Rattle.beas_core.specs.declared.value.Value.{Value as Cell};
 ghost use Rattle.std.specs.Option.{option_copied, option_map};
 ghost use Rattle.std.specs.List.{Contains};
 ghost use Rattle.beas_core.specs.declared.errors.Fail.TheVariants.{NoMemory as Want, Refused as Refusing};
@@ -170,6 +171,8 @@ impl Store {
         ensures refused { IfErr result (λ why. (why ≡ Want) ⊎ IsSomeAnd (insert_refusal self.old row limit) (λ refusal. why ≡ Refusing refusal)) }
         ensures taken { OnOk result (insert_refusal self.old row limit ≡ None) }
         ensures holds { OnOk result (IfSome self.old.rule (Holds (self.old.rows ++ row ∷ []))) }
+        ensures breaks { (n : ℕ) (access : List ℕ) (key : List Cell) → IsErrOf result (Refusing (BreaksBound n access key))
+            → IsSomeAnd self.old.rule (λ rule. ¬ Holds (self.old.rows ++ row ∷ []) rule) }
         ensures ok { OnOk result (self.new ≡ record self.old { rows = self.old.rows ++ row ∷ [] }) }
         ensures err { OnErr result (self.new ≡ self.old) }
     {
