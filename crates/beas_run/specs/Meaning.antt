@@ -87,11 +87,17 @@ abbrev pub is_empty : {A : Type 0} → List A → Bool
 is_empty [] = true
 is_empty (x ∷ xs) = false
 
+-- the constraint, where it fetches a column and its bound is at least 1
+abbrev pub rule_with : List ℕ → List ColumnId → List ColumnId → ℕ → Option Access
+rule_with name key fetched bound =
+    if not (is_empty fetched) && nat_le 1 bound
+    then Some (record { id = record { 0 = 0 }; name = name; table = record { 0 = 0 }; key = key; fetched = fetched; bound = bound })
+    else None
+
 abbrev pub rule_of : Relation → List ℕ → List ℕ → List (List ℕ) → List (List ℕ) → ℕ → Option Access
 rule_of relation name table key fetched bound =
     if bytes_eq relation.name table && is_empty relation.rows && is_none relation.rule
-    then option_and_then (λ k. option_map (λ f. record { id = record { 0 = 0 }; name = name; table = record { 0 = 0 }; key = k; fetched = f; bound = bound })
-        (different_numbers relation.columns fetched)) (different_numbers relation.columns key)
+    then option_and_then (λ k. option_and_then (λ f. rule_with name k f bound) (different_numbers relation.columns fetched)) (different_numbers relation.columns key)
     else None
 
 abbrev pub constrain : Relation → Option Access → Outcome

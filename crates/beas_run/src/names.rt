@@ -1,5 +1,6 @@
 // Columns by name and by number.
-ghost use Rattle.std.specs.Prelude.{◌≡◌, ◌≤◌, ◌^◌, ◌<◌, length, bytes_eq, IfOk, IfSome, map, All};
+ghost use Rattle.std.specs.Prelude.{◌≡◌, ◌≤◌, ◌^◌, ◌<◌, length, bytes_eq, IfOk, IfSome, IsTrue, map, All};
+ghost use Rattle.beas_core.specs.Shapes.{EachOnce};
 ghost use Rattle.std.specs.List.{list_any};
 ghost use Rattle.beas_core.specs.Groups.{has_column};
 ghost use Rattle.beas_run.specs.Forms.{all_some};
@@ -49,6 +50,13 @@ fn has_column(columns: &[ColumnId], column: ColumnId) -> bool
 }
 
 /// Whether no column stands twice.
+fn once(columns: &[ColumnId]) -> bool
+    ensures value { result ≡ numbers_differ columns.now }
+    ensures once { IsTrue result → EachOnce columns.now }
+{
+    numbers_differ(columns)
+}
+
 fn numbers_differ(columns: &[ColumnId]) -> bool
     ensures { result ≡ numbers_differ columns.now }
 {
@@ -105,11 +113,12 @@ pub fn different_numbers(
     requires { length columns.now ≤ 64 }
     ensures numbers { IfOk result (λ numbers. numbers ≡ different_numbers columns.now names.now) }
     ensures below { IfOk result (λ numbers. IfSome numbers (All (λ column. column.0 < length columns.now))) }
+    ensures once { IfOk result (λ numbers. IfSome numbers EachOnce) }
 {
     let Some(numbers) = column_numbers(alloc, columns, names)? else {
         return Ok(None);
     };
-    if numbers_differ(numbers.as_slice()) {
+    if once(numbers.as_slice()) {
         Ok(Some(numbers))
     } else {
         Ok(None)

@@ -1,13 +1,14 @@
 // What statements do to the table.
-ghost use Rattle.std.specs.Prelude.{◌≡◌, ◌≤◌, ◌+◌, [], length, IfOk, OnOk, Some, None, IfSome};
-ghost use Rattle.beas_run.specs.Meaning.{create_table, rule_of, constrain, insert, query_of, step, step_on};
+ghost use Rattle.std.specs.Prelude.{◌≡◌, ◌≤◌, ◌<◌, ◌+◌, ℕ, [], length, All, IfOk, OnOk, Some, None, IfSome};
+ghost use Rattle.beas_core.specs.Shapes.{EachOnce};
+ghost use Rattle.beas_run.specs.Meaning.{create_table, rule_of, rule_with, constrain, insert, query_of, step, step_on};
 ghost use Rattle.beas_run.specs.Store.{Fits};
 
 use crate::form::Form;
 use crate::names::{all_differ, different_numbers};
 use crate::selection::select;
 use crate::table::Table;
-use beas_core::{Access, AccessId, Fail, List, Name, NoMemory, Refusal, Row, Steps, TableId};
+use beas_core::{Access, AccessId, ColumnId, Fail, List, Name, NoMemory, Refusal, Row, Steps, TableId};
 use report::Report;
 use std::alloc::Global;
 use std::sync::ledger::Ledger;
@@ -143,14 +144,30 @@ fn rule_of(
     let Some(fetched) = different_numbers(alloc, table.columns(), fetched.as_slice())? else {
         return Ok(None);
     };
-    Ok(Some(Access {
+    Ok(rule_with(name, key, fetched, bound))
+}
+
+fn rule_with(
+    name: Name,
+    key: List<ColumnId>,
+    fetched: List<ColumnId>,
+    bound: u32,
+) -> Option<Access>
+    ensures rule { result ≡ rule_with name key fetched bound }
+    ensures fits { (width : ℕ) → EachOnce key → EachOnce fetched → All (λ c. c.0 < width) key → All (λ c. c.0 < width) fetched
+        → IfSome result (λ rule. Fits rule width) }
+{
+    if fetched.is_empty() || bound == 0 {
+        return None;
+    }
+    Some(Access {
         id: AccessId(0),
         name,
         table: TableId(0),
         key,
         fetched,
         bound,
-    }))
+    })
 }
 
 fn insert(
