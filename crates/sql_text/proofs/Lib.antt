@@ -1,4 +1,5 @@
 pub mod Leads
 pub mod Parts
 pub mod Quotes
+pub mod Spans
 pub mod Steps

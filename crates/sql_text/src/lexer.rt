@@ -1,9 +1,10 @@
 // Cutting a script into tokens.
 ghost use Rattle.sql_text.specs.Cuts.{BeginsToken, StandsAt, LeadsAt, mark_of};
+ghost use Rattle.sql_text.specs.Spans.{AreInOrder, IsSpelled};
 ghost use Rattle.sql_text.specs.Tokens.{tokens_of, begins_word, doubled, quote, quoted_text, marks};
 ghost use Rattle.std.specs.Char.{is_ascii_digit, is_ascii_whitespace};
 ghost use Rattle.std.specs.List.{starts_with};
-ghost use Rattle.std.specs.Prelude.{◌≡◌, ◌≢◌, ◌==◌, ◌<◌, ◌≤◌, ◌+◌, ◌-◌, [], ◌∷◌, false, length, drop, codes, eqb, find, option_map, slice_index, slice_range, IfOk, IfSome, IsCharBoundary, IsTrue};
+ghost use Rattle.std.specs.Prelude.{◌≡◌, ◌≢◌, ◌==◌, ◌<◌, ◌≤◌, ◌+◌, ◌-◌, [], ◌∷◌, false, length, drop, codes, eqb, find, option_map, slice_index, slice_range, All, IfOk, IfSome, IsCharBoundary, IsTrue};
 
 use crate::runs::{InChar, InLine, InNumber, InWord, Unquoted, begins_word, run_end};
 use crate::token::{Token, TokenKind};
@@ -30,10 +31,14 @@ struct Content {
     to: usize,
 }
 
-/// The tokens of a script of at most 16,777,216 bytes, in order.
+/// The tokens of a script of at most 16,777,216 bytes, in order; what is no token by the lexical rules stands among
+/// them as a bad token. Fails only where memory is wanting.
 pub fn lex(alloc: Global, source: &str) -> Result<List<Token>, NoMemory>
     requires { length source.now ≤ LONGEST_SCRIPT }
-    ensures { IfOk result (λ tokens. tokens ≡ tokens_of source.now) }
+    ensures tokens { IfOk result (λ tokens. tokens ≡ tokens_of source.now) }
+    ensures in_order { IfOk result (λ tokens. AreInOrder 0 tokens (length source.now)) }
+    ensures spelled { IfOk result (λ tokens. All (IsSpelled source.now) tokens) }
+    ensures few { IfOk result (λ tokens. length tokens ≤ length source.now) }
 {
     let mut tokens = List::new(alloc);
     let mut at = 0;
