@@ -8,6 +8,7 @@ mod names;
 mod numbers;
 mod query;
 mod reading;
+mod script;
 mod selection;
 mod statement;
 mod store;
