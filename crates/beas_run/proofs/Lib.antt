@@ -5,5 +5,6 @@ pub mod Keeping
 mod Once
 pub mod Places
 pub mod Probing
+mod Progress
 mod Selections
 pub mod Stretches

@@ -1,6 +1,7 @@
 pub mod Endings
 pub mod Forms
 pub mod Meaning
+pub mod NoScripts
 pub mod Queries
 pub mod Runs
 pub mod Scripts

@@ -3,8 +3,9 @@
 --     line status            what is said where a run has no script
 --     Ran ..                 what a run sends and reads, over its script
 --     HasScript ..           which script that is
-use Rattle.std.specs.Prelude.{◌≡◌, ◌==◌, ◌<◌, ◌≤◌, ◌+◌, ◌++◌, ◌⊎◌, ℕ, Bool, true, List, [], ◌∷◌, length, codes, slice_index, if◌then◌else◌, Option, Some, None, IsSomeAnd}
+use Rattle.std.specs.Prelude.{◌≡◌, ◌≢◌, ◌==◌, ◌<◌, ◌≤◌, ◌+◌, ◌++◌, ◌⊎◌, ℕ, Bool, true, List, [], ◌∷◌, length, codes, slice_index, if◌then◌else◌, Option, Some, None, IsSomeAnd}
 use Rattle.std.specs.Str.{IsUtf8}
+use Rattle.outside.specs.Counts.{RoseBy}
 use Rattle.outside.specs.Parts.{SentPart}
 use Rattle.beas_run.specs.Scripts.{out_of, cost_of, any_refused}
 
@@ -24,6 +25,18 @@ line status =
     else (if status == 3 then codes "beas: cannot read the script\n"
     else (if status == 6 then codes "beas: the script is longer than 16777216 bytes\n"
     else (if status == 7 then codes "beas: the script is not UTF-8\n" else [])))
+
+-- the script is longer than a script may be; where contents aren't told, one byte more was taken
+pub record IsTooLong (told : Bool) (content : Option (List ℕ)) (taken_before taken_after : ℕ) : Type 0 where
+  pub longer : told ≡ true → IsSomeAnd content (λ bytes. longest_script < length bytes)
+  pub taken : told ≢ true → RoseBy (longest_script + 1) taken_before taken_after
+
+-- the script is no text
+pub record IsNoText (told : Bool) (content : Option (List ℕ)) : Type 0 where
+  pub bytes : List ℕ
+  pub fits : length bytes ≤ longest_script
+  pub no_text : IsUtf8 bytes → ⊥
+  pub content_is : told ≡ true → content ≡ Some bytes
 
 -- a run has no script at these
 abbrev pub IsWithout : ℕ → Type 0

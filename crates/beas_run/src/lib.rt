@@ -14,12 +14,10 @@ mod statement;
 mod store;
 mod table;
 mod tokens;
+mod top;
 mod tuples;
 
-pub use form::{Condition, Form};
-pub use names::{all_differ, column_number, column_numbers, different_numbers, tests_of};
 pub use query::{Query, Test};
-pub use reading::form_of;
-pub use statement::apply;
 pub use store::Store;
 pub use table::Table;
+pub use top::run;

@@ -3,7 +3,8 @@ ghost use Rattle.std.specs.Prelude.{◌≡◌, ◌<◌, ◌≤◌, ◌+◌, ◌-
 ghost use Rattle.outside.specs.Counts.{Rose};
 ghost use Rattle.outside.specs.Parts.{SentPart};
 ghost use Rattle.report.specs.Reports.{report_text};
-ghost use Rattle.beas_run.specs.Scripts.{outcome, is_refusal, out_from, cost_from, refused_from};
+ghost use Rattle.beas_run.specs.Scripts.{outcome, is_refusal, out_from, cost_from, refused_from, out_of, cost_of, any_refused};
+ghost use Rattle.beas_run.specs.Endings.{status_of};
 ghost use Rattle.beas_run.specs.Runs.{Ran};
 
 use crate::reading::form_of;
@@ -112,4 +113,55 @@ fn carry_out_all<O: Sink, L: Ledger>(
         refused = refused || now;
     }
     Ok(refused)
+}
+
+/// How a run over a script ends, as the status of the program.
+fn status_of(ended: Result<bool, Ending>) -> u8
+    ensures { result ≡ status_of ended }
+{
+    match ended {
+        Ok(false) => 0,
+        Ok(true) => 1,
+        Err(Ending::Fault) => 4,
+        Err(Ending::NoMemory) => 5,
+    }
+}
+
+/// Carries out the statements of a text.
+fn carry_out_text<O: Sink, L: Ledger>(
+    alloc: Global,
+    script: &str,
+    out: &mut O,
+    steps: &mut Steps<L>,
+) -> Result<bool, Ending>
+    requires { length script.now ≤ 16777216 }
+    ensures refused { IfOk result (λ refused. refused ≡ any_refused script.now) }
+    ensures part { O.told out.old ≡ true → SentPart (O.sent out.old) (O.sent out.new) (out_of script.now) }
+    ensures sent { OnOk result (O.told out.old ≡ true → O.sent out.new ≡ O.sent out.old ++ out_of script.now) }
+    ensures no_fault { OnOk result (O.faults out.new ≡ O.faults out.old) }
+    ensures fault { IsErrOf result Ending.Fault → Rose (O.faults out.old) (O.faults out.new) }
+    ensures cost { OnOk result (steps.new ≡ steps.old + cost_of script.now) }
+    ensures no_fewer { steps.old ≤ steps.new }
+    ensures at_most { steps.new ≤ steps.old + cost_of script.now }
+{
+    let tokens = lex(alloc, script)?;
+    let pieces = split(alloc, &tokens)?;
+    carry_out_all(alloc, tokens.as_slice(), pieces.as_slice(), out, steps)
+}
+
+/// Runs a script: 0 where no report is a refusal, 1 where one is, 4 where the output failed, 5 where memory was
+/// wanting.
+pub fn run_script<O: Sink, L: Ledger>(
+    alloc: Global,
+    script: &str,
+    out: &mut O,
+    steps: &mut Steps<L>,
+) -> u8
+    requires { length script.now ≤ 16777216 }
+    ensures ran { Ran script.now result (O.told out.old) (O.sent out.old) (O.sent out.new) steps.old steps.new }
+    ensures statuses { (result < 2) ⊎ (result ≡ 4) ⊎ (result ≡ 5) }
+    ensures no_fault { result < 2 → O.faults out.new ≡ O.faults out.old }
+    ensures fault { result ≡ 4 → Rose (O.faults out.old) (O.faults out.new) }
+{
+    status_of(carry_out_text(alloc, script, out, steps))
 }
