@@ -1,5 +1,7 @@
+mod Counting
 mod Cuts
 mod Digits
+mod Empty
 pub mod InTuples
 pub mod Keeping
 mod Once

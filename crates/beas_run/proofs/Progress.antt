@@ -1,6 +1,6 @@
 -- Where a run is in its script.
-use Rattle.std.proofs.Common.{◌≡◌, ◌≤◌, ◌<◌, ◌+◌, ◌++◌, List, ℕ, Option, length, drop, map, get_or}
-use Rattle.std.specs.Prelude.{slice_range}
+use Rattle.std.proofs.Common.{◌≡◌, ◌≤◌, ◌<◌, ◌+◌, ◌++◌, List, ℕ, Option, None, Result, Bool, true, subst, length, drop, map, get_or}
+use Rattle.std.specs.Prelude.{slice_range, OnOk}
 use Rattle.std.proofs.Math.Seq.{drop-cons}
 use Rattle.sql_text.specs.declared.token.Token.{Token}
 use Rattle.sql_text.specs.declared.token.Piece.{Piece}
@@ -19,3 +19,8 @@ pub part_of_all : (tokens : List Token) (pieces : List Piece) (i : ℕ) (d : Pie
 part_of_all tokens pieces i d state before now after all below joined longer sent =
     let at = rw (drop-cons pieces i d below) at joined in
     part_after before now _ _ after all at longer sent
+
+-- what was sent for these statements was sent for those, where they are the same
+pub sent_for : {T E : Type 0} (r : Result T E) (told : Bool) (before now : List ℕ) (some all : List (List Token)) → some ≡ all
+    → OnOk r (told ≡ true → now ≡ before ++ out_from 1 None some) → OnOk r (told ≡ true → now ≡ before ++ out_from 1 None all)
+sent_for r told before now some all e h = subst (λ ss. OnOk r (told ≡ true → now ≡ before ++ out_from 1 None ss)) e h
