@@ -232,9 +232,9 @@ pub found_skip : (columns items : List ColumnId) (firsts : List Test) (tuples : 
 found_skip columns items firsts tuples at l m =
     let F : List Value → List Value = λ tuple. map (value_in columns tuple) items in
     ap (map F) (
-      filter_more (met_in columns firsts) tuples at [] l
-      ∙ ap (λ b. filter (met_in columns firsts) (take at tuples) ++ cond b (get_or tuples at [] ∷ []) []) m
-      ∙ append-nil (filter (met_in columns firsts) (take at tuples))
+    filter_more (met_in columns firsts) tuples at [] l
+    ∙ ap (λ b. filter (met_in columns firsts) (take at tuples) ++ cond b (get_or tuples at [] ∷ []) []) m
+    ∙ append-nil (filter (met_in columns firsts) (take at tuples))
     )
 
 -- sort, then merge equal neighbours
@@ -261,9 +261,16 @@ pub fetched_is : (rows : List (List Value)) (rule other : Access) (query : Query
 fetched_is rows rule other query firsts items given members found answer s same there k m o i f a =
     a
     ∙ ap (distinct row_cmp) (
-      f
-      ∙ ap (λ r. found_rows (member_columns r) items firsts members) o
-      ∙ ap (λ cs. found_rows (member_columns rule) cs firsts members) i
-      ∙ ap (found_rows (member_columns rule) query.items firsts) (m ∙ ap (group_of rows rule) k)
+    f
+    ∙ ap (λ r. found_rows (member_columns r) items firsts members) o
+    ∙ ap (λ cs. found_rows (member_columns rule) cs firsts members) i
+    ∙ ap (found_rows (member_columns rule) query.items firsts) (m ∙ ap (group_of rows rule) k)
     )
     ∙ answered rows rule query firsts s same there
+
+pub kept_more : (columns items : List ColumnId) (firsts : List Test) (tuples : List (List Value)) (at : ℕ) (before after : List (List Value)) (row : List Value)
+    → at < length tuples → met_in columns firsts (get_or tuples at []) ≡ true → before ≡ found_rows columns items firsts (take at tuples)
+    → row ≡ map (value_in columns (get_or tuples at [])) items → after ≡ before ++ row ∷ [] → after ≡ found_rows columns items firsts (take (at + 1) tuples)
+kept_more columns items firsts tuples at before after row l m b r a =
+    a ∙ ap (λ t. t ++ row ∷ []) b ∙ ap (λ t. found_rows columns items firsts (take at tuples) ++ t ∷ []) r
+    ∙ sym (found_more columns items firsts tuples at l m)

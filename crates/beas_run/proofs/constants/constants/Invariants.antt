@@ -14,5 +14,5 @@ invariant-loop-test l =
       clash : contradict (l.firsts ++ drop l.test-index l.tests) ≡ contradict l.tests;
       meets : (row : List Value) → meets (l.firsts ++ drop l.test-index l.tests) row ≡ meets l.tests row;
       constants : (c : ColumnId) → constant_on (l.firsts ++ drop l.test-index l.tests) c ≡ constant_on l.tests c;
-      columns : (c : ColumnId) → has_column (columns_of (l.firsts ++ drop l.test-index l.tests)) c ≡ has_column (columns_of l.tests) c
+      columns : (c : ColumnId) → has_column (columns_of (l.firsts ++ drop l.test-index l.tests)) c ≡ has_column (columns_of l.tests) c;
     }

@@ -1,6 +1,6 @@
 use Rattle.std.proofs.Common.{◌<◌, length, ap, sym, ◌∙◌, arith}
 use Rattle.beas_core.specs.Groups.{member_columns}
-use Rattle.beas_run.proofs.Answered.{found_more, found_skip}
+use Rattle.beas_run.proofs.Answered.{kept_more, found_skip}
 use Rattle.beas_run.proofs.fetching.rows_of.Goals as goal
 use Rattle.beas_run.proofs.fetching.rows_of.Goals.{then-is_met+in_ok-items_of+in_ok-push, else-is_met}
 
@@ -11,11 +11,9 @@ loop-at-preserved g c =
     let l : c.loop-at.at < length members = omega (arith, c.loop-at-test.true, c.len-at-end.ensures, c.requires.len) in
     elim c.if-is_met.branch [
       | then-is_met+in_ok-items_of+in_ok-push w ↦
-          let e = found_more columns c.args.items.now c.args.tests.now members c.loop-at.at l (sym c.is_met.ensures ∙ w.if-is_met.true) in
-          let r = ap (λ v. v.items) w.rows-is in
-          cc
+          kept_more columns c.args.items.now c.args.tests.now members c.loop-at.at c.loop-at.rows.items c.if-is_met.rows.items w.in_ok-items_of.field-0
+          l (sym c.is_met.ensures ∙ w.if-is_met.true) c.loop-at.invariant w.in_ok-items_of.ensures (ap (λ v. v.items) w.rows-is ∙ w.in_ok-push.ensures.items)
       | else-is_met w ↦
-          let e = found_skip columns c.args.items.now c.args.tests.now members c.loop-at.at l (sym c.is_met.ensures ∙ w.if-is_met.false) in
-          let r = ap (λ v. v.items) w.rows-is in
-          cc
+          ap (λ v. v.items) w.rows-is ∙ c.loop-at.invariant
+          ∙ sym (found_skip columns c.args.items.now c.args.tests.now members c.loop-at.at l (sym c.is_met.ensures ∙ w.if-is_met.false))
     ]
