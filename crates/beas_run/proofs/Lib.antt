@@ -1,3 +1,4 @@
+pub mod Answered
 mod Counting
 mod Cuts
 mod Digits
@@ -5,8 +6,10 @@ mod Empty
 pub mod InTuples
 pub mod Keeping
 mod Once
+pub mod Opens
 pub mod Places
 pub mod Probing
 mod Progress
+pub mod Repeats
 mod Selections
 pub mod Stretches

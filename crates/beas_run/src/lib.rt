@@ -2,6 +2,9 @@
 #![tactic(auto)]
 
 mod columns;
+mod constants;
+mod coverage;
+mod fetching;
 mod form;
 mod lists;
 mod names;
