@@ -1,4 +1,5 @@
 pub mod Answered
+mod Answering
 mod Counting
 mod Cuts
 mod Digits

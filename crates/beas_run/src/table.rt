@@ -1,5 +1,5 @@
 // The one table that there is, with its rows and its constraint.
-ghost use Rattle.std.specs.Prelude.{◌≡◌, ◌≤◌, ◌<◌, ◌↔◌, ◌⊎◌, ◌++◌, ◌∷◌, [], length, bytes_eq, IfErr, OnOk, OnErr, IsErrOf, IsSomeAnd, None, Some, All};
+ghost use Rattle.std.specs.Prelude.{◌≡◌, ◌≤◌, ◌<◌, ◌↔◌, ◌⊎◌, ◌++◌, ◌∷◌, [], length, bytes_eq, IfErr, OnOk, OnErr, IsErrOf, IfSome, IsSomeAnd, None, Some};
 ghost use Rattle.std.specs.Option.{option_copied};
 ghost use Rattle.beas_core.specs.declared.errors.Fail.TheVariants.{NoMemory as Want, Refused as Refusing};
 ghost use Rattle.beas_core.specs.Groups.{member_columns};
@@ -66,7 +66,8 @@ impl Table {
 
     /// The constraint, if there is one.
     pub fn rule(&self) -> Option<&Access>
-        ensures { option_copied result ≡ self.now.rule }
+        ensures rule { option_copied result ≡ self.now.rule }
+        ensures fits { IfSome result (λ rule. Fits rule.now (length self.now.columns)) }
     {
         self.store.rule()
     }
