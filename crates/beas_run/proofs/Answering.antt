@@ -4,10 +4,10 @@ use Rattle.beas_core.specs.declared.value.Value.{Value}
 use Rattle.beas_core.specs.declared.schema.Access.{Access}
 use Rattle.report.specs.declared.reports.Report.{Report}
 use Rattle.report.specs.declared.reports.Report.TheVariants.{Answered}
-use Rattle.beas_run.specs.declared.query.Query.{Query}
-use Rattle.beas_run.specs.Queries.{is_served, full_answer, reads}
+use Rattle.single_table.specs.declared.query.Query.{Query}
+use Rattle.single_table.specs.Queries.{is_served, full_answer, reads}
 use Rattle.beas_run.specs.Meaning.{Relation, kept_of, served_answer, answer}
-use Rattle.beas_run.specs.Store.{rows_at, rule_or_none}
+use Rattle.single_table.specs.Store.{rows_at, rule_or_none}
 
 served_some : (relation : Relation) (rule : Access) (items : List (List ℕ)) (query : Query) → relation.rule ≡ Some rule → is_served (Some rule) query ≡ true
     → served_answer relation items query ≡ answer relation (Some rule) items query

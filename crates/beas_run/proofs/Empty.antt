@@ -20,22 +20,22 @@ nothing_read = refl
 
 pub ran_nothing : (status : ℕ) (told : Bool) (before : List ℕ) (steps : ℕ) → 2 ≤ status → Ran [] status told before before steps steps
 ran_nothing status told before steps early = record {
-    part = λ _. record { part = []; left = []; sent = sym (append-nil before); cut = sym nothing_written };
-    whole = λ fine. absurd (omega arith);
-    refusals = λ fine. absurd (omega arith);
-    cost = λ fine. absurd (omega arith);
-    no_fewer = omega arith;
-    at_most = omega arith;
-  }
+  part = λ _. record { part = []; left = []; sent = sym (append-nil before); cut = sym nothing_written };
+  whole = λ fine. absurd (omega arith);
+  refusals = λ fine. absurd (omega arith);
+  cost = λ fine. absurd (omega arith);
+  no_fewer = omega arith;
+  at_most = omega arith;
+}
 
 pub has_none : (status : ℕ) (name : Option (List ℕ)) (told : Bool) (content : List ℕ → Option (List ℕ)) → 2 ≤ status → HasScript [] status name told content
 has_none status name told content early = record {
-    fits = omega arith;
-    is_text = IsUtf8-nil;
-    read = λ fine. absurd (omega arith);
-    begun = inl refl;
-    without = λ _. refl;
-  }
+  fits = omega arith;
+  is_text = IsUtf8-nil;
+  read = λ fine. absurd (omega arith);
+  begun = inl refl;
+  without = λ _. refl;
+}
 
 early_status : (why : NoScript) → 2 ≤ status_of why
 early_status Words = omega arith

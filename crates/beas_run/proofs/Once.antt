@@ -20,6 +20,6 @@ once_from_differ (c ∷ columns) h =
     let two = both_true (has_column columns c) (numbers_differ columns) h in
     AllPairs-cons (λ c d. c.0 ≡ d.0 → ⊥) c columns
     (λ k d below e.
-        let same : eqb (get_or columns k d).0 c.0 ≡ true = grind (arith, nat_tests) in
-        false≢true (sym two.0 ∙ list_any_at (λ x. eqb x.0 c.0) columns k d below same))
+    let same : eqb (get_or columns k d).0 c.0 ≡ true = grind (arith, nat_tests) in
+    false≢true (sym two.0 ∙ list_any_at (λ x. eqb x.0 c.0) columns k d below same))
     (once_from_differ columns two.1)

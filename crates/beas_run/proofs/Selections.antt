@@ -2,8 +2,8 @@
 use Rattle.std.proofs.Common.{◌≡◌, List, ℕ, length, refl, Option, Some, None, Bool, true, false, Result, Ok, Err}
 use Rattle.beas_core.specs.declared.schema.Access.{Access}
 use Rattle.beas_core.specs.declared.schema.ColumnId.{ColumnId}
-use Rattle.beas_run.specs.declared.query.Query.{Query}
-use Rattle.beas_run.specs.Queries.{open_column, is_served}
+use Rattle.single_table.specs.declared.query.Query.{Query}
+use Rattle.single_table.specs.Queries.{open_column, is_served}
 use Rattle.beas_run.specs.Meaning.{Relation, Outcome, select, served_answer, answer, not_covered, refused}
 use Rattle.beas_core.specs.declared.refusal.Refusal.TheVariants.{Syntax}
 use Rattle.std.specs.Option.{option_map_or}

@@ -5,7 +5,6 @@
 --     SELECT DISTINCT id { , id } FROM id WHERE id = literal { AND id = literal }
 -- where ids is id { , id } and a literal is [ + | - ] number, with a value that an i64 has.
 use Rattle.std.specs.Prelude.{ℕ, ℤ, pos, neg_ℤ, ◌&&◌, ◌^◌, Bool, true, false, nat_le, nat_lt, if◌then◌else◌, List, [], ◌∷◌, ◌++◌, length, map, codes, bytes_eq, Option, Some, None, option_and_then, option_map}
-
 use Rattle.std.specs.List.{slice_split, before_first, after_first}
 use Rattle.std.specs.Option.{option_map_or}
 use Rattle.std.specs.Str.{all_ascii_digits}

@@ -2,8 +2,5 @@ pub mod Endings
 pub mod Forms
 pub mod Meaning
 pub mod NoScripts
-pub mod Queries
 pub mod Runs
 pub mod Scripts
-pub mod Store
-pub mod Stretches

@@ -15,11 +15,11 @@ use Rattle.report.specs.declared.reports.Report.TheVariants.{Done, Changed, Answ
 use Rattle.beas_run.specs.declared.form.Condition.{Condition}
 use Rattle.beas_run.specs.declared.form.Form.{Form}
 use Rattle.beas_run.specs.declared.form.Form.TheVariants.{CreateTable, CreateAccess, Insert, Select}
-use Rattle.beas_run.specs.declared.query.Test.{Test}
-use Rattle.beas_run.specs.declared.query.Query.{Query}
+use Rattle.single_table.specs.declared.query.Test.{Test}
+use Rattle.single_table.specs.declared.query.Query.{Query}
 use Rattle.beas_run.specs.Forms.{all_some}
-use Rattle.beas_run.specs.Queries.{open_column, is_served, full_answer, reads}
-use Rattle.beas_run.specs.Store.{Kept, insert_refusal}
+use Rattle.single_table.specs.Queries.{open_column, is_served, full_answer, reads}
+use Rattle.single_table.specs.Store.{Kept, insert_refusal}
 
 -- the table, its rows in the order of insertion, and the constraint
 pub record Relation : Type 0 where
@@ -125,7 +125,7 @@ abbrev pub query_of : Relation → List (List ℕ) → List ℕ → List Conditi
 query_of relation items table conditions =
     if bytes_eq relation.name table && nat_le (length items) most_items
     then option_and_then (λ i. option_map (λ t. record { items = i; tests = t })
-        (all_some (map (test_of relation.columns) conditions))) (column_numbers relation.columns items)
+    (all_some (map (test_of relation.columns) conditions))) (column_numbers relation.columns items)
     else None
 
 -- the name of a column, which is there
@@ -139,9 +139,10 @@ not_covered relation column = refused (Some relation) (NotCovered 1 1 (option_ma
 abbrev pub answer : Relation → Option Access → List (List ℕ) → Query → Outcome
 answer relation None items query = not_covered relation None
 answer relation (Some rule) items query = record {
-    state = Some relation;
-    report = Answered rule.bound items (full_answer relation.rows query) (reads relation.rows rule query);
-    cost = reads relation.rows rule query }
+  state = Some relation;
+  report = Answered rule.bound items (full_answer relation.rows query) (reads relation.rows rule query);
+  cost = reads relation.rows rule query;
+}
 
 abbrev pub served_answer : Relation → List (List ℕ) → Query → Outcome
 served_answer relation items query =

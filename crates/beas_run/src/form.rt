@@ -12,7 +12,10 @@ pub struct Condition {
 #[derive(Debug, Drop)]
 pub enum Form {
     /// A table whose columns are all integers.
-    CreateTable { name: Name, columns: List<Name> },
+    CreateTable {
+        name: Name,
+        columns: List<Name>,
+    },
     CreateAccess {
         name: Name,
         table: Name,
@@ -21,7 +24,10 @@ pub enum Form {
         bound: u32,
     },
     /// One row.
-    Insert { table: Name, row: Row },
+    Insert {
+        table: Name,
+        row: Row,
+    },
     /// The distinct items of the rows that meet all conditions.
     Select {
         items: List<Name>,

@@ -93,7 +93,9 @@ impl Part for Declared {
 
     fn read(alloc: Global, tokens: &[Token]) -> Result<Option<Declared>, NoMemory> {
         match tokens {
-            [name, kind] if is_word(kind, "integer") => Ok(identifier(alloc, name)?.map(|name| Declared { name })),
+            [name, kind] if is_word(kind, "integer") => Ok(identifier(alloc, name)?.map(
+                |name| Declared { name },
+            )),
             _ => Ok(None),
         }
     }
@@ -123,7 +125,10 @@ impl Part for Condition {
 
     fn read(alloc: Global, tokens: &[Token]) -> Result<Option<Condition>, NoMemory> {
         match tokens {
-            [name, sign, value @ ..] if is_mark(sign, "=") => Ok(condition(identifier(alloc, name)?, literal(value))),
+            [name, sign, value @ ..] if is_mark(sign, "=") => Ok(condition(
+                identifier(alloc, name)?,
+                literal(value),
+            )),
             _ => Ok(None),
         }
     }

@@ -7,8 +7,8 @@ ghost use Rattle.beas_run.specs.Forms.{all_some};
 ghost use Rattle.beas_run.specs.Meaning.{all_differ, column_number, column_numbers, numbers_differ, different_numbers, test_of};
 
 use crate::form::Condition;
-use crate::query::Test;
 use beas_core::{ColumnId, Duplicate, List, Name, NoMemory};
+use single_table::Test;
 use std::alloc::Global;
 
 /// Whether a name stands among some.

@@ -2,14 +2,12 @@
 ghost use Rattle.std.specs.Prelude.{◌≡◌, ◌≤◌, ◌<◌, ◌+◌, length, IfOk, OnOk, option_map};
 ghost use Rattle.beas_run.specs.Meaning.{query_of, select, not_covered, served_answer, column_name};
 
-use crate::coverage::{is_served, open_column};
-use crate::fetching::fetch;
 use crate::form::Condition;
 use crate::names::{column_numbers, tests_of};
-use crate::query::Query;
 use crate::table::Table;
 use beas_core::{ColumnId, Duplicate, List, Name, NoMemory, Refusal, Steps, Text};
 use report::Report;
+use single_table::{Query, fetch, is_served, open_column};
 use std::alloc::Global;
 use std::sync::ledger::Ledger;
 
@@ -56,11 +54,7 @@ fn column_name(
 }
 
 /// That the query isn't covered, and why.
-fn not_covered(
-    alloc: Global,
-    table: &Table,
-    column: Option<ColumnId>,
-) -> Result<Report, NoMemory>
+fn not_covered(alloc: Global, table: &Table, column: Option<ColumnId>) -> Result<Report, NoMemory>
     ensures { IfOk result (λ report. report ≡ (not_covered table.now column).report) }
 {
     Ok(Report::Refused {

@@ -2,13 +2,15 @@
 ghost use Rattle.std.specs.Prelude.{◌≡◌, ◌≤◌, ◌<◌, ◌+◌, ℕ, [], length, All, IfOk, OnOk, Some, None, IfSome};
 ghost use Rattle.beas_core.specs.Shapes.{EachOnce};
 ghost use Rattle.beas_run.specs.Meaning.{create_table, rule_of, rule_with, constrain, insert, query_of, step, step_on};
-ghost use Rattle.beas_run.specs.Store.{Fits};
+ghost use Rattle.single_table.specs.Store.{Fits};
 
 use crate::form::Form;
 use crate::names::{all_differ, different_numbers};
 use crate::selection::select;
 use crate::table::Table;
-use beas_core::{Access, AccessId, ColumnId, Fail, List, Name, NoMemory, Refusal, Row, Steps, TableId};
+use beas_core::{
+    Access, AccessId, ColumnId, Fail, List, Name, NoMemory, Refusal, Row, Steps, TableId,
+};
 use report::Report;
 use std::alloc::Global;
 use std::sync::ledger::Ledger;
@@ -53,12 +55,7 @@ fn syntax() -> Report
     }
 }
 
-fn create_table(
-    alloc: Global,
-    state: &mut Option<Table>,
-    name: Name,
-    columns: List<Name>,
-) -> Report
+fn create_table(alloc: Global, state: &mut Option<Table>, name: Name, columns: List<Name>) -> Report
     requires { state.old ≡ None }
     ensures report { result ≡ (create_table None name columns).report }
     ensures state { state.new ≡ (create_table None name columns).state }
@@ -147,12 +144,7 @@ fn rule_of(
     Ok(rule_with(name, key, fetched, bound))
 }
 
-fn rule_with(
-    name: Name,
-    key: List<ColumnId>,
-    fetched: List<ColumnId>,
-    bound: u32,
-) -> Option<Access>
+fn rule_with(name: Name, key: List<ColumnId>, fetched: List<ColumnId>, bound: u32) -> Option<Access>
     ensures rule { result ≡ rule_with name key fetched bound }
     ensures fits { (width : ℕ) → EachOnce key → EachOnce fetched → All (λ c. c.0 < width) key → All (λ c. c.0 < width) fetched
         → IfSome result (λ rule. Fits rule width) }
@@ -170,12 +162,7 @@ fn rule_with(
     })
 }
 
-fn insert(
-    alloc: Global,
-    table: &mut Table,
-    into: &Name,
-    row: Row,
-) -> Result<Report, NoMemory>
+fn insert(alloc: Global, table: &mut Table, into: &Name, row: Row) -> Result<Report, NoMemory>
     ensures report { IfOk result (λ report. report ≡ (insert table.old into.now row).report) }
     ensures state { OnOk result (Some table.new ≡ (insert table.old into.now row).state) }
 {

@@ -4,10 +4,10 @@ ghost use Rattle.std.specs.Option.{option_copied};
 ghost use Rattle.beas_core.specs.declared.errors.Fail.TheVariants.{NoMemory as Want, Refused as Refusing};
 ghost use Rattle.beas_core.specs.Groups.{member_columns};
 ghost use Rattle.beas_run.specs.Meaning.{kept_of};
-ghost use Rattle.beas_run.specs.Store.{insert_refusal, Fits};
+ghost use Rattle.single_table.specs.Store.{insert_refusal, Fits};
 
-use crate::store::Store;
 use beas_core::{Access, Fail, List, Name, Row};
+use single_table::Store;
 use std::alloc::Global;
 use std::marker::Model;
 

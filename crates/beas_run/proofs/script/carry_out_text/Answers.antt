@@ -15,5 +15,5 @@ carry_out_all-requires-clause-few g c =
 pub returns-clause-sent : goal.returns-clause-sent
 returns-clause-sent g c =
     let all : map (λ p. slice_range c.as_slice.result.now p.from p.to) c.as_slice-2.result.now ≡ statements c.args.script.now =
-        rw (c.as_slice.ensures, c.as_slice-2.ensures) (c.in_ok-pieces.ensures.parts ∙ ap statements_of c.in_ok-tokens.ensures.tokens) in
+    rw (c.as_slice.ensures, c.as_slice-2.ensures) (c.in_ok-pieces.ensures.parts ∙ ap statements_of c.in_ok-tokens.ensures.tokens) in
     sent_for c.carry_out_all.result (g.O.Sink.told c.args.out.now) (g.O.Sink.sent c.args.out.now) (g.O.Sink.sent c.carry_out_all.new.out) _ _ all c.carry_out_all.ensures.sent
