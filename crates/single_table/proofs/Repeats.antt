@@ -1,18 +1,20 @@
 -- The constants of a query: what a test says that stands before already, and what two different constants on a column mean.
-use Rattle.std.proofs.Common.{◌≡◌, ℕ, Bool, true, false, cond, not, eqb, ◌&&◌, ◌||◌, List, [], ◌∷◌, ◌++◌, map, Option, Some, None, ◌⊎◌, inl, inr, refl, ap, sym, ◌∙◌, subst, append_assoc}
-use Rattle.std.specs.List.{list_any, list_all, filter, find}
+use Rattle.std.proofs.Common.{◌≡◌, ◌<◌, ℕ, zero, suc, Bool, true, false, cond, not, eqb, ◌&&◌, ◌||◌, List, [], ◌∷◌, ◌++◌, length, get_or, map, Some, None, inl, inr, refl, ap, sym, ◌∙◌, subst, append_assoc, arith}
+use Rattle.std.specs.List.{list_any, list_all, find}
 use Rattle.std.specs.declared.cmp.Ordering.{Ordering}
 use Rattle.std.specs.declared.cmp.Ordering.TheVariants.{Less, Equal, Greater}
 use Rattle.std.specs.Ordering.{is_eq}
 use Rattle.std.proofs.lemmas.Bool.{eqb-true, eq-eqb, and_right, and_left, or_left, or_right, or_parts, or_from}
 use Rattle.std.proofs.lemmas.Cmp.{tied_itself, eq_by_cmp_equiv}
-use Rattle.std.proofs.lemmas.List.{append-nil, map-append}
+use Rattle.std.proofs.lemmas.List.{append-nil, map-append, map_push}
 use Rattle.std.proofs.lemmas.List.Folds.{list_any-append, list_all-append}
+use Rattle.std.proofs.lemmas.List.Quantifiers.{all_pairs_push}
 use Rattle.beas_core.specs.declared.value.Value.{Value}
 use Rattle.beas_core.specs.declared.schema.ColumnId.{ColumnId}
 use Rattle.beas_core.specs.Full.{same_value}
 use Rattle.beas_core.specs.Groups.{value_at, has_column}
 use Rattle.beas_core.specs.Order.{value_cmp, value_cmp_total}
+use Rattle.beas_core.specs.Shapes.{EachOnce}
 use Rattle.beas_core.proofs.ValueOrder.{value_cmp_tells}
 use Rattle.beas_core.proofs.Sets.{Has, Has-map, Has-append_left}
 use Rattle.single_table.specs.declared.query.Test.{Test}
@@ -232,6 +234,18 @@ pushed xs ys rest t v e d =
 pub pushed_clean : (xs ys : List Test) (t : Test) (v : Value) → find (on_column t.column) xs ≡ None
     → ys ≡ xs ++ record { column = t.column; value = v } ∷ [] → contradict xs ≡ false → contradict ys ≡ false
 pushed_clean xs ys t v n e c = ap contradict e ∙ contradict_new xs record { column = t.column; value = v } (none_on xs t.column n).0 c
+
+-- no column stands twice among the first tests
+apart : (columns : List ColumnId) (c : ColumnId) → has_column columns c ≡ false → (k : ℕ) (d : ColumnId) → k < length columns → (get_or columns k d).0 ≡ c.0 → ⊥
+apart [] c n k d l e = absurd (omega (arith, l))
+apart (x ∷ columns) c n zero d l e = let p = or_parts (eqb x.0 c.0) (has_column columns c) n in let q = eq-eqb x.0 c.0 e in let f = p.0 in cc
+apart (x ∷ columns) c n (suc k) d l e = apart columns c (or_parts (eqb x.0 c.0) (has_column columns c) n).1 k d (omega arith) e
+
+pub pushed_once : (xs ys : List Test) (t : Test) (v : Value) → find (on_column t.column) xs ≡ None
+    → ys ≡ xs ++ record { column = t.column; value = v } ∷ [] → EachOnce (columns_of xs) → EachOnce (columns_of ys)
+pushed_once xs ys t v n e once =
+    subst EachOnce (sym (ap columns_of e ∙ map_push (λ u. u.column) xs record { column = t.column; value = v }))
+    (all_pairs_push (λ c d. c.0 ≡ d.0 → ⊥) (columns_of xs) t.column once (apart (columns_of xs) t.column (none_on xs t.column n).0))
 
 -- ---- no row meets tests that contradict each other
 

@@ -4,6 +4,7 @@ ghost use Rattle.std.specs.Option.{option_copied};
 ghost use Rattle.beas_core.specs.declared.value.Value.{Value as Cell};
 ghost use Rattle.beas_core.specs.declared.schema.ColumnId.{ColumnId as Column};
 ghost use Rattle.beas_core.specs.Groups.{has_column};
+ghost use Rattle.beas_core.specs.Shapes.{EachOnce};
 ghost use Rattle.single_table.specs.declared.query.Test.{Test as Check};
 ghost use Rattle.single_table.specs.Queries.{meets, contradict, constant_on};
 
@@ -25,6 +26,7 @@ fn agrees(alloc: Global, firsts: &mut List<Test>, test: &Test) -> Result<bool, N
     ensures clean { IfOk result (λ fits. contradict firsts.old ≡ false → contradict firsts.new ≡ false) }
     ensures meets { IfOk result (λ fits. fits ≡ true → (rest : List Check) (row : List Cell) → meets (firsts.old ++ test.now ∷ rest) row ≡ meets (firsts.new ++ rest) row) }
     ensures constants { IfOk result (λ fits. fits ≡ true → (rest : List Check) (column : Column) → constant_on (firsts.old ++ test.now ∷ rest) column ≡ constant_on (firsts.new ++ rest) column) }
+    ensures once { IfOk result (λ fits. EachOnce (map (λ t. t.column) firsts.old) → EachOnce (map (λ t. t.column) firsts.new)) }
     ensures columns { IfOk result (λ fits. fits ≡ true → (rest : List Check) (column : Column) → has_column (map (λ t. t.column) (firsts.old ++ test.now ∷ rest)) column ≡ has_column (map (λ t. t.column) (firsts.new ++ rest)) column) }
 {
     match first_on(firsts.as_slice(), test.column) {
@@ -44,6 +46,7 @@ fn agrees(alloc: Global, firsts: &mut List<Test>, test: &Test) -> Result<bool, N
 /// different values of one column.
 pub fn constants(alloc: Global, tests: &[Test]) -> Result<Option<List<Test>>, NoMemory>
     ensures clash { IfOk result (λ found. IsNone found ↔ (contradict tests.now ≡ true)) }
+    ensures once { IfOk result (λ found. IfSome found (λ firsts. EachOnce (map (λ t. t.column) firsts))) }
     ensures meets { IfOk result (λ found. IfSome found (λ firsts. (row : List Cell) → meets firsts row ≡ meets tests.now row)) }
     ensures constants { IfOk result (λ found. IfSome found (λ firsts. (column : Column) → constant_on firsts column ≡ constant_on tests.now column)) }
     ensures columns { IfOk result (λ found. IfSome found (λ firsts. (column : Column) → has_column (map (λ t. t.column) firsts) column ≡ has_column (map (λ t. t.column) tests.now) column)) }

@@ -3,7 +3,7 @@ ghost use Rattle.std.specs.Prelude.{◌≡◌, ◌≤◌, ◌++◌, ◌&&◌, �
 ghost use Rattle.std.specs.List.{list_all};
 ghost use Rattle.std.specs.Option.{option_copied};
 ghost use Rattle.beas_core.specs.Groups.{has_column, member_columns};
-ghost use Rattle.single_table.specs.Queries.{open_column, columns_below, needed_columns, constant_columns, covered_set, has_key, serves, is_served};
+ghost use Rattle.single_table.specs.Queries.{open_column, columns_below, needed_columns, constant_columns, covered_set, has_key, is_served};
 
 use crate::query::{Query, Test};
 use beas_core::{Access, ColumnId};

@@ -1,7 +1,7 @@
 use Rattle.std.proofs.Common.{◌||◌, ◌++◌, not, ap, sym, ◌∙◌}
 use Rattle.std.specs.List.{find}
 use Rattle.single_table.specs.Queries.{contradict}
-use Rattle.single_table.proofs.Repeats.{on_column, agrees_clash, agrees_meets, agrees_constants, agrees_columns, pushed_clean}
+use Rattle.single_table.proofs.Repeats.{on_column, agrees_clash, agrees_meets, agrees_constants, agrees_columns, pushed_clean, pushed_once}
 use Rattle.single_table.proofs.constants.agrees.Goals as goal
 
 pub returns-in-Some-clause-clash : goal.returns-in-Some-clause-clash
@@ -29,3 +29,8 @@ pub returns-in_ok-push-in-None-clause-clean : goal.returns-in_ok-push-in-None-cl
 returns-in_ok-push-in-None-clause-clean c =
     λ clean. pushed_clean c.args.firsts.now c.push.new.self c.args.test.now c.in_ok-value-in-None.value
     (ap (find (on_column c.args.test.now.column)) (sym c.as_slice.ensures) ∙ sym c.in-None.ensures) c.in_ok-push-in-None.ensures.ok clean
+
+pub returns-in_ok-push-in-None-clause-once : goal.returns-in_ok-push-in-None-clause-once
+returns-in_ok-push-in-None-clause-once c =
+    λ once. pushed_once c.args.firsts.now c.push.new.self c.args.test.now c.in_ok-value-in-None.value
+    (ap (find (on_column c.args.test.now.column)) (sym c.as_slice.ensures) ∙ sym c.in-None.ensures) c.in_ok-push-in-None.ensures.ok once

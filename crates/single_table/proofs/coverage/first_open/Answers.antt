@@ -1,7 +1,6 @@
-use Rattle.std.proofs.Common.{◌≡◌, ◌&&◌, ◌++◌, Bool, not, sym, ◌∙◌, arith}
+use Rattle.std.proofs.Common.{◌&&◌, ◌++◌, Bool, not, sym, ◌∙◌, arith}
 use Rattle.beas_core.specs.declared.schema.ColumnId.{ColumnId}
 use Rattle.beas_core.specs.Groups.{has_column}
-use Rattle.single_table.specs.declared.query.Query.{Query}
 use Rattle.single_table.specs.Queries.{needed_columns, constant_columns}
 use Rattle.single_table.proofs.Opens.{first_below, none_below}
 use Rattle.single_table.proofs.coverage.first_open.Goals as goal
