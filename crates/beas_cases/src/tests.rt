@@ -1,0 +1,187 @@
+// Cases: a script, the status, and what is written. Expected texts are written by hand.
+use super::*;
+use std::marker::Brand;
+use std::test::Fail;
+
+const BASE: &str =
+    "CREATE TABLE r (a INTEGER, b INTEGER); CREATE ACCESS ab ON r (a) FETCH (b) LIMIT 2; INSERT INTO r VALUES (1, 5);";
+
+const BASE_OUT: &str = "1 ok\n2 ok\n3 ok 1 rows\n";
+
+/// Statements behind the base, the status, and what is written behind the base's three lines.
+const BEHIND_BASE: [(&str, u8, &str); 22] = [
+    (
+        "SELECT DISTINCT b FROM r WHERE a = 1;",
+        0,
+        "4 bound 2\nb\n5\n4 ok 1 rows 1 reads\n",
+    ),
+    (
+        "SELECT DISTINCT b FROM r WHERE a = 9",
+        0,
+        "4 bound 2\nb\n4 ok 0 rows 1 reads\n",
+    ),
+    (
+        "INSERT INTO r VALUES (1, 6); INSERT INTO r VALUES (1, 7); SELECT DISTINCT b FROM r WHERE a = 1;",
+        1,
+        "4 ok 1 rows\n5 refused 12 row 1 breaks ab at key (1)\n6 bound 2\nb\n5\n6\n6 ok 2 rows 2 reads\n",
+    ),
+    (
+        "SELECT DISTINCT b FROM r WHERE a = 1 AND a = 2;",
+        0,
+        "4 bound 2\nb\n4 ok 0 rows 0 reads\n",
+    ),
+    (
+        "SELECT DISTINCT a FROM r WHERE b = 5",
+        1,
+        "4 refused 19 not covered: block 1 atom 1 column a\n",
+    ),
+    (
+        "SELECT DISTINCT b FROM r, r x WHERE a = 1",
+        1,
+        "4 refused 1 syntax\n",
+    ),
+    (
+        "SELECT DISTINCT b FROM r WHERE a = 1 AND a = 1",
+        0,
+        "4 bound 2\nb\n5\n4 ok 1 rows 1 reads\n",
+    ),
+    (
+        "INSERT INTO r VALUES (1, -6); SELECT DISTINCT b FROM r WHERE a = 1 AND b = 5",
+        0,
+        "4 ok 1 rows\n5 bound 2\nb\n5\n5 ok 1 rows 2 reads\n",
+    ),
+    (
+        "INSERT INTO r VALUES (1, 5); INSERT INTO r VALUES (1, 4); SELECT DISTINCT b, b, a FROM r WHERE a = 1",
+        0,
+        "4 ok 1 rows\n5 ok 1 rows\n6 bound 2\nb,b,a\n4,4,1\n5,5,1\n6 ok 2 rows 2 reads\n",
+    ),
+    (
+        "select distinct B from R where A = +0001 -- and no more",
+        0,
+        "4 bound 2\nb\n5\n4 ok 1 rows 1 reads\n",
+    ),
+    ("SELECT b FROM r WHERE a = 1", 1, "4 refused 1 syntax\n"),
+    ("SELECT DISTINCT b FROM r", 1, "4 refused 1 syntax\n"),
+    (
+        "SELECT DISTINCT c FROM r WHERE a = 1",
+        1,
+        "4 refused 1 syntax\n",
+    ),
+    ("INSERT INTO r VALUES (1)", 1, "4 refused 1 syntax\n"),
+    (
+        "INSERT INTO r VALUES (9223372036854775807, -9223372036854775808)",
+        0,
+        "4 ok 1 rows\n",
+    ),
+    (
+        "INSERT INTO r VALUES (9223372036854775808, 1)",
+        1,
+        "4 refused 1 syntax\n",
+    ),
+    (
+        "INSERT INTO r VALUES (1, -9223372036854775809)",
+        1,
+        "4 refused 1 syntax\n",
+    ),
+    ("INSERT INTO r VALUES (1, !)", 1, "4 refused 1 syntax\n"),
+    ("INSERT INTO r VALUES (1, 'a;b)", 1, "4 refused 1 syntax\n"),
+    ("CREATE TABLE s (a INTEGER)", 1, "4 refused 1 syntax\n"),
+    (
+        "CREATE ACCESS ba ON r (b) FETCH (a) LIMIT 2",
+        1,
+        "4 refused 1 syntax\n",
+    ),
+    (
+        ";; -- nothing\n ; SELECT DISTINCT a FROM r WHERE a = 1;",
+        0,
+        "4 bound 2\na\n1\n4 ok 1 rows 1 reads\n",
+    ),
+];
+
+/// Whole scripts.
+const WHOLE: [(&str, u8, &str); 9] = [
+    ("", 0, ""),
+    ("; -- nothing", 0, ""),
+    (
+        "CREATE TABLE t (a INTEGER, A INTEGER)",
+        1,
+        "1 refused 1 syntax\n",
+    ),
+    ("CREATE TABLE t (a INT)", 1, "1 refused 1 syntax\n"),
+    (
+        "CREATE TABLE t (a INTEGER); CREATE ACCESS x ON t () FETCH (a) LIMIT 1",
+        1,
+        "1 ok\n2 refused 1 syntax\n",
+    ),
+    (
+        "CREATE TABLE t (a INTEGER); CREATE ACCESS x ON t (a) FETCH (a) LIMIT 0",
+        1,
+        "1 ok\n2 refused 1 syntax\n",
+    ),
+    (
+        "CREATE TABLE t (a INTEGER, b INTEGER); CREATE ACCESS x ON t (a) FETCH (b, a) LIMIT 4294967295; INSERT INTO t VALUES (3, 2); SELECT DISTINCT a, b FROM t WHERE a = 3",
+        0,
+        "1 ok\n2 ok\n3 ok 1 rows\n4 bound 4294967295\na,b\n3,2\n4 ok 1 rows 1 reads\n",
+    ),
+    (
+        "CREATE TABLE t (a INTEGER, b INTEGER, c INTEGER); CREATE ACCESS x ON t (c, a) FETCH (b) LIMIT 3; INSERT INTO t VALUES (1, 2, 3); SELECT DISTINCT b FROM t WHERE a = 1 AND c = 3; SELECT DISTINCT b FROM t WHERE a = 1",
+        1,
+        "1 ok\n2 ok\n3 ok 1 rows\n4 bound 3\nb\n2\n4 ok 1 rows 1 reads\n5 refused 19 not covered: block 1 atom 1 column b\n",
+    ),
+    (
+        "CREATE TABLE t (a INTEGER, b INTEGER); CREATE ACCESS x ON t (a) FETCH (a) LIMIT 1; SELECT DISTINCT b FROM t WHERE b = 1",
+        1,
+        "1 ok\n2 ok\n3 refused 19 not covered: block 1 atom 1 has no serving constraint\n",
+    ),
+];
+
+fn words_for(alloc: Global, word: &str) -> Result<Vec<String>, Fail> {
+    let mut words = Vec::new(alloc);
+    words.push(String::from_str(alloc, word)?)?;
+    Ok(words)
+}
+
+fn run_text<L: Ledger>(
+    alloc: Global,
+    script: &str,
+    out: MemorySink,
+    blank: Blank,
+) -> Result<Ran, Fail>
+    requires name { blank.name ≡ L.name }
+    requires parts { blank.parts ≡ L.parts }
+    requires some { 0 < blank.parts }
+{
+    let words = words_for(alloc, "script")?;
+    let files = files_with(alloc, "script", script.as_bytes().to_vec(alloc)?)?;
+    Ok(run_words::<L>(alloc, &words, files, out, blank))
+}
+
+#[test]
+fn statements_behind_the_base(rt: HostRuntime) -> Result<(), Fail> {
+    let alloc = rt.alloc();
+    for (statements, status, lines) in BEHIND_BASE {
+        let script = format!(in alloc; "{BASE}{statements}")?;
+        let expected = format!(in alloc; "{BASE_OUT}{lines}")?;
+        let ran = run_text::<Brand>(
+            alloc,
+            script.as_str(),
+            MemorySink::new(alloc),
+            Blank::new(1),
+        )?;
+        assert_eq!(rt; ran.out.bytes(), expected.as_bytes(), "{statements}");
+        assert_eq!(rt; ran.status, status, "{statements}");
+        assert!(rt; ran.err.bytes().is_empty());
+    }
+    Ok(())
+}
+
+#[test]
+fn whole_scripts(rt: HostRuntime) -> Result<(), Fail> {
+    let alloc = rt.alloc();
+    for (script, status, lines) in WHOLE {
+        let ran = run_text::<Brand>(alloc, script, MemorySink::new(alloc), Blank::new(1))?;
+        assert_eq!(rt; ran.out.bytes(), lines.as_bytes(), "{script}");
+        assert_eq!(rt; ran.status, status, "{script}");
+    }
+    Ok(())
+}

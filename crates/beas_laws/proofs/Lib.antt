@@ -1,0 +1,13 @@
+pub mod Answered
+pub mod Bindings
+pub mod Bounds
+pub mod ClassSets
+pub mod Counting
+pub mod Covers
+pub mod Derives
+pub mod Exists
+pub mod Joins
+pub mod Sizes
+pub mod Tests
+pub mod Uses
+pub mod Whole

@@ -1,0 +1,8 @@
+mod Answering
+mod Counting
+mod Cuts
+mod Digits
+mod Empty
+mod Once
+mod Progress
+mod Selections

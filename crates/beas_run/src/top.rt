@@ -1,0 +1,168 @@
+// The top call: a script, from its name to its reports.
+ghost use Rattle.std.specs.Prelude.{◌≡◌, ◌<◌, ◌≤◌, ◌++◌, ◌⊎◌, ℕ, List, true, None, Some, length, map, option_map, IsSomeAnd, IfOk, IfErr, IsErrOf};
+ghost use Rattle.std.specs.Str.{IsUtf8};
+ghost use Rattle.std.specs.String.{string_bytes};
+ghost use Rattle.outside.specs.Counts.{Rose};
+ghost use Rattle.outside.specs.Parts.{SentPart};
+ghost use Rattle.beas_run.specs.NoScripts.{status_of};
+ghost use Rattle.beas_run.specs.Runs.{script_name, longest_script, line, IsTooLong, IsNoText, IsWithout, Ran, HasScript};
+
+use crate::script::run_script;
+use beas_core::{Bytes, Steps};
+use outside::{Files, FilesError, Sink, SinkError};
+use std::alloc::Global;
+use std::str;
+use std::sync::ledger::Ledger;
+
+/// How many bytes a script may have.
+const LONGEST_SCRIPT: u64 = 16_777_216;
+
+/// Why a run has no script.
+#[derive(Clone, Copy, Debug, PartialEq, Eq)]
+enum NoScript {
+    /// There isn't one word, or it begins with a dash.
+    Words,
+    /// The script can't be read.
+    Unread,
+    TooLong,
+    /// The script is not UTF-8.
+    NotText,
+    NoMemory,
+}
+
+/// The script that the words name, if they do.
+fn script_name(words: &[String]) -> Option<&str>
+    ensures { option_map (λ name. name.now) result ≡ script_name (map string_bytes words.now) }
+{
+    match words {
+        [word] => {
+            let name = word.as_str();
+            match name.as_bytes() {
+                [b'-', ..] => None,
+                _ => Some(name),
+            }
+        }
+        _ => None,
+    }
+}
+
+/// The bytes of a script that can be read and is a text.
+fn read_named<F: Files>(alloc: Global, name: &str, files: &mut F) -> Result<Bytes, NoScript>
+    ensures text { IfOk result IsUtf8 }
+    ensures fits { IfOk result (λ bytes. length bytes ≤ longest_script) }
+    ensures content { IfOk result (λ bytes. F.told files.old ≡ true → F.content files.old name.now ≡ Some bytes) }
+    ensures named { IsErrOf result NoScript.Words → ⊥ }
+    ensures unread { IsErrOf result NoScript.Unread → Rose (F.faults files.old name.now) (F.faults files.new name.now) }
+    ensures too_long { IsErrOf result NoScript.TooLong
+        → IsTooLong (F.told files.old) (F.content files.old name.now) (F.taken files.old) (F.taken files.new) }
+    ensures not_text { IsErrOf result NoScript.NotText → IsNoText (F.told files.old) (F.content files.old name.now) }
+{
+    match files.read(alloc, name, LONGEST_SCRIPT) {
+        Ok(bytes) => checked(bytes),
+        Err(FilesError::Failed) => Err(NoScript::Unread),
+        Err(FilesError::TooLong { .. }) => Err(NoScript::TooLong),
+        Err(FilesError::NoMemory) => Err(NoScript::NoMemory),
+    }
+}
+
+fn checked(bytes: Bytes) -> Result<Bytes, NoScript>
+    ensures text { IfOk result (λ same. (same ≡ bytes) × IsUtf8 bytes) }
+    ensures no_text { IfErr result (λ why. (why ≡ NoScript.NotText) × (IsUtf8 bytes → ⊥)) }
+{
+    match str::from_utf8(bytes.as_slice()) {
+        Ok(_) => Ok(bytes),
+        Err(_) => Err(NoScript::NotText),
+    }
+}
+
+fn text_of(bytes: &Bytes) -> &str
+    requires { IsUtf8 bytes.now }
+    ensures { result.now ≡ bytes.now }
+{
+    match str::from_utf8(bytes.as_slice()) {
+        Ok(text) => text,
+        Err(_) => unreachable!(),
+    }
+}
+
+fn status_of(why: NoScript) -> u8
+    ensures { result ≡ status_of why }
+{
+    match why {
+        NoScript::Words => 2,
+        NoScript::Unread => 3,
+        NoScript::NoMemory => 5,
+        NoScript::TooLong => 6,
+        NoScript::NotText => 7,
+    }
+}
+
+fn line_of(why: NoScript) -> &'static str
+    ensures { result.now ≡ line (status_of why) }
+{
+    match why {
+        NoScript::Words => "usage: beas SCRIPT\n",
+        NoScript::Unread => "beas: cannot read the script\n",
+        NoScript::NoMemory => "",
+        NoScript::TooLong => "beas: the script is longer than 16777216 bytes\n",
+        NoScript::NotText => "beas: the script is not UTF-8\n",
+    }
+}
+
+/// Says on `err` why there is no script, and gives the status.
+fn say<E: Sink>(why: NoScript, err: &mut E) -> u8
+    ensures status { (result ≡ status_of why) ⊎ (result ≡ 5) }
+    ensures part { E.told err.old ≡ true → SentPart (E.sent err.old) (E.sent err.new) (line result) }
+    ensures whole { IsWithout result → E.told err.old ≡ true
+        → (E.sent err.new ≡ E.sent err.old ++ line result) ⊎ Rose (E.faults err.old) (E.faults err.new) }
+{
+    match err.put(line_of(why).as_bytes()) {
+        Ok(()) => status_of(why),
+        Err(SinkError::Failed) => status_of(why),
+        Err(SinkError::NoMemory) => 5,
+    }
+}
+
+/// Runs the script that the words name, and gives the status of the program: 0 and 1 where the script was carried
+/// out whole, without a refusal and with one; 2 where the words name no script; 3 where it can't be read; 4 where
+/// `out` failed; 5 where memory was wanting; 6 where the script is longer than 16,777,216 bytes; 7 where it is not
+/// UTF-8.
+pub fn run<F: Files, O: Sink, E: Sink, L: Ledger>(
+    alloc: Global,
+    words: &[String],
+    files: &mut F,
+    out: &mut O,
+    err: &mut E,
+    steps: &mut Steps<L>,
+) -> u8
+    // What was sent and read is the script's meaning, or as far as the run came.
+    ensures ran { (script : List ℕ)
+        × Ran script result (O.told out.old) (O.sent out.old) (O.sent out.new) steps.old steps.new
+        × HasScript script result (script_name (map string_bytes words.now)) (F.told files.old) (F.content files.old) }
+
+    // Each status has its cause.
+    ensures statuses { result ≤ 7 }
+    ensures words { script_name (map string_bytes words.now) ≡ None → (result ≡ 2) ⊎ (result ≡ 5) }
+    ensures words_alone { result ≡ 2 → script_name (map string_bytes words.now) ≡ None }
+    ensures unread { result ≡ 3 → IsSomeAnd (script_name (map string_bytes words.now))
+        (λ name. Rose (F.faults files.old name) (F.faults files.new name)) }
+    ensures fault { result ≡ 4 → Rose (O.faults out.old) (O.faults out.new) }
+    ensures no_fault { result < 2 → O.faults out.new ≡ O.faults out.old }
+    ensures too_long { result ≡ 6 → IsSomeAnd (script_name (map string_bytes words.now))
+        (λ name. IsTooLong (F.told files.old) (F.content files.old name) (F.taken files.old) (F.taken files.new)) }
+    ensures not_text { result ≡ 7 → IsSomeAnd (script_name (map string_bytes words.now))
+        (λ name. IsNoText (F.told files.old) (F.content files.old name)) }
+
+    // A run without a script says why, and no other run says anything there.
+    ensures said { E.told err.old ≡ true → SentPart (E.sent err.old) (E.sent err.new) (line result) }
+    ensures said_whole { IsWithout result → E.told err.old ≡ true
+        → (E.sent err.new ≡ E.sent err.old ++ line result) ⊎ Rose (E.faults err.old) (E.faults err.new) }
+{
+    let Some(name) = script_name(words) else {
+        return say(NoScript::Words, err);
+    };
+    match read_named(alloc, name, files) {
+        Ok(bytes) => run_script(alloc, text_of(&bytes), out, steps),
+        Err(why) => say(why, err),
+    }
+}

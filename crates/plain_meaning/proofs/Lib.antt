@@ -1,0 +1,4 @@
+pub mod DistinctRows
+pub mod Steps
+pub mod Turns
+pub mod Ways
