@@ -1,4 +1,5 @@
 mod Answering
+mod Complete
 mod Counting
 mod Cuts
 mod Digits

@@ -60,3 +60,9 @@ pub record HasScript (script : List ℕ) (status : ℕ) (name : Option (List ℕ
   pub read : status < 2 → IsSomeAnd name (λ n. told ≡ true → content n ≡ Some script)
   pub begun : (script ≡ []) ⊎ IsSomeAnd name (λ n. told ≡ true → content n ≡ Some script)
   pub without : IsWithout status → script ≡ []
+
+-- what a run ends with over a script that could be read, while the output didn't fail: status 5 is want of memory
+pub record Completes (script : List ℕ) (status : ℕ) : Type 0 where
+  pub runs : length script ≤ longest_script → IsUtf8 script → (status < 2) ⊎ (status ≡ 5)
+  pub too_long : longest_script < length script → (status ≡ 6) ⊎ (status ≡ 5)
+  pub no_text : length script ≤ longest_script → (IsUtf8 script → ⊥) → (status ≡ 7) ⊎ (status ≡ 5)

@@ -5,7 +5,7 @@ ghost use Rattle.std.specs.String.{string_bytes};
 ghost use Rattle.outside.specs.Counts.{Rose};
 ghost use Rattle.outside.specs.Parts.{SentPart};
 ghost use Rattle.beas_run.specs.NoScripts.{status_of};
-ghost use Rattle.beas_run.specs.Runs.{script_name, longest_script, line, IsTooLong, IsNoText, IsWithout, Ran, HasScript};
+ghost use Rattle.beas_run.specs.Runs.{script_name, longest_script, line, IsTooLong, IsNoText, IsWithout, Ran, HasScript, Completes};
 
 use crate::script::run_script;
 use beas_core::{Bytes, Steps};
@@ -123,11 +123,8 @@ fn say<E: Sink>(why: NoScript, err: &mut E) -> u8
     }
 }
 
-/// Runs the script that the words name, and gives the status of the program: 0 and 1 where the script was carried
-/// out whole, without a refusal and with one; 2 where the words name no script; 3 where it can't be read; 4 where
-/// `out` failed; 5 where memory was wanting; 6 where the script is longer than 16,777,216 bytes; 7 where it is not
-/// UTF-8.
-pub fn run<F: Files, O: Sink, E: Sink, L: Ledger>(
+/// The run, with the cause of each status.
+fn run_named<F: Files, O: Sink, E: Sink, L: Ledger>(
     alloc: Global,
     words: &[String],
     files: &mut F,
@@ -165,4 +162,48 @@ pub fn run<F: Files, O: Sink, E: Sink, L: Ledger>(
         Ok(bytes) => run_script(alloc, text_of(&bytes), out, steps),
         Err(why) => say(why, err),
     }
+}
+
+/// Runs the script that the words name, and gives the status of the program: 0 and 1 where the script was carried
+/// out whole, without a refusal and with one; 2 where the words name no script; 3 where it can't be read; 4 where
+/// `out` failed; 5 where memory was wanting; 6 where the script is longer than 16,777,216 bytes; 7 where it is not
+/// UTF-8.
+pub fn run<F: Files, O: Sink, E: Sink, L: Ledger>(
+    alloc: Global,
+    words: &[String],
+    files: &mut F,
+    out: &mut O,
+    err: &mut E,
+    steps: &mut Steps<L>,
+) -> u8
+    // What was sent and read is the script's meaning, or as far as the run came.
+    ensures ran { (script : List ℕ)
+        × Ran script result (O.told out.old) (O.sent out.old) (O.sent out.new) steps.old steps.new
+        × HasScript script result (script_name (map string_bytes words.now)) (F.told files.old) (F.content files.old) }
+
+    // Each status has its cause.
+    ensures statuses { result ≤ 7 }
+    ensures words { script_name (map string_bytes words.now) ≡ None → (result ≡ 2) ⊎ (result ≡ 5) }
+    ensures words_alone { result ≡ 2 → script_name (map string_bytes words.now) ≡ None }
+    ensures unread { result ≡ 3 → IsSomeAnd (script_name (map string_bytes words.now))
+        (λ name. Rose (F.faults files.old name) (F.faults files.new name)) }
+    ensures fault { result ≡ 4 → Rose (O.faults out.old) (O.faults out.new) }
+    ensures no_fault { result < 2 → O.faults out.new ≡ O.faults out.old }
+    ensures too_long { result ≡ 6 → IsSomeAnd (script_name (map string_bytes words.now))
+        (λ name. IsTooLong (F.told files.old) (F.content files.old name) (F.taken files.old) (F.taken files.new)) }
+    ensures not_text { result ≡ 7 → IsSomeAnd (script_name (map string_bytes words.now))
+        (λ name. IsNoText (F.told files.old) (F.content files.old name)) }
+
+    // With a script that could be read, and an output that didn't fail, nothing else comes but want of memory.
+    ensures complete { (name script : List ℕ) → script_name (map string_bytes words.now) ≡ Some name
+        → F.told files.old ≡ true → F.content files.old name ≡ Some script
+        → (Rose (F.faults files.old name) (F.faults files.new name) → ⊥)
+        → (Rose (O.faults out.old) (O.faults out.new) → ⊥) → Completes script result }
+
+    // A run without a script says why, and no other run says anything there.
+    ensures said { E.told err.old ≡ true → SentPart (E.sent err.old) (E.sent err.new) (line result) }
+    ensures said_whole { IsWithout result → E.told err.old ≡ true
+        → (E.sent err.new ≡ E.sent err.old ++ line result) ⊎ Rose (E.faults err.old) (E.faults err.new) }
+{
+    run_named(alloc, words, files, out, err, steps)
 }

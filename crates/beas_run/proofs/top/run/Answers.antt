@@ -1,14 +1,7 @@
-use Rattle.std.proofs.Common.{[]}
-use Rattle.beas_run.specs.declared.top.NoScript.TheVariants.{Words}
-use Rattle.beas_run.proofs.Empty.{ran_nothing, has_none, early_said}
+use Rattle.beas_run.proofs.Complete.{completes}
 use Rattle.beas_run.proofs.top.run.Goals as goal
 
-pub returns-in_default-clause-ran : goal.returns-in_default-clause-ran
-returns-in_default-clause-ran g c =
-    let early = early_said Words c.say.result c.say.ensures.status in
-    ([], ran_nothing _ _ _ _ early, has_none _ _ _ _ early)
-
-pub returns-in-Err-clause-ran : goal.returns-in-Err-clause-ran
-returns-in-Err-clause-ran g c =
-    let early = early_said c.in-Err.why c.say-in-Err.result c.say-in-Err.ensures.status in
-    ([], ran_nothing _ _ _ _ early, has_none _ _ _ _ early)
+pub returns-clause-complete : goal.returns-clause-complete
+returns-clause-complete g c =
+    let e = c.run_named.ensures in
+    completes _ _ _ _ _ _ _ _ _ _ e.statuses e.words_alone e.unread e.fault e.too_long e.not_text e.ran.0 e.ran.2

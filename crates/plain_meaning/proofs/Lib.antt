@@ -1,4 +1,0 @@
-pub mod DistinctRows
-pub mod Steps
-pub mod Turns
-pub mod Ways
