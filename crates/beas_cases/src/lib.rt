@@ -20,19 +20,19 @@ pub struct Ran {
     pub err: MemorySink,
 }
 
-/// A run over files and sinks in memory, of which `out` may be told to fail.
+/// A run over files and sinks in memory, which may be told to fail.
 pub fn run_words<L: Ledger>(
     alloc: Global,
     words: &[String],
     mut files: MemoryFiles,
     mut out: MemorySink,
+    mut err: MemorySink,
     blank: Blank,
 ) -> Ran
     requires name { blank.name ≡ L.name }
     requires parts { blank.parts ≡ L.parts }
     requires some { 0 < blank.parts }
 {
-    let mut err = MemorySink::new(alloc);
     let mut steps = Steps::<L>::start(blank);
     let status = run(alloc, words, &mut files, &mut out, &mut err, &mut steps);
     Ran { status, out, err }

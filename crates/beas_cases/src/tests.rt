@@ -153,7 +153,7 @@ fn run_text<L: Ledger>(
 {
     let words = words_for(alloc, "script")?;
     let files = files_with(alloc, "script", script.as_bytes().to_vec(alloc)?)?;
-    Ok(run_words::<L>(alloc, &words, files, out, blank))
+    Ok(run_words::<L>(alloc, &words, files, out, MemorySink::new(alloc), blank))
 }
 
 #[test]
@@ -182,6 +182,79 @@ fn whole_scripts(rt: HostRuntime) -> Result<(), Fail> {
         let ran = run_text::<Brand>(alloc, script, MemorySink::new(alloc), Blank::new(1))?;
         assert_eq!(rt; ran.out.bytes(), lines.as_bytes(), "{script}");
         assert_eq!(rt; ran.status, status, "{script}");
+    }
+    Ok(())
+}
+
+#[test]
+fn an_output_that_fails_has_a_prefix(rt: HostRuntime) -> Result<(), Fail> {
+    let alloc = rt.alloc();
+    let script = format!(in alloc; "{BASE}SELECT DISTINCT b FROM r WHERE a = 1;")?;
+    let whole = b"1 ok\n2 ok\n3 ok 1 rows\n4 bound 2\nb\n5\n4 ok 1 rows 1 reads\n";
+    for total in 0..=whole.len() {
+        let mut out = MemorySink::new(alloc);
+        out.fail_after(total as u64);
+        let ran = run_text::<Brand>(alloc, script.as_str(), out, Blank::new(1))?;
+        let status = if total < whole.len() { 4 } else { 0 };
+        assert_eq!(rt; ran.status, status, "{total}");
+        assert_eq!(rt; ran.out.bytes(), &whole[..total], "{total}");
+    }
+    Ok(())
+}
+
+/// A run of one script of these bytes under the name `script`, with an `err` that fails after `total` bytes.
+fn run_bytes<L: Ledger>(
+    alloc: Global,
+    word: &str,
+    script: Vec<u8>,
+    total: u64,
+    blank: Blank,
+) -> Result<Ran, Fail>
+    requires name { blank.name ≡ L.name }
+    requires parts { blank.parts ≡ L.parts }
+    requires some { 0 < blank.parts }
+{
+    let words = words_for(alloc, word)?;
+    let files = files_with(alloc, "script", script)?;
+    let mut err = MemorySink::new(alloc);
+    err.fail_after(total);
+    Ok(run_words::<L>(alloc, &words, files, MemorySink::new(alloc), err, blank))
+}
+
+#[test]
+fn runs_without_a_script(rt: HostRuntime) -> Result<(), Fail> {
+    let alloc = rt.alloc();
+    let cases: [(&str, &[u8], u64, u8, &str); 6] = [
+        ("-x", b"", 100, 2, "usage: beas SCRIPT\n"),
+        ("-x", b"", 3, 2, "usa"),
+        ("other", b"", 100, 3, "beas: cannot read the script\n"),
+        ("script", b"\xff", 100, 7, "beas: the script is not UTF-8\n"),
+        (
+            "script",
+            b";\xc3",
+            100,
+            7,
+            "beas: the script is not UTF-8\n",
+        ),
+        ("script", b";", 100, 0, ""),
+    ];
+    for (word, script, total, status, line) in cases {
+        let ran = run_bytes::<Brand>(alloc, word, script.to_vec(alloc)?, total, Blank::new(1))?;
+        assert_eq!(rt; ran.status, status, "{line}");
+        assert_eq!(rt; ran.err.bytes(), line.as_bytes());
+        assert!(rt; ran.out.bytes().is_empty());
+    }
+    Ok(())
+}
+
+#[test]
+fn a_script_of_the_greatest_length(rt: HostRuntime) -> Result<(), Fail> {
+    let alloc = rt.alloc();
+    for (length, status) in [(16_777_216_usize, 0), (16_777_217, 6)] {
+        let spaces = vec![in alloc; 32_u8; length]?;
+        let ran = run_bytes::<Brand>(alloc, "script", spaces, 100, Blank::new(1))?;
+        assert_eq!(rt; ran.status, status, "{length}");
+        assert!(rt; ran.out.bytes().is_empty());
     }
     Ok(())
 }
