@@ -5,7 +5,7 @@ ghost use Rattle.std.specs.Prelude.{◌≡◌, ◌<◌};
 
 use beas_core::{Bytes, NoMemory, Steps, Text};
 use beas_run::run;
-use outside::{MemoryFiles, MemorySink};
+use outside::{MemoryFiles, MemorySink, SteadyFiles, SteadySink};
 use std::alloc::Global;
 use std::sync::ledger::{Blank, Ledger};
 
@@ -20,22 +20,41 @@ pub struct Ran {
     pub err: MemorySink,
 }
 
-/// A run over files and sinks in memory, of which `out` may be told to fail.
+/// A run over files and sinks in memory, which may be told to fail.
 pub fn run_words<L: Ledger>(
     alloc: Global,
     words: &[String],
     mut files: MemoryFiles,
     mut out: MemorySink,
+    mut err: MemorySink,
     blank: Blank,
 ) -> Ran
     requires name { blank.name ≡ L.name }
     requires parts { blank.parts ≡ L.parts }
     requires some { 0 < blank.parts }
 {
-    let mut err = MemorySink::new(alloc);
     let mut steps = Steps::<L>::start(blank);
     let status = run(alloc, words, &mut files, &mut out, &mut err, &mut steps);
     Ran { status, out, err }
+}
+
+/// A run over the steady kinds, which never fail: it has no fault to end with.
+pub fn run_steady<L: Ledger>(
+    alloc: Global,
+    words: &[String],
+    mut files: SteadyFiles,
+    mut out: SteadySink,
+    blank: Blank,
+) -> u8
+    requires name { blank.name ≡ L.name }
+    requires parts { blank.parts ≡ L.parts }
+    requires some { 0 < blank.parts }
+    ensures read { result ≡ 3 → ⊥ }
+    ensures sent { result ≡ 4 → ⊥ }
+{
+    let mut err = SteadySink::new(alloc);
+    let mut steps = Steps::<L>::start(blank);
+    run(alloc, words, &mut files, &mut out, &mut err, &mut steps)
 }
 
 /// Files with one script.

@@ -1,4 +1,6 @@
 // Cases: a script, the status, and what is written. Expected texts are written by hand.
+ghost use Rattle.std.specs.Prelude.{◌≡◌, ◌<◌};
+
 use super::*;
 use std::marker::Brand;
 use std::test::Fail;
@@ -141,19 +143,23 @@ fn words_for(alloc: Global, word: &str) -> Result<Vec<String>, Fail> {
     Ok(words)
 }
 
-fn run_text<L: Ledger>(
+/// A run of one script under the name `script`, with an `err` that fails after `total` bytes.
+fn run_bytes<L: Ledger>(
     alloc: Global,
-    script: &str,
+    words: Vec<String>,
+    script: &[u8],
     out: MemorySink,
+    total: u64,
     blank: Blank,
 ) -> Result<Ran, Fail>
     requires name { blank.name ≡ L.name }
     requires parts { blank.parts ≡ L.parts }
     requires some { 0 < blank.parts }
 {
-    let words = words_for(alloc, "script")?;
-    let files = files_with(alloc, "script", script.as_bytes().to_vec(alloc)?)?;
-    Ok(run_words::<L>(alloc, &words, files, out, blank))
+    let files = files_with(alloc, "script", script.to_vec(alloc)?)?;
+    let mut err = MemorySink::new(alloc);
+    err.fail_after(total);
+    Ok(run_words::<L>(alloc, &words, files, out, err, blank))
 }
 
 #[test]
@@ -162,10 +168,12 @@ fn statements_behind_the_base(rt: HostRuntime) -> Result<(), Fail> {
     for (statements, status, lines) in BEHIND_BASE {
         let script = format!(in alloc; "{BASE}{statements}")?;
         let expected = format!(in alloc; "{BASE_OUT}{lines}")?;
-        let ran = run_text::<Brand>(
+        let ran = run_bytes::<Brand>(
             alloc,
-            script.as_str(),
+            words_for(alloc, "script")?,
+            script.as_bytes(),
             MemorySink::new(alloc),
+            100,
             Blank::new(1),
         )?;
         assert_eq!(rt; ran.out.bytes(), expected.as_bytes(), "{statements}");
@@ -179,9 +187,91 @@ fn statements_behind_the_base(rt: HostRuntime) -> Result<(), Fail> {
 fn whole_scripts(rt: HostRuntime) -> Result<(), Fail> {
     let alloc = rt.alloc();
     for (script, status, lines) in WHOLE {
-        let ran = run_text::<Brand>(alloc, script, MemorySink::new(alloc), Blank::new(1))?;
+        let ran = run_bytes::<Brand>(
+            alloc,
+            words_for(alloc, "script")?,
+            script.as_bytes(),
+            MemorySink::new(alloc),
+            100,
+            Blank::new(1),
+        )?;
         assert_eq!(rt; ran.out.bytes(), lines.as_bytes(), "{script}");
         assert_eq!(rt; ran.status, status, "{script}");
+    }
+    Ok(())
+}
+
+#[test]
+fn an_output_that_fails_has_a_prefix(rt: HostRuntime) -> Result<(), Fail> {
+    let alloc = rt.alloc();
+    let script = format!(in alloc; "{BASE}SELECT DISTINCT b FROM r WHERE a = 1;")?;
+    let whole = b"1 ok\n2 ok\n3 ok 1 rows\n4 bound 2\nb\n5\n4 ok 1 rows 1 reads\n";
+    for total in 0..=whole.len() {
+        let mut out = MemorySink::new(alloc);
+        out.fail_after(total as u64);
+        let ran = run_bytes::<Brand>(
+            alloc,
+            words_for(alloc, "script")?,
+            script.as_bytes(),
+            out,
+            100,
+            Blank::new(1),
+        )?;
+        let status = if total < whole.len() { 4 } else { 0 };
+        assert_eq!(rt; ran.status, status, "{total}");
+        assert_eq!(rt; ran.out.bytes(), &whole[..total], "{total}");
+    }
+    Ok(())
+}
+
+#[test]
+fn runs_without_a_script(rt: HostRuntime) -> Result<(), Fail> {
+    let alloc = rt.alloc();
+    let cases: [(&str, &[u8], u64, u8, &str); 6] = [
+        ("-x", b"", 100, 2, "usage: beas SCRIPT\n"),
+        ("-x", b"", 3, 2, "usa"),
+        ("other", b"", 100, 3, "beas: cannot read the script\n"),
+        ("script", b"\xff", 100, 7, "beas: the script is not UTF-8\n"),
+        (
+            "script",
+            b";\xc3",
+            100,
+            7,
+            "beas: the script is not UTF-8\n",
+        ),
+        ("script", b";", 100, 0, ""),
+    ];
+    for (word, script, total, status, line) in cases {
+        let ran = run_bytes::<Brand>(
+            alloc,
+            words_for(alloc, word)?,
+            script,
+            MemorySink::new(alloc),
+            total,
+            Blank::new(1),
+        )?;
+        assert_eq!(rt; ran.status, status, "{line}");
+        assert_eq!(rt; ran.err.bytes(), line.as_bytes());
+        assert!(rt; ran.out.bytes().is_empty());
+    }
+    Ok(())
+}
+
+#[test]
+fn a_script_of_the_greatest_length(rt: HostRuntime) -> Result<(), Fail> {
+    let alloc = rt.alloc();
+    for (length, status) in [(16_777_216_usize, 0), (16_777_217, 6)] {
+        let spaces = vec![in alloc; 32_u8; length]?;
+        let ran = run_bytes::<Brand>(
+            alloc,
+            words_for(alloc, "script")?,
+            &spaces,
+            MemorySink::new(alloc),
+            100,
+            Blank::new(1),
+        )?;
+        assert_eq!(rt; ran.status, status, "{length}");
+        assert!(rt; ran.out.bytes().is_empty());
     }
     Ok(())
 }

@@ -1,5 +1,5 @@
 use Rattle.beas_cases.proofs.tests.whole_scripts.Given as goal
 
 -- the ledger that the counter is of
-abbrev pub ghosts-run_text : goal.ghosts-run_text
-ghosts-run_text g a = record { name = a.blank.name; parts = a.blank.parts }
+abbrev pub ghosts-run_bytes : goal.ghosts-run_bytes
+ghosts-run_bytes g a = record { name = a.blank.name; parts = a.blank.parts }
