@@ -1,0 +1,76 @@
+// All of the tokens of a piece.
+ghost use Rattle.std.specs.Prelude.{◌≡◌, ◌≤◌, ◌<◌, ◌↔◌, [], nat_lt, IfOk, IsErrOf, List};
+ghost use Rattle.sql_tree.specs.Grammar.{Spells, SpellsLone, wants_distinct};
+ghost use Rattle.sql_tree.specs.Symbols.{symbols, depth};
+ghost use Rattle.sql_tree.specs.declared.tree.Statement.{Statement as Tree};
+ghost use Rattle.sql_parser.specs.Outcome.{Answers, SpellsNothing, lacks_distinct};
+ghost use Rattle.sql_parser.specs.Reading.{read_statement};
+
+use crate::nesting::is_too_deep;
+use crate::reader::{ReadError, Reader};
+use crate::statements::statement;
+use beas_core::{Fail, Refusal};
+use sql_text::Token;
+use sql_tree::{SelectNode, SelectTree, Statement};
+use std::alloc::Global;
+
+/// Reads a statement from all of the tokens, or a query that lacks its DISTINCT.
+fn all_of(tokens: &[Token], alloc: Global) -> Result<Statement, ReadError>
+    ensures ok { IfOk result (λ s. read_statement (symbols tokens.now) ≡ Some (s, [])) }
+    ensures syntax { IsErrOf result ReadError.Syntax → (s : Tree) → read_statement (symbols tokens.now) ≡ Some (s, []) → ⊥ }
+{
+    let mut reader = Reader::new(tokens);
+    let found = statement(&mut reader, alloc)?;
+    if reader.left() > 0 {
+        return Err(ReadError::Syntax);
+    }
+    Ok(found)
+}
+
+fn is_plain_block(tree: &SelectTree) -> bool
+    ensures { result ≡ wants_distinct tree.now }
+{
+    match &tree.node {
+        SelectNode::Block(block) => !block.distinct,
+        _ => false,
+    }
+}
+
+/// Whether a statement is a query that lacks its DISTINCT, or EXPLAIN before one.
+fn lacks_distinct(statement: &Statement) -> bool
+    ensures { result ≡ lacks_distinct statement.now }
+{
+    match statement {
+        Statement::Select { tree } | Statement::Explain { tree } => is_plain_block(tree),
+        _ => false,
+    }
+}
+
+/// The statement that the tokens of a piece spell. They are refused, in this order, where they are nested deeper
+/// than 32 (`TooDeep`), where they spell neither a statement nor a query that lacks its DISTINCT (`Syntax`), and
+/// where they spell such a query, or EXPLAIN before one (`NeedsDistinct`).
+pub fn parse(alloc: Global, tokens: &[Token]) -> Result<Statement, Fail>
+    // Deeper than 32 is always refused so, and nothing else is.
+    ensures deep { 32 < depth (symbols tokens.now) → result ≡ Err (Fail.Refused Refusal.TooDeep) }
+    ensures only_deep { IsErrOf result (Fail.Refused Refusal.TooDeep) → 32 < depth (symbols tokens.now) }
+    // The answer is the statement that the tokens spell, and what they spell is answered unless memory runs out.
+    ensures spelled { IfOk result (λ s. (depth (symbols tokens.now) ≤ 32) × Spells (symbols tokens.now) s) }
+    ensures answered { (s : Tree) → depth (symbols tokens.now) ≤ 32 → Spells (symbols tokens.now) s → Answers result (Ok s) }
+    ensures lone { depth (symbols tokens.now) ≤ 32 → SpellsLone (symbols tokens.now) → Answers result (Err (Fail.Refused Refusal.NeedsDistinct)) }
+    ensures only_lone { IsErrOf result (Fail.Refused Refusal.NeedsDistinct) → (depth (symbols tokens.now) ≤ 32) × SpellsLone (symbols tokens.now) }
+    ensures nothing { depth (symbols tokens.now) ≤ 32 → SpellsNothing (symbols tokens.now) → Answers result (Err (Fail.Refused Refusal.Syntax)) }
+    ensures only_nothing { IsErrOf result (Fail.Refused Refusal.Syntax) → (depth (symbols tokens.now) ≤ 32) × SpellsNothing (symbols tokens.now) }
+{
+    if is_too_deep(tokens) {
+        return Err(Fail::Refused(Refusal::TooDeep));
+    }
+    let statement = match all_of(tokens, alloc) {
+        Ok(statement) => statement,
+        Err(ReadError::Syntax) => return Err(Fail::Refused(Refusal::Syntax)),
+        Err(ReadError::NoMemory) => return Err(Fail::NoMemory),
+    };
+    if lacks_distinct(&statement) {
+        return Err(Fail::Refused(Refusal::NeedsDistinct));
+    }
+    Ok(statement)
+}
