@@ -101,7 +101,17 @@ const BEHIND_BASE: [(&str, u8, &str); 22] = [
 ];
 
 /// Whole scripts.
-const WHOLE: [(&str, u8, &str); 9] = [
+const WHOLE: [(&str, u8, &str); 11] = [
+    (
+        "CREATE TABLE t (a INTEGER, b INTEGER, c INTEGER, d INTEGER); CREATE ACCESS x ON t (c, a, b) FETCH (d) LIMIT 2; INSERT INTO t VALUES (1, 2, 3, 4); SELECT DISTINCT d FROM t WHERE b = 2 AND a = 1 AND c = 3",
+        0,
+        "1 ok\n2 ok\n3 ok 1 rows\n4 bound 2\nd\n4\n4 ok 1 rows 1 reads\n",
+    ),
+    (
+        "CREATE TABLE t (a INTEGER, b INTEGER, c INTEGER); CREATE ACCESS x ON t (a) FETCH (b) LIMIT 2; SELECT DISTINCT b, c FROM t WHERE a = 1",
+        1,
+        "1 ok\n2 ok\n3 refused 19 not covered: block 1 atom 1 column c\n",
+    ),
     ("", 0, ""),
     ("; -- nothing", 0, ""),
     (

@@ -1,0 +1,9 @@
+pub mod Between
+pub mod Canonical
+pub mod Grammar
+pub mod Heights
+pub mod Nodes
+pub mod Symbols
+pub mod Trees
+pub mod Words
+pub mod Writing

@@ -1,0 +1,70 @@
+-- Tokens without their places, as the grammar knows them.
+--     symbols tokens     what each token is, and its text
+--     depth symbols      how deep the tokens are nested
+use Rattle.std.specs.Prelude.{ℕ, ◌+◌, ◌-◌, ◌&&◌, ◌||◌, if◌then◌else◌, Bool, true, false, nat_le, max, List, [], ◌∷◌, map, codes, bytes_eq}
+use Rattle.std.specs.List.{list_any}
+use Rattle.sql_text.specs.declared.token.Token.{Token}
+use Rattle.sql_text.specs.declared.token.TokenKind.{TokenKind}
+use Rattle.sql_text.specs.declared.token.TokenKind.TheVariants.{Word, Number, Quoted, Mark, Bad}
+
+pub data Symbol : Type 0 where
+  word : List ℕ → Symbol
+  number : List ℕ → Symbol
+  quoted : List ℕ → Symbol
+  mark : List ℕ → Symbol
+  bad : List ℕ → Symbol
+
+abbrev pub symbol_of : TokenKind → List ℕ → Symbol
+symbol_of Word text = word text
+symbol_of Number text = number text
+symbol_of Quoted text = quoted text
+symbol_of Mark text = mark text
+symbol_of Bad text = bad text
+
+abbrev pub symbols : List Token → List Symbol
+symbols tokens = map (λ token. symbol_of token.kind token.text) tokens
+
+-- the words that are no identifiers
+abbrev pub reserved_words : List (List ℕ)
+reserved_words =
+    codes "access" ∷ codes "all" ∷ codes "and" ∷ codes "as" ∷ codes "between" ∷ codes "by" ∷ codes "case" ∷ codes "create" ∷ codes "cross" ∷ codes "delete"
+    ∷ codes "discover" ∷ codes "distinct" ∷ codes "drop" ∷ codes "except" ∷ codes "exists" ∷ codes "explain" ∷ codes "fetch" ∷ codes "from" ∷ codes "full"
+    ∷ codes "group" ∷ codes "having" ∷ codes "in" ∷ codes "inner" ∷ codes "insert" ∷ codes "int" ∷ codes "integer" ∷ codes "intersect" ∷ codes "into" ∷ codes "is"
+    ∷ codes "join" ∷ codes "left" ∷ codes "like" ∷ codes "limit" ∷ codes "load" ∷ codes "natural" ∷ codes "not" ∷ codes "null" ∷ codes "offset" ∷ codes "on"
+    ∷ codes "or" ∷ codes "order" ∷ codes "outer" ∷ codes "right" ∷ codes "select" ∷ codes "table" ∷ codes "text" ∷ codes "union" ∷ codes "using" ∷ codes "values"
+    ∷ codes "where" ∷ codes "with" ∷ []
+
+unfoldable pub is_reserved : List ℕ → Bool
+is_reserved text = list_any (λ reserved. bytes_eq reserved text) reserved_words
+
+abbrev pub is_word : List ℕ → Symbol → Bool
+is_word text (word other) = bytes_eq text other
+is_word text _ = false
+
+abbrev pub is_mark : List ℕ → Symbol → Bool
+is_mark text (mark other) = bytes_eq text other
+is_mark text _ = false
+
+abbrev pub joins_blocks : Symbol → Bool
+joins_blocks symbol = is_word (codes "union") symbol || is_word (codes "except") symbol
+
+-- how many words UNION and EXCEPT a statement may have without being nested deeper
+abbrev pub free_joins : ℕ
+free_joins = 1024
+
+-- the depth behind a token, at a depth and behind so many words UNION and EXCEPT
+abbrev pub depth_behind : ℕ → ℕ → Symbol → ℕ
+depth_behind depth joins symbol =
+    if is_mark (codes "(") symbol || (joins_blocks symbol && nat_le free_joins joins) then depth + 1
+    else if is_mark (codes ")") symbol then depth - 1 else depth
+
+abbrev pub joins_behind : ℕ → Symbol → ℕ
+joins_behind joins symbol = if joins_blocks symbol then joins + 1 else joins
+
+abbrev pub depth_from : ℕ → ℕ → List Symbol → ℕ
+depth_from depth joins [] = depth
+depth_from depth joins (symbol ∷ rest) = max depth (depth_from (depth_behind depth joins symbol) (joins_behind joins symbol) rest)
+
+-- the greatest depth of the walk over the tokens
+abbrev pub depth : List Symbol → ℕ
+depth symbols = depth_from 0 0 symbols
