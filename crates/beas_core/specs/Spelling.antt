@@ -25,7 +25,8 @@ reserved =
     ∷ codes "not" ∷ codes "null" ∷ codes "offset" ∷ codes "on" ∷ codes "or" ∷ codes "order" ∷ codes "outer" ∷ codes "right" ∷ codes "select"
     ∷ codes "table" ∷ codes "text" ∷ codes "union" ∷ codes "using" ∷ codes "values" ∷ codes "where" ∷ codes "with" ∷ []
 
-abbrev pub is_reserved : List ℕ → Bool
+-- the words that are no names, in lower case
+unfoldable pub is_reserved : List ℕ → Bool
 is_reserved word = list_any (λ r. bytes_eq r word) reserved
 
 abbrev pub name_of : List ℕ → Option (List ℕ)

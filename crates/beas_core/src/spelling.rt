@@ -117,8 +117,9 @@ fn is_among(words: &[&str], word: &str) -> bool
     false
 }
 
-#[tactic(auto, unfolding(crate::specs::Spelling::reserved))]
-fn is_kept(word: &str) -> bool
+/// Whether a word in lower case is one of those that are no names. It takes no memory.
+#[tactic(auto, unfolding(crate::specs::Spelling::is_reserved, crate::specs::Spelling::reserved))]
+pub fn is_reserved(word: &str) -> bool
     ensures { result ≡ is_reserved word.now }
 {
     is_among(&RESERVED, word)
@@ -134,7 +135,7 @@ impl Name {
             return Ok(None);
         }
         let folded = text.to_ascii_lowercase(alloc)?;
-        if is_kept(folded.as_str()) {
+        if is_reserved(folded.as_str()) {
             return Ok(None);
         }
         Ok(Some(Name::from_text(Text::from_str(alloc, folded.as_str())?)))

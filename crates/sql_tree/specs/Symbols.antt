@@ -2,7 +2,6 @@
 --     symbols tokens     what each token is, and its text
 --     depth symbols      how deep the tokens are nested
 use Rattle.std.specs.Prelude.{ℕ, ◌+◌, ◌-◌, ◌&&◌, ◌||◌, if◌then◌else◌, Bool, true, false, nat_le, max, List, [], ◌∷◌, map, codes, bytes_eq}
-use Rattle.std.specs.List.{list_any}
 use Rattle.sql_text.specs.declared.token.Token.{Token}
 use Rattle.sql_text.specs.declared.token.TokenKind.{TokenKind}
 use Rattle.sql_text.specs.declared.token.TokenKind.TheVariants.{Word, Number, Quoted, Mark, Bad}
@@ -23,19 +22,6 @@ symbol_of Bad text = bad text
 
 abbrev pub symbols : List Token → List Symbol
 symbols tokens = map (λ token. symbol_of token.kind token.text) tokens
-
--- the words that are no identifiers
-abbrev pub reserved_words : List (List ℕ)
-reserved_words =
-    codes "access" ∷ codes "all" ∷ codes "and" ∷ codes "as" ∷ codes "between" ∷ codes "by" ∷ codes "case" ∷ codes "create" ∷ codes "cross" ∷ codes "delete"
-    ∷ codes "discover" ∷ codes "distinct" ∷ codes "drop" ∷ codes "except" ∷ codes "exists" ∷ codes "explain" ∷ codes "fetch" ∷ codes "from" ∷ codes "full"
-    ∷ codes "group" ∷ codes "having" ∷ codes "in" ∷ codes "inner" ∷ codes "insert" ∷ codes "int" ∷ codes "integer" ∷ codes "intersect" ∷ codes "into" ∷ codes "is"
-    ∷ codes "join" ∷ codes "left" ∷ codes "like" ∷ codes "limit" ∷ codes "load" ∷ codes "natural" ∷ codes "not" ∷ codes "null" ∷ codes "offset" ∷ codes "on"
-    ∷ codes "or" ∷ codes "order" ∷ codes "outer" ∷ codes "right" ∷ codes "select" ∷ codes "table" ∷ codes "text" ∷ codes "union" ∷ codes "using" ∷ codes "values"
-    ∷ codes "where" ∷ codes "with" ∷ []
-
-unfoldable pub is_reserved : List ℕ → Bool
-is_reserved text = list_any (λ reserved. bytes_eq reserved text) reserved_words
 
 abbrev pub is_word : List ℕ → Symbol → Bool
 is_word text (word other) = bytes_eq text other
