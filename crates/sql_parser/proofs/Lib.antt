@@ -1,0 +1,11 @@
+pub mod Digits
+pub mod Loops
+pub mod Fronts
+pub mod SpelledIsRead
+pub mod QueryIsRead
+pub mod StatementIsRead
+pub mod ReadIsSpelled
+pub mod QueryIsSpelled
+pub mod StatementIsSpelled
+pub mod Parsing
+pub mod Depths

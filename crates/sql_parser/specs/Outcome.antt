@@ -1,0 +1,55 @@
+-- What the tokens of a piece are read as.
+--     Parses tokens reading      the reading is the statement that they spell, or why they spell none
+--     parsed tokens              the reading, as it is found from left to right
+use Rattle.std.specs.Prelude.{◌≡◌, ◌<◌, ◌≤◌, nat_lt, if◌then◌else◌, Bool, false, List, [], ◌∷◌, Option, Some, None, Result, Ok, Err}
+use Rattle.beas_core.specs.declared.errors.Fail.{Fail}
+use Rattle.beas_core.specs.declared.errors.Fail.TheVariants.{Refused, NoMemory}
+use Rattle.beas_core.specs.declared.refusal.Refusal.{Refusal}
+use Rattle.beas_core.specs.declared.refusal.Refusal.TheVariants.{Syntax, TooDeep, NeedsDistinct}
+use Rattle.sql_tree.specs.declared.tree.Statement.{Statement}
+use Rattle.sql_tree.specs.declared.tree.Statement.TheVariants.{Select, Explain}
+use Rattle.sql_tree.specs.Grammar.{Spells, SpellsLone, wants_distinct}
+use Rattle.sql_tree.specs.Symbols.{Symbol, depth}
+use Rattle.sql_parser.specs.Reading.{read_statement}
+
+-- a statement, or why the tokens of a piece spell none
+abbrev pub Reading : Type 0
+Reading = Result Statement Refusal
+
+-- a query, or its EXPLAIN, whose tree is one block without DISTINCT
+abbrev pub lacks_distinct : Statement → Bool
+lacks_distinct (Select tree) = wants_distinct tree
+lacks_distinct (Explain tree) = wants_distinct tree
+lacks_distinct _ = false
+
+-- no statement, and no query that lacks its DISTINCT
+pub record SpellsNothing (tokens : List Symbol) : Type 0 where
+  pub no_statement : (s : Statement) → Spells tokens s → ⊥
+  pub no_lone : SpellsLone tokens → ⊥
+
+abbrev pub Parses : List Symbol → Reading → Type 0
+Parses tokens (Ok statement) = (depth tokens ≤ 32) × Spells tokens statement
+Parses tokens (Err TooDeep) = 32 < depth tokens
+Parses tokens (Err Syntax) = (depth tokens ≤ 32) × SpellsNothing tokens
+Parses tokens (Err NeedsDistinct) = (depth tokens ≤ 32) × SpellsLone tokens
+Parses tokens (Err _) = ⊥
+
+-- ---- as it is found
+
+abbrev pub with_distinct : Statement → Reading
+with_distinct statement = if lacks_distinct statement then Err NeedsDistinct else Ok statement
+
+-- all tokens are read
+abbrev pub to_the_end : Option (Statement × List Symbol) → Reading
+to_the_end None = Err Syntax
+to_the_end (Some (statement, [])) = with_distinct statement
+to_the_end (Some (statement, symbol ∷ rest)) = Err Syntax
+
+unfoldable pub parsed : List Symbol → Reading
+parsed tokens = if nat_lt 32 (depth tokens) then Err TooDeep else to_the_end (read_statement tokens)
+
+-- the answer is this reading, unless memory ran out
+abbrev pub Answers : Result Statement Fail → Reading → Type 0
+Answers (Ok s) wanted = wanted ≡ Ok s
+Answers (Err NoMemory) wanted = Unit {0}
+Answers (Err (Refused why)) wanted = wanted ≡ Err why

@@ -1,0 +1,409 @@
+-- Reading from left to right: what is read from the front of the tokens, and the tokens behind it. A reader that
+-- takes a number repeats at most so often.
+use Rattle.std.specs.Prelude.{◌≡◌, ℕ, zero, suc, ◌&&◌, if◌then◌else◌, Bool, true, false, List, [], ◌∷◌, ◌++◌, length, codes, bytes_eq, Option, Some, None, Result, Ok, Err}
+use Rattle.beas_core.specs.declared.schema.ColType.{ColType}
+use Rattle.beas_core.specs.declared.schema.ColType.TheVariants.{Integer, Words as Texts}
+use Rattle.beas_core.specs.declared.schema.Column.{Column}
+use Rattle.beas_core.specs.declared.query.Sign.{Sign}
+use Rattle.beas_core.specs.declared.query.Sign.TheVariants.{Equal, Differs, Less, AtMost, More, AtLeast}
+use Rattle.sql_parser.specs.declared.reader.ReadError.{ReadError}
+use Rattle.sql_parser.specs.declared.reader.ReadError.TheVariants as errors
+use Rattle.sql_parser.specs.declared.queries.Front.{Front}
+use Rattle.sql_parser.specs.declared.queries.Front.TheVariants.{Nothing, BeforeUnion, BeforeExcept}
+use Rattle.sql_tree.specs.declared.tree.Literal.{Literal}
+use Rattle.sql_tree.specs.declared.tree.Literal.TheVariants.{Words}
+use Rattle.sql_tree.specs.declared.tree.ColumnRef.{ColumnRef}
+use Rattle.sql_tree.specs.declared.tree.Side.{Side}
+use Rattle.sql_tree.specs.declared.tree.Side.TheVariants.{Column as Placed, Fixed}
+use Rattle.sql_tree.specs.declared.tree.Cond.{Cond}
+use Rattle.sql_tree.specs.declared.tree.Cond.TheVariants.{Compare, Between}
+use Rattle.sql_tree.specs.declared.tree.FromItem.{FromItem}
+use Rattle.sql_tree.specs.declared.tree.BlockTree.{BlockTree}
+use Rattle.sql_tree.specs.declared.tree.Statement.{Statement}
+use Rattle.sql_tree.specs.declared.tree.Statement.TheVariants.{CreateTable, CreateAccess, DropAccess, Load, Insert, Delete, DiscoverGroup, DiscoverPairs, Select, Explain}
+use Rattle.sql_tree.specs.Trees.{Tree, Block}
+use Rattle.beas_core.specs.Spelling.{is_reserved}
+use Rattle.sql_tree.specs.Symbols.{Symbol, word, number, quoted, mark}
+use Rattle.sql_tree.specs.Grammar.{signed, is_literal, Source}
+use Rattle.sql_parser.specs.Fronts.{joined_to}
+use Rattle.sql_tree.specs.Words.{ACCESS, AND, AS, BETWEEN, CREATE, CROSS, DELETE, DISCOVER, DISTINCT, DROP, EXCEPT, EXPLAIN, FETCH, FROM, INNER, INSERT, INT, INTEGER, INTO, JOIN, LIMIT, LOAD, ON, SELECT, TABLE, TEXT, UNION, VALUES, WHERE, OPEN, CLOSE, COMMA, DOT, STAR, PLUS, MINUS}
+
+infixl 10 ◌>>=◌
+abbrev pub ◌>>=◌ : {A B : Type 0} → Option A → (A → Option B) → Option B
+(Some x) >>= f = f x
+None >>= f = None
+
+-- What a call answered, and the tokens that it left, are what reading gives, unless memory ran out.
+abbrev pub Gives : {X : Type 0} → Result X ReadError → List Symbol → Option (X × List Symbol) → Type 0
+Gives (Ok x) rest read = read ≡ Some (x, rest)
+Gives (Err errors.Syntax) rest read = read ≡ None
+Gives (Err errors.NoMemory) rest read = Unit {0}
+
+-- The same of a call that answers nothing, and changes what it was handed to new.
+abbrev pub Adds : {X Y : Type 0} → Result X ReadError → Y → List Symbol → Option (Y × List Symbol) → Type 0
+Adds (Ok x) new rest read = read ≡ Some (new, rest)
+Adds (Err errors.Syntax) new rest read = read ≡ None
+Adds (Err errors.NoMemory) new rest read = Unit {0}
+
+-- what was there before, and then what is read
+unfoldable pub behind : {X : Type 0} → List X → Option (List X × List Symbol) → Option (List X × List Symbol)
+behind front read = read >>= λ p. Some (front ++ p.0, p.1)
+
+-- the same of items and conditions
+unfoldable pub behind_both : Source → Option (Source × List Symbol) → Option (Source × List Symbol)
+behind_both front read = read >>= λ p. Some ((front.0 ++ p.0.0, front.1 ++ p.0.1), p.1)
+
+-- The same of a call that answers nothing.
+abbrev pub Passes : {X : Type 0} → Result X ReadError → List Symbol → Option (List Symbol) → Type 0
+Passes (Ok x) rest read = read ≡ Some rest
+Passes (Err errors.Syntax) rest read = read ≡ None
+Passes (Err errors.NoMemory) rest read = Unit {0}
+
+abbrev pub same : Symbol → Symbol → Bool
+same (word a) (word b) = bytes_eq a b
+same (mark a) (mark b) = bytes_eq a b
+same _ _ = false
+
+unfoldable pub starts : Symbol → List Symbol → Bool
+starts symbol [] = false
+starts symbol (first ∷ rest) = same symbol first
+
+unfoldable pub rest_of : List Symbol → List Symbol
+rest_of [] = []
+rest_of (first ∷ rest) = rest
+
+abbrev pub expect : Symbol → List Symbol → Option (List Symbol)
+expect symbol tokens = if starts symbol tokens then Some (rest_of tokens) else None
+
+unfoldable pub read_id : List Symbol → Option (List ℕ × List Symbol)
+read_id (word n ∷ rest) = if is_reserved n then None else Some (n, rest)
+read_id _ = None
+
+-- whether an identifier is next
+unfoldable pub starts_id : List Symbol → Bool
+starts_id (word n ∷ rest) = if is_reserved n then false else true
+starts_id _ = false
+
+unfoldable pub read_number : List Symbol → Option (List ℕ × List Symbol)
+read_number (number n ∷ rest) = Some (n, rest)
+read_number _ = None
+
+unfoldable pub read_quoted : List Symbol → Option (List ℕ × List Symbol)
+read_quoted (quoted n ∷ rest) = Some (n, rest)
+read_quoted _ = None
+
+-- X { , X }
+unfoldable pub read_commas : {X : Type 0} → (List Symbol → Option (X × List Symbol)) → ℕ → List Symbol → Option (List X × List Symbol)
+read_commas read zero tokens = None
+read_commas read (suc n) tokens = do
+  (x, rest) ← read tokens
+  if starts COMMA rest then (read_commas read n (rest_of rest) >>= λ q. Some (x ∷ q.0, q.1)) else Some (x ∷ [], rest)
+
+-- X { , X }, as often as there are tokens
+abbrev pub read_list : {X : Type 0} → (List Symbol → Option (X × List Symbol)) → List Symbol → Option (List X × List Symbol)
+read_list read tokens = read_commas read (length tokens) tokens
+
+-- what is read, and a mark behind it
+unfoldable pub closed : {X : Type 0} → Option (X × List Symbol) → Option (X × List Symbol)
+closed read = do
+  (x, rest) ← read
+  rest ← expect CLOSE rest
+  Some (x, rest)
+
+unfoldable pub read_maybe_ids : List Symbol → Option (List (List ℕ) × List Symbol)
+read_maybe_ids tokens = if starts CLOSE tokens then Some ([], tokens) else read_list read_id tokens
+
+unfoldable pub read_kind : List Symbol → Option (ColType × List Symbol)
+read_kind tokens =
+    if starts INTEGER tokens then Some (Integer, rest_of tokens)
+    else if starts INT tokens then Some (Integer, rest_of tokens)
+    else if starts TEXT tokens then Some (Texts, rest_of tokens) else None
+
+unfoldable pub read_column : List Symbol → Option (Column × List Symbol)
+read_column tokens = do
+  (name, rest) ← read_id tokens
+  (kind, rest) ← read_kind rest
+  Some (record { name = name; kind = kind }, rest)
+
+unfoldable pub read_signed : Bool → List Symbol → Option (Literal × List Symbol)
+read_signed negative tokens = do
+  (digits, rest) ← read_number tokens
+  Some (signed negative digits, rest)
+
+-- whether a text between quotes is next
+unfoldable pub starts_quoted : List Symbol → Bool
+starts_quoted (quoted t ∷ rest) = true
+starts_quoted _ = false
+
+unfoldable pub read_literal : List Symbol → Option (Literal × List Symbol)
+read_literal tokens =
+    if starts_quoted tokens then (read_quoted tokens >>= λ p. Some (Words p.0, p.1))
+    else if starts MINUS tokens then read_signed true (rest_of tokens)
+    else if starts PLUS tokens then read_signed false (rest_of tokens) else read_signed false tokens
+
+unfoldable pub read_tuple : List Symbol → Option (List Literal × List Symbol)
+read_tuple tokens = do
+  rest ← expect OPEN tokens
+  closed (read_list read_literal rest)
+
+unfoldable pub read_ref : List Symbol → Option (ColumnRef × List Symbol)
+read_ref tokens = do
+  (first, rest) ← read_id tokens
+  if starts DOT rest then (read_id (rest_of rest) >>= λ p. Some (record { table = Some first; column = p.0 }, p.1)) else Some (record { table = None; column = first }, rest)
+
+unfoldable pub read_side : List Symbol → Option (Side × List Symbol)
+read_side tokens =
+    if starts_id tokens then (read_ref tokens >>= λ p. Some (Placed p.0, p.1))
+    else (read_literal tokens >>= λ p. Some (Fixed p.0, p.1))
+
+unfoldable pub sign_of : List ℕ → Option Sign
+sign_of text =
+    if bytes_eq (codes "=") text then Some Equal
+    else if bytes_eq (codes "<>") text then Some Differs
+    else if bytes_eq (codes "!=") text then Some Differs
+    else if bytes_eq (codes "<") text then Some Less
+    else if bytes_eq (codes "<=") text then Some AtMost
+    else if bytes_eq (codes ">") text then Some More
+    else if bytes_eq (codes ">=") text then Some AtLeast else None
+
+unfoldable pub read_sign : List Symbol → Option (Sign × List Symbol)
+read_sign (mark text ∷ rest) = sign_of text >>= λ sign. Some (sign, rest)
+read_sign _ = None
+
+-- behind BETWEEN: the value is what was read before it
+unfoldable pub read_range : Side → List Symbol → Option (Cond × List Symbol)
+read_range (Placed value) tokens = do
+  (low, rest) ← read_side tokens
+  rest ← expect AND rest
+  (high, rest) ← read_side rest
+  Some (Between value low high, rest)
+read_range (Fixed value) tokens = None
+
+unfoldable pub read_comparison : Side → List Symbol → Option (Cond × List Symbol)
+read_comparison left tokens = do
+  (sign, rest) ← read_sign tokens
+  (right, rest) ← read_side rest
+  if is_literal left && is_literal right then None else Some (Compare left sign right, rest)
+
+unfoldable pub read_simple : List Symbol → Option (Cond × List Symbol)
+read_simple tokens = do
+  (left, rest) ← read_side tokens
+  if starts BETWEEN rest then read_range left (rest_of rest) else read_comparison left rest
+
+-- a condition, with a reader of those between parentheses
+unfoldable pub read_condition : (List Symbol → Option (List Cond × List Symbol)) → List Symbol → Option (List Cond × List Symbol)
+read_condition between tokens =
+    if starts OPEN tokens then closed (between (rest_of tokens)) else (read_simple tokens >>= λ p. Some (p.0 ∷ [], p.1))
+
+unfoldable pub read_conditions : ℕ → List Symbol → Option (List Cond × List Symbol)
+read_conditions zero tokens = None
+read_conditions (suc n) tokens = do
+  (cs, rest) ← read_condition (read_conditions n) tokens
+  if starts AND rest then (read_conditions n (rest_of rest) >>= λ q. Some (cs ++ q.0, q.1)) else Some (cs, rest)
+
+abbrev pub read_all_conditions : List Symbol → Option (List Cond × List Symbol)
+read_all_conditions tokens = read_conditions (length tokens) tokens
+
+unfoldable pub read_where : List Symbol → Option (List Cond × List Symbol)
+read_where tokens = if starts WHERE tokens then read_all_conditions (rest_of tokens) else Some ([], tokens)
+
+-- the alias of a table: its name, where no other stands behind it
+unfoldable pub read_alias : List ℕ → List Symbol → Option (List ℕ × List Symbol)
+read_alias table tokens =
+    if starts AS tokens then read_id (rest_of tokens)
+    else if starts_id tokens then read_id tokens else Some (table, tokens)
+
+unfoldable pub read_item : List Symbol → Option (FromItem × List Symbol)
+read_item tokens = do
+  (table, rest) ← read_id tokens
+  (alias, rest) ← read_alias table rest
+  Some (record { table = table; alias = alias }, rest)
+
+-- behind the words of a join: its item, and the conditions behind ON
+unfoldable pub read_joined : List Symbol → Option (Source × List Symbol)
+read_joined tokens = do
+  (item, rest) ← read_item tokens
+  rest ← expect ON rest
+  (conditions, rest) ← read_all_conditions rest
+  Some ((item ∷ [], conditions), rest)
+
+unfoldable pub read_crossed : List Symbol → Option (Source × List Symbol)
+read_crossed tokens = do
+  rest ← expect JOIN tokens
+  (item, rest) ← read_item rest
+  Some ((item ∷ [], []), rest)
+
+-- whether a join is next
+unfoldable pub starts_join : List Symbol → Bool
+starts_join tokens = if starts JOIN tokens then true else if starts INNER tokens then true else starts CROSS tokens
+
+unfoldable pub read_join : List Symbol → Option (Source × List Symbol)
+read_join tokens =
+    if starts JOIN tokens then read_joined (rest_of tokens)
+    else if starts INNER tokens then (expect JOIN (rest_of tokens) >>= read_joined)
+    else read_crossed (rest_of tokens)
+
+unfoldable pub read_joins : ℕ → List Symbol → Option (Source × List Symbol)
+read_joins zero tokens = if starts_join tokens then None else Some (([], []), tokens)
+read_joins (suc n) tokens =
+    if starts_join tokens then (do
+      (first, rest) ← read_join tokens
+      (others, rest) ← read_joins n rest
+      Some ((first.0 ++ others.0, first.1 ++ others.1), rest))
+    else Some (([], []), tokens)
+
+unfoldable pub read_source : List Symbol → Option (Source × List Symbol)
+read_source tokens = do
+  (item, rest) ← read_item tokens
+  (joins, rest) ← read_joins (length rest) rest
+  Some ((item ∷ joins.0, joins.1), rest)
+
+-- source { , source }, with all their items and conditions
+unfoldable pub read_sources : ℕ → List Symbol → Option (Source × List Symbol)
+read_sources zero tokens = None
+read_sources (suc n) tokens = do
+  (first, rest) ← read_source tokens
+  if starts COMMA rest then (read_sources n (rest_of rest) >>= λ q. Some ((first.0 ++ q.0.0, first.1 ++ q.0.1), q.1)) else Some (first, rest)
+
+unfoldable pub read_output : List Symbol → Option ((Bool × List ColumnRef) × List Symbol)
+read_output tokens =
+    if starts STAR tokens then Some ((true, []), rest_of tokens)
+    else (read_list read_ref tokens >>= λ p. Some ((false, p.0), p.1))
+
+unfoldable pub behind_distinct : List Symbol → List Symbol
+behind_distinct tokens = if starts DISTINCT tokens then rest_of tokens else tokens
+
+unfoldable pub read_block : List Symbol → Option (BlockTree × List Symbol)
+read_block tokens = do
+  start ← expect SELECT tokens
+  (output, rest) ← read_output (behind_distinct start)
+  rest ← expect FROM rest
+  (sources, rest) ← read_sources (length rest) rest
+  (conditions, rest) ← read_where rest
+  Some (record { distinct = starts DISTINCT start; star = output.0; items = output.1; from_items = sources.0; conditions = sources.1 ++ conditions }, rest)
+
+unfoldable pub read_block_term : List Symbol → Option (Tree × List Symbol)
+read_block_term tokens = do
+  (block, rest) ← read_block tokens
+  Some (Block block, rest)
+
+-- a term, with a reader of a query between parentheses
+unfoldable pub read_term : (List Symbol → Option (Tree × List Symbol)) → List Symbol → Option (Tree × List Symbol)
+read_term between tokens =
+    if starts OPEN tokens then closed (between (rest_of tokens)) else read_block_term tokens
+
+unfoldable pub read_query : ℕ → Front → List Symbol → Option (Tree × List Symbol)
+read_query zero front tokens = None
+read_query (suc n) front tokens = do
+  (tree, rest) ← read_term (read_query n Nothing) tokens
+  (if starts UNION rest then read_query n (BeforeUnion (joined_to front tree)) (rest_of rest)
+      else if starts EXCEPT rest then read_query n (BeforeExcept (joined_to front tree)) (rest_of rest)
+      else Some (joined_to front tree, rest))
+
+abbrev pub read_whole_query : List Symbol → Option (Tree × List Symbol)
+read_whole_query tokens = read_query (length tokens) Nothing tokens
+
+unfoldable pub read_columns : List Symbol → Option (List Column × List Symbol)
+read_columns tokens = do
+  rest ← expect OPEN tokens
+  closed (read_list read_column rest)
+
+-- ( [ ids ] )
+unfoldable pub read_key : List Symbol → Option (List (List ℕ) × List Symbol)
+read_key tokens = do
+  rest ← expect OPEN tokens
+  closed (read_maybe_ids rest)
+
+-- FETCH ( ids )
+unfoldable pub read_fetched : List Symbol → Option (List (List ℕ) × List Symbol)
+read_fetched tokens = do
+  rest ← expect FETCH tokens
+  rest ← expect OPEN rest
+  closed (read_list read_id rest)
+
+unfoldable pub read_create_table : List Symbol → Option (Statement × List Symbol)
+read_create_table tokens = do
+  (name, rest) ← read_id tokens
+  (columns, rest) ← read_columns rest
+  Some (CreateTable name columns, rest)
+
+unfoldable pub read_create_access : List Symbol → Option (Statement × List Symbol)
+read_create_access tokens = do
+  rest ← expect ACCESS tokens
+  (name, rest) ← read_id rest
+  rest ← expect ON rest
+  (table, rest) ← read_id rest
+  (key, rest) ← read_key rest
+  (fetched, rest) ← read_fetched rest
+  rest ← expect LIMIT rest
+  (limit, rest) ← read_number rest
+  Some (CreateAccess (record { name = name; table = table; key = key; fetched = fetched; limit = limit }), rest)
+
+unfoldable pub read_drop_access : List Symbol → Option (Statement × List Symbol)
+read_drop_access tokens = do
+  rest ← expect ACCESS tokens
+  (name, rest) ← read_id rest
+  Some (DropAccess name, rest)
+
+unfoldable pub read_load : List Symbol → Option (Statement × List Symbol)
+read_load tokens = do
+  (table, rest) ← read_id tokens
+  rest ← expect FROM rest
+  (file, rest) ← read_quoted rest
+  Some (Load table file, rest)
+
+unfoldable pub read_insert : List Symbol → Option (Statement × List Symbol)
+read_insert tokens = do
+  rest ← expect INTO tokens
+  (table, rest) ← read_id rest
+  rest ← expect VALUES rest
+  (rows, rest) ← read_list read_tuple rest
+  Some (Insert table rows, rest)
+
+unfoldable pub read_delete : List Symbol → Option (Statement × List Symbol)
+read_delete tokens = do
+  rest ← expect FROM tokens
+  (table, rest) ← read_id rest
+  (conditions, rest) ← read_where rest
+  Some (Delete table conditions, rest)
+
+unfoldable pub read_pairs : List ℕ → List Symbol → Option (Statement × List Symbol)
+read_pairs table tokens = do
+  (limit, rest) ← read_number tokens
+  Some (DiscoverPairs table limit, rest)
+
+unfoldable pub read_group : List ℕ → List Symbol → Option (Statement × List Symbol)
+read_group table tokens = do
+  (key, rest) ← read_key tokens
+  (fetched, rest) ← read_fetched rest
+  Some (DiscoverGroup table key fetched, rest)
+
+unfoldable pub read_discover : List Symbol → Option (Statement × List Symbol)
+read_discover tokens = do
+  (table, rest) ← read_id tokens
+  if starts LIMIT rest then read_pairs table (rest_of rest) else read_group table rest
+
+unfoldable pub read_explain : List Symbol → Option (Statement × List Symbol)
+read_explain tokens = do
+  (tree, rest) ← read_whole_query tokens
+  Some (Explain tree, rest)
+
+unfoldable pub read_select : List Symbol → Option (Statement × List Symbol)
+read_select tokens = do
+  (tree, rest) ← read_whole_query tokens
+  Some (Select tree, rest)
+
+unfoldable pub read_create : List Symbol → Option (Statement × List Symbol)
+read_create tokens = if starts TABLE tokens then read_create_table (rest_of tokens) else read_create_access tokens
+
+-- a statement, or a query that lacks its DISTINCT
+unfoldable pub read_statement : List Symbol → Option (Statement × List Symbol)
+read_statement tokens =
+    if starts CREATE tokens then read_create (rest_of tokens)
+    else if starts DROP tokens then read_drop_access (rest_of tokens)
+    else if starts LOAD tokens then read_load (rest_of tokens)
+    else if starts INSERT tokens then read_insert (rest_of tokens)
+    else if starts DELETE tokens then read_delete (rest_of tokens)
+    else if starts DISCOVER tokens then read_discover (rest_of tokens)
+    else if starts EXPLAIN tokens then read_explain (rest_of tokens)
+    else read_select tokens

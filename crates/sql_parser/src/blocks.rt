@@ -1,0 +1,192 @@
+// Blocks: SELECT with its items, FROM items and conditions.
+ghost use Rattle.std.specs.Prelude.{◌≡◌, ◌∷◌, [], ◌++◌, codes, length};
+ghost use Rattle.sql_parser.specs.Reading.{Gives, Adds, starts, behind, behind_both, read_alias, read_item, read_joined, read_crossed, starts_join, read_join, read_joins, read_source, read_sources, read_output, behind_distinct, read_block};
+ghost use Rattle.sql_tree.specs.Words.{DISTINCT};
+
+use crate::conditions::{conditions, where_conditions};
+use crate::parts::commas;
+use crate::reader::{ReadError, Reader};
+use beas_core::{Duplicate, List, Name};
+use sql_tree::{BlockTree, ColumnRef, Cond, FromItem};
+use std::alloc::Global;
+
+#[tactic(auto, unfolding(crate::specs::Reading::read_alias))]
+fn alias(reader: &mut Reader, alloc: Global, table: &Name) -> Result<Name, ReadError>
+    ensures { Gives result reader.new (read_alias table.now reader.old) }
+{
+    if reader.next_is_word("as") {
+        reader.skip();
+        return reader.name(alloc);
+    }
+    if reader.next_is_name() {
+        return reader.name(alloc);
+    }
+    Ok(table.copy(alloc)?)
+}
+
+#[tactic(auto, unfolding(crate::specs::Reading::read_item))]
+fn from_item(reader: &mut Reader, alloc: Global) -> Result<FromItem, ReadError>
+    ensures { Gives result reader.new (read_item reader.old) }
+{
+    let table = reader.name(alloc)?;
+    let alias = alias(reader, alloc, &table)?;
+    Ok(FromItem { table, alias })
+}
+
+#[tactic(auto, unfolding(crate::specs::Reading::read_joined, crate::specs::Reading::behind, crate::specs::Reading::behind_both))]
+fn joined(
+    reader: &mut Reader,
+    alloc: Global,
+    items: &mut List<FromItem>,
+    found: &mut List<Cond>,
+) -> Result<(), ReadError>
+    ensures { Adds result (items.new, found.new) reader.new (behind_both (items.old, found.old) (read_joined reader.old)) }
+{
+    let item = from_item(reader, alloc)?;
+    items.push(item)?;
+    reader.want_word("on")?;
+    conditions(reader, alloc, found)
+}
+
+#[tactic(auto, unfolding(crate::specs::Reading::read_crossed, crate::specs::Reading::behind, crate::specs::Reading::behind_both))]
+fn crossed(
+    reader: &mut Reader,
+    alloc: Global,
+    items: &mut List<FromItem>,
+    found: &List<Cond>,
+) -> Result<(), ReadError>
+    ensures { Adds result (items.new, found.now) reader.new (behind_both (items.old, found.now) (read_crossed reader.old)) }
+{
+    reader.want_word("join")?;
+    let item = from_item(reader, alloc)?;
+    items.push(item)?;
+    Ok(())
+}
+
+#[tactic(auto, unfolding(crate::specs::Reading::starts_join))]
+fn next_is_join(reader: &Reader) -> bool
+    ensures { result ≡ starts_join reader.now }
+{
+    reader.next_is_word("join") || reader.next_is_word("inner") || reader.next_is_word("cross")
+}
+
+#[tactic(auto, unfolding(crate::specs::Reading::read_join, crate::specs::Reading::behind, crate::specs::Reading::behind_both))]
+fn join(
+    reader: &mut Reader,
+    alloc: Global,
+    items: &mut List<FromItem>,
+    found: &mut List<Cond>,
+) -> Result<(), ReadError>
+    ensures { Adds result (items.new, found.new) reader.new (behind_both (items.old, found.old) (read_join reader.old)) }
+{
+    if reader.next_is_word("join") {
+        reader.skip();
+        return joined(reader, alloc, items, found);
+    }
+    if reader.next_is_word("inner") {
+        reader.skip();
+        reader.want_word("join")?;
+        return joined(reader, alloc, items, found);
+    }
+    reader.skip();
+    crossed(reader, alloc, items, found)
+}
+
+fn joins(
+    reader: &mut Reader,
+    alloc: Global,
+    items: &mut List<FromItem>,
+    found: &mut List<Cond>,
+) -> Result<(), ReadError>
+    ensures { Adds result (items.new, found.new) reader.new (behind_both (items.old, found.old) (read_joins (length reader.old) reader.old)) }
+{
+    let mut room = reader.left();
+    'more: while next_is_join(reader) {
+        if room == 0 {
+            return Err(ReadError::Syntax);
+        }
+        room -= 1;
+        join(reader, alloc, items, found)?;
+    }
+    Ok(())
+}
+
+#[tactic(auto, unfolding(crate::specs::Reading::read_source, crate::specs::Reading::behind_both))]
+fn from_source(
+    reader: &mut Reader,
+    alloc: Global,
+    items: &mut List<FromItem>,
+    found: &mut List<Cond>,
+) -> Result<(), ReadError>
+    ensures { Adds result (items.new, found.new) reader.new (behind_both (items.old, found.old) (read_source reader.old)) }
+{
+    let item = from_item(reader, alloc)?;
+    items.push(item)?;
+    joins(reader, alloc, items, found)
+}
+
+fn from_sources(
+    reader: &mut Reader,
+    alloc: Global,
+    items: &mut List<FromItem>,
+    found: &mut List<Cond>,
+) -> Result<(), ReadError>
+    ensures { Adds result (items.new, found.new) reader.new (behind_both (items.old, found.old) (read_sources (length reader.old) reader.old)) }
+{
+    let mut room = reader.left();
+    while room > 0 {
+        room -= 1;
+        from_source(reader, alloc, items, found)?;
+        if !reader.next_is_mark(",") {
+            return Ok(());
+        }
+        reader.skip();
+    }
+    Err(ReadError::Syntax)
+}
+
+#[tactic(auto, unfolding(crate::specs::Reading::behind_distinct))]
+fn distinct(reader: &mut Reader) -> bool
+    ensures found { result ≡ starts DISTINCT reader.old }
+    ensures rest { reader.new ≡ behind_distinct reader.old }
+{
+    let found = reader.next_is_word("distinct");
+    if found {
+        reader.skip();
+    }
+    found
+}
+
+#[tactic(auto, unfolding(crate::specs::Reading::read_output))]
+fn output(reader: &mut Reader, alloc: Global) -> Result<(bool, List<ColumnRef>), ReadError>
+    ensures { Gives result reader.new (read_output reader.old) }
+{
+    if reader.next_is_mark("*") {
+        reader.skip();
+        return Ok((true, List::new(alloc)));
+    }
+    let items = commas::<ColumnRef>(reader, alloc)?;
+    Ok((false, items))
+}
+
+#[tactic(auto, unfolding(crate::specs::Reading::read_block, crate::specs::Reading::behind, crate::specs::Reading::behind_both))]
+/// Reads a block.
+pub fn block(reader: &mut Reader, alloc: Global) -> Result<BlockTree, ReadError>
+    ensures { Gives result reader.new (read_block reader.old) }
+{
+    reader.want_word("select")?;
+    let distinct = distinct(reader);
+    let (star, items) = output(reader, alloc)?;
+    reader.want_word("from")?;
+    let mut from_items = List::new(alloc);
+    let mut conditions = List::new(alloc);
+    from_sources(reader, alloc, &mut from_items, &mut conditions)?;
+    where_conditions(reader, alloc, &mut conditions)?;
+    Ok(BlockTree {
+        distinct,
+        star,
+        items,
+        from_items,
+        conditions,
+    })
+}

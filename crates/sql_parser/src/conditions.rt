@@ -1,0 +1,130 @@
+// Conditions. Parentheses round them leave no trace.
+ghost use Rattle.std.specs.Prelude.{◌≡◌, ◌∷◌, [], ◌++◌, codes, length};
+ghost use Rattle.sql_parser.specs.Reading.{Gives, Adds, behind, closed, starts_id, read_side, sign_of, read_sign, read_range, read_comparison, read_simple, read_condition, read_conditions, read_all_conditions, read_where};
+
+use crate::parts::Part;
+use crate::reader::{ReadError, Reader};
+use beas_core::{List, Sign};
+use sql_tree::{ColumnRef, Cond, Literal, Side};
+use std::alloc::Global;
+
+#[tactic(auto, unfolding(crate::specs::Reading::read_side))]
+fn side(reader: &mut Reader, alloc: Global) -> Result<Side, ReadError>
+    ensures { Gives result reader.new (read_side reader.old) }
+{
+    if reader.next_is_name() {
+        let column = ColumnRef::read(reader, alloc)?;
+        return Ok(Side::Column(column));
+    }
+    let literal = Literal::read(reader, alloc)?;
+    Ok(Side::Fixed(literal))
+}
+
+#[tactic(auto, unfolding(crate::specs::Reading::read_range))]
+fn range(reader: &mut Reader, alloc: Global, value: Side) -> Result<Cond, ReadError>
+    ensures { Gives result reader.new (read_range value reader.old) }
+{
+    let Side::Column(value) = value else {
+        return Err(ReadError::Syntax);
+    };
+    let low = side(reader, alloc)?;
+    reader.want_word("and")?;
+    let high = side(reader, alloc)?;
+    Ok(Cond::Between { value, low, high })
+}
+
+#[tactic(auto, unfolding(crate::specs::Reading::read_comparison))]
+fn comparison(reader: &mut Reader, alloc: Global, left: Side) -> Result<Cond, ReadError>
+    ensures { Gives result reader.new (read_comparison left reader.old) }
+{
+    let sign = reader.sign()?;
+    let right = side(reader, alloc)?;
+    if let Side::Fixed(_) = &left
+        && let Side::Fixed(_) = &right
+    {
+        return Err(ReadError::Syntax);
+    }
+    Ok(Cond::Compare { left, sign, right })
+}
+
+#[tactic(auto, unfolding(crate::specs::Reading::read_simple))]
+fn simple(reader: &mut Reader, alloc: Global) -> Result<Cond, ReadError>
+    ensures { Gives result reader.new (read_simple reader.old) }
+{
+    let left = side(reader, alloc)?;
+    if reader.next_is_word("between") {
+        reader.skip();
+        return range(reader, alloc, left);
+    }
+    comparison(reader, alloc, left)
+}
+
+#[cycle(conditions)]
+#[tactic(auto, unfolding(crate::specs::Reading::read_condition, crate::specs::Reading::closed, crate::specs::Reading::behind))]
+fn condition(
+    reader: &mut Reader,
+    alloc: Global,
+    room: usize,
+    found: &mut List<Cond>,
+) -> Result<(), ReadError>
+    ensures { Adds result found.new reader.new (behind found.old (read_condition (read_conditions room) reader.old)) }
+{
+    if reader.next_is_mark("(") {
+        reader.skip();
+        some_conditions(reader, alloc, room, found)?;
+        reader.want_mark(")")?;
+        return Ok(());
+    }
+    let condition = simple(reader, alloc)?;
+    found.push(condition)?;
+    Ok(())
+}
+
+/// Reads conditions with AND between, no more than there is room for.
+#[cycle(conditions)]
+fn some_conditions(
+    reader: &mut Reader,
+    alloc: Global,
+    mut room: usize,
+    found: &mut List<Cond>,
+) -> Result<(), ReadError>
+    ensures { Adds result found.new reader.new (behind found.old (read_conditions room reader.old)) }
+{
+    while room > 0 {
+        room -= 1;
+        condition(reader, alloc, room, found)?;
+        if !reader.next_is_word("and") {
+            return Ok(());
+        }
+        reader.skip();
+    }
+    Err(ReadError::Syntax)
+}
+
+/// Reads conditions with AND between, and adds them to those that were found before.
+pub fn conditions(
+    reader: &mut Reader,
+    alloc: Global,
+    found: &mut List<Cond>,
+) -> Result<(), ReadError>
+    ensures { Adds result found.new reader.new (behind found.old (read_all_conditions reader.old)) }
+{
+    let room = reader.left();
+    some_conditions(reader, alloc, room, found)
+}
+
+#[tactic(auto, unfolding(crate::specs::Reading::read_where, crate::specs::Reading::behind))]
+/// Reads the conditions after WHERE, where it stands there, and adds them.
+pub fn where_conditions(
+    reader: &mut Reader,
+    alloc: Global,
+    found: &mut List<Cond>,
+) -> Result<(), ReadError>
+    ensures { Adds result found.new reader.new (behind found.old (read_where reader.old)) }
+{
+    if !reader.next_is_word("where") {
+        return Ok(());
+    }
+    reader.skip();
+    conditions(reader, alloc, found)
+}

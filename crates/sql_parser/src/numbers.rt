@@ -1,0 +1,29 @@
+// Digits without leading zeros.
+ghost use Rattle.std.specs.Prelude.{◌≡◌, ◌<◌, IfOk, MatchOption, length};
+ghost use Rattle.sql_tree.specs.Grammar.{trimmed};
+
+use beas_core::{NoMemory, Text};
+use std::alloc::Global;
+
+/// The digits without one leading zero, where other digits stand behind it.
+fn without_zero(digits: &str) -> Option<&str>
+    ensures same { MatchOption result (trimmed digits.now ≡ digits.now) (λ rest. trimmed digits.now ≡ trimmed rest.now) }
+    ensures shorter { MatchOption result (Unit {0}) (λ rest. length rest.now < length digits.now) }
+{
+    let rest = digits.strip_prefix('0')?;
+    if rest.is_empty() {
+        return None;
+    }
+    Some(rest)
+}
+
+/// Digits without their leading zeros, of which one digit is kept.
+pub fn trimmed(alloc: Global, digits: &Text) -> Result<Text, NoMemory>
+    ensures { IfOk result (λ kept. kept ≡ trimmed digits.now) }
+{
+    let mut digits = digits.as_str();
+    while let Some(rest) = without_zero(digits) {
+        digits = rest;
+    }
+    Text::from_str(alloc, digits)
+}

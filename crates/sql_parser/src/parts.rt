@@ -1,0 +1,149 @@
+// The small parts of statements, and lists of them.
+ghost use Rattle.std.specs.Prelude.{◌≡◌, List, Option, ◌∷◌, [], codes, length};
+ghost use Rattle.sql_parser.specs.Reading.{Gives, read_commas, read_list, read_id, read_column, read_kind, read_signed, read_literal, read_tuple, read_ref, read_maybe_ids, starts_quoted, closed};
+ghost use Rattle.sql_tree.specs.Symbols.{Symbol};
+
+use crate::numbers::trimmed;
+use crate::reader::{ReadError, Reader};
+use beas_core::{ColType, Column, List as Items, Name};
+use sql_tree::{ColumnRef, Literal};
+use std::alloc::Global;
+
+/// What stands in lists with commas between.
+pub trait Part: Drop {
+    /// What is read from the front of some tokens, and the tokens behind it.
+    ghost reads: { List Symbol → Option (Self × List Symbol) };
+
+    fn read(reader: &mut Reader, alloc: Global) -> Result<Self, ReadError>
+        ensures { Gives result reader.new (reads reader.old) };
+}
+
+/// Reads one or more parts with commas between. Each takes a token or more.
+pub fn commas<T: Part>(reader: &mut Reader, alloc: Global) -> Result<Items<T>, ReadError>
+    ensures { Gives result reader.new (read_list T.reads reader.old) }
+{
+    let mut parts = Items::new(alloc);
+    let mut room = reader.left();
+    while room > 0 {
+        room -= 1;
+        let part = T::read(reader, alloc)?;
+        parts.push(part)?;
+        if !reader.next_is_mark(",") {
+            return Ok(parts);
+        }
+        reader.skip();
+    }
+    Err(ReadError::Syntax)
+}
+
+impl Part for Name {
+    ghost reads = { read_id };
+
+    fn read(reader: &mut Reader, alloc: Global) -> Result<Name, ReadError> {
+        reader.name(alloc)
+    }
+}
+
+#[tactic(auto, unfolding(crate::specs::Reading::read_maybe_ids))]
+/// Reads names, or none before a closing parenthesis.
+pub fn maybe_names(reader: &mut Reader, alloc: Global) -> Result<Items<Name>, ReadError>
+    ensures { Gives result reader.new (read_maybe_ids reader.old) }
+{
+    if reader.next_is_mark(")") {
+        return Ok(Items::new(alloc));
+    }
+    commas::<Name>(reader, alloc)
+}
+
+#[tactic(auto, unfolding(crate::specs::Reading::read_kind))]
+fn column_kind(reader: &mut Reader) -> Result<ColType, ReadError>
+    ensures { Gives result reader.new (read_kind reader.old) }
+{
+    if reader.next_is_word("integer") {
+        reader.skip();
+        return Ok(ColType::Integer);
+    }
+    if reader.next_is_word("int") {
+        reader.skip();
+        return Ok(ColType::Integer);
+    }
+    if reader.next_is_word("text") {
+        reader.skip();
+        return Ok(ColType::Words);
+    }
+    Err(ReadError::Syntax)
+}
+
+impl Part for Column {
+    ghost reads = { read_column };
+
+    #[tactic(auto, unfolding(crate::specs::Reading::read_column))]
+    fn read(reader: &mut Reader, alloc: Global) -> Result<Column, ReadError> {
+        let name = reader.name(alloc)?;
+        let kind = column_kind(reader)?;
+        Ok(Column { name, kind })
+    }
+}
+
+#[tactic(auto, unfolding(crate::specs::Reading::read_signed))]
+fn signed_number(reader: &mut Reader, alloc: Global, negative: bool) -> Result<Literal, ReadError>
+    ensures { Gives result reader.new (read_signed negative reader.old) }
+{
+    let written = reader.number(alloc)?;
+    let digits = trimmed(alloc, &written)?;
+    let negative = negative && digits.as_str() != "0";
+    Ok(Literal::Number { negative, digits })
+}
+
+impl Part for Literal {
+    ghost reads = { read_literal };
+
+    #[tactic(auto, unfolding(crate::specs::Reading::read_literal))]
+    fn read(reader: &mut Reader, alloc: Global) -> Result<Literal, ReadError> {
+        if reader.next_is_quoted() {
+            let text = reader.quoted(alloc)?;
+            return Ok(Literal::Words { text });
+        }
+        if reader.next_is_mark("-") {
+            reader.skip();
+            return signed_number(reader, alloc, true);
+        }
+        if reader.next_is_mark("+") {
+            reader.skip();
+        }
+        signed_number(reader, alloc, false)
+    }
+}
+
+impl Part for Items<Literal> {
+    ghost reads = { read_tuple };
+
+    #[tactic(auto, unfolding(crate::specs::Reading::read_tuple, crate::specs::Reading::closed))]
+    fn read(reader: &mut Reader, alloc: Global) -> Result<Items<Literal>, ReadError> {
+        reader.want_mark("(")?;
+        let literals = commas::<Literal>(reader, alloc)?;
+        reader.want_mark(")")?;
+        Ok(literals)
+    }
+}
+
+impl Part for ColumnRef {
+    ghost reads = { read_ref };
+
+    #[tactic(auto, unfolding(crate::specs::Reading::read_ref))]
+    fn read(reader: &mut Reader, alloc: Global) -> Result<ColumnRef, ReadError> {
+        let first = reader.name(alloc)?;
+        if !reader.next_is_mark(".") {
+            return Ok(ColumnRef {
+                table: None,
+                column: first,
+            });
+        }
+        reader.skip();
+        let column = reader.name(alloc)?;
+        Ok(ColumnRef {
+            table: Some(first),
+            column,
+        })
+    }
+}

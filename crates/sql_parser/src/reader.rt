@@ -1,0 +1,206 @@
+// The tokens that are still to be read.
+ghost use Rattle.std.specs.Prelude.{◌≡◌, ◌∷◌, [], codes, length, IsTrue, OnOk};
+ghost use Rattle.sql_parser.specs.Reading.{Gives, Passes, starts, rest_of, expect, read_id, read_number, read_quoted, starts_id, starts_quoted, read_sign, sign_of};
+ghost use Rattle.sql_tree.specs.Symbols.{word, mark, symbols};
+
+use beas_core::{Duplicate, Name, NoMemory, Sign, Text, is_reserved};
+use sql_text::{Token, TokenKind};
+use std::alloc::{AllocError, AllocFailed, Global};
+use std::marker::Model;
+
+/// Why reading stopped.
+#[derive(Debug, Drop)]
+pub enum ReadError {
+    Syntax,
+    NoMemory,
+}
+
+impl From<NoMemory> for ReadError {
+    ghost use Rattle.sql_parser.specs.declared.reader.ReadError.TheVariants.{NoMemory as Want};
+    ghost use Rattle.std.specs.Prelude.{◌≡◌};
+
+    ghost from_gives = { λ _ e. e ≡ Want };
+
+    fn from(_: NoMemory) -> ReadError {
+        ReadError::NoMemory
+    }
+}
+
+#[tactic(auto, unfolding(crate::specs::Reading::sign_of))]
+fn sign_of(text: &str) -> Option<Sign>
+    ensures { result ≡ sign_of text.now }
+{
+    match text {
+        "=" => Some(Sign::Equal),
+        "<>" | "!=" => Some(Sign::Differs),
+        "<" => Some(Sign::Less),
+        "<=" => Some(Sign::AtMost),
+        ">" => Some(Sign::More),
+        ">=" => Some(Sign::AtLeast),
+        _ => None,
+    }
+}
+
+/// The tokens that are still to be read, seen as what they are and their texts.
+#[derive(Drop)]
+pub struct Reader<'a> {
+    rest: &'a [Token],
+}
+
+impl<'a> Model for Reader<'a> {
+    ghost use Rattle.std.specs.Prelude.{List};
+    ghost use Rattle.sql_tree.specs.Symbols.{Symbol, symbols};
+
+    ghost Value = { List Symbol };
+
+    ghost view = { λ r. symbols r.rest.now };
+}
+
+impl<'a> Reader<'a> {
+    pub fn new(tokens: &'a [Token]) -> Reader<'a>
+        ensures { result ≡ symbols tokens.now }
+    {
+        Reader { rest: tokens }
+    }
+
+    /// How many tokens are left.
+    pub fn left(&self) -> usize
+        ensures { result ≡ length self.now }
+    {
+        self.rest.len()
+    }
+
+    #[tactic(auto, unfolding(crate::specs::Reading::starts))]
+    /// Whether the next token is this word.
+    pub fn next_is_word(&self, text: &str) -> bool
+        ensures { result ≡ starts (word text.now) self.now }
+    {
+        match self.rest.split_first() {
+            Some((token, _)) => token.kind == TokenKind::Word && token.text.as_str() == text,
+            None => false,
+        }
+    }
+
+    #[tactic(auto, unfolding(crate::specs::Reading::starts))]
+    /// Whether the next token is this mark.
+    pub fn next_is_mark(&self, text: &str) -> bool
+        ensures { result ≡ starts (mark text.now) self.now }
+    {
+        match self.rest.split_first() {
+            Some((token, _)) => token.kind == TokenKind::Mark && token.text.as_str() == text,
+            None => false,
+        }
+    }
+
+    #[tactic(auto, unfolding(crate::specs::Reading::rest_of))]
+    /// Goes behind the next token.
+    pub fn skip(&mut self)
+        ensures { self.new ≡ rest_of self.old }
+    {
+        if let Some((_, rest)) = self.rest.split_first() {
+            self.rest = rest;
+        }
+    }
+
+    /// Goes behind a word, which must be next.
+    pub fn want_word(&mut self, text: &str) -> Result<(), ReadError>
+        ensures { Passes result self.new (expect (word text.now) self.old) }
+    {
+        if !self.next_is_word(text) {
+            return Err(ReadError::Syntax);
+        }
+        self.skip();
+        Ok(())
+    }
+
+    /// Goes behind a mark, which must be next.
+    pub fn want_mark(&mut self, text: &str) -> Result<(), ReadError>
+        ensures { Passes result self.new (expect (mark text.now) self.old) }
+    {
+        if !self.next_is_mark(text) {
+            return Err(ReadError::Syntax);
+        }
+        self.skip();
+        Ok(())
+    }
+
+    #[tactic(auto, unfolding(crate::specs::Reading::read_id))]
+    /// Reads an identifier.
+    pub fn name(&mut self, alloc: Global) -> Result<Name, ReadError>
+        ensures { Gives result self.new (read_id self.old) }
+    {
+        match self.rest.split_first() {
+            Some((token, rest))
+                if token.kind == TokenKind::Word && !is_reserved(token.text.as_str()) => {
+                self.rest = rest;
+                Ok(Name::from_text(token.text.copy(alloc)?))
+            }
+            _ => Err(ReadError::Syntax),
+        }
+    }
+
+    #[tactic(auto, unfolding(crate::specs::Reading::read_number))]
+    /// Reads the digits of a number.
+    pub fn number(&mut self, alloc: Global) -> Result<Text, ReadError>
+        ensures { Gives result self.new (read_number self.old) }
+    {
+        match self.rest.split_first() {
+            Some((token, rest)) if token.kind == TokenKind::Number => {
+                self.rest = rest;
+                Ok(token.text.copy(alloc)?)
+            }
+            _ => Err(ReadError::Syntax),
+        }
+    }
+
+    #[tactic(auto, unfolding(crate::specs::Reading::read_quoted))]
+    /// Reads a text between quotes.
+    pub fn quoted(&mut self, alloc: Global) -> Result<Text, ReadError>
+        ensures { Gives result self.new (read_quoted self.old) }
+    {
+        match self.rest.split_first() {
+            Some((token, rest)) if token.kind == TokenKind::Quoted => {
+                self.rest = rest;
+                Ok(token.text.copy(alloc)?)
+            }
+            _ => Err(ReadError::Syntax),
+        }
+    }
+
+    #[tactic(auto, unfolding(crate::specs::Reading::starts_quoted))]
+    /// Whether a text between quotes is next.
+    pub fn next_is_quoted(&self) -> bool
+        ensures { result ≡ starts_quoted self.now }
+    {
+        match self.rest.split_first() {
+            Some((token, _)) => token.kind == TokenKind::Quoted,
+            None => false,
+        }
+    }
+
+    #[tactic(auto, unfolding(crate::specs::Reading::starts_id))]
+    /// Whether an identifier is next.
+    pub fn next_is_name(&self) -> bool
+        ensures { result ≡ starts_id self.now }
+    {
+        match self.rest.split_first() {
+            Some((token, _)) => token.kind == TokenKind::Word && !is_reserved(token.text.as_str()),
+            None => false,
+        }
+    }
+
+    #[tactic(auto, unfolding(crate::specs::Reading::read_sign))]
+    /// Reads the sign of a comparison.
+    pub fn sign(&mut self) -> Result<Sign, ReadError>
+        ensures { Gives result self.new (read_sign self.old) }
+    {
+        match self.rest.split_first() {
+            Some((token, rest)) if token.kind == TokenKind::Mark => {
+                let sign = sign_of(token.text.as_str()).ok_or(ReadError::Syntax)?;
+                self.rest = rest;
+                Ok(sign)
+            }
+            _ => Err(ReadError::Syntax),
+        }
+    }
+}

@@ -1,0 +1,80 @@
+// All of the tokens of a piece.
+ghost use Rattle.std.specs.Prelude.{◌≡◌, [], IfOk, IsErrOf};
+ghost use Rattle.beas_core.specs.declared.refusal.Refusal.{Refusal as Why};
+ghost use Rattle.sql_tree.specs.Grammar.{wants_distinct};
+ghost use Rattle.sql_tree.specs.Symbols.{symbols};
+ghost use Rattle.sql_tree.specs.declared.tree.Statement.{Statement as Tree};
+ghost use Rattle.sql_parser.specs.Outcome.{Answers, Parses, Reading, lacks_distinct, parsed};
+ghost use Rattle.sql_parser.specs.Reading.{read_statement};
+
+use crate::nesting::is_too_deep;
+use crate::reader::{ReadError, Reader};
+use crate::statements::statement;
+use beas_core::{Fail, Refusal};
+use sql_text::Token;
+use sql_tree::{SelectNode, SelectTree, Statement};
+use std::alloc::Global;
+
+/// Reads a statement from all of the tokens, or a query that lacks its DISTINCT.
+fn all_of(tokens: &[Token], alloc: Global) -> Result<Statement, ReadError>
+    ensures ok { IfOk result (λ s. read_statement (symbols tokens.now) ≡ Some (s, [])) }
+    ensures syntax { IsErrOf result ReadError.Syntax → (s : Tree) → read_statement (symbols tokens.now) ≡ Some (s, []) → ⊥ }
+{
+    let mut reader = Reader::new(tokens);
+    let found = statement(&mut reader, alloc)?;
+    if reader.left() > 0 {
+        return Err(ReadError::Syntax);
+    }
+    Ok(found)
+}
+
+fn is_plain_block(tree: &SelectTree) -> bool
+    ensures { result ≡ wants_distinct tree.now }
+{
+    match &tree.node {
+        SelectNode::Block(block) => !block.distinct,
+        _ => false,
+    }
+}
+
+/// Whether a statement is a query that lacks its DISTINCT, or EXPLAIN before one.
+fn lacks_distinct(statement: &Statement) -> bool
+    ensures { result ≡ lacks_distinct statement.now }
+{
+    match statement {
+        Statement::Select { tree } | Statement::Explain { tree } => is_plain_block(tree),
+        _ => false,
+    }
+}
+
+/// Reads the tokens of a piece, unless memory runs out.
+fn reading(alloc: Global, tokens: &[Token]) -> Result<Statement, Fail>
+    ensures { Answers result (parsed (symbols tokens.now)) }
+{
+    if is_too_deep(tokens) {
+        return Err(Fail::Refused(Refusal::TooDeep));
+    }
+    let statement = match all_of(tokens, alloc) {
+        Ok(statement) => statement,
+        Err(ReadError::Syntax) => return Err(Fail::Refused(Refusal::Syntax)),
+        Err(ReadError::NoMemory) => return Err(Fail::NoMemory),
+    };
+    if lacks_distinct(&statement) {
+        return Err(Fail::Refused(Refusal::NeedsDistinct));
+    }
+    Ok(statement)
+}
+
+/// The statement that the tokens of a piece spell. They are refused, in this order, where they are nested deeper
+/// than 32 (`TooDeep`), where they spell neither a statement nor a query that lacks its DISTINCT (`Syntax`), and
+/// where they spell such a query, or EXPLAIN before one (`NeedsDistinct`).
+pub fn parse(alloc: Global, tokens: &[Token]) -> Result<Statement, Fail>
+    // What is answered is so by the grammar.
+    ensures spelled { IfOk result (λ s. Parses (symbols tokens.now) (Ok s)) }
+    ensures refused { (why : Why) → IsErrOf result (Fail.Refused why) → Parses (symbols tokens.now) (Err why) }
+    // What is so by the grammar is answered, unless memory runs out.
+    ensures answered { (reading : Reading) → Parses (symbols tokens.now) reading → Answers result reading }
+    ensures parsed { Answers result (parsed (symbols tokens.now)) }
+{
+    reading(alloc, tokens)
+}
