@@ -1,5 +1,6 @@
--- A run without a script: nothing is sent to its output and nothing is read.
-use Rattle.std.proofs.Common.{◌≡◌, ◌≤◌, ◌<◌, ◌++◌, ◌⊎◌, [], List, ℕ, Bool, Option, Some, None, true, refl, sym, ap, append-nil, add-zero, length, arith, inl, inr, ⊎_elim}
+-- Which script a run has. Without one, nothing is sent to its output and nothing is read.
+use Rattle.std.proofs.Common.{◌≡◌, ◌≤◌, ◌<◌, ◌++◌, ◌⊎◌, [], List, ℕ, Bool, Option, Some, None, true, refl, sym, ap, append-nil, add-zero, length, arith, inl, inr, ⊎_elim, subst}
+use Rattle.std.specs.Prelude.{IsSomeAnd}
 use Rattle.std.specs.Str.{IsUtf8}
 use Rattle.std.proofs.lemmas.Str.{IsUtf8-nil}
 use Rattle.sql_text.specs.Tokens.{tokens_from}
@@ -7,20 +8,16 @@ use Rattle.outside.specs.Parts.{SentPart}
 use Rattle.beas_run.specs.declared.top.NoScript.{NoScript}
 use Rattle.beas_run.specs.declared.top.NoScript.TheVariants.{Words, Unread, TooLong, NotText, NoMemory}
 use Rattle.beas_run.specs.NoScripts.{status_of}
-use Rattle.beas_run.specs.Scripts.{out_of, cost_of}
+use Rattle.beas_run.specs.Scripts.{Readings}
 use Rattle.beas_run.specs.Runs.{Ran, HasScript, IsWithout, longest_script}
 
-nothing_written : out_of [] ≡ []
+pub no_readings : Readings [] []
 unfolding tokens_from
-nothing_written = refl
-
-nothing_read : cost_of [] ≡ 0
-unfolding tokens_from
-nothing_read = refl
+no_readings = tt
 
 pub ran_nothing : (status : ℕ) (told : Bool) (before : List ℕ) (steps : ℕ) → 2 ≤ status → Ran [] status told before before steps steps
 ran_nothing status told before steps early = record {
-  part = λ _. record { part = []; left = []; sent = sym (append-nil before); cut = sym nothing_written };
+  part = λ _. record { part = []; left = []; sent = sym (append-nil before); cut = refl };
   whole = λ fine. absurd (omega arith);
   refusals = λ fine. absurd (omega arith);
   cost = λ fine. absurd (omega arith);
@@ -47,3 +44,21 @@ early_status NoMemory = omega arith
 -- the status that is said is no status of a whole run
 pub early_said : (why : NoScript) (status : ℕ) → (status ≡ status_of why) ⊎ (status ≡ 5) → 2 ≤ status
 early_said why status said = let early = early_status why in ⊎_elim (λ e. omega arith) (λ e. omega arith) said
+
+-- ---- a script that was read
+
+not_without : (status : ℕ) → (status < 2) ⊎ (status ≡ 4) ⊎ (status ≡ 5) → IsWithout status → ⊥
+not_without status ended without = omega arith
+
+pub has_read : (script : List ℕ) (status : ℕ) (name : Option (List ℕ)) (told : Bool) (content : List ℕ → Option (List ℕ)) (n : List ℕ)
+    → Some n ≡ name → length script ≤ longest_script → IsUtf8 script → (told ≡ true → content n ≡ Some script) → (status < 2) ⊎ (status ≡ 4) ⊎ (status ≡ 5)
+    → HasScript script status name told content
+has_read script status name told content n named fits text is ended =
+    let begun : IsSomeAnd name (λ m. told ≡ true → content m ≡ Some script) = subst (λ o. IsSomeAnd o (λ m. told ≡ true → content m ≡ Some script)) named is in
+    record {
+      fits = fits;
+      is_text = text;
+      read = λ _. begun;
+      begun = inr begun;
+      without = λ without. absurd (not_without status ended without);
+    }

@@ -1,9 +1,10 @@
 mod Answering
 mod Complete
 mod Counting
-mod Cuts
 mod Digits
 mod Empty
+mod Fronts
 mod Once
 mod Progress
+mod Reading
 mod Selections

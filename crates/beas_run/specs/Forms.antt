@@ -1,47 +1,61 @@
--- Which tokens are which statement.
+-- Which statements the one table takes so far.
 --     CREATE TABLE id ( id INTEGER { , id INTEGER } )
 --     CREATE ACCESS id ON id ( ids ) FETCH ( ids ) LIMIT number
 --     INSERT INTO id VALUES ( literal { , literal } )
 --     SELECT DISTINCT id { , id } FROM id WHERE id = literal { AND id = literal }
--- where ids is id { , id } and a literal is [ + | - ] number, with a value that an i64 has.
-use Rattle.std.specs.Prelude.{ℕ, ℤ, pos, neg_ℤ, ◌&&◌, ◌^◌, Bool, true, false, nat_le, nat_lt, if◌then◌else◌, List, [], ◌∷◌, ◌++◌, length, map, codes, bytes_eq, Option, Some, None, option_and_then, option_map}
-use Rattle.std.specs.List.{slice_split, before_first, after_first}
-use Rattle.std.specs.Option.{option_map_or}
+-- where ids is id { , id }, and a literal is a number that an i64 has.
+use Rattle.std.specs.Prelude.{ℕ, ℤ, pos, neg_ℤ, ◌&&◌, ◌^◌, not, Bool, true, false, nat_le, nat_lt, if◌then◌else◌, List, [], ◌∷◌, ◌++◌, length, map, bytes_eq, Option, Some, None, option_and_then, option_map}
 use Rattle.std.specs.Str.{all_ascii_digits}
 use Rattle.std.specs.Str.Parse.{digits_value}
 use Rattle.beas_core.specs.declared.value.Value.{Value}
 use Rattle.beas_core.specs.declared.value.Value.TheVariants.{Int}
-use Rattle.beas_core.specs.Spelling.{name_of, limit_in}
-use Rattle.sql_text.specs.declared.token.Token.{Token}
-use Rattle.sql_text.specs.declared.token.TokenKind.{TokenKind}
-use Rattle.sql_text.specs.declared.token.TokenKind.TheVariants.{Word, Number, Mark}
-use Rattle.beas_run.specs.declared.tokens.End.{End}
-use Rattle.beas_run.specs.declared.tokens.End.TheVariants.{Comma, And, From, Close}
+use Rattle.beas_core.specs.declared.schema.ColType.TheVariants.{Integer, Words as Texts}
+use Rattle.beas_core.specs.declared.schema.ColType.{ColType}
+use Rattle.beas_core.specs.declared.schema.Column.{Column}
+use Rattle.beas_core.specs.declared.schema.AccessSpec.{AccessSpec}
+use Rattle.beas_core.specs.declared.query.Sign.{Sign}
+use Rattle.beas_core.specs.declared.query.Sign.TheVariants.{Equal}
+use Rattle.beas_core.specs.Spelling.{limit_in}
+use Rattle.sql_tree.specs.declared.tree.Literal.{Literal}
+use Rattle.sql_tree.specs.declared.tree.Literal.TheVariants.{Number, Words}
+use Rattle.sql_tree.specs.declared.tree.ColumnRef.{ColumnRef}
+use Rattle.sql_tree.specs.declared.tree.Side.{Side}
+use Rattle.sql_tree.specs.declared.tree.Side.TheVariants.{Column as Placed, Fixed}
+use Rattle.sql_tree.specs.declared.tree.Cond.{Cond}
+use Rattle.sql_tree.specs.declared.tree.Cond.TheVariants.{Compare}
+use Rattle.sql_tree.specs.declared.tree.FromItem.{FromItem}
+use Rattle.sql_tree.specs.declared.tree.BlockTree.{BlockTree}
+use Rattle.sql_tree.specs.declared.tree.Statement.{Statement}
+use Rattle.sql_tree.specs.declared.tree.Statement.TheVariants as statement
+use Rattle.sql_tree.specs.Trees.{Tree, Block}
 use Rattle.beas_run.specs.declared.form.Condition.{Condition}
 use Rattle.beas_run.specs.declared.form.Form.{Form}
 use Rattle.beas_run.specs.declared.form.Form.TheVariants.{CreateTable, CreateAccess, Insert, Select}
 
-abbrev pub if_word : {A : Type 0} → TokenKind → A → A → A
-if_word Word here other = here
-if_word _ here other = other
+infixl 10 ◌>>=◌
+abbrev pub ◌>>=◌ : {A B : Type 0} → Option A → (A → Option B) → Option B
+o >>= f = option_and_then f o
 
-abbrev pub if_number : {A : Type 0} → TokenKind → A → A → A
-if_number Number here other = here
-if_number _ here other = other
+-- all of them, where each is there
+abbrev pub all_some : {A : Type 0} → List (Option A) → Option (List A)
+all_some [] = Some []
+all_some (None ∷ options) = None
+all_some (Some x ∷ options) = option_map (λ xs. x ∷ xs) (all_some options)
 
-abbrev pub if_mark : {A : Type 0} → TokenKind → A → A → A
-if_mark Mark here other = here
-if_mark _ here other = other
+abbrev pub is_empty : {A : Type 0} → List A → Bool
+is_empty [] = true
+is_empty (x ∷ xs) = false
 
-abbrev pub is_word : List ℕ → Token → Bool
-is_word text token = if_word token.kind (bytes_eq token.text text) false
+-- a list that isn't empty
+abbrev pub some_of : {A : Type 0} → List A → Option (List A)
+some_of xs = if is_empty xs then None else Some xs
 
-abbrev pub is_mark : List ℕ → Token → Bool
-is_mark text token = if_mark token.kind (bytes_eq token.text text) false
+-- the one member of a list
+abbrev pub only : {A : Type 0} → List A → Option A
+only (x ∷ []) = Some x
+only _ = None
 
--- an identifier: a word that isn't reserved
-abbrev pub identifier : Token → Option (List ℕ)
-identifier token = if_word token.kind (name_of token.text) None
+-- ---- numbers
 
 -- a number with its sign, where an i64 has it
 abbrev pub in_range : Bool → ℕ → Option ℤ
@@ -51,141 +65,69 @@ in_range true n = if nat_le n (2 ^ 63) then Some (neg_ℤ (pos n)) else None
 abbrev pub signed : Bool → List ℕ → Option ℤ
 signed negative digits = if all_ascii_digits digits && nat_lt 0 (length digits) then in_range negative (digits_value 10 digits) else None
 
-abbrev pub number : Bool → Token → Option Value
-number negative token = if_number token.kind (option_map (λ z. Int z) (signed negative token.text)) None
+abbrev pub integer : Literal → Option Value
+integer (Number negative digits) = option_map (λ z. Int z) (signed negative digits)
+integer (Words text) = None
 
--- ---- what stands alone, or between separators
+-- ---- parts
 
-abbrev pub identifier_part : List Token → Option (List ℕ)
-identifier_part (name ∷ []) = identifier name
-identifier_part _ = None
+abbrev pub if_integers : {A : Type 0} → ColType → A → A → A
+if_integers Integer here other = here
+if_integers Texts here other = other
 
--- id INTEGER
-abbrev pub column_part : List Token → Option (List ℕ)
-column_part (name ∷ kind ∷ []) = if is_word (codes "integer") kind then identifier name else None
-column_part _ = None
+-- a column of integers
+abbrev pub integer_column : Column → Option (List ℕ)
+integer_column column = if_integers column.kind (Some column.name) None
 
--- [ + | - ] number
-abbrev pub literal_part : List Token → Option Value
-literal_part (digits ∷ []) = number false digits
-literal_part (sign ∷ digits ∷ []) =
-    if is_mark (codes "+") sign then number false digits else (if is_mark (codes "-") sign then number true digits else None)
-literal_part _ = None
+abbrev pub if_none : {A B : Type 0} → Option A → Option B → Option B
+if_none None here = here
+if_none (Some x) here = None
 
--- id = literal
-abbrev pub condition_part : List Token → Option Condition
-condition_part (name ∷ sign ∷ literal) =
-    if is_mark (codes "=") sign
-    then option_and_then (λ column. option_map (λ value. record { column = column; value = value }) (literal_part literal)) (identifier name)
+-- a column with no alias before it
+abbrev pub bare_column : ColumnRef → Option (List ℕ)
+bare_column ref = if_none ref.table (Some ref.column)
+
+-- a table with no other alias
+abbrev pub bare_table : FromItem → Option (List ℕ)
+bare_table item = if bytes_eq item.table item.alias then Some item.table else None
+
+abbrev pub bare_side : Side → Option (List ℕ)
+bare_side (Placed ref) = bare_column ref
+bare_side (Fixed literal) = None
+
+abbrev pub integer_side : Side → Option Value
+integer_side (Placed ref) = None
+integer_side (Fixed literal) = integer literal
+
+-- column = number
+abbrev pub constant : Cond → Option Condition
+constant (Compare left Equal right) =
+    bare_side left >>= λ column. integer_side right >>= λ value. Some (record { column = column; value = value })
+constant _ = None
+
+-- ---- statements
+
+unfoldable pub access_form : AccessSpec → Option Form
+access_form spec =
+    some_of spec.key >>= λ key. limit_in spec.limit >>= λ bound. Some (CreateAccess spec.name spec.table key spec.fetched bound)
+
+unfoldable pub block_form : BlockTree → Option Form
+block_form block =
+    if block.distinct && not block.star
+    then (all_some (map bare_column block.items) >>= λ items.
+        only block.from_items >>= bare_table >>= λ table.
+        all_some (map constant block.conditions) >>= some_of >>= λ conditions.
+        Some (Select items table conditions))
     else None
-condition_part _ = None
 
--- ---- lists
+abbrev pub tree_form : Tree → Option Form
+tree_form (Block block) = block_form block
+tree_form _ = None
 
--- all of them, where each is there
-abbrev pub all_some : {A : Type 0} → List (Option A) → Option (List A)
-all_some [] = Some []
-all_some (None ∷ options) = None
-all_some (Some x ∷ options) = option_map (λ xs. x ∷ xs) (all_some options)
-
--- the parts between separators
-abbrev pub parts : {A : Type 0} → (List Token → Option A) → (Token → Bool) → List Token → Option (List A)
-parts part is_separator tokens = all_some (map part (slice_split is_separator tokens))
-
--- what ends a part of a list
-abbrev pub is_end : End → Token → Bool
-is_end Comma token = is_mark (codes ",") token
-is_end And token = is_word (codes "and") token
-is_end From token = is_word (codes "from") token
-is_end Close token = is_mark (codes ")") token
-
--- what stands before the first such token and after it, where there is one
-abbrev pub cut : (Token → Bool) → List Token → Option (List Token × List Token)
-cut ends [] = None
-cut ends (token ∷ tokens) =
-    if ends token then Some ([], tokens) else option_map (λ both. (token ∷ both.0, both.1)) (cut ends tokens)
-
--- the tokens behind a word
-abbrev pub behind_word : List ℕ → List Token → Option (List Token)
-behind_word word [] = None
-behind_word word (token ∷ tokens) = if is_word word token then Some tokens else None
-
--- ( .. ): what stands inside, and what follows
-abbrev pub bracketed : List Token → Option (List Token × List Token)
-bracketed [] = None
-bracketed (first ∷ tokens) = if is_mark (codes "(") first then cut (is_end Close) tokens else None
-
-abbrev pub first_name : List Token → Option (List ℕ)
-first_name [] = None
-first_name (token ∷ tokens) = identifier token
-
-abbrev pub behind_first : List Token → List Token
-behind_first [] = []
-behind_first (token ∷ tokens) = tokens
-
-abbrev pub if_none_left : {A : Type 0} → List Token → Option A → Option A
-if_none_left [] found = found
-if_none_left (token ∷ tokens) found = None
-
-infixl 10 ◌>>=◌
-abbrev pub ◌>>=◌ : {A B : Type 0} → Option A → (A → Option B) → Option B
-o >>= f = option_and_then f o
-
--- ---- statements, behind their first words
-
-unfoldable pub create_table : List Token → Option Form
-create_table tokens = do
-  name ← first_name tokens
-  inside ← bracketed (behind_first tokens)
-  columns ← if_none_left inside.1 (parts column_part (is_end Comma) inside.0)
-  Some (CreateTable name columns)
-
-abbrev pub limit : List Token → Option ℕ
-limit (digits ∷ []) = if_number digits.kind (limit_in digits.text) None
-limit _ = None
-
--- FETCH ( ids ) LIMIT number
-unfoldable pub fetch : List ℕ → List ℕ → List (List ℕ) → List Token → Option Form
-fetch name table key tokens = do
-  columns ← behind_word (codes "fetch") tokens
-  inside ← bracketed columns
-  fetched ← parts identifier_part (is_end Comma) inside.0
-  last ← behind_word (codes "limit") inside.1
-  bound ← limit last
-  Some (CreateAccess name table key fetched bound)
-
-unfoldable pub create_access : List Token → Option Form
-create_access tokens = do
-  name ← first_name tokens
-  on ← behind_word (codes "on") (behind_first tokens)
-  table ← first_name on
-  inside ← bracketed (behind_first on)
-  key ← parts identifier_part (is_end Comma) inside.0
-  fetch name table key inside.1
-
-unfoldable pub insert : List Token → Option Form
-insert tokens = do
-  table ← first_name tokens
-  values ← behind_word (codes "values") (behind_first tokens)
-  inside ← bracketed values
-  row ← if_none_left inside.1 (parts literal_part (is_end Comma) inside.0)
-  Some (Insert table row)
-
-unfoldable pub select : List Token → Option Form
-select tokens = do
-  both ← cut (is_end From) tokens
-  items ← parts identifier_part (is_end Comma) both.0
-  table ← first_name both.1
-  where_ ← behind_word (codes "where") (behind_first both.1)
-  conditions ← parts condition_part (is_end And) where_
-  Some (Select items table conditions)
-
-abbrev pub create : List Token → Option Form
-create tokens = option_map_or create_table (behind_word (codes "table") tokens) (behind_word (codes "access") tokens >>= create_access)
-
--- the statement that the tokens are, if they are one
-unfoldable pub form_of : List Token → Option Form
-form_of tokens =
-    option_map_or create (behind_word (codes "create") tokens)
-    (option_map_or (λ rest. behind_word (codes "into") rest >>= insert) (behind_word (codes "insert") tokens)
-    (behind_word (codes "select") tokens >>= λ rest. behind_word (codes "distinct") rest >>= select))
+-- the statement as the one table takes it, if it does
+abbrev pub form_of : Statement → Option Form
+form_of (statement.CreateTable name columns) = option_map (λ names. CreateTable name names) (all_some (map integer_column columns))
+form_of (statement.CreateAccess spec) = access_form spec
+form_of (statement.Insert table rows) = only rows >>= λ literals. option_map (λ row. Insert table row) (all_some (map integer literals))
+form_of (statement.Select tree) = tree_form tree
+form_of _ = None

@@ -1,6 +1,6 @@
 -- What a statement does, over plain lists: the columns of the table, its rows, and its constraint.
 --     step state form      the state after a statement, its report, and the reads that it takes
--- A list of tokens that is no statement, or one that doesn't fit the state, is refused as syntax.
+-- A statement that has no such form, or whose form doesn't fit the state, is refused as syntax.
 use Rattle.std.specs.Prelude.{ℕ, ◌==◌, ◌&&◌, not, nat_le, if◌then◌else◌, Bool, true, false, List, [], ◌∷◌, ◌++◌, length, map, bytes_eq, Option, Some, None, option_map, option_and_then, is_none, slice_index_or}
 use Rattle.std.specs.List.{list_any, position}
 use Rattle.std.specs.Option.{option_map_or}
@@ -17,7 +17,7 @@ use Rattle.beas_run.specs.declared.form.Form.{Form}
 use Rattle.beas_run.specs.declared.form.Form.TheVariants.{CreateTable, CreateAccess, Insert, Select}
 use Rattle.single_table.specs.declared.query.Test.{Test}
 use Rattle.single_table.specs.declared.query.Query.{Query}
-use Rattle.beas_run.specs.Forms.{all_some}
+use Rattle.beas_run.specs.Forms.{all_some, is_empty}
 use Rattle.single_table.specs.Queries.{open_column, is_served, full_answer, reads}
 use Rattle.single_table.specs.Store.{Kept, insert_refusal}
 
@@ -82,10 +82,6 @@ create_table None name columns =
 create_table (Some relation) name columns = refused (Some relation) Syntax
 
 -- ---- CREATE ACCESS, where the table has no rows and no constraint
-
-abbrev pub is_empty : {A : Type 0} → List A → Bool
-is_empty [] = true
-is_empty (x ∷ xs) = false
 
 -- the constraint, where it fetches a column and its bound is at least 1
 abbrev pub rule_with : List ℕ → List ColumnId → List ColumnId → ℕ → Option Access
@@ -154,7 +150,7 @@ select relation items (Some query) =
     option_map_or (λ column. not_covered relation (Some column)) (open_column (length relation.columns) relation.rule query)
     (served_answer relation items query)
 
--- ---- a statement, or none
+-- ---- a statement's form, or none
 
 abbrev pub step_on : Relation → Form → Outcome
 step_on relation (CreateTable name columns) = refused (Some relation) Syntax

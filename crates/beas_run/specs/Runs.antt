@@ -1,12 +1,13 @@
 -- What a run does, at each of its statuses.
 --     script_name words      the script that the words name: the one word, which doesn't begin with a dash
 --     line status            what is said where a run has no script
---     Ran ..                 what a run sends and reads, over its script
+--     Ran ..                 what a run sends and reads, over the readings of its script
 --     HasScript ..           which script that is
 use Rattle.std.specs.Prelude.{◌≡◌, ◌≢◌, ◌==◌, ◌<◌, ◌≤◌, ◌+◌, ◌++◌, ◌⊎◌, ℕ, Bool, true, List, [], ◌∷◌, length, codes, slice_index, if◌then◌else◌, Option, Some, None, IsSomeAnd}
 use Rattle.std.specs.Str.{IsUtf8}
 use Rattle.outside.specs.Counts.{RoseBy}
 use Rattle.outside.specs.Parts.{SentPart}
+use Rattle.sql_parser.specs.Outcome.{Reading}
 use Rattle.beas_run.specs.Scripts.{out_of, cost_of, any_refused}
 
 -- 45 is the dash
@@ -43,16 +44,16 @@ abbrev pub IsWithout : ℕ → Type 0
 IsWithout status = (status ≡ 2) ⊎ (status ≡ 3) ⊎ (status ≡ 6) ⊎ (status ≡ 7)
 
 -- 0: no report is a refusal; 1: some report is one; else the run ended early
-abbrev pub whole_status : List ℕ → ℕ
-whole_status script = if any_refused script then 1 else 0
+abbrev pub whole_status : List Reading → ℕ
+whole_status readings = if any_refused readings then 1 else 0
 
-pub record Ran (script : List ℕ) (status : ℕ) (told : Bool) (before after : List ℕ) (steps_before steps_after : ℕ) : Type 0 where
-  pub part : told ≡ true → SentPart before after (out_of script)
-  pub whole : status < 2 → told ≡ true → after ≡ before ++ out_of script
-  pub refusals : status < 2 → status ≡ whole_status script
-  pub cost : status < 2 → steps_after ≡ steps_before + cost_of script
+pub record Ran (readings : List Reading) (status : ℕ) (told : Bool) (before after : List ℕ) (steps_before steps_after : ℕ) : Type 0 where
+  pub part : told ≡ true → SentPart before after (out_of readings)
+  pub whole : status < 2 → told ≡ true → after ≡ before ++ out_of readings
+  pub refusals : status < 2 → status ≡ whole_status readings
+  pub cost : status < 2 → steps_after ≡ steps_before + cost_of readings
   pub no_fewer : steps_before ≤ steps_after
-  pub at_most : steps_after ≤ steps_before + cost_of script
+  pub at_most : steps_after ≤ steps_before + cost_of readings
 
 pub record HasScript (script : List ℕ) (status : ℕ) (name : Option (List ℕ)) (told : Bool) (content : List ℕ → Option (List ℕ)) : Type 0 where
   pub fits : length script ≤ longest_script

@@ -1,18 +1,18 @@
-// Numbers as tokens write them.
-ghost use Rattle.std.specs.Prelude.{◌≡◌, option_map};
+// Numbers as literals write them.
+ghost use Rattle.std.specs.Prelude.{◌≡◌};
 ghost use Rattle.std.specs.Str.{all_ascii_digits};
-ghost use Rattle.beas_run.specs.Forms.{in_range, signed, number};
+ghost use Rattle.beas_run.specs.Forms.{in_range, signed, integer};
 
 use beas_core::Value;
-use sql_text::{Token, TokenKind};
+use sql_tree::Literal;
 
-/// A number token with its sign as a value, where an i64 has it.
-pub fn number(negative: bool, token: &Token) -> Option<Value>
-    ensures { result ≡ number negative token.now }
+/// The value of a number that an i64 has.
+pub fn integer(literal: &Literal) -> Option<Value>
+    ensures { result ≡ integer literal.now }
 {
-    match token.kind {
-        TokenKind::Number => signed(negative, token.text.as_str()).map(Value::Int),
-        _ => None,
+    match literal {
+        Literal::Number { negative, digits } => signed(*negative, digits.as_str()).map(Value::Int),
+        Literal::Words { .. } => None,
     }
 }
 

@@ -1,18 +1,19 @@
 // A script, statement by statement.
-ghost use Rattle.std.specs.Prelude.{◌≡◌, ◌<◌, ◌≤◌, ◌+◌, ◌-◌, ◌^◌, ◌++◌, ◌⊎◌, true, None, length, map, slice_range, All, IfOk, OnOk, IsErrOf};
+ghost use Rattle.std.specs.Prelude.{◌≡◌, ◌<◌, ◌≤◌, ◌+◌, ◌-◌, ◌^◌, ◌++◌, ◌⊎◌, true, None, length, All, IfOk, OnOk, IsErrOf};
 ghost use Rattle.outside.specs.Counts.{Rose};
 ghost use Rattle.outside.specs.Parts.{SentPart};
 ghost use Rattle.report.specs.Reports.{report_text};
-ghost use Rattle.beas_run.specs.Scripts.{outcome, is_refusal, out_from, cost_from, refused_from, out_of, cost_of, any_refused};
+ghost use Rattle.beas_run.specs.Scripts.{reading_of, readings_of, readings_at, outcome, is_refusal, out_from, cost_from, refused_from, out_of, cost_of, any_refused};
 ghost use Rattle.beas_run.specs.Endings.{status_of};
 ghost use Rattle.beas_run.specs.Runs.{Ran};
 
-use crate::reading::form_of;
+use crate::fitting::form_of;
 use crate::statement::apply;
 use crate::table::Table;
-use beas_core::{NoMemory, Steps};
+use beas_core::{Fail, NoMemory, Steps};
 use outside::{Sink, SinkError};
 use report::{Report, text};
+use sql_parser::parse;
 use sql_text::{Piece, Token, lex, split};
 use std::alloc::Global;
 use std::sync::ledger::Ledger;
@@ -57,7 +58,30 @@ fn is_refusal(report: &Report) -> bool
     matches!(report, Report::Refused { .. })
 }
 
-/// Carries out a statement and writes its report. It tells whether the report is a refusal.
+/// Reads a piece and carries out its statement, and says what is reported of it.
+fn report_on<L: Ledger>(
+    alloc: Global,
+    state: &mut Option<Table>,
+    tokens: &[Token],
+    steps: &mut Steps<L>,
+) -> Result<Report, NoMemory>
+    ensures report { IfOk result (λ report. report ≡ (outcome state.old (reading_of tokens.now)).report) }
+    ensures state { OnOk result (state.new ≡ (outcome state.old (reading_of tokens.now)).state) }
+    ensures cost { OnOk result (steps.new ≡ steps.old + (outcome state.old (reading_of tokens.now)).cost) }
+    ensures no_fewer { steps.old ≤ steps.new }
+    ensures at_most { steps.new ≤ steps.old + (outcome state.old (reading_of tokens.now)).cost }
+{
+    match parse(alloc, tokens) {
+        Ok(statement) => {
+            let form = form_of(alloc, statement)?;
+            apply(alloc, state, form, steps)
+        }
+        Err(Fail::Refused(why)) => Ok(Report::Refused { why }),
+        Err(Fail::NoMemory) => Err(NoMemory),
+    }
+}
+
+/// Carries out a piece and writes its report. It tells whether the report is a refusal.
 fn carry_out<O: Sink, L: Ledger>(
     alloc: Global,
     state: &mut Option<Table>,
@@ -67,18 +91,17 @@ fn carry_out<O: Sink, L: Ledger>(
     steps: &mut Steps<L>,
 ) -> Result<bool, Ending>
     ensures told { O.told out.new ≡ O.told out.old }
-    ensures state { OnOk result (state.new ≡ (outcome state.old tokens.now).state) }
-    ensures refused { IfOk result (λ refused. refused ≡ is_refusal (outcome state.old tokens.now).report) }
-    ensures part { O.told out.old ≡ true → SentPart (O.sent out.old) (O.sent out.new) (report_text number (outcome state.old tokens.now).report) }
-    ensures sent { OnOk result (O.told out.old ≡ true → O.sent out.new ≡ O.sent out.old ++ report_text number (outcome state.old tokens.now).report) }
+    ensures state { OnOk result (state.new ≡ (outcome state.old (reading_of tokens.now)).state) }
+    ensures refused { IfOk result (λ refused. refused ≡ is_refusal (outcome state.old (reading_of tokens.now)).report) }
+    ensures part { O.told out.old ≡ true → SentPart (O.sent out.old) (O.sent out.new) (report_text number (outcome state.old (reading_of tokens.now)).report) }
+    ensures sent { OnOk result (O.told out.old ≡ true → O.sent out.new ≡ O.sent out.old ++ report_text number (outcome state.old (reading_of tokens.now)).report) }
     ensures no_fault { OnOk result (O.faults out.new ≡ O.faults out.old) }
     ensures fault { IsErrOf result Ending.Fault → Rose (O.faults out.old) (O.faults out.new) }
-    ensures cost { OnOk result (steps.new ≡ steps.old + (outcome state.old tokens.now).cost) }
+    ensures cost { OnOk result (steps.new ≡ steps.old + (outcome state.old (reading_of tokens.now)).cost) }
     ensures no_fewer { steps.old ≤ steps.new }
-    ensures at_most { steps.new ≤ steps.old + (outcome state.old tokens.now).cost }
+    ensures at_most { steps.new ≤ steps.old + (outcome state.old (reading_of tokens.now)).cost }
 {
-    let form = form_of(alloc, tokens)?;
-    let report = apply(alloc, state, form, steps)?;
+    let report = report_on(alloc, state, tokens, steps)?;
     let lines = text(alloc, number, &report)?;
     out.put(lines.as_str().as_bytes())?;
     Ok(is_refusal(&report))
@@ -95,14 +118,14 @@ fn carry_out_all<O: Sink, L: Ledger>(
     requires few { length pieces.now < 2 ^ 32 - 1 }
     requires within { All (λ p. (p.from < p.to) × (p.to ≤ length tokens.now)) pieces.now }
     ensures told { O.told out.new ≡ O.told out.old }
-    ensures refused { IfOk result (λ refused. refused ≡ refused_from None (map (λ p. slice_range tokens.now p.from p.to) pieces.now)) }
-    ensures part { O.told out.old ≡ true → SentPart (O.sent out.old) (O.sent out.new) (out_from 1 None (map (λ p. slice_range tokens.now p.from p.to) pieces.now)) }
-    ensures sent { OnOk result (O.told out.old ≡ true → O.sent out.new ≡ O.sent out.old ++ out_from 1 None (map (λ p. slice_range tokens.now p.from p.to) pieces.now)) }
+    ensures refused { IfOk result (λ refused. refused ≡ refused_from None (readings_at tokens.now pieces.now)) }
+    ensures part { O.told out.old ≡ true → SentPart (O.sent out.old) (O.sent out.new) (out_from 1 None (readings_at tokens.now pieces.now)) }
+    ensures sent { OnOk result (O.told out.old ≡ true → O.sent out.new ≡ O.sent out.old ++ out_from 1 None (readings_at tokens.now pieces.now)) }
     ensures no_fault { OnOk result (O.faults out.new ≡ O.faults out.old) }
     ensures fault { IsErrOf result Ending.Fault → Rose (O.faults out.old) (O.faults out.new) }
-    ensures cost { OnOk result (steps.new ≡ steps.old + cost_from None (map (λ p. slice_range tokens.now p.from p.to) pieces.now)) }
+    ensures cost { OnOk result (steps.new ≡ steps.old + cost_from None (readings_at tokens.now pieces.now)) }
     ensures no_fewer { steps.old ≤ steps.new }
-    ensures at_most { steps.new ≤ steps.old + cost_from None (map (λ p. slice_range tokens.now p.from p.to) pieces.now) }
+    ensures at_most { steps.new ≤ steps.old + cost_from None (readings_at tokens.now pieces.now) }
 {
     let mut state = None;
     let mut refused = false;
@@ -135,14 +158,14 @@ fn carry_out_text<O: Sink, L: Ledger>(
     steps: &mut Steps<L>,
 ) -> Result<bool, Ending>
     requires { length script.now ≤ 16777216 }
-    ensures refused { IfOk result (λ refused. refused ≡ any_refused script.now) }
-    ensures part { O.told out.old ≡ true → SentPart (O.sent out.old) (O.sent out.new) (out_of script.now) }
-    ensures sent { OnOk result (O.told out.old ≡ true → O.sent out.new ≡ O.sent out.old ++ out_of script.now) }
+    ensures refused { IfOk result (λ refused. refused ≡ any_refused (readings_of script.now)) }
+    ensures part { O.told out.old ≡ true → SentPart (O.sent out.old) (O.sent out.new) (out_of (readings_of script.now)) }
+    ensures sent { OnOk result (O.told out.old ≡ true → O.sent out.new ≡ O.sent out.old ++ out_of (readings_of script.now)) }
     ensures no_fault { OnOk result (O.faults out.new ≡ O.faults out.old) }
     ensures fault { IsErrOf result Ending.Fault → Rose (O.faults out.old) (O.faults out.new) }
-    ensures cost { OnOk result (steps.new ≡ steps.old + cost_of script.now) }
+    ensures cost { OnOk result (steps.new ≡ steps.old + cost_of (readings_of script.now)) }
     ensures no_fewer { steps.old ≤ steps.new }
-    ensures at_most { steps.new ≤ steps.old + cost_of script.now }
+    ensures at_most { steps.new ≤ steps.old + cost_of (readings_of script.now) }
 {
     let tokens = lex(alloc, script)?;
     let pieces = split(alloc, &tokens)?;
@@ -158,7 +181,7 @@ pub fn run_script<O: Sink, L: Ledger>(
     steps: &mut Steps<L>,
 ) -> u8
     requires { length script.now ≤ 16777216 }
-    ensures ran { Ran script.now result (O.told out.old) (O.sent out.old) (O.sent out.new) steps.old steps.new }
+    ensures ran { Ran (readings_of script.now) result (O.told out.old) (O.sent out.old) (O.sent out.new) steps.old steps.new }
     ensures statuses { (result < 2) ⊎ (result ≡ 4) ⊎ (result ≡ 5) }
     ensures no_fault { result < 2 → O.faults out.new ≡ O.faults out.old }
     ensures fault { result ≡ 4 → Rose (O.faults out.old) (O.faults out.new) }

@@ -4,7 +4,9 @@ ghost use Rattle.std.specs.Str.{IsUtf8};
 ghost use Rattle.std.specs.String.{string_bytes};
 ghost use Rattle.outside.specs.Counts.{Rose};
 ghost use Rattle.outside.specs.Parts.{SentPart};
+ghost use Rattle.sql_parser.specs.Outcome.{Reading};
 ghost use Rattle.beas_run.specs.NoScripts.{status_of};
+ghost use Rattle.beas_run.specs.Scripts.{Readings};
 ghost use Rattle.beas_run.specs.Runs.{script_name, longest_script, line, IsTooLong, IsNoText, IsWithout, Ran, HasScript, Completes};
 
 use crate::script::run_script;
@@ -132,9 +134,9 @@ fn run_named<F: Files, O: Sink, E: Sink, L: Ledger>(
     err: &mut E,
     steps: &mut Steps<L>,
 ) -> u8
-    // What was sent and read is the script's meaning, or as far as the run came.
-    ensures ran { (script : List ℕ)
-        × Ran script result (O.told out.old) (O.sent out.old) (O.sent out.new) steps.old steps.new
+    // What was sent and read is the meaning of the script, as its pieces are read, or as far as the run came.
+    ensures ran { (script : List ℕ) × (readings : List Reading) × Readings script readings
+        × Ran readings result (O.told out.old) (O.sent out.old) (O.sent out.new) steps.old steps.new
         × HasScript script result (script_name (map string_bytes words.now)) (F.told files.old) (F.content files.old) }
 
     // Each status has its cause.
@@ -176,9 +178,9 @@ pub fn run<F: Files, O: Sink, E: Sink, L: Ledger>(
     err: &mut E,
     steps: &mut Steps<L>,
 ) -> u8
-    // What was sent and read is the script's meaning, or as far as the run came.
-    ensures ran { (script : List ℕ)
-        × Ran script result (O.told out.old) (O.sent out.old) (O.sent out.new) steps.old steps.new
+    // What was sent and read is the meaning of the script, as its pieces are read, or as far as the run came.
+    ensures ran { (script : List ℕ) × (readings : List Reading) × Readings script readings
+        × Ran readings result (O.told out.old) (O.sent out.old) (O.sent out.new) steps.old steps.new
         × HasScript script result (script_name (map string_bytes words.now)) (F.told files.old) (F.content files.old) }
 
     // Each status has its cause.

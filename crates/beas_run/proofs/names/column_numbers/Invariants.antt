@@ -1,7 +1,7 @@
 use Rattle.std.proofs.Common.{◌≡◌, ◌<◌, length, drop}
 use Rattle.std.specs.Prelude.{All}
 use Rattle.beas_run.specs.Meaning.{column_numbers}
-use Rattle.beas_run.proofs.Cuts.{in_front}
+use Rattle.beas_run.proofs.Fronts.{in_front}
 use Rattle.beas_run.proofs.names.column_numbers.Given as goal
 
 -- the numbers so far, in front of those of the names left, are all of them

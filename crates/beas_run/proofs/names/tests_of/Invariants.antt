@@ -1,7 +1,7 @@
 use Rattle.std.proofs.Common.{◌≡◌, drop, map}
 use Rattle.beas_run.specs.Forms.{all_some}
 use Rattle.beas_run.specs.Meaning.{test_of}
-use Rattle.beas_run.proofs.Cuts.{in_front}
+use Rattle.beas_run.proofs.Fronts.{in_front}
 use Rattle.beas_run.proofs.names.tests_of.Given as goal
 
 -- the tests so far, in front of those of the conditions left, are all of them

@@ -1,19 +1,12 @@
-use Rattle.std.proofs.Common.{◌≡◌, ◌≤◌, ◌+◌, ◌++◌, ◌||◌, true, None, List, length, drop, map}
-use Rattle.std.specs.Prelude.{slice_range}
-use Rattle.sql_text.specs.declared.token.Token.{Token}
-use Rattle.sql_text.specs.declared.token.Piece.{Piece}
-use Rattle.beas_run.specs.Scripts.{out_from, cost_from, refused_from}
+use Rattle.std.proofs.Common.{◌≡◌, ◌≤◌, ◌+◌, ◌++◌, ◌||◌, true, None, length, drop}
+use Rattle.beas_run.specs.Scripts.{readings_at, out_from, cost_from, refused_from}
 use Rattle.beas_run.proofs.script.carry_out_all.Given as goal
 
--- the lists of tokens at these places
-abbrev statements_at : List Token → List Piece → List (List Token)
-statements_at tokens pieces = map (λ p. slice_range tokens p.from p.to) pieces
-
--- what was done so far, and then what the statements left do, is all of it
+-- what was done so far, and then what the pieces left do, is all of it
 abbrev pub invariant-loop-place : goal.invariant-loop-place
 invariant-loop-place g l =
-    let rest = statements_at l.tokens (drop l.place l.pieces) in
-    let all = statements_at l.tokens l.pieces in
+    let rest = readings_at l.tokens (drop l.place l.pieces) in
+    let all = readings_at l.tokens l.pieces in
     record {
       told : g.O.Sink.told l.out ≡ g.O.Sink.told l.fn.out;
       sent : g.O.Sink.told l.fn.out ≡ true → g.O.Sink.sent l.out ++ out_from (l.place + 1) l.state rest ≡ g.O.Sink.sent l.fn.out ++ out_from 1 None all;
