@@ -11,7 +11,7 @@ const BASE: &str =
 const BASE_OUT: &str = "1 ok\n2 ok\n3 ok 1 rows\n";
 
 /// Statements behind the base, the status, and what is written behind the base's three lines.
-const BEHIND_BASE: [(&str, u8, &str); 22] = [
+const BEHIND_BASE: [(&str, u8, &str); 33] = [
     (
         "SELECT DISTINCT b FROM r WHERE a = 1;",
         0,
@@ -62,8 +62,67 @@ const BEHIND_BASE: [(&str, u8, &str); 22] = [
         0,
         "4 bound 2\nb\n5\n4 ok 1 rows 1 reads\n",
     ),
-    ("SELECT b FROM r WHERE a = 1", 1, "4 refused 1 syntax\n"),
+    (
+        "SELECT b FROM r WHERE a = 1",
+        1,
+        "4 refused 23 DISTINCT wanted\n",
+    ),
     ("SELECT DISTINCT b FROM r", 1, "4 refused 1 syntax\n"),
+    (
+        "((((((((((((((((((((((((((((((((SELECT DISTINCT b FROM r WHERE a = 1))))))))))))))))))))))))))))))))",
+        0,
+        "4 bound 2\nb\n5\n4 ok 1 rows 1 reads\n",
+    ),
+    (
+        "SELECT DISTINCT b FROM r AS r WHERE (a = 1 AND (b = 5))",
+        0,
+        "4 bound 2\nb\n5\n4 ok 1 rows 1 reads\n",
+    ),
+    (
+        "SELECT DISTINCT r.b FROM r WHERE a = 1",
+        1,
+        "4 refused 1 syntax\n",
+    ),
+    (
+        "SELECT DISTINCT b FROM r x WHERE a = 1",
+        1,
+        "4 refused 1 syntax\n",
+    ),
+    (
+        "SELECT DISTINCT b FROM r WHERE 1 = a",
+        1,
+        "4 refused 1 syntax\n",
+    ),
+    (
+        "SELECT DISTINCT b FROM r WHERE a <= 1",
+        1,
+        "4 refused 1 syntax\n",
+    ),
+    (
+        "SELECT DISTINCT * FROM r WHERE a = 1",
+        1,
+        "4 refused 1 syntax\n",
+    ),
+    (
+        "SELECT b FROM r WHERE a = 1 UNION SELECT b FROM r WHERE a = 2",
+        1,
+        "4 refused 1 syntax\n",
+    ),
+    (
+        "INSERT INTO r VALUES (1, 6), (1, 7)",
+        1,
+        "4 refused 1 syntax\n",
+    ),
+    (
+        "DELETE FROM r; LOAD r FROM 'x'",
+        1,
+        "4 refused 1 syntax\n5 refused 1 syntax\n",
+    ),
+    (
+        "EXPLAIN SELECT b FROM r WHERE a = 1",
+        1,
+        "4 refused 23 DISTINCT wanted\n",
+    ),
     (
         "SELECT DISTINCT c FROM r WHERE a = 1",
         1,
@@ -101,7 +160,7 @@ const BEHIND_BASE: [(&str, u8, &str); 22] = [
 ];
 
 /// Whole scripts.
-const WHOLE: [(&str, u8, &str); 11] = [
+const WHOLE: [(&str, u8, &str); 14] = [
     (
         "CREATE TABLE t (a INTEGER, b INTEGER, c INTEGER, d INTEGER); CREATE ACCESS x ON t (c, a, b) FETCH (d) LIMIT 2; INSERT INTO t VALUES (1, 2, 3, 4); SELECT DISTINCT d FROM t WHERE b = 2 AND a = 1 AND c = 3",
         0,
@@ -119,7 +178,14 @@ const WHOLE: [(&str, u8, &str); 11] = [
         1,
         "1 refused 1 syntax\n",
     ),
-    ("CREATE TABLE t (a INT)", 1, "1 refused 1 syntax\n"),
+    ("CREATE TABLE t (a INT)", 0, "1 ok\n"),
+    ("CREATE TABLE t (a TEXT)", 1, "1 refused 1 syntax\n"),
+    ("SELECT DISTINCT 'b; FROM r", 1, "1 refused 1 syntax\n"),
+    (
+        "(((((((((((((((((((((((((((((((((",
+        1,
+        "1 refused 2 nesting deeper than 32\n",
+    ),
     (
         "CREATE TABLE t (a INTEGER); CREATE ACCESS x ON t () FETCH (a) LIMIT 1",
         1,
@@ -282,6 +348,62 @@ fn a_script_of_the_greatest_length(rt: HostRuntime) -> Result<(), Fail> {
         )?;
         assert_eq!(rt; ran.status, status, "{length}");
         assert!(rt; ran.out.bytes().is_empty());
+    }
+    Ok(())
+}
+
+#[test]
+fn a_read_that_fails(rt: HostRuntime) -> Result<(), Fail> {
+    let alloc = rt.alloc();
+    let mut files = files_with(alloc, "script", b";".to_vec(alloc)?)?;
+    files.fail_at(0)?;
+    let out = MemorySink::new(alloc);
+    let err = MemorySink::new(alloc);
+    let words = words_for(alloc, "script")?;
+    let ran = run_words::<Brand>(alloc, &words, files, out, err, Blank::new(1));
+    assert_eq!(rt; ran.status, 3);
+    assert_eq!(rt;
+        ran.err.bytes(),
+        b"beas: cannot read the script\n".as_slice()
+    );
+    assert!(rt; ran.out.bytes().is_empty());
+    Ok(())
+}
+
+#[test]
+fn words_that_name_no_script(rt: HostRuntime) -> Result<(), Fail> {
+    let alloc = rt.alloc();
+    let none = Vec::new(alloc);
+    let mut two = words_for(alloc, "script")?;
+    two.push(String::from_str(alloc, "script")?)?;
+    for words in [none, two] {
+        let ran = run_bytes::<Brand>(
+            alloc,
+            words,
+            b";",
+            MemorySink::new(alloc),
+            100,
+            Blank::new(1),
+        )?;
+        assert_eq!(rt; ran.status, 2);
+        assert_eq!(rt; ran.err.bytes(), b"usage: beas SCRIPT\n".as_slice());
+    }
+    Ok(())
+}
+
+#[test]
+fn runs_over_steady_kinds(rt: HostRuntime) -> Result<(), Fail> {
+    let alloc = rt.alloc();
+    for (word, status) in [("script", 0), ("other", 0), ("-x", 2)] {
+        let mut files = SteadyFiles::new(alloc);
+        files.add(
+            Text::from_str(alloc, "script")?,
+            Bytes::from_vec(b"CREATE TABLE r (a INTEGER)".to_vec(alloc)?),
+        )?;
+        let words = words_for(alloc, word)?;
+        let out = SteadySink::new(alloc);
+        let ended = run_steady::<Brand>(alloc, &words, files, out, Blank::new(1));
+        assert_eq!(rt; ended, status, "{word}");
     }
     Ok(())
 }

@@ -1,8 +1,8 @@
 // Spellings of statements, with their canonical texts. Expected texts are written by hand.
-use beas_core::Fail as Stopped;
+use beas_core::{Fail as Stopped, Text};
 use sql_parser::parse;
 use sql_text::lex;
-use sql_tree::print;
+use sql_tree::{Statement, print};
 use std::alloc::Global;
 use std::test::Fail;
 
@@ -92,10 +92,7 @@ const SPELLED: [(&str, &str); 44] = [
         "select distinct a from r union select distinct b from s",
         "SELECT DISTINCT a FROM r UNION SELECT DISTINCT b FROM s",
     ),
-    (
-        "((select distinct a from r))",
-        "SELECT DISTINCT a FROM r",
-    ),
+    ("((select distinct a from r))", "SELECT DISTINCT a FROM r"),
     (
         "explain select distinct a from r",
         "EXPLAIN SELECT DISTINCT a FROM r",
@@ -215,39 +212,88 @@ const REFUSED: [(&str, u32); 47] = [
 
 /// The words that are no identifiers.
 const RESERVED: [&str; 51] = [
-    "access", "all", "and", "as", "between", "by", "case", "create", "cross", "delete", "discover",
-    "distinct", "drop", "except", "exists", "explain", "fetch", "from", "full", "group", "having",
-    "in", "inner", "insert", "int", "integer", "intersect", "into", "is", "join", "left", "like",
-    "limit", "load", "natural", "not", "null", "offset", "on", "or", "order", "outer", "right",
-    "select", "table", "text", "union", "using", "values", "where", "with",
+    "access",
+    "all",
+    "and",
+    "as",
+    "between",
+    "by",
+    "case",
+    "create",
+    "cross",
+    "delete",
+    "discover",
+    "distinct",
+    "drop",
+    "except",
+    "exists",
+    "explain",
+    "fetch",
+    "from",
+    "full",
+    "group",
+    "having",
+    "in",
+    "inner",
+    "insert",
+    "int",
+    "integer",
+    "intersect",
+    "into",
+    "is",
+    "join",
+    "left",
+    "like",
+    "limit",
+    "load",
+    "natural",
+    "not",
+    "null",
+    "offset",
+    "on",
+    "or",
+    "order",
+    "outer",
+    "right",
+    "select",
+    "table",
+    "text",
+    "union",
+    "using",
+    "values",
+    "where",
+    "with",
 ];
 
-/// The canonical text of what a source spells, or the number of its refusal.
-fn printed(alloc: Global, source: &str) -> Result<Result<String, u32>, Fail> {
+/// What a source is read as.
+fn read(alloc: Global, source: &str) -> Result<Result<Statement, Stopped>, Fail> {
     let tokens = lex(alloc, source)?;
-    match parse(alloc, tokens.as_slice()) {
-        Ok(statement) => {
-            let text = print(alloc, &statement)?;
-            Ok(Ok(String::from_str(alloc, text.as_str())?))
-        }
-        Err(Stopped::Refused(why)) => Ok(Err(why.number())),
-        Err(Stopped::NoMemory) => Err(Fail::from(beas_core::NoMemory)),
+    Ok(parse(alloc, tokens.as_slice()))
+}
+
+/// The number of a refusal, 0 where memory was wanting.
+fn number_of(stopped: &Stopped) -> u32 {
+    match stopped {
+        Stopped::Refused(why) => why.number(),
+        Stopped::NoMemory => 0,
     }
 }
 
 /// The number of a source's refusal, 0 where it is none.
 fn refused(alloc: Global, source: &str) -> Result<u32, Fail> {
-    match printed(alloc, source)? {
+    let found = read(alloc, source)?;
+    match &found {
         Ok(_) => Ok(0),
-        Err(number) => Ok(number),
+        Err(stopped) => Ok(number_of(stopped)),
     }
 }
 
 /// The canonical text of what a source spells, empty where it spells nothing.
-fn text_of(alloc: Global, source: &str) -> Result<String, Fail> {
-    match printed(alloc, source)? {
-        Ok(text) => Ok(text),
-        Err(_) => Ok(String::new(alloc)),
+fn text_of(alloc: Global, source: &str) -> Result<Text, Fail> {
+    let found = read(alloc, source)?;
+    match &found {
+        Ok(statement) => Ok(print(alloc, statement)?),
+        Err(_) => Ok(Text::new(alloc)),
     }
 }
 

@@ -115,9 +115,9 @@ unfoldable pub block_form : BlockTree → Option Form
 block_form block =
     if block.distinct && not block.star
     then (all_some (map bare_column block.items) >>= λ items.
-        only block.from_items >>= bare_table >>= λ table.
-        all_some (map constant block.conditions) >>= some_of >>= λ conditions.
-        Some (Select items table conditions))
+    only block.from_items >>= bare_table >>= λ table.
+    all_some (map constant block.conditions) >>= some_of >>= λ conditions.
+    Some (Select items table conditions))
     else None
 
 abbrev pub tree_form : Tree → Option Form

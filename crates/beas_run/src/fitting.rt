@@ -105,11 +105,7 @@ pub fn form_of(alloc: Global, statement: Statement) -> Result<Option<Form>, NoMe
     }
 }
 
-fn create_table(
-    alloc: Global,
-    name: Name,
-    columns: List<Column>,
-) -> Result<Option<Form>, NoMemory>
+fn create_table(alloc: Global, name: Name, columns: List<Column>) -> Result<Option<Form>, NoMemory>
     ensures { IfOk result (λ form. form ≡ option_map (λ names. Form.CreateTable name names) (all_some (map integer_column columns))) }
 {
     let columns = all_made::<Column, Name>(alloc, columns)?;
@@ -142,11 +138,7 @@ fn only<T: Drop>(items: List<T>) -> Option<T>
     if items.is_empty() { Some(last) } else { None }
 }
 
-fn insert(
-    alloc: Global,
-    table: Name,
-    rows: List<List<Literal>>,
-) -> Result<Option<Form>, NoMemory>
+fn insert(alloc: Global, table: Name, rows: List<List<Literal>>) -> Result<Option<Form>, NoMemory>
     ensures { IfOk result (λ form. form ≡ form_of (statement.Insert table rows)) }
 {
     let Some(literals) = only::<List<Literal>>(rows) else {

@@ -169,8 +169,8 @@ fn output(reader: &mut Reader, alloc: Global) -> Result<(bool, List<ColumnRef>),
     Ok((false, items))
 }
 
-#[tactic(auto, unfolding(crate::specs::Reading::read_block, crate::specs::Reading::behind, crate::specs::Reading::behind_both))]
 /// Reads a block.
+#[tactic(auto, unfolding(crate::specs::Reading::read_block, crate::specs::Reading::behind, crate::specs::Reading::behind_both))]
 pub fn block(reader: &mut Reader, alloc: Global) -> Result<BlockTree, ReadError>
     ensures { Gives result reader.new (read_block reader.old) }
 {

@@ -113,8 +113,8 @@ pub fn conditions(
     some_conditions(reader, alloc, room, found)
 }
 
-#[tactic(auto, unfolding(crate::specs::Reading::read_where, crate::specs::Reading::behind))]
 /// Reads the conditions after WHERE, where it stands there, and adds them.
+#[tactic(auto, unfolding(crate::specs::Reading::read_where, crate::specs::Reading::behind))]
 pub fn where_conditions(
     reader: &mut Reader,
     alloc: Global,

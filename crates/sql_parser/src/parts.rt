@@ -44,8 +44,8 @@ impl Part for Name {
     }
 }
 
-#[tactic(auto, unfolding(crate::specs::Reading::read_maybe_ids))]
 /// Reads names, or none before a closing parenthesis.
+#[tactic(auto, unfolding(crate::specs::Reading::read_maybe_ids))]
 pub fn maybe_names(reader: &mut Reader, alloc: Global) -> Result<Items<Name>, ReadError>
     ensures { Gives result reader.new (read_maybe_ids reader.old) }
 {

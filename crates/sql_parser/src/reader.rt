@@ -70,8 +70,8 @@ impl<'a> Reader<'a> {
         self.rest.len()
     }
 
-    #[tactic(auto, unfolding(crate::specs::Reading::starts))]
     /// Whether the next token is this word.
+    #[tactic(auto, unfolding(crate::specs::Reading::starts))]
     pub fn next_is_word(&self, text: &str) -> bool
         ensures { result ≡ starts (word text.now) self.now }
     {
@@ -81,8 +81,8 @@ impl<'a> Reader<'a> {
         }
     }
 
-    #[tactic(auto, unfolding(crate::specs::Reading::starts))]
     /// Whether the next token is this mark.
+    #[tactic(auto, unfolding(crate::specs::Reading::starts))]
     pub fn next_is_mark(&self, text: &str) -> bool
         ensures { result ≡ starts (mark text.now) self.now }
     {
@@ -92,8 +92,8 @@ impl<'a> Reader<'a> {
         }
     }
 
-    #[tactic(auto, unfolding(crate::specs::Reading::rest_of))]
     /// Goes behind the next token.
+    #[tactic(auto, unfolding(crate::specs::Reading::rest_of))]
     pub fn skip(&mut self)
         ensures { self.new ≡ rest_of self.old }
     {
@@ -124,8 +124,8 @@ impl<'a> Reader<'a> {
         Ok(())
     }
 
-    #[tactic(auto, unfolding(crate::specs::Reading::read_id))]
     /// Reads an identifier.
+    #[tactic(auto, unfolding(crate::specs::Reading::read_id))]
     pub fn name(&mut self, alloc: Global) -> Result<Name, ReadError>
         ensures { Gives result self.new (read_id self.old) }
     {
@@ -139,8 +139,8 @@ impl<'a> Reader<'a> {
         }
     }
 
-    #[tactic(auto, unfolding(crate::specs::Reading::read_number))]
     /// Reads the digits of a number.
+    #[tactic(auto, unfolding(crate::specs::Reading::read_number))]
     pub fn number(&mut self, alloc: Global) -> Result<Text, ReadError>
         ensures { Gives result self.new (read_number self.old) }
     {
@@ -153,8 +153,8 @@ impl<'a> Reader<'a> {
         }
     }
 
-    #[tactic(auto, unfolding(crate::specs::Reading::read_quoted))]
     /// Reads a text between quotes.
+    #[tactic(auto, unfolding(crate::specs::Reading::read_quoted))]
     pub fn quoted(&mut self, alloc: Global) -> Result<Text, ReadError>
         ensures { Gives result self.new (read_quoted self.old) }
     {
@@ -167,8 +167,8 @@ impl<'a> Reader<'a> {
         }
     }
 
-    #[tactic(auto, unfolding(crate::specs::Reading::starts_quoted))]
     /// Whether a text between quotes is next.
+    #[tactic(auto, unfolding(crate::specs::Reading::starts_quoted))]
     pub fn next_is_quoted(&self) -> bool
         ensures { result ≡ starts_quoted self.now }
     {
@@ -178,8 +178,8 @@ impl<'a> Reader<'a> {
         }
     }
 
-    #[tactic(auto, unfolding(crate::specs::Reading::starts_id))]
     /// Whether an identifier is next.
+    #[tactic(auto, unfolding(crate::specs::Reading::starts_id))]
     pub fn next_is_name(&self) -> bool
         ensures { result ≡ starts_id self.now }
     {
@@ -189,8 +189,8 @@ impl<'a> Reader<'a> {
         }
     }
 
-    #[tactic(auto, unfolding(crate::specs::Reading::read_sign))]
     /// Reads the sign of a comparison.
+    #[tactic(auto, unfolding(crate::specs::Reading::read_sign))]
     pub fn sign(&mut self) -> Result<Sign, ReadError>
         ensures { Gives result self.new (read_sign self.old) }
     {

@@ -173,8 +173,8 @@ fn select(reader: &mut Reader, alloc: Global) -> Result<Statement, ReadError>
     Ok(Statement::Select { tree })
 }
 
-#[tactic(auto, unfolding(crate::specs::Reading::read_statement))]
 /// Reads a statement, or a query that lacks its DISTINCT.
+#[tactic(auto, unfolding(crate::specs::Reading::read_statement))]
 pub fn statement(reader: &mut Reader, alloc: Global) -> Result<Statement, ReadError>
     ensures { Gives result reader.new (read_statement reader.old) }
 {

@@ -1,4 +1,5 @@
 use Rattle.beas_cases.proofs.Steady.{no_fault, none_rose}
+use Rattle.std.proofs.Common.{refl}
 use Rattle.beas_cases.proofs.run_steady.Goals as goal
 
 pub returns-clause-read : goal.returns-clause-read
@@ -6,3 +7,6 @@ returns-clause-read g c = λ unread. no_fault _ (c.run.ensures.unread unread)
 
 pub returns-clause-sent : goal.returns-clause-sent
 returns-clause-sent g c = λ failed. none_rose (c.run.ensures.fault failed)
+
+pub returns-clause-complete : goal.returns-clause-complete
+returns-clause-complete g c = λ name named. c.run.ensures.complete name _ named refl refl none_rose none_rose
