@@ -10,6 +10,7 @@ use Rattle.beas_run.specs.declared.top.NoScript.TheVariants.{Words, Unread, TooL
 use Rattle.beas_run.specs.NoScripts.{status_of}
 use Rattle.beas_run.specs.Scripts.{Readings}
 use Rattle.beas_run.specs.Runs.{Ran, HasScript, IsWithout, longest_script}
+use Rattle.beas_run.proofs.Within.{within_of}
 
 pub no_readings : Readings [] []
 unfolding tokens_from
@@ -23,6 +24,7 @@ ran_nothing status told before steps early = record {
   cost = λ fine. absurd (omega arith);
   no_fewer = omega arith;
   at_most = omega arith;
+  within = within_of [];
 }
 
 pub has_none : (status : ℕ) (name : Option (List ℕ)) (told : Bool) (content : List ℕ → Option (List ℕ)) → 2 ≤ status → HasScript [] status name told content

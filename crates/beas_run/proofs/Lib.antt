@@ -8,3 +8,4 @@ mod Once
 mod Progress
 mod Reading
 mod Selections
+mod Within

@@ -3,12 +3,12 @@
 --     line status            what is said where a run has no script
 --     Ran ..                 what a run sends and reads, over the readings of its script
 --     HasScript ..           which script that is
-use Rattle.std.specs.Prelude.{◌≡◌, ◌≢◌, ◌==◌, ◌<◌, ◌≤◌, ◌+◌, ◌++◌, ◌⊎◌, ℕ, Bool, true, List, [], ◌∷◌, length, codes, slice_index, if◌then◌else◌, Option, Some, None, IsSomeAnd}
+use Rattle.std.specs.Prelude.{◌≡◌, ◌≢◌, ◌==◌, ◌<◌, ◌≤◌, ◌+◌, ◌++◌, ◌⊎◌, ℕ, Bool, true, List, [], ◌∷◌, length, codes, slice_index, All, if◌then◌else◌, Option, Some, None, IsSomeAnd}
 use Rattle.std.specs.Str.{IsUtf8}
 use Rattle.outside.specs.Counts.{RoseBy}
 use Rattle.outside.specs.Parts.{SentPart}
 use Rattle.sql_parser.specs.Outcome.{Reading}
-use Rattle.beas_run.specs.Scripts.{out_of, cost_of, any_refused}
+use Rattle.beas_run.specs.Scripts.{out_of, cost_of, any_refused, reports_of, IsWithin}
 
 -- 45 is the dash
 abbrev pub script_name : List (List ℕ) → Option (List ℕ)
@@ -54,6 +54,8 @@ pub record Ran (readings : List Reading) (status : ℕ) (told : Bool) (before af
   pub cost : status < 2 → steps_after ≡ steps_before + cost_of readings
   pub no_fewer : steps_before ≤ steps_after
   pub at_most : steps_after ≤ steps_before + cost_of readings
+  -- a covered query reads at most the number that was announced
+  pub within : All IsWithin (reports_of readings)
 
 pub record HasScript (script : List ℕ) (status : ℕ) (name : Option (List ℕ)) (told : Bool) (content : List ℕ → Option (List ℕ)) : Type 0 where
   pub fits : length script ≤ longest_script

@@ -3,8 +3,10 @@
 --     Readings script readings   each piece of the script has this reading
 --     out_of readings            the texts of the reports, one after another
 --     cost_of readings           the reads of all statements
+--     reports_of readings        the reports, one for each reading
+--     IsWithin report            a covered query reads at most the number that was announced
 --     any_refused readings       whether a report is a refusal
-use Rattle.std.specs.Prelude.{ℕ, ◌+◌, ◌||◌, Bool, true, false, List, [], ◌∷◌, ◌++◌, map, slice_range, Option, Some, None, Result, Ok, Err}
+use Rattle.std.specs.Prelude.{ℕ, ◌≤◌, ◌+◌, ◌||◌, Bool, true, false, List, [], ◌∷◌, ◌++◌, map, slice_range, Option, Some, None, Result, Ok, Err}
 use Rattle.std.specs.List.{AllZip}
 use Rattle.beas_core.specs.declared.refusal.Refusal.{Refusal}
 use Rattle.sql_text.specs.declared.token.Token.{Token}
@@ -23,6 +25,11 @@ use Rattle.beas_run.specs.Meaning.{Relation, Outcome, refused, step}
 abbrev pub is_refusal : Report → Bool
 is_refusal (Refused why) = true
 is_refusal _ = false
+
+-- the reads of a covered query are at most the number that its report announces; no other report announces one
+abbrev pub IsWithin : Report → Type 0
+IsWithin (Answered bound header rows reads) = reads ≤ bound
+IsWithin _ = Unit {0}
 
 -- the pieces of a script that hold a token
 abbrev pub pieces : List ℕ → List (List Token)
@@ -52,6 +59,11 @@ out_from k state [] = []
 out_from k state (reading ∷ readings) =
     report_text k (outcome state reading).report ++ out_from (k + 1) (outcome state reading).state readings
 
+-- what is reported, piece by piece
+abbrev pub reports_from : Option Relation → List Reading → List Report
+reports_from state [] = []
+reports_from state (reading ∷ readings) = (outcome state reading).report ∷ reports_from (outcome state reading).state readings
+
 abbrev pub cost_from : Option Relation → List Reading → ℕ
 cost_from state [] = 0
 cost_from state (reading ∷ readings) = (outcome state reading).cost + cost_from (outcome state reading).state readings
@@ -62,6 +74,9 @@ refused_from state (reading ∷ readings) = is_refusal (outcome state reading).r
 
 abbrev pub out_of : List Reading → List ℕ
 out_of readings = out_from 1 None readings
+
+abbrev pub reports_of : List Reading → List Report
+reports_of readings = reports_from None readings
 
 abbrev pub cost_of : List Reading → ℕ
 cost_of readings = cost_from None readings

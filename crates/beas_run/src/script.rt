@@ -174,6 +174,7 @@ fn carry_out_text<O: Sink, L: Ledger>(
 
 /// Runs a script: 0 where no report is a refusal, 1 where one is, 4 where the output failed, 5 where memory was
 /// wanting.
+#[tactic(auto, using(crate::proofs::Within::within_of))]
 pub fn run_script<O: Sink, L: Ledger>(
     alloc: Global,
     script: &str,

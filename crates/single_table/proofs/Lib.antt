@@ -1,6 +1,6 @@
 mod Answered
 mod InTuples
-mod Keeping
+pub mod Keeping
 mod Opens
 mod Places
 mod Probing
