@@ -1,6 +1,7 @@
 //! Laws over the definitions. Each is the contract of a function that does nothing.
 #![tactic(auto)]
 
+mod canonical;
 mod printing;
 #[cfg(test)]
 mod spellings;
@@ -20,6 +21,7 @@ ghost use Rattle.beas_core.specs.Valuations.{answers_of, own_start, own_valuatio
 ghost use Rattle.beas_laws.specs.Premises.{ClassesInRange, ConstantsInRange, EachIdOnce, RulesHold, StepsHold};
 
 use beas_core::{Access, AccessPort, Block, DStep, List, Normal, Prepared};
+pub use canonical::canonical;
 pub use printing::law_printed;
 
 /// The covered set is the least set that holds the start and is closed under the constraints.

@@ -1,0 +1,26 @@
+// The canonical text of a statement, from any of its spellings.
+ghost use Rattle.std.specs.Prelude.{◌≡◌, ◌≤◌, ℕ, List, Ok, Err, length, IfOk, IsErrOf};
+ghost use Rattle.beas_core.specs.declared.refusal.Refusal.{Refusal as Why};
+ghost use Rattle.sql_text.specs.Tokens.{tokens_of};
+ghost use Rattle.sql_tree.specs.declared.tree.Statement.{Statement as Tree};
+ghost use Rattle.sql_tree.specs.Symbols.{symbols};
+ghost use Rattle.sql_tree.specs.Canonical.{printed};
+ghost use Rattle.sql_parser.specs.Outcome.{Parses};
+
+use beas_core::{Fail, Text};
+use sql_parser::parse;
+use sql_text::lex;
+use sql_tree::print;
+use std::alloc::Global;
+
+/// The canonical text of the statement that a source of at most 16,777,216 bytes spells. A source that spells none
+/// is refused as its tokens are.
+pub fn canonical(alloc: Global, source: &str) -> Result<Text, Fail>
+    requires { length source.now ≤ 16777216 }
+    ensures text { IfOk result (λ text. (s : Tree) × Parses (symbols (tokens_of source.now)) (Ok s) × (text ≡ printed s)) }
+    ensures refused { (why : Why) → IsErrOf result (Fail.Refused why) → Parses (symbols (tokens_of source.now)) (Err why) }
+{
+    let tokens = lex(alloc, source)?;
+    let statement = parse(alloc, tokens.as_slice())?;
+    Ok(print(alloc, &statement)?)
+}
