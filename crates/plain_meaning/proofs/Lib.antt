@@ -1,0 +1,3 @@
+pub mod DistinctRows
+pub mod Steps
+pub mod Ways

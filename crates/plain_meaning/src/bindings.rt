@@ -1,0 +1,358 @@
+// Valuations by choice of rows, and the reads of a derivation over them.
+ghost use Rattle.std.specs.Prelude.{◌≡◌, ◌<◌, ◌++◌, ◌∷◌, [], if◌then◌else◌, OnOk, pos, map, filter, flat_map, length, IfOk};
+ghost use Rattle.std.specs.List.{list_all, range_with_len};
+ghost use Rattle.beas_core.specs.declared.value.Value.TheVariants.{Int as Number};
+ghost use Rattle.beas_core.specs.Groups.{member_columns, value_at};
+ghost use Rattle.beas_core.specs.Full.{same_value, comparison_holds};
+ghost use Rattle.beas_core.specs.Coverage.{has, place_class};
+ghost use Rattle.beas_core.specs.Coverage.{class_at as class_of_column};
+ghost use Rattle.beas_core.specs.Derivations.{rule_in};
+ghost use Rattle.beas_core.specs.Derivations.{table_of as table_of_atom, bound_after as classes_after};
+ghost use Rattle.beas_core.specs.Valuations.{value_of, agrees, bindings_of, with_row_for, comparison_is_bound, operand_is_bound, comparison_is_met, is_consistent, as_bindings, classes_in};
+ghost use Rattle.beas_core.specs.Valuations.{ways as all_ways, valuations as valuations_of};
+ghost use Rattle.plain_meaning.specs.Tables.{rows_in};
+ghost use Rattle.plain_meaning.specs.Ways.{with_each_row};
+
+use crate::full::sign_is_met;
+use crate::rows::{distinct_rows, rows_of, value_or};
+use beas_core::{
+    Access, ColumnId, Comparison, DStep, Duplicate, List, NoMemory, Normal, Operand, Row, TableId,
+    Value,
+};
+use plain_cover::{append, bound_after, class_at, classes_held, columns_of, has_class, rule_for};
+use std::alloc::Global;
+
+/// Classes with their values.
+pub type Bindings = List<(u16, Value)>;
+
+/// The value of a class by its first binding. `zero` stands where it has none.
+pub fn value_in<'a>(bindings: &'a [(u16, Value)], class: u16, zero: &'a Value) -> &'a Value
+    requires { zero.now ≡ Number (pos 0) }
+    ensures { result.now ≡ value_of bindings.now class }
+{
+    match bindings {
+        [] => zero,
+        [first, rest @ ..] => {
+            if first.0 == class {
+                &first.1
+            } else {
+                value_in(rest, class, zero)
+            }
+        }
+    }
+}
+
+fn agree_with(whole: &[(u16, Value)], part: &[(u16, Value)], zero: &Value) -> bool
+    requires { zero.now ≡ Number (pos 0) }
+    ensures { result ≡ list_all (λ b. same_value b.1 (value_of whole.now b.0)) part.now }
+{
+    match part {
+        [] => true,
+        [first, rest @ ..] => {
+            let same = first.1 == *value_in(whole, first.0, zero);
+            let others = agree_with(whole, rest, zero);
+            same & others
+        }
+    }
+}
+
+fn bindings_on(
+    alloc: Global,
+    normal: &Normal,
+    atom: u16,
+    columns: &[ColumnId],
+    row: &[Value],
+    zero: &Value,
+) -> Result<Bindings, NoMemory>
+    requires { zero.now ≡ Number (pos 0) }
+    ensures { IfOk result (λ bindings. bindings ≡ map (λ c. (class_of_column normal.now atom c, value_at row.now c)) columns.now) }
+{
+    let mut bindings = List::new(alloc);
+    for column in columns {
+        let value = value_or(row, *column, zero).copy(alloc)?;
+        bindings.push((class_at(normal, atom, *column), value))?;
+    }
+    Ok(bindings)
+}
+
+// A way with what one more row binds.
+fn with_row(
+    alloc: Global,
+    normal: &Normal,
+    accesses: &[Access],
+    step: &DStep,
+    columns: &[ColumnId],
+    way: &Bindings,
+    row: &[Value],
+    zero: &Value,
+) -> Result<Bindings, NoMemory>
+    requires columns { columns.now ≡ member_columns (rule_in accesses.now step.now.access) }
+    requires zero { zero.now ≡ Number (pos 0) }
+    ensures { IfOk result (λ more. more ≡ way.now ++ bindings_of normal.now (rule_in accesses.now) step.now row.now) }
+{
+    let bindings = bindings_on(alloc, normal, step.atom, columns, row, zero)?;
+    let more = append(way.copy(alloc)?, bindings)?;
+    Ok(more)
+}
+
+// One way with each row of the step's table.
+#[tactic(auto, unfolding(crate::specs::Ways::with_each_row))]
+fn with_rows(
+    alloc: Global,
+    normal: &Normal,
+    accesses: &[Access],
+    step: &DStep,
+    columns: &[ColumnId],
+    rows: &[Row],
+    way: &Bindings,
+    zero: &Value,
+) -> Result<List<Bindings>, NoMemory>
+    requires columns { columns.now ≡ member_columns (rule_in accesses.now step.now.access) }
+    requires zero { zero.now ≡ Number (pos 0) }
+    ensures { IfOk result (λ ways. ways ≡ with_each_row rows.now normal.now (rule_in accesses.now) step.now way.now) }
+{
+    let mut ways = List::new(alloc);
+    for row in rows {
+        ways.push(with_row(
+            alloc,
+            normal,
+            accesses,
+            step,
+            columns,
+            way,
+            row.as_slice(),
+            zero,
+        )?)?;
+    }
+    Ok(ways)
+}
+
+fn each_with_rows(
+    alloc: Global,
+    normal: &Normal,
+    accesses: &[Access],
+    step: &DStep,
+    columns: &[ColumnId],
+    rows: &[Row],
+    found: &[Bindings],
+    zero: &Value,
+) -> Result<List<Bindings>, NoMemory>
+    requires columns { columns.now ≡ member_columns (rule_in accesses.now step.now.access) }
+    requires zero { zero.now ≡ Number (pos 0) }
+    ensures { IfOk result (λ ways. ways ≡ flat_map (with_each_row rows.now normal.now (rule_in accesses.now) step.now) found.now) }
+{
+    match found {
+        [] => Ok(List::new(alloc)),
+        [first, rest @ ..] => {
+            let ways = with_rows(alloc, normal, accesses, step, columns, rows, first, zero)?;
+            append(
+                ways,
+                each_with_rows(alloc, normal, accesses, step, columns, rows, rest, zero)?,
+            )
+        }
+    }
+}
+
+fn table_for(normal: &Normal, atom: u16) -> TableId
+    ensures { result ≡ table_of_atom normal.now atom }
+{
+    match normal.atoms.as_slice().get(atom as usize) {
+        Some(found) => found.table,
+        None => TableId(0),
+    }
+}
+
+#[tactic(auto, using(crate::proofs::Ways::with_step_is))]
+fn with_step(
+    alloc: Global,
+    tables: &[List<Row>],
+    normal: &Normal,
+    accesses: &[Access],
+    found: &[Bindings],
+    step: &DStep,
+    zero: &Value,
+) -> Result<List<Bindings>, NoMemory>
+    requires { zero.now ≡ Number (pos 0) }
+    ensures { IfOk result (λ ways. ways ≡ with_row_for (rows_in tables.now) normal.now (rule_in accesses.now) found.now step.now) }
+{
+    let rule = rule_for(alloc, accesses, step.access)?;
+    let columns = columns_of(alloc, &rule)?;
+    let rows = rows_of(tables, table_for(normal, step.atom));
+    let ways = each_with_rows(
+        alloc,
+        normal,
+        accesses,
+        step,
+        columns.as_slice(),
+        rows,
+        found,
+        zero,
+    )?;
+    Ok(ways)
+}
+
+fn ways_after(
+    alloc: Global,
+    tables: &[List<Row>],
+    normal: &Normal,
+    accesses: &[Access],
+    found: &List<Bindings>,
+    steps: &[DStep],
+    zero: &Value,
+) -> Result<List<Bindings>, NoMemory>
+    requires { zero.now ≡ Number (pos 0) }
+    ensures { IfOk result (λ ways. ways ≡ all_ways (rows_in tables.now) normal.now (rule_in accesses.now) found.now steps.now) }
+{
+    match steps {
+        [] => found.copy(alloc),
+        [first, rest @ ..] => {
+            let more = with_step(
+                alloc,
+                tables,
+                normal,
+                accesses,
+                found.as_slice(),
+                first,
+                zero,
+            )?;
+            ways_after(alloc, tables, normal, accesses, &more, rest, zero)
+        }
+    }
+}
+
+fn is_bound(normal: &Normal, set: &[bool], comparison: &Comparison) -> bool
+    ensures { result ≡ comparison_is_bound normal.now set.now comparison.now }
+{
+    let left = has_class(
+        set,
+        class_at(normal, comparison.left.atom, comparison.left.column),
+    );
+    let right = is_operand_bound(normal, set, &comparison.right);
+    left & right
+}
+
+fn is_operand_bound(normal: &Normal, set: &[bool], operand: &Operand) -> bool
+    ensures { result ≡ operand_is_bound normal.now set.now operand.now }
+{
+    match operand {
+        Operand::At(place) => has_class(set, class_at(normal, place.atom, place.column)),
+        Operand::Fixed(_) => true,
+    }
+}
+
+fn holds_in(
+    normal: &Normal,
+    bindings: &[(u16, Value)],
+    comparison: &Comparison,
+    zero: &Value,
+) -> bool
+    requires { zero.now ≡ Number (pos 0) }
+    ensures { result ≡ comparison_holds (λ p. value_of bindings.now (place_class normal.now p)) comparison.now }
+{
+    let place = comparison.left;
+    let left = value_in(bindings, class_at(normal, place.atom, place.column), zero);
+    match &comparison.right {
+        Operand::At(place) => sign_is_met(
+            comparison.sign,
+            left,
+            value_in(bindings, class_at(normal, place.atom, place.column), zero),
+        ),
+        Operand::Fixed(value) => sign_is_met(comparison.sign, left, value),
+    }
+}
+
+fn all_met(
+    normal: &Normal,
+    set: &[bool],
+    bindings: &[(u16, Value)],
+    comparisons: &[Comparison],
+    zero: &Value,
+) -> bool
+    requires { zero.now ≡ Number (pos 0) }
+    ensures { result ≡ list_all (comparison_is_met normal.now set.now bindings.now) comparisons.now }
+{
+    match comparisons {
+        [] => true,
+        [first, rest @ ..] => {
+            let open = !is_bound(normal, set, first);
+            let held = holds_in(normal, bindings, first, zero);
+            let others = all_met(normal, set, bindings, rest, zero);
+            (open | held) & others
+        }
+    }
+}
+
+fn consistent(normal: &Normal, set: &[bool], bindings: &[(u16, Value)], zero: &Value) -> bool
+    requires { zero.now ≡ Number (pos 0) }
+    ensures { result ≡ is_consistent normal.now set.now bindings.now }
+{
+    let same = agree_with(bindings, bindings, zero);
+    let met = all_met(normal, set, bindings, normal.comparisons.as_slice(), zero);
+    same & met
+}
+
+fn values_of(
+    alloc: Global,
+    bindings: &[(u16, Value)],
+    classes: &[u16],
+    zero: &Value,
+) -> Result<Row, NoMemory>
+    requires { zero.now ≡ Number (pos 0) }
+    ensures { IfOk result (λ row. row ≡ map (value_of bindings.now) classes.now) }
+{
+    let mut row = List::new(alloc);
+    for class in classes {
+        row.push(value_in(bindings, *class, zero).copy(alloc)?)?;
+    }
+    Ok(row)
+}
+
+fn valuations_from(
+    alloc: Global,
+    normal: &Normal,
+    set: &[bool],
+    classes: &[u16],
+    found: &[Bindings],
+    zero: &Value,
+) -> Result<List<Row>, NoMemory>
+    requires { zero.now ≡ Number (pos 0) }
+    ensures { IfOk result (λ rows. rows ≡ map (λ w. map (value_of w) classes.now) (filter (is_consistent normal.now set.now) found.now)) }
+{
+    let mut rows = List::new(alloc);
+    for way in found {
+        if consistent(normal, set, way.as_slice(), zero) {
+            rows.push(values_of(alloc, way.as_slice(), classes, zero)?)?;
+        }
+    }
+    Ok(rows)
+}
+
+/// The valuations after some steps, over tables: the values of the bound classes, ascending by class.
+#[tactic(auto, unfolding(beas_core::specs::Valuations::valuations))]
+pub fn valuations(
+    alloc: Global,
+    tables: &[List<Row>],
+    normal: &Normal,
+    accesses: &[Access],
+    start: &[bool],
+    starts: &List<Bindings>,
+    steps: &[DStep],
+) -> Result<List<Row>, NoMemory>
+    requires { length start.now < 65536 }
+    ensures { IfOk result (λ found. found ≡ valuations_of (rows_in tables.now) normal.now (rule_in accesses.now) start.now starts.now steps.now) }
+{
+    let zero = Value::Int(0);
+    let set = bound_after(alloc, normal, accesses, start, steps)?;
+    let classes = classes_held(alloc, set.as_slice())?;
+    let ways = ways_after(alloc, tables, normal, accesses, starts, steps, &zero)?;
+    let rows = valuations_from(
+        alloc,
+        normal,
+        set.as_slice(),
+        classes.as_slice(),
+        ways.as_slice(),
+        &zero,
+    )?;
+    let found = distinct_rows(rows)?;
+    Ok(found)
+}

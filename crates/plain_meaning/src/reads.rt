@@ -1,0 +1,337 @@
+// The reads of a derivation over tables.
+ghost use Rattle.std.specs.Prelude.{◌≡◌, ◌<◌, ◌≤◌, ◌^◌, ◌+◌, ◌++◌, ◌∷◌, [], ℕ, pos, map, filter, zip, length, sum_by, IfOk, MatchOption};
+ghost use Rattle.beas_core.specs.declared.value.Value.TheVariants.{Int as Number};
+ghost use Rattle.beas_core.specs.Groups.{member_columns, project, same_row, group_of, value_at};
+ghost use Rattle.beas_core.specs.Derivations.{rule_in};
+ghost use Rattle.beas_core.specs.Valuations.{as_bindings, classes_in};
+ghost use Rattle.beas_core.specs.Reads.{key_for, probe_reads, step_reads};
+ghost use Rattle.beas_core.specs.Reads.{reads_after as further_reads, reads_of as all_reads};
+ghost use Rattle.plain_meaning.specs.Tables.{rows_in};
+
+use crate::bindings::{Bindings, valuations, value_in};
+use crate::rows::{distinct_rows, rows_of, value_or};
+use beas_core::{
+    Access, AccessId, ColumnId, DStep, Duplicate, List, NoMemory, Normal, Row, Value, compare_rows,
+};
+use plain_cover::{bound_after, class_at, classes_held, columns_of, rule_for, with_first};
+use std::alloc::Global;
+use std::cmp::Ordering;
+
+fn bindings_between(
+    alloc: Global,
+    classes: &[u16],
+    valuation: &[Value],
+) -> Result<Bindings, NoMemory>
+    ensures { IfOk result (λ bindings. bindings ≡ zip classes.now valuation.now) }
+{
+    match classes {
+        [] => Ok(List::new(alloc)),
+        [class, rest @ ..] => match valuation {
+            [] => Ok(List::new(alloc)),
+            [value, values @ ..] => {
+                let others = bindings_between(alloc, rest, values)?;
+                with_first(alloc, (*class, value.copy(alloc)?), others)
+            }
+        },
+    }
+}
+
+fn key_in(
+    alloc: Global,
+    normal: &Normal,
+    accesses: &[Access],
+    step: &DStep,
+    key: &[ColumnId],
+    set: &[bool],
+    valuation: &[Value],
+    bindings: &[(u16, Value)],
+    zero: &Value,
+) -> Result<Row, NoMemory>
+    requires key { key.now ≡ (rule_in accesses.now step.now.access).key }
+    requires bindings { bindings.now ≡ as_bindings set.now valuation.now }
+    requires zero { zero.now ≡ Number (pos 0) }
+    ensures { IfOk result (λ row. row ≡ key_for normal.now (rule_in accesses.now) step.now set.now valuation.now) }
+{
+    let mut row = List::new(alloc);
+    for column in key {
+        row.push(value_in(bindings, class_at(normal, step.atom, *column), zero).copy(alloc)?)?;
+    }
+    Ok(row)
+}
+
+fn key_of(
+    alloc: Global,
+    normal: &Normal,
+    accesses: &[Access],
+    step: &DStep,
+    key: &[ColumnId],
+    set: &[bool],
+    classes: &[u16],
+    valuation: &[Value],
+    zero: &Value,
+) -> Result<Row, NoMemory>
+    requires key { key.now ≡ (rule_in accesses.now step.now.access).key }
+    requires classes { classes.now ≡ classes_in set.now }
+    requires zero { zero.now ≡ Number (pos 0) }
+    ensures { IfOk result (λ row. row ≡ key_for normal.now (rule_in accesses.now) step.now set.now valuation.now) }
+{
+    let bindings = bindings_between(alloc, classes, valuation)?;
+    let row = key_in(
+        alloc,
+        normal,
+        accesses,
+        step,
+        key,
+        set,
+        valuation,
+        bindings.as_slice(),
+        zero,
+    )?;
+    Ok(row)
+}
+
+fn keys_in(
+    alloc: Global,
+    normal: &Normal,
+    accesses: &[Access],
+    step: &DStep,
+    key: &[ColumnId],
+    set: &[bool],
+    classes: &[u16],
+    found: &[Row],
+    zero: &Value,
+) -> Result<List<Row>, NoMemory>
+    requires key { key.now ≡ (rule_in accesses.now step.now.access).key }
+    requires classes { classes.now ≡ classes_in set.now }
+    requires zero { zero.now ≡ Number (pos 0) }
+    ensures { IfOk result (λ keys. keys ≡ map (key_for normal.now (rule_in accesses.now) step.now set.now) found.now) }
+{
+    let mut keys = List::new(alloc);
+    for valuation in found {
+        keys.push(key_of(
+            alloc,
+            normal,
+            accesses,
+            step,
+            key,
+            set,
+            classes,
+            valuation.as_slice(),
+            zero,
+        )?)?;
+    }
+    Ok(keys)
+}
+
+fn project_row(
+    alloc: Global,
+    columns: &[ColumnId],
+    row: &[Value],
+    zero: &Value,
+) -> Result<Row, NoMemory>
+    requires { zero.now ≡ Number (pos 0) }
+    ensures { IfOk result (λ part. part ≡ project columns.now row.now) }
+{
+    let mut part = List::new(alloc);
+    for column in columns {
+        part.push(value_or(row, *column, zero).copy(alloc)?)?;
+    }
+    Ok(part)
+}
+
+fn has_key(
+    alloc: Global,
+    columns: &[ColumnId],
+    row: &[Value],
+    key: &[Value],
+    zero: &Value,
+) -> Result<bool, NoMemory>
+    requires { zero.now ≡ Number (pos 0) }
+    ensures { IfOk result (λ has. has ≡ same_row (project columns.now row.now) key.now) }
+{
+    let part = project_row(alloc, columns, row, zero)?;
+    Ok(compare_rows(part.as_slice(), key) == Ordering::Equal)
+}
+
+fn members_of(
+    alloc: Global,
+    rows: &[Row],
+    rule: &Access,
+    columns: &[ColumnId],
+    key: &[Value],
+    zero: &Value,
+) -> Result<List<Row>, NoMemory>
+    requires { zero.now ≡ Number (pos 0) }
+    ensures { IfOk result (λ members. members ≡ map (project columns.now) (filter (λ row. same_row (project rule.now.key row) key.now) rows.now)) }
+{
+    let mut members = List::new(alloc);
+    for row in rows {
+        if has_key(alloc, rule.key.as_slice(), row.as_slice(), key, zero)? {
+            members.push(project_row(alloc, columns, row.as_slice(), zero)?)?;
+        }
+    }
+    Ok(members)
+}
+
+fn reads_of_probe(
+    alloc: Global,
+    tables: &[List<Row>],
+    rule: &Access,
+    key: &[Value],
+    zero: &Value,
+) -> Result<u64, NoMemory>
+    requires { zero.now ≡ Number (pos 0) }
+    ensures { IfOk result (λ reads. reads ≡ probe_reads (rows_in tables.now) rule.now key.now) }
+{
+    let columns = columns_of(alloc, rule)?;
+    let members = members_of(
+        alloc,
+        rows_of(tables, rule.table),
+        rule,
+        columns.as_slice(),
+        key,
+        zero,
+    )?;
+    let group = distinct_rows(members)?;
+    Ok((group.len() as u64).max(1))
+}
+
+fn reads_of_keys(
+    alloc: Global,
+    tables: &[List<Row>],
+    accesses: &[Access],
+    id: AccessId,
+    rule: &Access,
+    keys: &[Row],
+    zero: &Value,
+) -> Result<u128, NoMemory>
+    requires rule { rule.now ≡ rule_in accesses.now id }
+    requires zero { zero.now ≡ Number (pos 0) }
+    ensures { IfOk result (λ reads. reads ≡ sum_by (probe_reads (rows_in tables.now) (rule_in accesses.now id)) keys.now) }
+{
+    let mut reads: u128 = 0;
+    for key in keys {
+        reads += u128::from(reads_of_probe(alloc, tables, rule, key.as_slice(), zero)?);
+    }
+    Ok(reads)
+}
+
+fn reads_of_step(
+    alloc: Global,
+    tables: &[List<Row>],
+    normal: &Normal,
+    accesses: &[Access],
+    step: &DStep,
+    set: &[bool],
+    found: &[Row],
+) -> Result<u128, NoMemory>
+    requires { length set.now < 65536 }
+    ensures { IfOk result (λ reads. reads ≡ step_reads (rows_in tables.now) normal.now (rule_in accesses.now) step.now set.now found.now) }
+{
+    let zero = Value::Int(0);
+    let rule = rule_for(alloc, accesses, step.access)?;
+    let classes = classes_held(alloc, set)?;
+    let keys = keys_in(
+        alloc,
+        normal,
+        accesses,
+        step,
+        rule.key.as_slice(),
+        set,
+        classes.as_slice(),
+        found,
+        &zero,
+    )?;
+    let distinct = distinct_rows(keys)?;
+    let reads = reads_of_keys(
+        alloc,
+        tables,
+        accesses,
+        step.access,
+        &rule,
+        distinct.as_slice(),
+        &zero,
+    )?;
+    Ok(reads)
+}
+
+fn sum_of(first: u128, later: Option<u128>) -> Option<u128>
+    ensures { (n : ℕ) → MatchOption later (2 ^ 128 ≤ n) (λ m. m ≡ n) → MatchOption result (2 ^ 128 ≤ first + n) (λ m. m ≡ first + n) }
+{
+    match later {
+        Some(more) => first.checked_add(more),
+        None => None,
+    }
+}
+
+fn one_more(alloc: Global, done: &[DStep], step: &DStep) -> Result<List<DStep>, NoMemory>
+    ensures { IfOk result (λ more. more ≡ done.now ++ step.now ∷ []) }
+{
+    let mut more = List::new(alloc);
+    for before in done {
+        more.push(*before)?;
+    }
+    more.push(*step)?;
+    Ok(more)
+}
+
+fn reads_after(
+    alloc: Global,
+    tables: &[List<Row>],
+    normal: &Normal,
+    accesses: &[Access],
+    start: &[bool],
+    starts: &List<Bindings>,
+    done: &[DStep],
+    steps: &[DStep],
+) -> Result<Option<u128>, NoMemory>
+    requires { length start.now < 65536 }
+    ensures { IfOk result (λ reads. MatchOption reads (2 ^ 128 ≤ further_reads (rows_in tables.now) normal.now (rule_in accesses.now) start.now starts.now done.now steps.now)
+        (λ n. n ≡ further_reads (rows_in tables.now) normal.now (rule_in accesses.now) start.now starts.now done.now steps.now)) }
+{
+    match steps {
+        [] => Ok(Some(0)),
+        [first, rest @ ..] => {
+            let set = bound_after(alloc, normal, accesses, start, done)?;
+            let found = valuations(alloc, tables, normal, accesses, start, starts, done)?;
+            let here = reads_of_step(
+                alloc,
+                tables,
+                normal,
+                accesses,
+                first,
+                set.as_slice(),
+                found.as_slice(),
+            )?;
+            let more = one_more(alloc, done, first)?;
+            let later = reads_after(
+                alloc,
+                tables,
+                normal,
+                accesses,
+                start,
+                starts,
+                more.as_slice(),
+                rest,
+            )?;
+            Ok(sum_of(here, later))
+        }
+    }
+}
+
+/// The reads of the steps over tables; nothing where that passes 2^128 - 1.
+pub fn reads_of(
+    alloc: Global,
+    tables: &[List<Row>],
+    normal: &Normal,
+    accesses: &[Access],
+    start: &[bool],
+    starts: &List<Bindings>,
+    steps: &[DStep],
+) -> Result<Option<u128>, NoMemory>
+    requires { length start.now < 65536 }
+    ensures { IfOk result (λ reads. MatchOption reads (2 ^ 128 ≤ all_reads (rows_in tables.now) normal.now (rule_in accesses.now) start.now starts.now steps.now)
+        (λ n. n ≡ all_reads (rows_in tables.now) normal.now (rule_in accesses.now) start.now starts.now steps.now)) }
+{
+    reads_after(alloc, tables, normal, accesses, start, starts, &[], steps)
+}

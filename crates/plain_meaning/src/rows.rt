@@ -1,0 +1,40 @@
+// Rows, tables and sets in order.
+ghost use Rattle.std.specs.Prelude.{◌≡◌, pos, IfOk, slice_index_or};
+ghost use Rattle.beas_core.specs.declared.value.Value.TheVariants.{Int as Number};
+ghost use Rattle.beas_core.specs.Order.{row_cmp};
+ghost use Rattle.beas_core.specs.Sets.{distinct};
+ghost use Rattle.beas_core.specs.Groups.{value_at};
+ghost use Rattle.plain_meaning.specs.Tables.{rows_in};
+
+use beas_core::{ColumnId, List, NoMemory, Row, TableId, Value};
+
+/// The rows as a set in order.
+pub fn distinct_rows(rows: List<Row>) -> Result<List<Row>, NoMemory>
+    ensures { IfOk result (λ set. set ≡ distinct row_cmp rows) }
+{
+    let mut set = rows.into_vec();
+    set.sort()?;
+    set.dedup();
+    Ok(List::from_vec(set))
+}
+
+/// The rows of a table.
+pub fn rows_of(tables: &[List<Row>], id: TableId) -> &[Row]
+    ensures { result.now ≡ rows_in tables.now id }
+{
+    match tables.get(id.0 as usize) {
+        Some(rows) => rows.as_slice(),
+        None => &[],
+    }
+}
+
+/// A column's value in a row. `zero` stands where the row has no such column.
+pub fn value_or<'a>(row: &'a [Value], column: ColumnId, zero: &'a Value) -> &'a Value
+    requires { zero.now ≡ Number (pos 0) }
+    ensures { result.now ≡ value_at row.now column }
+{
+    match row.get(column.0 as usize) {
+        Some(value) => value,
+        None => zero,
+    }
+}
