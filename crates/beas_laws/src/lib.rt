@@ -1,10 +1,10 @@
 //! Laws over the definitions. Each is the contract of a function that does nothing.
 #![tactic(auto)]
 
-mod canonical;
 mod printing;
 #[cfg(test)]
 mod spellings;
+mod texts;
 
 ghost use Rattle.std.specs.Prelude.{◌≡◌, ◌≤◌, ◌↔◌, List as Items, All, length, IsTrue, Some, is_some};
 ghost use Rattle.beas_core.specs.declared.plan.DStep.{DStep as Step};
@@ -21,8 +21,8 @@ ghost use Rattle.beas_core.specs.Valuations.{answers_of, own_start, own_valuatio
 ghost use Rattle.beas_laws.specs.Premises.{ClassesInRange, ConstantsInRange, EachIdOnce, RulesHold, StepsHold};
 
 use beas_core::{Access, AccessPort, Block, DStep, List, Normal, Prepared};
-pub use canonical::canonical;
 pub use printing::law_printed;
+pub use texts::canonical;
 
 /// The covered set is the least set that holds the start and is closed under the constraints.
 pub fn law_covered_set(normal: &Normal, accesses: &List<Access>, start: &List<bool>)

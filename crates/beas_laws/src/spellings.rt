@@ -1,5 +1,5 @@
 // Spellings of statements, with their canonical texts. Expected texts are written by hand.
-use crate::canonical::canonical;
+use crate::texts::canonical;
 use beas_core::{Fail as Stopped, Text};
 use std::alloc::Global;
 use std::test::Fail;
