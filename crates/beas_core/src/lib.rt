@@ -28,7 +28,7 @@ pub use port::{AccessPort, Hits};
 pub use query::{Atom, Block, Comparison, Operand, Place, Query, Sign};
 pub use refusal::{Counted, Refusal};
 pub use schema::{Access, AccessId, AccessSpec, ColType, Column, ColumnId, TableId};
-pub use spelling::{is_reserved, limit_of};
+pub use spelling::{begins_word, continues_word, is_reserved, limit_of};
 pub use steps::Steps;
 pub use text::{Bytes, Text};
 pub use value::Value;

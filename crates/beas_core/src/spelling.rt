@@ -68,16 +68,18 @@ const RESERVED: [&str; 51] = [
 /// The greatest bound of a constraint.
 const GREATEST_LIMIT: u64 = 4_294_967_295;
 
-fn begins(byte: u8) -> bool
+/// Whether a byte begins a word: a letter or `_`.
+pub fn begins_word(byte: u8) -> bool
     ensures { result ≡ begins_word byte }
 {
     byte.is_ascii_alphabetic() || byte == b'_'
 }
 
-fn continues(byte: u8) -> bool
+/// Whether a byte goes on with a word: a letter, `_` or a digit.
+pub fn continues_word(byte: u8) -> bool
     ensures { result ≡ continues_word byte }
 {
-    begins(byte) || byte.is_ascii_digit()
+    begins_word(byte) || byte.is_ascii_digit()
 }
 
 fn first_byte(text: &[u8]) -> u8
@@ -90,7 +92,7 @@ fn all_continue(text: &[u8]) -> bool
     ensures { result ≡ list_all continues_word text.now }
 {
     for byte in text {
-        if !continues(*byte) {
+        if !continues_word(*byte) {
             return false;
         }
     }
@@ -100,7 +102,7 @@ fn all_continue(text: &[u8]) -> bool
 fn is_a_word(text: &[u8]) -> bool
     ensures { result ≡ is_word text.now }
 {
-    let begun = begins(first_byte(text));
+    let begun = begins_word(first_byte(text));
     let goes_on = all_continue(text);
     let fits = text.len() <= 64;
     begun & goes_on & fits

@@ -7,7 +7,8 @@ use Rattle.std.proofs.lemmas.Bool.{cases_Bool, cond-false, and_parts, eqb-true, 
 use Rattle.std.proofs.lemmas.Bool.Decides.{nat_tests}
 use Rattle.std.proofs.lemmas.List.Sums.{take_while-cons}
 use Rattle.sql_text.specs.declared.token.TokenKind.TheVariants.{Word, Number, Quoted, Bad}
-use Rattle.sql_text.specs.Tokens.{lead, plain, word as word_lead, quoted, doubled, quoted_text, quoted_or_bad, begins_word, is_in_word, longest_word, quote}
+use Rattle.beas_core.specs.Spelling.{begins_word, continues_word}
+use Rattle.sql_text.specs.Tokens.{lead, plain, word as word_lead, quoted, doubled, quoted_text, quoted_or_bad, longest_word, quote}
 use Rattle.sql_text.specs.Tokens.Lead.{Lexeme}
 use Rattle.sql_text.proofs.Leads.{lead-word, lead-number, lead-quoted, digit-no_word}
 use Rattle.beas_laws.proofs.Lexicals.{IsWordText, IsDigitText, run_first}
@@ -27,7 +28,7 @@ run-ends p (b ∷ bs) rest h e =
     let parts = and_parts (p b) (list_all p bs) h in
     run_first p b (bs ++ rest) parts.0 ∙ ap (λ more. b ∷ more) (run-ends p bs rest parts.1 e)
 
-ends-no_word : (b : ℕ) → (b == 32 || b == 41 || b == 44 || b == 46) ≡ true → is_in_word b ≡ false
+ends-no_word : (b : ℕ) → (b == 32 || b == 41 || b == 44 || b == 46) ≡ true → continues_word b ≡ false
 ends-no_word b h = grind (arith, nat_tests)
 
 ends-no_digit : (b : ℕ) → (b == 32 || b == 41 || b == 44 || b == 46) ≡ true → is_ascii_digit b ≡ false
@@ -52,7 +53,7 @@ no_comment b bs e = rw e refl
 pub lead-of_word : (b : ℕ) (bs rest : List ℕ) → IsWordText (b ∷ bs) → ends rest ≡ true → lead (b ∷ (bs ++ rest)) ≡ Lexeme Word (length (b ∷ bs)) (map to_ascii_lowercase (b ∷ bs))
 lead-of_word b bs rest h e =
     lead-word (b ∷ (bs ++ rest)) (omega arith) (word-no_gap b h.first) (no_comment b (bs ++ rest) (word-no_minus b h.first)) h.first
-    ∙ ap word_lead (run-ends is_in_word (b ∷ bs) rest h.each (first-not is_in_word rest ends-no_word e))
+    ∙ ap word_lead (run-ends continues_word (b ∷ bs) rest h.each (first-not continues_word rest ends-no_word e))
     ∙ cond-false _ (plain Bad (b ∷ bs)) (Lexeme Word (length (b ∷ bs)) (map to_ascii_lowercase (b ∷ bs))) (le-ltb longest_word (length (b ∷ bs)) h.short)
 
 pub lead-of_number : (b : ℕ) (bs rest : List ℕ) → IsDigitText (b ∷ bs) → ends rest ≡ true → lead (b ∷ (bs ++ rest)) ≡ Lexeme Number (length (b ∷ bs)) (b ∷ bs)

@@ -10,14 +10,15 @@ use Rattle.std.proofs.lemmas.List.Elements.{All-contains, All-weaker, All-from_r
 use Rattle.std.proofs.lemmas.List.Sums.{take_while-cons}
 use Rattle.sql_text.specs.declared.token.Token.{Token}
 use Rattle.sql_text.specs.declared.token.TokenKind.TheVariants.{Word, Bad}
-use Rattle.sql_text.specs.Tokens.{lead, plain, word as word_lead, quoted_or_bad, mark_or_bad, first_then, tokens_from, tokens_of, begins_word, is_in_word, longest_word, quoted_text, quote, marks, continues_char, Lead}
+use Rattle.beas_core.specs.Spelling.{begins_word, continues_word}
+use Rattle.sql_text.specs.Tokens.{lead, plain, word as word_lead, quoted_or_bad, mark_or_bad, first_then, tokens_from, tokens_of, longest_word, quoted_text, quote, marks, continues_char, Lead}
 use Rattle.sql_text.specs.Tokens.Lead.{Gap, Lexeme}
 use Rattle.sql_tree.specs.Symbols.{Symbol, word, number, quoted, mark, bad, symbol_of, symbols}
 
 -- a word of letters, digits and underscores that begins with no digit and isn't too long
 pub record IsWordText (text : List ℕ) : Type 0 where
   pub first : begins_word (get_or text 0 0) ≡ true
-  pub each : list_all is_in_word text ≡ true
+  pub each : list_all continues_word text ≡ true
   pub short : length text ≤ longest_word
 
 pub record IsNameText (text : List ℕ) : Type 0 where
@@ -60,17 +61,17 @@ run_first p x xs e = take_while-cons p x xs ∙ cond-true (p x) (x ∷ take_whil
 folded-begins : (b : ℕ) → begins_word b ≡ true → begins_word (to_ascii_lowercase b) ≡ true
 folded-begins b h = grind (arith, nat_tests)
 
-folded-in_word : (b : ℕ) → is_in_word b ≡ true → is_in_word (to_ascii_lowercase b) ≡ true
+folded-in_word : (b : ℕ) → continues_word b ≡ true → continues_word (to_ascii_lowercase b) ≡ true
 folded-in_word b h = grind (arith, nat_tests)
 
 folded-twice : (b : ℕ) → to_ascii_lowercase (to_ascii_lowercase b) ≡ to_ascii_lowercase b
 folded-twice b = grind (arith, nat_tests)
 
-folded-text : (text : List ℕ) → list_all is_in_word text ≡ true → list_all is_in_word (map to_ascii_lowercase text) ≡ true
+folded-text : (text : List ℕ) → list_all continues_word text ≡ true → list_all continues_word (map to_ascii_lowercase text) ≡ true
 folded-text [] h = refl
 folded-text (b ∷ bs) h =
-    let parts = and_parts (is_in_word b) (list_all is_in_word bs) h in
-    and_from (is_in_word (to_ascii_lowercase b)) (list_all is_in_word (map to_ascii_lowercase bs)) (folded-in_word b parts.0) (folded-text bs parts.1)
+    let parts = and_parts (continues_word b) (list_all continues_word bs) h in
+    and_from (continues_word (to_ascii_lowercase b)) (list_all continues_word (map to_ascii_lowercase bs)) (folded-in_word b parts.0) (folded-text bs parts.1)
 
 folded-again : (text : List ℕ) → map to_ascii_lowercase (map to_ascii_lowercase text) ≡ map to_ascii_lowercase text
 folded-again [] = refl
@@ -91,16 +92,16 @@ abbrev LeadIsLexical : Lead → Type 0
 LeadIsLexical (Gap len) = Unit {0}
 LeadIsLexical (Lexeme kind len text) = IsLexical (symbol_of kind text)
 
-word-lexical : (b : ℕ) (bs : List ℕ) → begins_word b ≡ true → list_all is_in_word (b ∷ bs) ≡ true → LeadIsLexical (word_lead (b ∷ bs))
+word-lexical : (b : ℕ) (bs : List ℕ) → begins_word b ≡ true → list_all continues_word (b ∷ bs) ≡ true → LeadIsLexical (word_lead (b ∷ bs))
 word-lexical b bs h e =
     cond_both (nat_lt longest_word (length (b ∷ bs))) (plain Bad (b ∷ bs)) (Lexeme Word (length (b ∷ bs)) (map to_ascii_lowercase (b ∷ bs))) LeadIsLexical (λ l. tt)
     (λ l. name-folded b bs (record { first = h; each = e; short = ltb-false longest_word (length (b ∷ bs)) l }))
 
-words-lexical : (b : ℕ) (rest : List ℕ) → begins_word b ≡ true → LeadIsLexical (word_lead (take_while is_in_word (b ∷ rest)))
+words-lexical : (b : ℕ) (rest : List ℕ) → begins_word b ≡ true → LeadIsLexical (word_lead (take_while continues_word (b ∷ rest)))
 words-lexical b rest h =
-    let run = run_first is_in_word b rest (or_left (begins_word b) (is_ascii_digit b) h) in
+    let run = run_first continues_word b rest (or_left (begins_word b) (is_ascii_digit b) h) in
     subst (λ bs. LeadIsLexical (word_lead bs)) (sym run)
-    (word-lexical b (take_while is_in_word rest) h (subst (λ bs. list_all is_in_word bs ≡ true) run (run-passes is_in_word (b ∷ rest))))
+    (word-lexical b (take_while continues_word rest) h (subst (λ bs. list_all continues_word bs ≡ true) run (run-passes continues_word (b ∷ rest))))
 
 number-lexical : (b : ℕ) (rest : List ℕ) → is_ascii_digit b ≡ true → IsDigitText (take_while is_ascii_digit (b ∷ rest))
 number-lexical b rest h =

@@ -6,7 +6,8 @@ use Rattle.std.specs.Char.{is_ascii_digit}
 use Rattle.std.proofs.lemmas.Bool.{and_parts, cases_Bool, leb-true}
 use Rattle.std.proofs.lemmas.List.{append-nil, map-append}
 use Rattle.beas_core.specs.declared.schema.Column.{Column}
-use Rattle.sql_text.specs.Tokens.{begins_word, is_in_word, longest_word}
+use Rattle.beas_core.specs.Spelling.{begins_word, continues_word}
+use Rattle.sql_text.specs.Tokens.{longest_word}
 use Rattle.sql_tree.specs.declared.tree.Literal.{Literal}
 use Rattle.sql_tree.specs.declared.tree.Literal.TheVariants.{Number}
 use Rattle.sql_tree.specs.declared.tree.ColumnRef.{ColumnRef}
@@ -24,12 +25,12 @@ pub record Again {X : Type 0} (Spelled : List Symbol → X → Type 0) (part : X
   pub clean : AreClean (part x)
 
 abbrev is_word_text : List ℕ → Bool
-is_word_text spelling = begins_word (get_or spelling 0 0) && (list_all is_in_word spelling && nat_le (length spelling) longest_word)
+is_word_text spelling = begins_word (get_or spelling 0 0) && (list_all continues_word spelling && nat_le (length spelling) longest_word)
 
 word-text : (spelling : List ℕ) → is_word_text spelling ≡ true → IsWordText spelling
 word-text spelling e =
-    let parts = and_parts (begins_word (get_or spelling 0 0)) (list_all is_in_word spelling && nat_le (length spelling) longest_word) e in
-    let others = and_parts (list_all is_in_word spelling) (nat_le (length spelling) longest_word) parts.1 in
+    let parts = and_parts (begins_word (get_or spelling 0 0)) (list_all continues_word spelling && nat_le (length spelling) longest_word) e in
+    let others = and_parts (list_all continues_word spelling) (nat_le (length spelling) longest_word) parts.1 in
     record { first = parts.0; each = others.0; short = leb-true (length spelling) longest_word others.1 }
 
 -- a word of the grammar

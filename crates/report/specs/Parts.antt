@@ -2,7 +2,8 @@
 use Rattle.std.specs.Prelude.{ℕ, List, map, decimal}
 use Rattle.report.specs.declared.parts.Part.{Part}
 use Rattle.report.specs.declared.parts.Part.TheVariants.{Words, Number, Quoted, Literals}
-use Rattle.report.specs.Texts.{quoted, literal_text, spaced}
+use Rattle.report.specs.Texts.{literal_text, spaced}
+use Rattle.sql_text.specs.Tokens.{quoted}
 
 abbrev pub part_text : Part → List ℕ
 part_text (Words words) = words.now

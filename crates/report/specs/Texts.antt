@@ -1,7 +1,7 @@
 -- The texts of refusals, as bytes.
 --     literal_text value        a value as a literal: a number in decimal, a text in quotes with its quotes doubled
 --     refusal_parts why         the parts of what a report says of a refusal after its number
-use Rattle.std.specs.Prelude.{◌==◌, if◌then◌else◌, ℕ, Bool, true, false, List, [], ◌∷◌, ◌++◌, map, codes, decimal, Option, Some, None}
+use Rattle.std.specs.Prelude.{ℕ, Bool, true, false, List, [], ◌∷◌, ◌++◌, map, codes, decimal, Option, Some, None}
 use Rattle.std.specs.Fmt.{signed_decimal}
 use Rattle.std.specs.List.{flat_map}
 use Rattle.beas_core.specs.declared.value.Value.{Value}
@@ -10,13 +10,7 @@ use Rattle.beas_core.specs.declared.refusal.Counted.{Counted}
 use Rattle.beas_core.specs.declared.refusal.Counted.TheVariants.{Tables, Columns, Constraints, Atoms, Blocks, Outputs, Rows}
 use Rattle.beas_core.specs.declared.refusal.Refusal.{Refusal}
 use Rattle.beas_core.specs.declared.refusal.Refusal.TheVariants.{Syntax, TooDeep, TableExists, UnknownTable, UnknownColumn, Ambiguous, DuplicateName, MixedTypes, WrongType, ShapeMismatch, BadLimit, AlreadyBroken, BreaksBound, WrongWidth, NumberRange, Unreadable, BadField, RecordWidth, HeaderMismatch, NotCovered, TooLarge, OverBudget, TooMany, NeedsDistinct, FileTooLong, UnknownAccess, TextTooLong}
-
--- a quote in a text is written twice
-abbrev pub doubled : List ℕ → List ℕ
-doubled text = flat_map (λ byte. if byte == 39 then 39 ∷ 39 ∷ [] else byte ∷ []) text
-
-abbrev pub quoted : List ℕ → List ℕ
-quoted text = 39 ∷ doubled text ++ 39 ∷ []
+use Rattle.sql_text.specs.Tokens.{quoted}
 
 abbrev pub literal_text : Value → List ℕ
 literal_text (Int number) = signed_decimal number

@@ -3,8 +3,9 @@ ghost use Rattle.std.specs.Prelude.{◌≡◌, ◌++◌, OnOk};
 ghost use Rattle.std.specs.List.{flat_map};
 ghost use Rattle.report.specs.Parts.{part_text};
 
-use crate::parts::{Part, push_literals, push_number, push_quoted};
+use crate::parts::{Part, push_literals, push_number};
 use beas_core::{NoMemory, Text};
+use sql_text::push_quoted;
 
 /// Adds the parts one after another.
 pub fn push_parts(text: &mut Text, parts: &[Part]) -> Result<(), NoMemory>

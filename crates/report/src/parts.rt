@@ -2,10 +2,11 @@
 ghost use Rattle.std.specs.Prelude.{◌≡◌, ◌++◌, [], ◌∷◌, OnOk, decimal, map};
 ghost use Rattle.std.specs.Fmt.{signed_decimal};
 ghost use Rattle.std.specs.List.{flat_map};
-ghost use Rattle.report.specs.Texts.{quoted, literal_text, doubled, spaced};
+ghost use Rattle.report.specs.Texts.{literal_text, spaced};
 
 use beas_core::{NoMemory, Text, Value};
 use itoa::Buffer;
+use sql_text::push_quoted;
 
 /// A part of a line.
 #[derive(Clone, Copy)]
@@ -30,26 +31,6 @@ pub fn push_signed(text: &mut Text, number: i64) -> Result<(), NoMemory>
 {
     let mut buffer = Buffer::new();
     text.push_str(buffer.format(number))
-}
-
-pub fn push_quoted(text: &mut Text, words: &str) -> Result<(), NoMemory>
-    ensures ok { OnOk result (text.new ≡ text.old ++ quoted words.now) }
-{
-    text.push_str("'")?;
-    push_doubled(text, words)?;
-    text.push_str("'")
-}
-
-fn push_doubled(text: &mut Text, words: &str) -> Result<(), NoMemory>
-    ensures ok { OnOk result (text.new ≡ text.old ++ doubled words.now) }
-{
-    let mut rest = words;
-    while let Some((front, back)) = rest.split_once('\'') {
-        text.push_str(front)?;
-        text.push_str("''")?;
-        rest = back;
-    }
-    text.push_str(rest)
 }
 
 fn push_literal(text: &mut Text, value: &Value) -> Result<(), NoMemory>

@@ -1,6 +1,7 @@
 // What a report says of a refusal.
 ghost use Rattle.std.specs.Prelude.{◌≡◌, ◌++◌, [], ◌∷◌, OnOk, codes, decimal, map};
-ghost use Rattle.report.specs.Texts.{joined, quoted, literal_text, spaced, counted_text, refusal_parts, column_parts, reason_parts, number_parts};
+ghost use Rattle.sql_text.specs.Tokens.{quoted};
+ghost use Rattle.report.specs.Texts.{joined, literal_text, spaced, counted_text, refusal_parts, column_parts, reason_parts, number_parts};
 
 use crate::joined::push_parts;
 use crate::parts::Part::{Literals, Number, Quoted, Words};

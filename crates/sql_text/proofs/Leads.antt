@@ -11,7 +11,8 @@ use Rattle.std.proofs.lemmas.List.Sums.{prefix_len-drop_yes, prefix_len-le-lengt
 use Rattle.sql_text.specs.declared.token.Token.{Token}
 use Rattle.sql_text.specs.declared.token.TokenKind.{TokenKind}
 use Rattle.sql_text.specs.declared.token.TokenKind.TheVariants.{Word, Number, Quoted, Mark, Bad}
-use Rattle.sql_text.specs.Tokens.{lead, plain, word, quoted_or_bad, quoted, doubled, quoted_text, mark_or_bad, marks, begins_word, is_in_word, is_in_line, continues_char, quote, longest_word}
+use Rattle.beas_core.specs.Spelling.{begins_word, continues_word}
+use Rattle.sql_text.specs.Tokens.{lead, plain, word, quoted_or_bad, quoted, doubled, quoted_text, mark_or_bad, marks, is_in_line, continues_char, quote, longest_word}
 use Rattle.sql_text.specs.Tokens.Lead.{Gap, Lexeme}
 use Rattle.sql_text.specs.Cuts.{BeginsToken, StandsAt}
 
@@ -29,7 +30,7 @@ lead-comment (b ∷ rest) l w e = rw w (rw e refl)
 
 pub lead-word :
     (bs : List ℕ) → 0 < length bs → is_ascii_whitespace (get_or bs 0 0) ≡ false → starts_with eqb bs (codes "--") ≡ false →
-    begins_word (get_or bs 0 0) ≡ true → lead bs ≡ word (take_while is_in_word bs)
+    begins_word (get_or bs 0 0) ≡ true → lead bs ≡ word (take_while continues_word bs)
 unfolding lead
 lead-word [] l w e h = absurd (omega arith)
 lead-word (b ∷ rest) l w e h = rw w (rw e (rw h refl))
@@ -57,13 +58,13 @@ lead-mark [] l w e h d q = absurd (omega arith)
 lead-mark (b ∷ rest) l w e h d q = rw w (rw e (rw h (rw d (rw q refl))))
 
 -- the classes of words and digits are ASCII, and apart
-pub word-ascii : (b : ℕ) → is_in_word b ≡ true → b < 128
+pub word-ascii : (b : ℕ) → continues_word b ≡ true → b < 128
 word-ascii b h = grind (arith, nat_tests)
 
 pub digit-ascii : (b : ℕ) → is_ascii_digit b ≡ true → b < 128
 digit-ascii b h = grind (arith, nat_tests)
 
-pub word_from_begins : (b : ℕ) → begins_word b ≡ true → is_in_word b ≡ true
+pub word_from_begins : (b : ℕ) → begins_word b ≡ true → continues_word b ≡ true
 word_from_begins b h = rw h refl
 
 pub digit-no_word : (b : ℕ) → is_ascii_digit b ≡ true → begins_word b ≡ false
@@ -145,29 +146,29 @@ word-short spelling l = rw (le-ltb longest_word (length spelling) l) refl
 
 lead-word_at :
     (s : List ℕ) (at to : ℕ) → BeginsToken s at → begins_word (get_or s at 0) ≡ true →
-    to ≡ at + prefix_len is_in_word (drop at s) → lead (drop at s) ≡ word (slice_range s at to)
+    to ≡ at + prefix_len continues_word (drop at s) → lead (drop at s) ≡ word (slice_range s at to)
 lead-word_at s at to b h r =
     lead-word (drop at s) (omega (arith, length-drop at s, b.within)) (ap is_ascii_whitespace (first_at s at) ∙ b.ink) b.no_comment
-    (ap begins_word (first_at s at) ∙ h) ∙ ap word (run-spelling is_in_word s at to r)
+    (ap begins_word (first_at s at) ∙ h) ∙ ap word (run-spelling continues_word s at to r)
 
 pub word-cut :
     (s : List ℕ) (at to : ℕ) → IsUtf8 s → BeginsToken s at → begins_word (get_or s at 0) ≡ true →
-    to ≡ at + prefix_len is_in_word (drop at s) → IsCharBoundary s to
-word-cut s at to u b h r = run-cut is_in_word word-ascii s at to u b.within (word_from_begins (get_or s at 0) h) r
+    to ≡ at + prefix_len continues_word (drop at s) → IsCharBoundary s to
+word-cut s at to u b h r = run-cut continues_word word-ascii s at to u b.within (word_from_begins (get_or s at 0) h) r
 
 pub stands-long_word :
     (s : List ℕ) (at to : ℕ) (t : Token) → IsUtf8 s → BeginsToken s at → begins_word (get_or s at 0) ≡ true →
-    to ≡ at + prefix_len is_in_word (drop at s) → to ≤ length s → longest_word < to - at →
+    to ≡ at + prefix_len continues_word (drop at s) → to ≤ length s → longest_word < to - at →
     t ≡ record { kind = Bad; from = at; to = to; text = slice_range s at to } → StandsAt s at t
 stands-long_word s at to t u b h r within long e =
     let size = length-spelling s at to within in
     let over : longest_word < length (slice_range s at to) = omega (arith, size) in
     stands-plain s at to Bad t (lead-word_at s at to b h r ∙ word-long (slice_range s at to) over) e
-    (run-some is_in_word s at to b.within (word_from_begins (get_or s at 0) h) r) within (word-cut s at to u b h r)
+    (run-some continues_word s at to b.within (word_from_begins (get_or s at 0) h) r) within (word-cut s at to u b h r)
 
 pub stands-word :
     (s : List ℕ) (at to : ℕ) (t : Token) → IsUtf8 s → BeginsToken s at → begins_word (get_or s at 0) ≡ true →
-    to ≡ at + prefix_len is_in_word (drop at s) → to ≤ length s → to - at ≤ longest_word →
+    to ≡ at + prefix_len continues_word (drop at s) → to ≤ length s → to - at ≤ longest_word →
     t ≡ record { kind = Word; from = at; to = to; text = map to_ascii_lowercase (slice_range s at to) } → StandsAt s at t
 stands-word s at to t u b h r within short e =
     let spelling = slice_range s at to in
@@ -178,7 +179,7 @@ stands-word s at to t u b h r within short e =
       is = lead-word_at s at to b h r ∙ word-short spelling fits
           ∙ ap (λ (n : ℕ). Lexeme Word n (map to_ascii_lowercase spelling)) size;
       from = refl;
-      some = run-some is_in_word s at to b.within (word_from_begins (get_or s at 0) h) r;
+      some = run-some continues_word s at to b.within (word_from_begins (get_or s at 0) h) r;
       within = within;
       cut = word-cut s at to u b h r;
     })

@@ -1,3 +1,4 @@
+pub mod Doubling
 pub mod Leads
 pub mod Parts
 pub mod Quotes

@@ -10,7 +10,8 @@ use Rattle.std.proofs.lemmas.List.Sums.{prefix_len-le-length}
 use Rattle.sql_text.specs.declared.token.Token.{Token}
 use Rattle.sql_text.specs.declared.token.TokenKind.{TokenKind}
 use Rattle.sql_text.specs.declared.token.TokenKind.TheVariants.{Word, Number, Mark, Bad}
-use Rattle.sql_text.specs.Tokens.{lead, Lead, plain, word, quoted_or_bad, quoted, doubled, quoted_text, mark_or_bad, marks, begins_word, is_in_word, is_in_line, continues_char, quote, longest_word, tokens_from, tokens_of, first_then}
+use Rattle.beas_core.specs.Spelling.{begins_word, continues_word}
+use Rattle.sql_text.specs.Tokens.{lead, Lead, plain, word, quoted_or_bad, quoted, doubled, quoted_text, mark_or_bad, marks, is_in_line, continues_char, quote, longest_word, tokens_from, tokens_of, first_then}
 use Rattle.sql_text.specs.Tokens.Lead.{Gap, Lexeme}
 use Rattle.sql_text.specs.Spans.{AreInOrder, Spells, IsSpelled}
 use Rattle.sql_text.proofs.Leads.{word_from_begins, lead-blank, lead-comment, lead-word, lead-number, lead-quoted, lead-mark}
@@ -181,7 +182,7 @@ fits b rest =
         | inl c ↦ subst (Fits (b ∷ rest)) (sym (lead-comment (b ∷ rest) some w c)) (fits-comment b rest c)
         | inr c ↦ elim (cases_Bool (begins_word b)) [
           | inl h ↦ subst (Fits (b ∷ rest)) (sym (lead-word (b ∷ rest) some w c h))
-              (fits-word (take_while is_in_word (b ∷ rest)) (b ∷ rest) (front-run is_in_word b rest (word_from_begins b h)))
+              (fits-word (take_while continues_word (b ∷ rest)) (b ∷ rest) (front-run continues_word b rest (word_from_begins b h)))
           | inr h ↦ elim (cases_Bool (is_ascii_digit b)) [
             | inl d ↦ subst (Fits (b ∷ rest)) (sym (lead-number (b ∷ rest) some w c h d))
                 (fits-plain Number (take_while is_ascii_digit (b ∷ rest)) (b ∷ rest) (front-run is_ascii_digit b rest d) refl)

@@ -3,18 +3,12 @@
 --     tokens_of source     the tokens of the script, in order
 --     quoted text          the spelling of a text between quotes
 use Rattle.std.specs.Prelude.{ℕ, zero, suc, ◌+◌, ◌-◌, ◌==◌, ◌||◌, ◌&&◌, not, if◌then◌else◌, Bool, nat_lt, nat_le, List, [], ◌∷◌, ◌++◌, length, map, find, flat_map, take_while, codes, option_map, Option, Some, None, eqb}
-use Rattle.std.specs.Char.{is_ascii_whitespace, is_ascii_alphabetic, is_ascii_digit, to_ascii_lowercase}
+use Rattle.std.specs.Char.{is_ascii_whitespace, is_ascii_digit, to_ascii_lowercase}
 use Rattle.std.specs.List.{starts_with}
+use Rattle.beas_core.specs.Spelling.{begins_word, continues_word}
 use Rattle.sql_text.specs.declared.token.Token.{Token}
 use Rattle.sql_text.specs.declared.token.TokenKind.{TokenKind}
 use Rattle.sql_text.specs.declared.token.TokenKind.TheVariants.{Word, Number, Quoted, Mark, Bad}
-
--- 95 is the underscore
-abbrev pub begins_word : ℕ → Bool
-begins_word byte = is_ascii_alphabetic byte || byte == 95
-
-abbrev pub is_in_word : ℕ → Bool
-is_in_word byte = begins_word byte || is_ascii_digit byte
 
 -- 10 is the line feed, which alone ends a line
 abbrev pub is_in_line : ℕ → Bool
@@ -80,7 +74,7 @@ lead (byte ∷ rest) =
     let bytes = byte ∷ rest in
     if is_ascii_whitespace byte then Gap 1
     else (if starts_with eqb bytes (codes "--") then Gap (length (take_while is_in_line bytes))
-    else (if begins_word byte then word (take_while is_in_word bytes)
+    else (if begins_word byte then word (take_while continues_word bytes)
     else (if is_ascii_digit byte then plain Number (take_while is_ascii_digit bytes)
     else (if byte == quote then quoted_or_bad bytes (quoted_text rest)
     else mark_or_bad (byte ∷ take_while continues_char rest) (find (starts_with eqb bytes) marks)))))

@@ -1,14 +1,15 @@
 // Cutting a script into tokens.
 ghost use Rattle.sql_text.specs.Cuts.{BeginsToken, StandsAt, LeadsAt, mark_of};
 ghost use Rattle.sql_text.specs.Spans.{AreInOrder, IsSpelled};
-ghost use Rattle.sql_text.specs.Tokens.{tokens_of, begins_word, doubled, quote, quoted_text, marks};
+ghost use Rattle.beas_core.specs.Spelling.{begins_word};
+ghost use Rattle.sql_text.specs.Tokens.{tokens_of, doubled, quote, quoted_text, marks};
 ghost use Rattle.std.specs.Char.{is_ascii_digit, is_ascii_whitespace};
 ghost use Rattle.std.specs.List.{starts_with};
 ghost use Rattle.std.specs.Prelude.{◌≡◌, ◌≢◌, ◌==◌, ◌<◌, ◌≤◌, ◌+◌, ◌-◌, [], ◌∷◌, false, length, drop, codes, eqb, find, option_map, slice_index, slice_range, All, IfOk, IfSome, IsCharBoundary, IsTrue};
 
-use crate::runs::{InChar, InLine, InNumber, InWord, Unquoted, begins_word, run_end};
+use crate::runs::{InChar, InLine, InNumber, InWord, Unquoted, run_end};
 use crate::token::{Token, TokenKind};
-use beas_core::{List, NoMemory, Text};
+use beas_core::{List, NoMemory, Text, begins_word};
 use std::alloc::Global;
 
 /// The most bytes of a script.

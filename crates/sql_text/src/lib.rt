@@ -3,6 +3,7 @@
 
 mod lexer;
 mod pieces;
+mod quoting;
 mod runs;
 #[cfg(test)]
 mod tests;
@@ -10,4 +11,5 @@ mod token;
 
 pub use lexer::lex;
 pub use pieces::split;
+pub use quoting::push_quoted;
 pub use token::{Piece, Token, TokenKind};

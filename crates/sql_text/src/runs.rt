@@ -1,8 +1,11 @@
 // Runs of bytes of one class.
-ghost use Rattle.sql_text.specs.Tokens.{begins_word, is_in_word, is_in_line, continues_char, quote};
+ghost use Rattle.beas_core.specs.Spelling.{continues_word};
+ghost use Rattle.sql_text.specs.Tokens.{is_in_line, continues_char, quote};
 ghost use Rattle.std.specs.Char.{is_ascii_digit};
 ghost use Rattle.std.specs.List.{prefix_len};
 ghost use Rattle.std.specs.Prelude.{◌≡◌, ◌≤◌, ◌+◌, ◌==◌, not, length, drop, Bool, ℕ};
+
+use beas_core::continues_word;
 
 /// A class of bytes.
 pub trait Class {
@@ -28,10 +31,10 @@ pub struct Unquoted;
 pub struct InChar;
 
 impl Class for InWord {
-    ghost test = { is_in_word };
+    ghost test = { continues_word };
 
     fn has(byte: u8) -> bool {
-        begins_word(byte) || byte.is_ascii_digit()
+        continues_word(byte)
     }
 }
 
@@ -65,13 +68,6 @@ impl Class for InChar {
     fn has(byte: u8) -> bool {
         0x80 <= byte && byte < 0xC0
     }
-}
-
-/// Whether a byte begins a word.
-pub fn begins_word(byte: u8) -> bool
-    ensures { result ≡ begins_word byte }
-{
-    byte.is_ascii_alphabetic() || byte == b'_'
 }
 
 /// Where the longest run of the class ends that begins at a place.

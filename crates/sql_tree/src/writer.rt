@@ -1,10 +1,10 @@
 // A text that grows lexeme by lexeme, with a space between two where one belongs.
 ghost use Rattle.std.specs.Prelude.{◌≡◌, ◌++◌, ◌||◌, [], true, false, OnOk};
-ghost use Rattle.sql_text.specs.Tokens.{doubled, quoted};
 ghost use Rattle.sql_tree.specs.Canonical.{keyword, name, digits, content, sign, gap, holds_left, holds_right};
 ghost use Rattle.sql_tree.specs.Writing.{put};
 
 use beas_core::{Name, NoMemory, Text};
+use sql_text::push_quoted;
 use std::alloc::Global;
 use std::marker::Model;
 
@@ -21,20 +21,6 @@ impl Model for Writer {
     ghost Value = { Written };
 
     ghost view = { λ w. record { text = w.text; held = w.held } };
-}
-
-/// Adds a text with its quotes doubled.
-fn push_doubled(text: &mut Text, content: &str) -> Result<(), NoMemory>
-    ensures { OnOk result (text.new ≡ text.old ++ doubled content.now) }
-{
-    let mut rest = content;
-    'quotes: while let Some((before, after)) = rest.split_once('\'') {
-        text.push_str(before)?;
-        text.push_str("''")?;
-        rest = after;
-    }
-    text.push_str(rest)?;
-    Ok(())
 }
 
 impl Writer {
@@ -101,9 +87,7 @@ impl Writer {
         ensures { OnOk result (self.new ≡ put self.old (content text.now)) }
     {
         self.space(false)?;
-        self.text.push_str("'")?;
-        push_doubled(&mut self.text, text.as_str())?;
-        self.text.push_str("'")?;
+        push_quoted(&mut self.text, text.as_str())?;
         self.held = false;
         Ok(())
     }

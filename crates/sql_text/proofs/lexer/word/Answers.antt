@@ -4,7 +4,7 @@ use Rattle.std.specs.Char.{to_ascii_lowercase}
 use Rattle.std.specs.List.{prefix_len}
 use Rattle.std.proofs.lemmas.Result.{IfOk-weaker}
 use Rattle.sql_text.specs.Cuts.{StandsAt}
-use Rattle.sql_text.specs.Tokens.{is_in_word}
+use Rattle.beas_core.specs.Spelling.{continues_word}
 use Rattle.sql_text.specs.declared.token.Token.{Token}
 use Rattle.sql_text.specs.declared.token.TokenKind.TheVariants.{Word}
 use Rattle.sql_text.proofs.Leads.{stands-word, stands-long_word, word-cut}
@@ -13,13 +13,13 @@ use Rattle.sql_text.proofs.lexer.word.Goals as goal
 pub plain-requires-clause-last : goal.plain-requires-clause-last
 plain-requires-clause-last c =
     let s = c.args.source.now in
-    let run : c.run_end-to.result ≡ c.args.at + prefix_len is_in_word (drop c.args.at s) = cc in
+    let run : c.run_end-to.result ≡ c.args.at + prefix_len continues_word (drop c.args.at s) = cc in
     word-cut s c.args.at _ c.utf8.source c.requires.begins c.requires.class run
 
 pub returns-then-to-at-gt-LONGEST_WORD : goal.returns-then-to-at-gt-LONGEST_WORD
 returns-then-to-at-gt-LONGEST_WORD c =
     let s = c.args.source.now in
-    let run : c.run_end-to.result ≡ c.args.at + prefix_len is_in_word (drop c.args.at s) = cc in
+    let run : c.run_end-to.result ≡ c.args.at + prefix_len continues_word (drop c.args.at s) = cc in
     let within : c.run_end-to.result ≤ length s = omega arith in
     IfOk-weaker c.plain.result _ (StandsAt s c.args.at)
     (λ t e. stands-long_word s c.args.at _ t c.utf8.source c.requires.begins c.requires.class run within (omega arith) e) c.plain.ensures
@@ -27,14 +27,14 @@ returns-then-to-at-gt-LONGEST_WORD c =
 pub range-requires-clause-end_boundary : goal.range-requires-clause-end_boundary
 range-requires-clause-end_boundary c =
     let s = c.args.source.now in
-    let run : c.run_end-to.result ≡ c.args.at + prefix_len is_in_word (drop c.args.at s) = cc in
+    let run : c.run_end-to.result ≡ c.args.at + prefix_len continues_word (drop c.args.at s) = cc in
     word-cut s c.args.at _ c.utf8.source c.requires.begins c.requires.class run
 
 pub returns : goal.returns
 returns c =
     let s = c.args.source.now in
     let to = c.run_end-to.result in
-    let run : to ≡ c.args.at + prefix_len is_in_word (drop c.args.at s) = cc in
+    let run : to ≡ c.args.at + prefix_len continues_word (drop c.args.at s) = cc in
     let within : to ≤ length s = omega arith in
     let folded : c.from_string-text.result ≡ map to_ascii_lowercase (slice_range s c.args.at to) =
     c.from_string-text.ensures ∙ c.in_ok-to_ascii_lowercase.ensures.ok ∙ ap (map to_ascii_lowercase) c.range.ensures.value in

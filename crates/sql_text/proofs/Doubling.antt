@@ -4,7 +4,7 @@ use Rattle.std.specs.Prelude.{◌≢◌}
 use Rattle.std.specs.Borrow.{Bor}
 use Rattle.std.proofs.lemmas.Bool.Decides.{nat_tests}
 use Rattle.std.proofs.lemmas.Str.Pattern.{split_parts, IsSplitOnceResult}
-use Rattle.report.specs.Texts.{doubled}
+use Rattle.sql_text.specs.Tokens.{doubled}
 
 -- a text without a quote stays as it is
 doubled_front : (front back : List ℕ) → ((i : ℕ) → i < length front → get_or front i 0 ≢ 39) → doubled (front ++ back) ≡ front ++ doubled back

@@ -1,14 +1,14 @@
 use Rattle.std.proofs.Common.{◌≡◌, ◌++◌, length}
 use denote.Text.{Utf8}
 use denote.Shadow.{shadow}
-use Rattle.report.specs.Texts.{doubled}
-use Rattle.report.proofs.parts.push_doubled.Given as goal
+use Rattle.sql_text.specs.Tokens.{doubled}
+use Rattle.sql_text.proofs.quoting.push_doubled.Given as goal
 
 -- what is written and then the rest, doubled, is the whole
 abbrev pub invariant-loop-front : goal.invariant-loop-front
 invariant-loop-front l = record {
   text : shadow (Utf8 l.rest);
-  written : l.text ++ doubled l.rest ≡ l.fn.text ++ doubled l.words;
+  written : l.text ++ doubled l.rest ≡ l.fn.text ++ doubled l.content;
 }
 
 abbrev pub decreases-loop-front : goal.decreases-loop-front
