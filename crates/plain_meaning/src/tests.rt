@@ -337,14 +337,18 @@ fn columns(alloc: Global, text: &str) -> Result<List<ColumnId>, Fail> {
     Ok(found)
 }
 
+fn class_row(alloc: Global, text: &str) -> Result<List<u16>, Fail> {
+    let mut row = List::new(alloc);
+    for number in &numbers(alloc, text)? {
+        row.push(short(*number)?)?;
+    }
+    Ok(row)
+}
+
 fn classes(alloc: Global, text: &str) -> Result<List<List<u16>>, Fail> {
     let mut found = List::new(alloc);
     for part in text.split(';') {
-        let mut row = List::new(alloc);
-        for number in &numbers(alloc, part)? {
-            row.push(short(*number)?)?;
-        }
-        found.push(row)?;
+        found.push(class_row(alloc, part)?)?;
     }
     Ok(found)
 }
@@ -406,13 +410,18 @@ fn accesses(alloc: Global, text: &str) -> Result<List<Access>, Fail> {
     Ok(found)
 }
 
+fn row(alloc: Global, text: &str) -> Result<Row, Fail> {
+    let mut row = List::new(alloc);
+    for number in &numbers(alloc, text)? {
+        row.push(Value::Int(*number))?;
+    }
+    Ok(row)
+}
+
 fn rows(alloc: Global, text: &str) -> Result<List<Row>, Fail> {
     let mut found = List::new(alloc);
     for part in text.split(';') {
-        let mut row = List::new(alloc);
-        for number in &numbers(alloc, part)? {
-            row.push(Value::Int(*number))?;
-        }
+        let row = row(alloc, part)?;
         if !row.is_empty() {
             found.push(row)?;
         }
