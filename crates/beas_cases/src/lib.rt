@@ -1,7 +1,7 @@
 //! Scripts and what is to be written for them: tables of cases over the whole engine, in memory.
 #![tactic(auto)]
 
-ghost use Rattle.std.specs.Prelude.{◌≡◌, ◌<◌, ℕ, List, [], true, Some, map, unwrap_or, IfOk};
+ghost use Rattle.std.specs.Prelude.{◌≡◌, ◌<◌, ℕ, List, [], true, Some, None, map, unwrap_or, IfOk};
 ghost use Rattle.std.specs.String.{string_bytes};
 ghost use Rattle.outside.specs.Contents.{content_of};
 ghost use Rattle.outside.specs.Parts.{SentPart};
@@ -41,6 +41,7 @@ pub fn run_words<L: Ledger>(
     ensures ran { (script : List ℕ) × (readings : List Reading) × (reads : ℕ) × Readings script readings
         × Meant readings result.status true out.sent.items result.out.sent.items 0 reads
         × HasScript script result.status (script_name (map string_bytes words.now)) true (content_of files.shelf) }
+    ensures words { result.status ≡ 2 → script_name (map string_bytes words.now) ≡ None }
     ensures said { SentPart err.sent.items result.err.sent.items (line result.status) }
 {
     let mut steps = Steps::<L>::start(blank);
