@@ -1,10 +1,11 @@
 // Files of the system, of which nothing is told but counts.
-ghost use Rattle.std.specs.Prelude.{◌≡◌, ◌≢◌, ◌⊎◌, ◌+◌, ◌-◌, ◌^◌, ◌<◌, ◌≤◌, ◌++◌, ℕ, Ok, Err, false, None, length, min, IfOk, IfSome, OnErr, IsErrOf};
+ghost use Rattle.std.specs.Prelude.{◌≡◌, ◌≢◌, ◌⊎◌, ◌+◌, ◌-◌, ◌^◌, ◌<◌, ◌≤◌, ◌++◌, ℕ, Ok, Err, false, None, length, min, IfOk, IfErr, IfSome, OnErr, IsErrOf};
 ghost use Rattle.std.specs.IoError.{error_kind};
 ghost use Rattle.std.specs.Io.KnownBytes.{IsAtEnd, ReadConsumes};
 ghost use Rattle.std.specs.Io.{ReadsAtMost};
 ghost use Rattle.beas_shell.specs.Taken.{Took, TooLongFor};
 
+use crate::interrupted::is_interrupted;
 use beas_core::Bytes;
 use outside::{Files, FilesError};
 use std::alloc::Global;
@@ -139,6 +140,33 @@ impl ReadCounts {
         }
         Err(self.fail())
     }
+
+    /// All bytes of a reader that was opened, of which there are at most `limit`. One that wasn't opened gives none.
+    pub fn read_opened<S: Read + Drop>(
+        &mut self,
+        alloc: Global,
+        opened: io::Result<S>,
+        limit: u64,
+    ) -> Result<Bytes, FilesError>
+        requires { limit < 2 ^ 64 - 1 }
+        ensures memory { IfErr opened (λ error. error_kind error ≡ ErrorKind.OutOfMemory → result ≡ Err FilesError.NoMemory) }
+        ensures not_opened { IfErr opened (λ error. error_kind error ≢ ErrorKind.OutOfMemory → result ≡ Err FilesError.Failed) }
+        ensures ok { IfOk opened (λ source. IfOk result (λ bytes. IfSome (S.remaining source) (λ left. bytes ≡ left))) }
+        ensures fits { IfOk result (λ bytes. length bytes ≤ limit) }
+        ensures counted { IfOk result (λ bytes. self.new.taken ≡ min (self.old.taken + length bytes) (2 ^ 64 - 1)) }
+        ensures limit { (l : ℕ) → IsErrOf result (FilesError.TooLong l) → l ≡ limit }
+        ensures all_taken { (l : ℕ) → IsErrOf result (FilesError.TooLong l) → self.new.taken ≡ min (self.old.taken + limit + 1) (2 ^ 64 - 1) }
+        ensures least { self.old.taken ≤ self.new.taken }
+        ensures most { self.new.taken ≤ self.old.taken + limit + 1 }
+        ensures failed { IsErrOf result FilesError.Failed → self.new.faults ≡ min (self.old.faults + 1) (2 ^ 64 - 1) }
+        ensures rise { self.old.faults ≤ self.new.faults }
+        ensures same { (IsErrOf result FilesError.Failed → ⊥) → self.new.faults ≡ self.old.faults }
+    {
+        match opened {
+            Ok(mut source) => self.read_whole(alloc, &mut source, limit),
+            Err(why) => Err(self.fault(&why)),
+        }
+    }
 }
 
 /// Reads a part. A read that was interrupted is tried again.
@@ -150,7 +178,7 @@ fn read_some<S: Read>(source: &mut S, room: &mut [u8]) -> io::Result<usize>
     'tries: for _ in 0..u64::MAX {
         match source.read(room) {
             Ok(count) => return Ok(count),
-            Err(error) if error.kind() == ErrorKind::Interrupted => {}
+            Err(error) if is_interrupted(&error) => {}
             Err(error) => return Err(error),
         }
     }
@@ -224,9 +252,7 @@ impl<R: rt::Files> Files for RealFiles<'_, R> {
         ensures same { (IsErrOf result FilesError.Failed → ⊥) → self.new.counts.faults ≡ self.old.counts.faults }
         ensures rise { self.old.counts.faults ≤ self.new.counts.faults }
     {
-        match fs::open(self.runtime, name) {
-            Ok(mut file) => self.counts.read_whole(alloc, &mut file, limit),
-            Err(error) => Err(self.counts.fault(&error)),
-        }
+        let opened = fs::open(self.runtime, name);
+        self.counts.read_opened(alloc, opened, limit)
     }
 }

@@ -4,6 +4,7 @@ ghost use Rattle.std.specs.Io.KnownBytes.{Appends, Keeps, WriteAppends};
 ghost use Rattle.std.specs.Io.{WritesAtMost};
 ghost use Rattle.beas_shell.specs.Given.{GavePart};
 
+use crate::interrupted::is_interrupted;
 use outside::{Sink, SinkError};
 use std::io::{self, ErrorKind, Write};
 
@@ -63,7 +64,7 @@ fn write_some<W: Write>(writer: &mut W, bytes: &[u8]) -> io::Result<usize>
     'tries: for _ in 0..u64::MAX {
         match writer.write(bytes) {
             Ok(count) => return Ok(count),
-            Err(error) if error.kind() == ErrorKind::Interrupted => {}
+            Err(error) if is_interrupted(&error) => {}
             Err(error) => return Err(error),
         }
     }
