@@ -1,6 +1,6 @@
 // Spellings of statements, with their canonical texts. Expected texts are written by hand.
 use crate::texts::canonical;
-use beas_core::{Fail as Stopped, Text};
+use beas_core::{Fail as Stopped, Name, Text};
 use std::alloc::Global;
 use std::test::Fail;
 
@@ -263,6 +263,36 @@ const RESERVED: [&str; 51] = [
     "with",
 ];
 
+/// Texts, and the names that they are; empty where they are none.
+const NAMES: [(&str, &str); 12] = [
+    ("r", "r"),
+    ("Cafe_1", "cafe_1"),
+    ("_", "_"),
+    ("selects", "selects"),
+    ("select", ""),
+    ("SELECT", ""),
+    ("1a", ""),
+    ("", ""),
+    ("a b", ""),
+    ("a-b", ""),
+    (
+        "a234567890123456789012345678901234567890123456789012345678901234",
+        "a234567890123456789012345678901234567890123456789012345678901234",
+    ),
+    (
+        "a2345678901234567890123456789012345678901234567890123456789012345",
+        "",
+    ),
+];
+
+/// The name that a text is, as a text, empty where it is none.
+fn name_of(alloc: Global, text: &str) -> Result<Text, Fail> {
+    match Name::of(alloc, text)? {
+        Some(name) => Ok(Text::from_str(alloc, name.as_str())?),
+        None => Ok(Text::new(alloc)),
+    }
+}
+
 /// The canonical text of what a source spells. Every source here is short enough.
 fn canonical_of(alloc: Global, source: &str) -> Result<Text, Stopped> {
     if source.len() > 16_777_216 {
@@ -359,6 +389,16 @@ fn unions_up_to_the_depth(rt: HostRuntime) -> Result<(), Fail> {
         let more = repeated(alloc, " UNION SELECT a FROM r", times)?;
         let query = format!(in alloc; "SELECT a FROM r{more}")?;
         assert_eq!(rt; refused(alloc, query.as_str()), number, "{times}");
+    }
+    Ok(())
+}
+
+#[test]
+fn names_as_texts_spell_them(rt: HostRuntime) -> Result<(), Fail> {
+    let alloc = rt.alloc();
+    for (text, name) in NAMES {
+        let found = name_of(alloc, text)?;
+        assert_eq!(rt; found.as_str(), name, "{text}");
     }
     Ok(())
 }

@@ -2,7 +2,7 @@
 use crate::{full_of, full_of_block, reads_of};
 use beas_core::{
     Access, AccessId, Atom, Block, ColumnId, Comparison, DStep, Duplicate, List, Name, Normal,
-    NotCovered, Operand, Place, Query, Row, Sign, TableId, Text, Value,
+    NotCovered, Operand, Place, Query, Row, Sign, TableId, Text, Value, copy_row,
 };
 use plain_cover::{announced, constant_classes, covered_set, derivation, reason};
 use std::alloc::Global;
@@ -600,8 +600,14 @@ fn steps_for(
     Ok(steps)
 }
 
-fn shown(alloc: Global, case: &Case) -> Result<String, Fail> {
+// The normal form of a case, as a copy has it.
+fn copied_normal(alloc: Global, case: &Case) -> Result<Normal, Fail> {
     let normal = normal_of(alloc, case)?;
+    Ok(normal.copy(alloc)?)
+}
+
+fn shown(alloc: Global, case: &Case) -> Result<String, Fail> {
+    let normal = copied_normal(alloc, case)?;
     let accesses = accesses(alloc, case.accesses)?;
     let starts = constant_classes(alloc, &normal)?;
     let rules = accesses.as_slice();
@@ -667,7 +673,35 @@ fn blocks_mean_what_they_should(rt: HostRuntime) -> Result<(), Fail> {
 fn trees_mean_what_they_should(rt: HostRuntime) -> Result<(), Fail> {
     let alloc = rt.alloc();
     let query = in_either(alloc)?;
-    let shown = shown_answer(alloc, &query, "1 5;1 6;2 6")?;
+    let copy = query.copy(alloc)?;
+    let shown = shown_answer(alloc, &copy, "1 5;1 6;2 6")?;
     assert_eq!(rt; shown.as_str(), "5;6;");
+    Ok(())
+}
+
+// The copies of a table's rows.
+fn copied_rows(alloc: Global, rows: &[Row]) -> Result<List<Row>, Fail> {
+    let mut copies = List::new(alloc);
+    for row in rows {
+        copies.push(copy_row(alloc, row)?)?;
+    }
+    Ok(copies)
+}
+
+fn shown_copies(alloc: Global, text: &str) -> Result<String, Fail> {
+    let tables = tables(alloc, text)?;
+    let mut shown = String::new(alloc);
+    if let Some(rows) = tables.as_slice().first() {
+        let copies = copied_rows(alloc, rows.as_slice())?;
+        show_rows(&mut shown, copies.as_slice())?;
+    }
+    Ok(shown)
+}
+
+#[test]
+fn copies_of_rows_are_the_rows(rt: HostRuntime) -> Result<(), Fail> {
+    let alloc = rt.alloc();
+    let shown = shown_copies(alloc, "1 5;1 6;2 6")?;
+    assert_eq!(rt; shown.as_str(), "1 5;1 6;2 6;");
     Ok(())
 }
