@@ -84,16 +84,16 @@ group_push_other rows key fetched row value e =
     (filter_push (λ r. same_row (project key r) value) rows row false e ∙ append-nil (filter (λ r. same_row (project key r) value) rows))
 
 -- a constraint holds with one row more exactly where the group of that row fits
-pub Holds-push : (rows : List (List Value)) (rule : Access) (row : List Value) → Holds rows rule
-    → length (group_of (rows ++ row ∷ []) rule (project rule.key row)) ≤ rule.bound → Holds (rows ++ row ∷ []) rule
-Holds-push rows rule row h fits value = by (same_row (project rule.key row) value) refl
+pub Holds-push : (rows : List (List Value)) (access : Access) (row : List Value) → Holds rows access
+    → length (group_of (rows ++ row ∷ []) access (project access.key row)) ≤ access.bound → Holds (rows ++ row ∷ []) access
+Holds-push rows access row h fits value = by (same_row (project access.key row) value) refl
   where
-    by : (b : Bool) → same_row (project rule.key row) value ≡ b → length (group_of (rows ++ row ∷ []) rule value) ≤ rule.bound
-    by true e = let P : List Value → Type 0 = λ v. length (group_of (rows ++ row ∷ []) rule v) ≤ rule.bound in subst P (same_row_true (project rule.key row) value e) fits
-    by false e = let P : List (List Value) → Type 0 = λ g. length g ≤ rule.bound in subst P (sym (group_push_other rows rule.key rule.fetched row value e)) (h value)
+    by : (b : Bool) → same_row (project access.key row) value ≡ b → length (group_of (rows ++ row ∷ []) access value) ≤ access.bound
+    by true e = let P : List Value → Type 0 = λ v. length (group_of (rows ++ row ∷ []) access v) ≤ access.bound in subst P (same_row_true (project access.key row) value e) fits
+    by false e = let P : List (List Value) → Type 0 = λ g. length g ≤ access.bound in subst P (sym (group_push_other rows access.key access.fetched row value e)) (h value)
 
-pub Holds-nil : (rule : Access) → Holds [] rule
-Holds-nil rule value = omega arith
+pub Holds-nil : (access : Access) → Holds [] access
+Holds-nil access value = omega arith
 
 -- the greatest group
 fold_max-from : (a : ℕ) (xs : List ℕ) → a ≤ fold max a xs
@@ -128,11 +128,11 @@ group_le-greatest rows key fetched value = elim (some_or_none (λ row. same_row 
       (Has-map (λ row. length (group rows key fetched (project key row))) rows r.0 r.1))
 ]
 
-pub Holds-from_greatest : (rows : List (List Value)) (rule : Access) → greatest rows rule.key rule.fetched ≤ rule.bound → Holds rows rule
-Holds-from_greatest rows rule l value = omega (arith, group_le-greatest rows rule.key rule.fetched value)
+pub Holds-from_greatest : (rows : List (List Value)) (access : Access) → greatest rows access.key access.fetched ≤ access.bound → Holds rows access
+Holds-from_greatest rows access l value = omega (arith, group_le-greatest rows access.key access.fetched value)
 
-pub greatest-from_Holds : (rows : List (List Value)) (rule : Access) → Holds rows rule → greatest rows rule.key rule.fetched ≤ rule.bound
-greatest-from_Holds rows rule h =
-    fold_max-le rule.bound 0 (map (λ row. length (group rows rule.key rule.fetched (project rule.key row))) rows) (omega arith)
-    (λ x g. let r = Has-from_map (λ row. length (group rows rule.key rule.fetched (project rule.key row))) rows x g in
-    let l = h (project rule.key r.0) in let e = r.2 in omega arith)
+pub greatest-from_Holds : (rows : List (List Value)) (access : Access) → Holds rows access → greatest rows access.key access.fetched ≤ access.bound
+greatest-from_Holds rows access h =
+    fold_max-le access.bound 0 (map (λ row. length (group rows access.key access.fetched (project access.key row))) rows) (omega arith)
+    (λ x g. let r = Has-from_map (λ row. length (group rows access.key access.fetched (project access.key row))) rows x g in
+    let l = h (project access.key r.0) in let e = r.2 in omega arith)

@@ -1,6 +1,6 @@
 -- Classes of places that a block's equalities make equal, and its needed columns.
 --     Linked equalities p q       the least equivalence that holds the equalities relates p and q
---     joined equalities p q       the same, computed
+--     is_joined equalities p q    the same, computed
 --     leaders block               the first place of each class, by atom and then column
 --     class_of block p            the class of a place: how many leaders stand before the one that it is joined with
 --     needed_columns block i      the columns of atom i that stand in a condition or in the output, ascending
@@ -25,12 +25,12 @@ abbrev pub same_place : Place → Place → Bool
 same_place p q = (p.atom == q.atom) && (p.column.0 == q.column.0)
 
 -- with one more equality, two places are joined where they were or where it bridges their classes
-abbrev pub joined : List (Place × Place) → Place → Place → Bool
-joined [] p q = same_place p q
-joined (e ∷ equalities) p q =
-    joined equalities p q
-    || (joined equalities p e.0 && joined equalities e.1 q)
-    || (joined equalities p e.1 && joined equalities e.0 q)
+abbrev pub is_joined : List (Place × Place) → Place → Place → Bool
+is_joined [] p q = same_place p q
+is_joined (e ∷ equalities) p q =
+    is_joined equalities p q
+    || (is_joined equalities p e.0 && is_joined equalities e.1 q)
+    || (is_joined equalities p e.1 && is_joined equalities e.0 q)
 
 -- all places, by atom and then column
 abbrev pub places_of : List Atom → List Place
@@ -41,10 +41,10 @@ firsts same [] = []
 firsts same (p ∷ ps) = p ∷ filter (λ q. not (same p q)) (firsts same ps)
 
 abbrev pub leaders : Block → List Place
-leaders block = firsts (joined block.equalities) (places_of block.atoms)
+leaders block = firsts (is_joined block.equalities) (places_of block.atoms)
 
 abbrev pub class_of : Block → Place → ℕ
-class_of block p = position_or_len (λ q. joined block.equalities q p) (leaders block)
+class_of block p = position_or_len (λ q. is_joined block.equalities q p) (leaders block)
 
 abbrev pub operand_places : Operand → List Place
 operand_places (At place) = place ∷ []

@@ -5,6 +5,8 @@ pub mod Fits
 pub mod Found
 pub mod Full
 pub mod Groups
+pub mod Heights
+pub mod Nodes
 pub mod Numbers
 pub mod Order
 pub mod Reads
@@ -13,4 +15,5 @@ pub mod Sets
 pub mod Shapes
 pub mod Spelling
 pub mod Trees
+pub mod Types
 pub mod Valuations

@@ -1,52 +1,74 @@
 -- The reads that a derivation takes over some rows.
---     keys_for ..                               the distinct keys that the valuations before a step give to it
---     step_reads ..                             for each of them the greater of 1 and the size of its group, summed
---     reads_of rows normal rule start starts steps     the sum over the steps
-use Rattle.std.specs.Prelude.{◌+◌, Bool, ℕ, List, [], ◌∷◌, ◌++◌, length, map, max, sum_by}
-use Rattle.beas_core.specs.declared.schema.AccessId.{AccessId}
-use Rattle.beas_core.specs.declared.schema.TableId.{TableId}
+--     probes rows normal accesses guide steps      for each step and each distinct key that the valuations before it give to it, the step's
+--                                                  number from 0 on with this key
+--     reads_of rows normal accesses guide steps    for each probe the greater of 1 and the size of its group, summed
+--     step_reads rows normal accesses s set found  the part of one step, where `found` are the valuations before it
+use Rattle.std.specs.Prelude.{◌+◌, ◌==◌, Bool, false, ℕ, List, [], ◌∷◌, ◌++◌, length, map, max, sum_by, slice_index_or, None, is_some}
 use Rattle.beas_core.specs.declared.schema.Access.{Access}
-use Rattle.beas_core.specs.declared.value.Value.{Value}
 use Rattle.beas_core.specs.declared.plan.DStep.{DStep}
 use Rattle.beas_core.specs.declared.plan.Derivation.{Derivation}
 use Rattle.beas_core.specs.declared.plan.Normal.{Normal}
+use Rattle.beas_core.specs.Types.{Row, TableRows, ClassSet, Guide}
 use Rattle.beas_core.specs.Order.{row_cmp}
 use Rattle.beas_core.specs.Sets.{distinct}
 use Rattle.beas_core.specs.Groups.{group_of}
-use Rattle.beas_core.specs.Coverage.{class_at, constant_classes}
-use Rattle.beas_core.specs.Derivations.{bound_after}
-use Rattle.beas_core.specs.Valuations.{value_of, as_bindings, valuations, own_start}
+use Rattle.beas_core.specs.Coverage.{class_at, start_classes}
+use Rattle.beas_core.specs.Derivations.{access_in, bound_after}
+use Rattle.beas_core.specs.Valuations.{value_of, as_bindings, valuations}
+
+pub record Probe : Type 0 where
+  pub step : ℕ
+  pub key : Row
 
 -- the key that a valuation of the classes of a set gives to a step
-abbrev pub key_for : Normal → (AccessId → Access) → DStep → List Bool → List Value → List Value
-key_for normal rule s set valuation = map (λ c. value_of (as_bindings set valuation) (class_at normal s.atom c)) (rule s.access).key
+abbrev pub key_for : Normal → List Access → DStep → ClassSet → Row → Row
+key_for normal accesses s set valuation = map (λ c. value_of (as_bindings set valuation) (class_at normal s.atom c)) (access_in accesses s.access).key
 
-abbrev pub keys_for : Normal → (AccessId → Access) → DStep → List Bool → List (List Value) → List (List Value)
-keys_for normal rule s set found = distinct row_cmp (map (key_for normal rule s set) found)
+abbrev pub keys_for : Normal → List Access → DStep → ClassSet → List Row → List Row
+keys_for normal accesses s set found = distinct row_cmp (map (key_for normal accesses s set) found)
 
--- what one probe counts
-abbrev pub probe_reads : (TableId → List (List Value)) → Access → List Value → ℕ
-probe_reads rows rule key = max 1 (length (group_of (rows rule.table) rule key))
+-- the keys of a step that follows those that are done
+abbrev pub keys_after : TableRows → Normal → List Access → Guide → List DStep → DStep → List Row
+keys_after rows normal accesses guide done s =
+    keys_for normal accesses s (bound_after normal accesses (start_classes normal (is_some guide)) done) (valuations rows normal accesses guide done)
 
-abbrev pub step_reads : (TableId → List (List Value)) → Normal → (AccessId → Access) → DStep → List Bool → List (List Value) → ℕ
-step_reads rows normal rule s set found = sum_by (probe_reads rows (rule s.access)) (keys_for normal rule s set found)
+-- the probes of further steps, after those that are done
+abbrev pub probes_after : TableRows → Normal → List Access → Guide → List DStep → List DStep → List Probe
+probes_after rows normal accesses guide done [] = []
+probes_after rows normal accesses guide done (s ∷ steps) =
+    map (λ key. record { step = length done; key = key }) (keys_after rows normal accesses guide done s)
+    ++ probes_after rows normal accesses guide (done ++ s ∷ []) steps
 
--- the reads of further steps, after those that are done
-abbrev pub reads_after : (TableId → List (List Value)) → Normal → (AccessId → Access) → List Bool → List (List (ℕ × Value)) → List DStep → List DStep → ℕ
-reads_after rows normal rule start starts done [] = 0
-reads_after rows normal rule start starts done (s ∷ steps) =
-    step_reads rows normal rule s (bound_after normal rule start done) (valuations rows normal rule start starts done)
-    + reads_after rows normal rule start starts (done ++ s ∷ []) steps
+abbrev pub probes : TableRows → Normal → List Access → Guide → List DStep → List Probe
+probes rows normal accesses guide steps = probes_after rows normal accesses guide [] steps
 
-abbrev pub reads_of : (TableId → List (List Value)) → Normal → (AccessId → Access) → List Bool → List (List (ℕ × Value)) → List DStep → ℕ
-reads_of rows normal rule start starts steps = reads_after rows normal rule start starts [] steps
+-- what one probe of a constraint counts
+abbrev pub probe_reads : TableRows → Access → Row → ℕ
+probe_reads rows access key = max 1 (length (group_of (rows access.table) access key))
+
+-- the constraint of the step with this number
+abbrev pub access_of_step : List Access → List DStep → ℕ → Access
+access_of_step accesses steps n = slice_index_or (map (λ s. access_in accesses s.access) steps) n (access_in accesses (record { 0 = 0 }))
+
+unfoldable pub reads_of : TableRows → Normal → List Access → Guide → List DStep → ℕ
+reads_of rows normal accesses guide steps =
+    sum_by (λ p. probe_reads rows (access_of_step accesses steps p.step) p.key) (probes rows normal accesses guide steps)
+
+abbrev pub step_reads : TableRows → Normal → List Access → DStep → ClassSet → List Row → ℕ
+step_reads rows normal accesses s set found = sum_by (probe_reads rows (access_in accesses s.access)) (keys_for normal accesses s set found)
 
 -- the reads of a block by itself
-abbrev pub own_reads : (TableId → List (List Value)) → Normal → (AccessId → Access) → List DStep → ℕ
-own_reads rows normal rule steps = reads_of rows normal rule (constant_classes normal) (own_start normal) steps
+abbrev pub own_reads : TableRows → Normal → List Access → List DStep → ℕ
+own_reads rows normal accesses steps = reads_of rows normal accesses None steps
 
--- the reads of a query, over its blocks
-abbrev pub reads_of_all : (TableId → List (List Value)) → (AccessId → Access) → List Normal → List Derivation → ℕ
-reads_of_all rows rule [] derivations = 0
-reads_of_all rows rule (n ∷ normals) [] = 0
-reads_of_all rows rule (n ∷ normals) (d ∷ derivations) = own_reads rows n rule d.steps + reads_of_all rows rule normals derivations
+-- the reads of a query, over its blocks and what guides each
+abbrev pub reads_of_all : TableRows → List Normal → List Access → List Guide → List Derivation → ℕ
+reads_of_all rows [] accesses guides derivations = 0
+reads_of_all rows (n ∷ normals) accesses [] derivations = 0
+reads_of_all rows (n ∷ normals) accesses (g ∷ guides) [] = 0
+reads_of_all rows (n ∷ normals) accesses (g ∷ guides) (d ∷ derivations) =
+    reads_of rows n accesses g d.steps + reads_of_all rows normals accesses guides derivations
+
+-- where each block is by itself
+abbrev pub own_reads_of_all : TableRows → List Normal → List Access → List Derivation → ℕ
+own_reads_of_all rows normals accesses derivations = reads_of_all rows normals accesses (map (λ n. None) normals) derivations

@@ -2,6 +2,7 @@
 --     IsPlace atoms place           the place names an atom and a column of it
 --     BlockIsWellFormed block       1 to 16 atoms of 1 to 64 columns each, and places alone that name a column of an atom
 --     QueryIsWellFormed t           its blocks are, and their outputs have one length
+--     EachIdOnce accesses           no two constraints have one id
 --     AccessIsWellFormed width a    it fetches at least one column of its table, names none twice in one list, and has a bound of at least 1
 use Rattle.std.specs.Prelude.{◌≡◌, ◌≢◌, ◌<◌, ◌≤◌, ℕ, List, length, map, All, AllPairs, slice_index_or}
 use Rattle.beas_core.specs.declared.schema.ColumnId.{ColumnId}
@@ -13,7 +14,7 @@ use Rattle.beas_core.specs.declared.query.Operand.TheVariants.{At, Fixed}
 use Rattle.beas_core.specs.declared.query.Comparison.{Comparison}
 use Rattle.beas_core.specs.declared.query.Sign.TheVariants.{Equal}
 use Rattle.beas_core.specs.declared.query.Block.{Block}
-use Rattle.beas_core.specs.Trees.{Tree, blocks_of}
+use Rattle.beas_core.specs.Trees.{QueryTree, blocks_of}
 
 -- the number of columns of an atom, 0 where there is no such atom
 abbrev pub width_of : List Atom → ℕ → ℕ
@@ -45,7 +46,7 @@ pub record BlockIsWellFormed (block : Block) : Type 0 where
   pub comparisons : All (ComparisonIsWellFormed block.atoms) block.comparisons
   pub output : All (IsPlace block.atoms) block.output
 
-pub record QueryIsWellFormed (t : Tree) : Type 0 where
+pub record QueryIsWellFormed (t : QueryTree) : Type 0 where
   pub blocks : All BlockIsWellFormed (blocks_of t)
   pub shapes : AllPairs (λ b c. length b.output ≡ length c.output) (blocks_of t)
 
@@ -53,10 +54,14 @@ pub record QueryIsWellFormed (t : Tree) : Type 0 where
 abbrev pub EachOnce : List ColumnId → Type 0
 EachOnce columns = AllPairs (λ c d. c.0 ≢ d.0) columns
 
-pub record AccessIsWellFormed (width : ℕ) (rule : Access) : Type 0 where
-  pub fetches : 1 ≤ length rule.fetched
-  pub key_once : EachOnce rule.key
-  pub fetched_once : EachOnce rule.fetched
-  pub key_columns : All (λ c. c.0 < width) rule.key
-  pub fetched_columns : All (λ c. c.0 < width) rule.fetched
-  pub bound : 1 ≤ rule.bound
+pub record AccessIsWellFormed (width : ℕ) (access : Access) : Type 0 where
+  pub fetches : 1 ≤ length access.fetched
+  pub key_once : EachOnce access.key
+  pub fetched_once : EachOnce access.fetched
+  pub key_columns : All (λ c. c.0 < width) access.key
+  pub fetched_columns : All (λ c. c.0 < width) access.fetched
+  pub bound : 1 ≤ access.bound
+
+-- no two constraints have one id
+abbrev pub EachIdOnce : List Access → Type 0
+EachIdOnce accesses = AllPairs (λ a b. a.id.0 ≢ b.id.0) accesses

@@ -1,9 +1,10 @@
 -- What texts spell: identifiers, and the bound of a constraint.
---     name_of text       the text in lower case, where it is an identifier: a word that isn't reserved
+--     is_name text       the text is an identifier in lower case: a word that isn't reserved
+--     name_of text       the text in lower case, where it is an identifier
 --     limit_in digits    the value of decimal digits, where it is from 1 to 4294967295
 use Rattle.std.specs.Prelude.{◌&&◌, ◌||◌, ◌==◌, Bool, not, if◌then◌else◌, nat_le, ℕ, List, [], ◌∷◌, length, codes, Option, Some, None, slice_index}
 use Rattle.std.specs.List.{list_any, list_all}
-use Rattle.std.specs.Char.{is_ascii_digit, is_ascii_alphabetic}
+use Rattle.std.specs.Char.{is_ascii_digit, is_ascii_alphabetic, is_ascii_uppercase}
 use Rattle.std.specs.Str.{str_to_ascii_lowercase, bytes_eq}
 use Rattle.std.specs.Str.Parse.{digits_value}
 
@@ -16,8 +17,8 @@ continues_word c = begins_word c || is_ascii_digit c
 abbrev pub is_word : List ℕ → Bool
 is_word text = begins_word (slice_index text 0) && list_all continues_word text && nat_le (length text) 64
 
-unfoldable pub reserved : List (List ℕ)
-reserved =
+unfoldable pub reserved_words : List (List ℕ)
+reserved_words =
     codes "access" ∷ codes "all" ∷ codes "and" ∷ codes "as" ∷ codes "between" ∷ codes "by" ∷ codes "case" ∷ codes "create" ∷ codes "cross"
     ∷ codes "delete" ∷ codes "discover" ∷ codes "distinct" ∷ codes "drop" ∷ codes "except" ∷ codes "exists" ∷ codes "explain" ∷ codes "fetch"
     ∷ codes "from" ∷ codes "full" ∷ codes "group" ∷ codes "having" ∷ codes "in" ∷ codes "inner" ∷ codes "insert" ∷ codes "int" ∷ codes "integer"
@@ -27,7 +28,14 @@ reserved =
 
 -- the words that are no names, in lower case
 unfoldable pub is_reserved : List ℕ → Bool
-is_reserved word = list_any (λ r. bytes_eq r word) reserved
+is_reserved word = list_any (λ r. bytes_eq r word) reserved_words
+
+-- no letter is a capital
+abbrev pub is_folded : List ℕ → Bool
+is_folded text = not (list_any is_ascii_uppercase text)
+
+abbrev pub is_name : List ℕ → Bool
+is_name text = is_word text && is_folded text && not (is_reserved text)
 
 abbrev pub name_of : List ℕ → Option (List ℕ)
 name_of text = if is_word text && not (is_reserved (str_to_ascii_lowercase text)) then Some (str_to_ascii_lowercase text) else None

@@ -1,21 +1,57 @@
 -- A query as a tree of blocks.
---     tree_of query       the blocks of a query and how they are joined: one block, the rows in either, or those of one without the other's
+--     QueryTree        one block, the rows in either of two trees, or those of one without the other's
 --     blocks_of t      its blocks from left to right
-use Rattle.std.specs.Prelude.{List, [], ◌∷◌, ◌++◌}
-use Rattle.beas_core.specs.declared.query.Block.{Block as QueryBlock}
-use Rattle.beas_core.specs.declared.query.Query.{Query, Block, Union', Except'}
+use Rattle.std.specs.Prelude.{◌≡◌, ◌⊎◌, List, [], ◌∷◌, ◌++◌, Bool, true, false, refl}
+use Rattle.std.specs.Coded.{Coded, coded_list, coded⊎, coded_bool}
+use Rattle.std.proofs.Common.{sym, ap, ◌∙◌, append_assoc, inl, inr}
+use Rattle.std.proofs.lemmas.List.{append-nil}
+use base.Stored.{coded_via}
+use Rattle.beas_core.specs.declared.query.Block.{Block}
+use Rattle.beas_core.specs.contracts.query.Block.{the_row}
 
-pub data Tree : Type 0 where
-  Single : QueryBlock → Tree
-  Either : Tree → Tree → Tree
-  Minus : Tree → Tree → Tree
+pub data QueryTree : Type 0 where
+  Single : Block → QueryTree
+  Either : QueryTree → QueryTree → QueryTree
+  Minus : QueryTree → QueryTree → QueryTree
 
-abbrev pub tree_of : Query → Tree
-tree_of (Block b) = Single b
-tree_of (Union' p l q r) = Either (tree_of l) (tree_of r)
-tree_of (Except' p l q r) = Minus (tree_of l) (tree_of r)
-
-abbrev pub blocks_of : Tree → List QueryBlock
+abbrev pub blocks_of : QueryTree → List Block
 blocks_of (Single b) = b ∷ []
 blocks_of (Either l r) = blocks_of l ++ blocks_of r
 blocks_of (Minus l r) = blocks_of l ++ blocks_of r
+
+-- the blocks in order, each sign after its two operands: true for UNION
+abbrev pub postfix : QueryTree → List (Block ⊎ Bool)
+postfix (Single b) = inl b ∷ []
+postfix (Either left right) = postfix left ++ (postfix right ++ inr true ∷ [])
+postfix (Minus left right) = postfix left ++ (postfix right ++ inr false ∷ [])
+
+
+-- the trees that a postfix text leaves on a stack
+abbrev stacked : List (Block ⊎ Bool) → List QueryTree → List QueryTree
+stacked [] stack = stack
+stacked (inl b ∷ rest) stack = stacked rest (Single b ∷ stack)
+stacked (inr true ∷ rest) (right ∷ left ∷ stack) = stacked rest (Either left right ∷ stack)
+stacked (inr false ∷ rest) (right ∷ left ∷ stack) = stacked rest (Minus left right ∷ stack)
+stacked (inr sign ∷ rest) (right ∷ []) = []
+stacked (inr sign ∷ rest) [] = []
+
+stacked-postfix : (t : QueryTree) (rest : List (Block ⊎ Bool)) (stack : List QueryTree) → stacked (postfix t ++ rest) stack ≡ stacked rest (t ∷ stack)
+stacked-postfix (Single b) rest stack = refl
+stacked-postfix (Either l r) rest stack =
+    ap (λ ts. stacked ts stack) (append_assoc (postfix l) (postfix r ++ inr true ∷ []) rest ∙ ap (λ ts. postfix l ++ ts) (append_assoc (postfix r) (inr true ∷ []) rest))
+    ∙ stacked-postfix l (postfix r ++ (inr true ∷ rest)) stack ∙ stacked-postfix r (inr true ∷ rest) (l ∷ stack)
+stacked-postfix (Minus l r) rest stack =
+    ap (λ ts. stacked ts stack) (append_assoc (postfix l) (postfix r ++ inr false ∷ []) rest ∙ ap (λ ts. postfix l ++ ts) (append_assoc (postfix r) (inr false ∷ []) rest))
+    ∙ stacked-postfix l (postfix r ++ (inr false ∷ rest)) stack ∙ stacked-postfix r (inr false ∷ rest) (l ∷ stack)
+
+alone : (t : QueryTree) → stacked (postfix t) [] ≡ t ∷ []
+alone t = ap (λ ts. stacked ts []) (sym (append-nil (postfix t))) ∙ stacked-postfix t [] []
+
+same_head : (s t : QueryTree) → s ∷ [] ≡ t ∷ [] → s ≡ t
+same_head s t e = cc
+
+pub postfix_tells : (s t : QueryTree) → postfix s ≡ postfix t → s ≡ t
+postfix_tells s t e = same_head s t (sym (alone s) ∙ ap (λ ts. stacked ts []) e ∙ alone t)
+
+abbrev pub coded_tree : Coded QueryTree
+coded_tree = coded_via (coded_list (coded⊎ the_row.coded coded_bool)) postfix postfix_tells

@@ -1,13 +1,12 @@
 -- Valuations of the classes that are bound after some steps, by choice of rows.
--- A binding is a class with a value. `starts` are the bindings that stand before the first step, in each way that they can.
---     ways rows normal rule starts steps            the bindings of each choice of a start and of one row of its atom's table for each step
---     valuations rows normal rule start starts steps    the values of the bound classes, ascending by class, of each way that agrees with
---                                                   itself and meets the comparisons whose columns are all bound; as a set in order
---     answers_of ..                                 the valuations, projected to the output
-use Rattle.std.specs.Prelude.{◌&&◌, ◌||◌, ◌==◌, if◌then◌else◌, Bool, true, not, ℕ, pos, List, [], ◌∷◌, ◌++◌, length, map, filter, flat_map, fold, zip}
+--     starts normal guide                           the bindings before the first step, in each way that they can stand
+--     ways rows normal accesses starts steps        the bindings of each choice of a start and of one row of its atom's table for each step
+--     valued normal set found                       the values of the classes of a set, ascending by class, of each of these ways that
+--                                                   agrees with itself and meets the comparisons whose columns are all in the set; as a set in order
+--     valuations rows normal accesses guide steps   the ways, valued on the classes that are bound after the steps
+--     answers_of rows normal accesses guide steps   the valuations, projected to the output
+use Rattle.std.specs.Prelude.{◌&&◌, ◌||◌, ◌==◌, if◌then◌else◌, Bool, true, not, ℕ, pos, List, [], ◌∷◌, ◌++◌, length, map, filter, flat_map, fold, zip, Some, None, is_some}
 use Rattle.std.specs.List.{list_all, range_with_len}
-use Rattle.beas_core.specs.declared.schema.AccessId.{AccessId}
-use Rattle.beas_core.specs.declared.schema.TableId.{TableId}
 use Rattle.beas_core.specs.declared.schema.Access.{Access}
 use Rattle.beas_core.specs.declared.value.Value.{Value}
 use Rattle.beas_core.specs.declared.value.Value.TheVariants.{Int}
@@ -16,70 +15,77 @@ use Rattle.beas_core.specs.declared.query.Operand.TheVariants.{At, Fixed}
 use Rattle.beas_core.specs.declared.query.Comparison.{Comparison}
 use Rattle.beas_core.specs.declared.plan.DStep.{DStep}
 use Rattle.beas_core.specs.declared.plan.Normal.{Normal}
+use Rattle.beas_core.specs.Types.{Row, TableRows, ClassSet, Bindings, Guide}
 use Rattle.beas_core.specs.Order.{row_cmp}
 use Rattle.beas_core.specs.Sets.{distinct}
 use Rattle.beas_core.specs.Groups.{value_at, member_columns}
 use Rattle.beas_core.specs.Full.{same_value, comparison_holds}
-use Rattle.beas_core.specs.Coverage.{has, class_at, place_class, constant_classes}
-use Rattle.beas_core.specs.Derivations.{table_of, bound_after}
+use Rattle.beas_core.specs.Coverage.{has, class_at, place_class, start_classes, output_classes}
+use Rattle.beas_core.specs.Derivations.{access_in, table_of, bound_after}
 
 -- the value of a class, by its first binding
-abbrev pub value_of : List (ℕ × Value) → ℕ → Value
+abbrev pub value_of : Bindings → ℕ → Value
 value_of [] class = Int (pos 0)
 value_of (b ∷ bindings) class = if b.0 == class then b.1 else value_of bindings class
 
 -- no class has two values
-abbrev pub agrees : List (ℕ × Value) → Bool
+abbrev pub agrees : Bindings → Bool
 agrees bindings = list_all (λ b. same_value b.1 (value_of bindings b.0)) bindings
 
 -- what a row of a step's atom binds
-abbrev pub bindings_of : Normal → (AccessId → Access) → DStep → List Value → List (ℕ × Value)
-bindings_of normal rule s row = map (λ c. (class_at normal s.atom c, value_at row c)) (member_columns (rule s.access))
+abbrev pub bindings_of : Normal → List Access → DStep → Row → Bindings
+bindings_of normal accesses s row = map (λ c. (class_at normal s.atom c, value_at row c)) (member_columns (access_in accesses s.access))
 
-abbrev pub with_row_for : (TableId → List (List Value)) → Normal → (AccessId → Access) → List (List (ℕ × Value)) → DStep → List (List (ℕ × Value))
-with_row_for rows normal rule found s = flat_map (λ w. map (λ row. w ++ bindings_of normal rule s row) (rows (table_of normal s.atom))) found
+abbrev pub with_row_for : TableRows → Normal → List Access → List Bindings → DStep → List Bindings
+with_row_for rows normal accesses found s = flat_map (λ w. map (λ row. w ++ bindings_of normal accesses s row) (rows (table_of normal s.atom))) found
 
-abbrev pub ways : (TableId → List (List Value)) → Normal → (AccessId → Access) → List (List (ℕ × Value)) → List DStep → List (List (ℕ × Value))
-ways rows normal rule starts steps = fold (with_row_for rows normal rule) starts steps
+abbrev pub ways : TableRows → Normal → List Access → List Bindings → List DStep → List Bindings
+ways rows normal accesses starts steps = fold (with_row_for rows normal accesses) starts steps
 
-abbrev pub operand_is_bound : Normal → List Bool → Operand → Bool
+-- the constants of a block, and for a guided one the values that a row of the guide gives to its output
+abbrev pub starts : Normal → Guide → List Bindings
+starts normal None = normal.constants ∷ []
+starts normal (Some answers) = map (λ row. normal.constants ++ zip (output_classes normal) row) answers
+
+abbrev pub operand_is_bound : Normal → ClassSet → Operand → Bool
 operand_is_bound normal set (At place) = has set (place_class normal place)
 operand_is_bound normal set (Fixed value) = true
 
-abbrev pub comparison_is_bound : Normal → List Bool → Comparison → Bool
+abbrev pub comparison_is_bound : Normal → ClassSet → Comparison → Bool
 comparison_is_bound normal set c = has set (place_class normal c.left) && operand_is_bound normal set c.right
 
 -- the comparison holds, where its columns are all bound
-abbrev pub comparison_is_met : Normal → List Bool → List (ℕ × Value) → Comparison → Bool
+abbrev pub comparison_is_met : Normal → ClassSet → Bindings → Comparison → Bool
 comparison_is_met normal set bindings c = not (comparison_is_bound normal set c) || comparison_holds (λ p. value_of bindings (place_class normal p)) c
 
-abbrev pub is_consistent : Normal → List Bool → List (ℕ × Value) → Bool
+abbrev pub is_consistent : Normal → ClassSet → Bindings → Bool
 is_consistent normal set bindings = agrees bindings && list_all (comparison_is_met normal set bindings) normal.comparisons
 
 -- the classes of a set, ascending
-abbrev pub classes_in : List Bool → List ℕ
+abbrev pub classes_in : ClassSet → List ℕ
 classes_in set = filter (has set) (range_with_len 0 (length set))
 
-unfoldable pub valuations : (TableId → List (List Value)) → Normal → (AccessId → Access) → List Bool → List (List (ℕ × Value)) → List DStep → List (List Value)
-valuations rows normal rule start starts steps =
-    let bound = bound_after normal rule start steps in
-    distinct row_cmp (map (λ w. map (value_of w) (classes_in bound)) (filter (is_consistent normal bound) (ways rows normal rule starts steps)))
+abbrev pub valued : Normal → ClassSet → List Bindings → List Row
+valued normal set found = distinct row_cmp (map (λ w. map (value_of w) (classes_in set)) (filter (is_consistent normal set) found))
+
+unfoldable pub valuations : TableRows → Normal → List Access → Guide → List DStep → List Row
+valuations rows normal accesses guide steps =
+    valued normal (bound_after normal accesses (start_classes normal (is_some guide)) steps) (ways rows normal accesses (starts normal guide) steps)
 
 -- the values of the classes of a set, as bindings
-abbrev pub as_bindings : List Bool → List Value → List (ℕ × Value)
+abbrev pub as_bindings : ClassSet → Row → Bindings
 as_bindings set valuation = zip (classes_in set) valuation
 
-abbrev pub projected : Normal → List Bool → List Value → List Value
-projected normal set valuation = map (λ p. value_of (as_bindings set valuation) (place_class normal p)) normal.output
+abbrev pub output_row : Normal → ClassSet → Row → Row
+output_row normal set valuation = map (λ p. value_of (as_bindings set valuation) (place_class normal p)) normal.output
 
-unfoldable pub answers_of : (TableId → List (List Value)) → Normal → (AccessId → Access) → List Bool → List (List (ℕ × Value)) → List DStep → List (List Value)
-answers_of rows normal rule start starts steps =
-    distinct row_cmp (map (projected normal (bound_after normal rule start steps)) (valuations rows normal rule start starts steps))
+unfoldable pub answers_of : TableRows → Normal → List Access → Guide → List DStep → List Row
+answers_of rows normal accesses guide steps =
+    distinct row_cmp (map (output_row normal (bound_after normal accesses (start_classes normal (is_some guide)) steps)) (valuations rows normal accesses guide steps))
 
--- the one start of a block by itself: its constants
-abbrev pub own_start : Normal → List (List (ℕ × Value))
-own_start normal = normal.constants ∷ []
+-- of a block by itself
+abbrev pub own_valuations : TableRows → Normal → List Access → List DStep → List Row
+own_valuations rows normal accesses steps = valuations rows normal accesses None steps
 
--- the valuations of a block by itself
-abbrev pub own_valuations : (TableId → List (List Value)) → Normal → (AccessId → Access) → List DStep → List (List Value)
-own_valuations rows normal rule steps = valuations rows normal rule (constant_classes normal) (own_start normal) steps
+abbrev pub own_answers : TableRows → Normal → List Access → List DStep → List Row
+own_answers rows normal accesses steps = answers_of rows normal accesses None steps

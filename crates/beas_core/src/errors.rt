@@ -1,11 +1,11 @@
-// Errors: a refused statement, and want of memory, which is merged with nothing.
-ghost use Rattle.beas_core.specs.declared.errors.Fail.TheVariants.{NoMemory as Want, Refused as Refusing};
+// Errors: a refused statement, and out of memory, which is merged with nothing.
+ghost use Rattle.beas_core.specs.declared.errors.Fail.TheVariants.{NoMemory as OutOfMemory, Refused as Refusing};
 ghost use Rattle.std.specs.Prelude.{◌≡◌};
 
 use crate::refusal::Refusal;
 use std::alloc::{AllocError, AllocFailed};
 
-/// Memory was wanting.
+/// Out of memory.
 #[derive(Clone, Copy, Debug, PartialEq, Eq)]
 pub struct NoMemory;
 
@@ -21,7 +21,7 @@ impl<T: Drop> From<AllocFailed<T>> for NoMemory {
     }
 }
 
-/// Why a call failed: the statement is refused, or memory was wanting.
+/// Why a call failed: the statement is refused, or the call ran out of memory.
 #[derive(Debug, Drop)]
 pub enum Fail {
     Refused(Refusal),
@@ -29,7 +29,7 @@ pub enum Fail {
 }
 
 impl From<NoMemory> for Fail {
-    ghost from_gives = { λ _ e. e ≡ Want };
+    ghost from_gives = { λ _ e. e ≡ OutOfMemory };
 
     fn from(_: NoMemory) -> Fail {
         Fail::NoMemory
@@ -37,7 +37,7 @@ impl From<NoMemory> for Fail {
 }
 
 impl From<AllocError> for Fail {
-    ghost from_gives = { λ _ e. e ≡ Want };
+    ghost from_gives = { λ _ e. e ≡ OutOfMemory };
 
     fn from(_: AllocError) -> Fail {
         Fail::NoMemory
@@ -45,7 +45,7 @@ impl From<AllocError> for Fail {
 }
 
 impl<T: Drop> From<AllocFailed<T>> for Fail {
-    ghost from_gives = { λ _ e. e ≡ Want };
+    ghost from_gives = { λ _ e. e ≡ OutOfMemory };
 
     fn from(_: AllocFailed<T>) -> Fail {
         Fail::NoMemory

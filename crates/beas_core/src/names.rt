@@ -1,5 +1,6 @@
 // Folded identifiers.
 ghost use Rattle.std.specs.Prelude.{◌≡◌, ◌↔◌, IsTrue};
+ghost use Rattle.beas_core.specs.Spelling.{is_name};
 
 use crate::duplicate::Duplicate;
 use crate::errors::NoMemory;
@@ -19,11 +20,17 @@ impl Model for Name {
     ghost Value = { List ℕ };
 
     ghost view = { λ s. s.text };
+
+    ghost use Rattle.std.specs.Prelude.{IsTrue};
+    ghost use Rattle.beas_core.specs.Spelling.{is_name};
+
+    ghost invariant = { λ s. IsTrue (is_name s.text) };
 }
 
 impl Name {
-    /// The text as a name. Whoever calls it has seen that the text is an identifier.
+    /// The text as a name. It takes no memory.
     pub fn from_text(text: Text) -> Name
+        requires { IsTrue (is_name text) }
         ensures { result ≡ text }
     {
         Name { text }
@@ -33,6 +40,13 @@ impl Name {
         ensures { result.now ≡ self.now }
     {
         self.text.as_str()
+    }
+
+    /// The text is an identifier in lower case.
+    pub fn law_is_name(&self)
+        ensures { IsTrue (is_name self.now) }
+    {
+        let _text = &self.text;
     }
 
     /// Whether it is this text.

@@ -1,11 +1,10 @@
 // The index that plans read through, and what a probe finds.
 ghost use Rattle.std.specs.Prelude.{◌≡◌, ◌+◌, ◌<◌, ◌≤◌, List, length, max, IsTrue, slice_index_or, []};
-ghost use Rattle.beas_core.specs.declared.value.Value.{Value as Cell};
-ghost use Rattle.beas_core.specs.declared.schema.Access.{Access as Rule};
-ghost use Rattle.beas_core.specs.declared.schema.AccessId.{AccessId as Id};
-ghost use Rattle.beas_core.specs.declared.schema.TableId.{TableId as Table};
+ghost use Rattle.beas_core.specs.declared.schema.Access.{Access as Constraint};
+ghost use Rattle.beas_core.specs.Types.{Row, TableRows};
 ghost use Rattle.beas_core.specs.Found.{Found};
 ghost use Rattle.beas_core.specs.Groups.{Holds, group_of, member_columns, has_column, value_in};
+ghost use Rattle.beas_core.specs.Derivations.{access_in, is_live};
 
 use crate::schema::{Access, AccessId, ColumnId};
 use crate::steps::Steps;
@@ -63,46 +62,45 @@ impl Hits {
 }
 
 /// Every index that a plan may use, and nothing else of the store. Its constraints hold over its rows.
+/// None of its calls takes memory.
 pub trait AccessPort {
     /// The rows of each table.
-    ghost rows: { Self → Table → List (List Cell) };
+    ghost rows: { Self → TableRows };
 
-    /// Whether a constraint is live.
-    ghost knows: { Self → Id → Type 0 };
-
-    /// The live constraint with this id.
-    ghost rule: { Self → Id → Rule };
+    /// The live constraints, in order of creation.
+    ghost accesses: { Self → List Constraint };
 
     /// The tuples that hits stand for, in value order over the key and then the fetched columns.
-    ghost members: { Self → Found → List (List Cell) };
+    ghost members: { Self → Found → List Row };
 
     /// Whether hits stand for a constraint and a key in the port as it is.
     ghost stands: { Self → Found → Type 0 };
 
-    /// The constraint with this id.
+    /// The constraint with this id. It holds over its table's rows.
     fn access(&self, id: AccessId) -> &Access
-        requires { knows self.now id }
-        ensures rule { result.now ≡ rule self.now id }
-        ensures holds { Holds (rows self.now result.now.table) result.now };
+        requires { IsTrue (is_live (accesses self.now) id) }
+        ensures access { result.now ≡ access_in (accesses self.now) id }
+        ensures holds { Holds (rows self.now result.now.table) result.now }
+        ensures bound { 1 ≤ result.now.bound };
 
     /// The group of a key, counted: the greater of 1 and the number of its tuples.
     fn probe<L: Ledger>(&self, id: AccessId, key: &[Value], steps: &mut Steps<L>) -> Hits
-        requires live { knows self.now id }
-        requires width { length key.now ≡ length (rule self.now id).key }
+        requires live { IsTrue (is_live (accesses self.now) id) }
+        requires width { length key.now ≡ length (access_in (accesses self.now) id).key }
         ensures access { result.access ≡ id }
         ensures members { members self.now result
-            ≡ group_of (rows self.now (rule self.now id).table) (rule self.now id) key.now }
+            ≡ group_of (rows self.now (access_in (accesses self.now) id).table) (access_in (accesses self.now) id) key.now }
         ensures len { result.len ≡ length (members self.now result) }
         ensures stands { stands self.now result }
-        ensures bounded { result.len ≤ (rule self.now id).bound }
+        ensures bounded { result.len ≤ (access_in (accesses self.now) id).bound }
         ensures cost { steps.new ≡ steps.old + max 1 result.len };
 
     /// A column of a tuple that a probe found and counted.
     fn value(&self, hits: &Hits, i: u32, column: ColumnId) -> &Value
-        requires live { knows self.now hits.now.access }
+        requires live { IsTrue (is_live (accesses self.now) hits.now.access) }
         requires stands { stands self.now hits.now }
         requires member { i < hits.now.len }
-        requires column { IsTrue (has_column (member_columns (rule self.now hits.now.access)) column) }
+        requires column { IsTrue (has_column (member_columns (access_in (accesses self.now) hits.now.access)) column) }
         ensures { result.now
-            ≡ value_in (member_columns (rule self.now hits.now.access)) (slice_index_or (members self.now hits.now) i []) column };
+            ≡ value_in (member_columns (access_in (accesses self.now) hits.now.access)) (slice_index_or (members self.now hits.now) i []) column };
 }

@@ -1,6 +1,4 @@
 // Queries after their names are bound: every column is a place, an atom and a column of it.
-ghost use Rattle.std.specs.Prelude.{◌≡◌, IfOk};
-ghost use Rattle.beas_core.specs.Trees.{tree_of};
 
 use crate::duplicate::Duplicate;
 use crate::errors::NoMemory;
@@ -8,6 +6,7 @@ use crate::list::List;
 use crate::schema::{ColumnId, TableId};
 use crate::value::Value;
 use std::alloc::Global;
+use std::marker::Model;
 
 /// The sign of a comparison.
 #[derive(Clone, Copy, Debug, PartialEq, Eq)]
@@ -59,12 +58,38 @@ pub struct Block {
     pub output: List<Place>,
 }
 
-/// Blocks joined by UNION and EXCEPT.
+/// Blocks joined by UNION and EXCEPT. Contracts see the tree without its boxes.
+#[cycle(query)]
 #[derive(Drop)]
-pub enum Query {
+pub struct Query {
+    pub node: QueryNode,
+}
+
+/// The top of a `Query`.
+#[cycle(query)]
+#[derive(Drop)]
+pub enum QueryNode {
     Block(Block),
     Union(Box<Query>, Box<Query>),
     Except(Box<Query>, Box<Query>),
+}
+
+impl Model for Query {
+    ghost use Rattle.beas_core.specs.Trees.{QueryTree, coded_tree};
+
+    ghost Value = { QueryTree };
+
+    ghost coded = { coded_tree };
+
+    ghost use Rattle.beas_core.specs.Nodes.{query_tree, height};
+
+    ghost view = { λ s. query_tree s.node };
+
+    ghost size = { height };
+
+    ghost use Rattle.beas_core.specs.Heights.{nodes_fall};
+
+    ghost size_decreases = { λ s h. nodes_fall s.node };
 }
 
 impl Duplicate for Place {
@@ -111,23 +136,21 @@ impl Duplicate for Block {
     }
 }
 
-impl Query {
-    /// A query with the same blocks, joined in the same way.
-    pub fn copy(&self, alloc: Global) -> Result<Query, NoMemory>
-        ensures { IfOk result (λ copy. tree_of copy ≡ tree_of self.now) }
-    {
-        match self {
-            Query::Block(block) => Ok(Query::Block(block.copy(alloc)?)),
-            Query::Union(left, right) => {
+impl Duplicate for Query {
+    fn copy(&self, alloc: Global) -> Result<Query, NoMemory> {
+        let node = match &self.node {
+            QueryNode::Block(block) => QueryNode::Block(block.copy(alloc)?),
+            QueryNode::Union(left, right) => {
                 let left = Box::new(alloc, left.copy(alloc)?)?;
                 let right = Box::new(alloc, right.copy(alloc)?)?;
-                Ok(Query::Union(left, right))
+                QueryNode::Union(left, right)
             }
-            Query::Except(left, right) => {
+            QueryNode::Except(left, right) => {
                 let left = Box::new(alloc, left.copy(alloc)?)?;
                 let right = Box::new(alloc, right.copy(alloc)?)?;
-                Ok(Query::Except(left, right))
+                QueryNode::Except(left, right)
             }
-        }
+        };
+        Ok(Query { node })
     }
 }

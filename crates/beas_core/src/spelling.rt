@@ -3,7 +3,7 @@ ghost use Rattle.std.specs.Prelude.{◌≡◌, ◌+◌, ◌*◌, ◌≤◌, IfOk
 ghost use Rattle.std.specs.Char.{is_ascii_digit, digit_value};
 ghost use Rattle.std.specs.List.{list_all, list_any};
 ghost use Rattle.std.specs.Str.{bytes_eq};
-ghost use Rattle.beas_core.specs.Spelling.{begins_word, continues_word, is_word, is_reserved, name_of, limit_in};
+ghost use Rattle.beas_core.specs.Spelling.{begins_word, continues_word, is_word, is_reserved, is_folded, is_name, name_of, limit_in};
 
 use crate::errors::NoMemory;
 use crate::names::Name;
@@ -120,11 +120,25 @@ fn is_among(words: &[&str], word: &str) -> bool
 }
 
 /// Whether a word in lower case is one of those that are no names. It takes no memory.
-#[tactic(auto, unfolding(crate::specs::Spelling::is_reserved, crate::specs::Spelling::reserved))]
+#[tactic(auto, unfolding(crate::specs::Spelling::is_reserved, crate::specs::Spelling::reserved_words))]
 pub fn is_reserved(word: &str) -> bool
     ensures { result ≡ is_reserved word.now }
 {
     is_among(&RESERVED, word)
+}
+
+fn all_folded(text: &[u8]) -> bool
+    ensures { result ≡ is_folded text.now }
+{
+    !text.iter().any(|byte| byte.is_ascii_uppercase())
+}
+
+/// Whether a text is an identifier in lower case: a letter or `_`, then letters, digits and `_`, at most 64 bytes in
+/// all, and no reserved word. It takes no memory.
+pub fn is_name(text: &str) -> bool
+    ensures { result ≡ is_name text.now }
+{
+    is_a_word(text.as_bytes()) && all_folded(text.as_bytes()) && !is_reserved(text)
 }
 
 impl Name {
@@ -140,11 +154,11 @@ impl Name {
         if is_reserved(folded.as_str()) {
             return Ok(None);
         }
-        Ok(Some(Name::from_text(Text::from_str(alloc, folded.as_str())?)))
+        Ok(Some(Name::from_text(Text::from_string(folded))))
     }
 }
 
-// The value with one more digit behind it; a value that is too great already is left as it is.
+// The value with one more digit after it; a value that is too great already is left as it is.
 fn push_digit(value: u64, byte: u8) -> u64
     requires digit { IsTrue (is_ascii_digit byte) }
     requires small { value ≤ 42949672959 }
