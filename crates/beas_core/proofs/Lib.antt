@@ -1,3 +1,4 @@
 pub mod Groups
+pub mod Identifiers
 pub mod Sets
 pub mod ValueOrder

@@ -26,7 +26,7 @@ RowsHaveWidth rows block = All (λ a. All (λ row. length row ≡ a.width) (rows
 -- the derivation is sound for the block and the start, and its constraints are well formed
 pub record PlanIsSound (normal : Normal) (accesses : List Access) (start : ClassSet) (plan : Derivation) : Type 0 where
   pub sound : IsSound normal accesses start plan.steps
-  pub accesses : All (λ s. AccessIsWellFormed (width_of normal.atoms s.atom) (access_in accesses s.access)) plan.steps
+  pub well_formed : All (λ s. AccessIsWellFormed (width_of normal.atoms s.atom) (access_in accesses s.access)) plan.steps
 
 -- for a block by itself
 abbrev pub OwnPlanIsSound : List Access → Normal → Derivation → Type 0

@@ -25,7 +25,6 @@ postfix (Single b) = inl b ∷ []
 postfix (Either left right) = postfix left ++ (postfix right ++ inr true ∷ [])
 postfix (Minus left right) = postfix left ++ (postfix right ++ inr false ∷ [])
 
-
 -- the trees that a postfix text leaves on a stack
 abbrev stacked : List (Block ⊎ Bool) → List QueryTree → List QueryTree
 stacked [] stack = stack

@@ -1,9 +1,9 @@
 // Names and bounds as texts spell them.
 ghost use Rattle.std.specs.Prelude.{◌≡◌, ◌+◌, ◌*◌, ◌≤◌, IfOk, IsTrue, slice_index, nat_le, if◌then◌else◌};
-ghost use Rattle.std.specs.Char.{is_ascii_digit, digit_value};
+ghost use Rattle.std.specs.Char.{is_ascii_digit, is_ascii_uppercase, digit_value};
 ghost use Rattle.std.specs.List.{list_all, list_any};
 ghost use Rattle.std.specs.Str.{bytes_eq};
-ghost use Rattle.beas_core.specs.Spelling.{begins_word, continues_word, is_word, is_reserved, is_folded, is_name, name_of, limit_in};
+ghost use Rattle.beas_core.specs.Spelling.{begins_word, continues_word, is_word, is_reserved, is_name, name_of, limit_in};
 
 use crate::errors::NoMemory;
 use crate::names::Name;
@@ -127,10 +127,15 @@ pub fn is_reserved(word: &str) -> bool
     is_among(&RESERVED, word)
 }
 
-fn all_folded(text: &[u8]) -> bool
-    ensures { result ≡ is_folded text.now }
+fn has_capital(text: &[u8]) -> bool
+    ensures { result ≡ list_any is_ascii_uppercase text.now }
 {
-    !text.iter().any(|byte| byte.is_ascii_uppercase())
+    for byte in text {
+        if byte.is_ascii_uppercase() {
+            return true;
+        }
+    }
+    false
 }
 
 /// Whether a text is an identifier in lower case: a letter or `_`, then letters, digits and `_`, at most 64 bytes in
@@ -138,7 +143,7 @@ fn all_folded(text: &[u8]) -> bool
 pub fn is_name(text: &str) -> bool
     ensures { result ≡ is_name text.now }
 {
-    is_a_word(text.as_bytes()) && all_folded(text.as_bytes()) && !is_reserved(text)
+    is_a_word(text.as_bytes()) && !has_capital(text.as_bytes()) && !is_reserved(text)
 }
 
 impl Name {
