@@ -56,6 +56,7 @@ is_word-folded text h =
 
 -- what an identifier becomes in lower case is a name
 pub is_name-folded : (text : List ℕ) → is_word text ≡ true → is_reserved (str_to_ascii_lowercase text) ≡ false → is_name (str_to_ascii_lowercase text) ≡ true
+unfolding is_name
 is_name-folded text w r =
     and_from (is_word (str_to_ascii_lowercase text) && is_folded (str_to_ascii_lowercase text)) (not (is_reserved (str_to_ascii_lowercase text)))
     (and_from (is_word (str_to_ascii_lowercase text)) (is_folded (str_to_ascii_lowercase text)) (is_word-folded text w) (ap not (no_capitals-folded text)))
@@ -71,6 +72,7 @@ pub record NameFacts (text : List ℕ) : Type 0 where
   pub free : is_reserved text ≡ false
 
 pub name_facts : (text : List ℕ) → is_name text ≡ true → NameFacts text
+unfolding is_name
 name_facts text h =
     let first = and_parts (is_word text && is_folded text) (not (is_reserved text)) h in
     let rest = and_parts (is_word text) (is_folded text) first.0 in
@@ -90,3 +92,10 @@ is_name-name_of text name e = by (is_word text) refl (is_reserved (str_to_ascii_
     by true p true q h = cc
     by true p false q h = let same : str_to_ascii_lowercase text ≡ name = cc in subst (λ n. is_name n ≡ true) same (is_name-folded text p q)
     by false p r q h = cc
+
+pub reserved_is_no_name : (word : List ℕ) → is_reserved word ≡ true → is_name word ≡ false
+reserved_is_no_name word r = by (is_name word) refl
+  where
+    by : (b : Bool) → is_name word ≡ b → b ≡ false
+    by true e = sym r ∙ (name_facts word e).free
+    by false e = refl

@@ -34,7 +34,7 @@ is_reserved word = list_any (λ r. bytes_eq r word) reserved_words
 abbrev pub is_folded : List ℕ → Bool
 is_folded text = not (list_any is_ascii_uppercase text)
 
-abbrev pub is_name : List ℕ → Bool
+unfoldable pub is_name : List ℕ → Bool
 is_name text = is_word text && is_folded text && not (is_reserved text)
 
 abbrev pub name_of : List ℕ → Option (List ℕ)

@@ -140,6 +140,7 @@ fn has_capital(text: &[u8]) -> bool
 
 /// Whether a text is an identifier in lower case: a letter or `_`, then letters, digits and `_`, at most 64 bytes in
 /// all, and no reserved word. It takes no memory.
+#[tactic(auto, unfolding(crate::specs::Spelling::is_name))]
 pub fn is_name(text: &str) -> bool
     ensures { result ≡ is_name text.now }
 {

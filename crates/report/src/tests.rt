@@ -16,7 +16,7 @@ fn expect_refusal(rt: &impl Abort, alloc: Global, why: Refusal, want: &str) -> R
 }
 
 fn name(alloc: Global, text: &str) -> Result<Name, Fail> {
-    Ok(Name::from_text(Text::from_str(alloc, text)?))
+    Name::of(alloc, text)?.ok_or(Fail::NoMemory)
 }
 
 /// The refusal with this number that holds numbers alone.

@@ -7,7 +7,8 @@ use Rattle.sql_tree.specs.declared.tree.Cond.{Cond}
 use Rattle.sql_tree.specs.declared.tree.FromItem.{FromItem}
 use Rattle.sql_tree.specs.declared.tree.BlockTree.{BlockTree}
 use Rattle.sql_tree.specs.Trees.{Tree, Block}
-use Rattle.beas_core.specs.Spelling.{is_reserved, reserved}
+use Rattle.beas_core.specs.Spelling.{is_reserved, reserved_words}
+use Rattle.beas_core.proofs.Identifiers.{reserved_is_no_name}
 use Rattle.sql_tree.specs.Symbols.{Symbol, word, mark}
 use Rattle.sql_tree.specs.Grammar.{Commas, last, comma, IsRef, IsCondition, comparison, range, parentheses, IsConditions, last_condition, conjunction, IsWhere, no_where, where_, IsItem, alone, alias, as_alias, IsJoins, no_join, join, inner_join, cross_join, Source, IsSource, joined_source, IsDistinct, all_rows, distinct_rows, IsOutput, all_columns, columns, IsBlock, select_block, IsTerm, single, nested, IsQuery, term, union, except}
 use Rattle.sql_tree.specs.Words.{AND, AS, BETWEEN, CROSS, DISTINCT, EXCEPT, FROM, INNER, JOIN, ON, SELECT, UNION, WHERE, OPEN, CLOSE, COMMA, DOT, STAR}
@@ -86,7 +87,7 @@ pub record BlockEnds (rest : List Symbol) : Type 0 where
 
 pub no_name : (w : List ℕ) (rest : List Symbol) → is_reserved w ≡ true → starts_id (word w ∷ rest) ≡ false
 unfolding starts_id
-no_name w rest r = rw r refl
+no_name w rest r = reserved_is_no_name w r
 
 mark-no_name : (m : List ℕ) (rest : List Symbol) → starts_id (mark m ∷ rest) ≡ false
 unfolding starts_id
@@ -110,43 +111,43 @@ unfolding starts starts_join starts_id
 nothing-ends = record { source = record { dot = refl; and_ = refl; alias_ = refl; name = refl; join = refl }; comma = refl; where_ = refl }
 
 union-reserved : is_reserved (codes "union") ≡ true
-unfolding is_reserved reserved
+unfolding is_reserved reserved_words
 union-reserved = refl
 
 except-reserved : is_reserved (codes "except") ≡ true
-unfolding is_reserved reserved
+unfolding is_reserved reserved_words
 except-reserved = refl
 
 where-reserved : is_reserved (codes "where") ≡ true
-unfolding is_reserved reserved
+unfolding is_reserved reserved_words
 where-reserved = refl
 
 as-reserved : is_reserved (codes "as") ≡ true
-unfolding is_reserved reserved
+unfolding is_reserved reserved_words
 as-reserved = refl
 
 on-reserved : is_reserved (codes "on") ≡ true
-unfolding is_reserved reserved
+unfolding is_reserved reserved_words
 on-reserved = refl
 
 join-reserved : is_reserved (codes "join") ≡ true
-unfolding is_reserved reserved
+unfolding is_reserved reserved_words
 join-reserved = refl
 
 inner-reserved : is_reserved (codes "inner") ≡ true
-unfolding is_reserved reserved
+unfolding is_reserved reserved_words
 inner-reserved = refl
 
 cross-reserved : is_reserved (codes "cross") ≡ true
-unfolding is_reserved reserved
+unfolding is_reserved reserved_words
 cross-reserved = refl
 
 distinct-reserved : is_reserved (codes "distinct") ≡ true
-unfolding is_reserved reserved
+unfolding is_reserved reserved_words
 distinct-reserved = refl
 
 between-reserved : is_reserved (codes "between") ≡ true
-unfolding is_reserved reserved
+unfolding is_reserved reserved_words
 between-reserved = refl
 
 pub union-ends : (rest : List Symbol) → BlockEnds (UNION ∷ rest)

@@ -15,7 +15,7 @@ use Rattle.beas_core.specs.declared.schema.ColType.TheVariants.{Integer, Words a
 use Rattle.sql_tree.specs.declared.tree.Literal.TheVariants.{Words}
 use Rattle.sql_tree.specs.declared.tree.Side.TheVariants.{Column as Placed, Fixed}
 use Rattle.beas_core.specs.declared.query.Sign.TheVariants.{Equal, Differs, Less, AtMost, More, AtLeast}
-use Rattle.beas_core.specs.Spelling.{is_reserved}
+use Rattle.beas_core.specs.Spelling.{is_name}
 use Rattle.sql_tree.specs.Symbols.{Symbol, word, number, quoted, mark}
 use Rattle.sql_tree.specs.Grammar.{Commas, last, comma, IsId, id, IsMaybeIds, no_ids, ids, IsColumn, integer, int, text, IsLiteral, plain, positive, negative, between_quotes, IsTuple, tuple, IsRef, bare, dotted, IsSide, placed, written, IsSign, equal, differs, not_equal, less, at_most, more, at_least, is_literal, signed, IsCondition, comparison, range, parentheses, IsConditions, last_condition, conjunction}
 use Rattle.sql_tree.specs.Words.{AND, BETWEEN, INT, INTEGER, TEXT, OPEN, CLOSE, COMMA, DOT, PLUS, MINUS}
@@ -89,9 +89,9 @@ closed-inv {X} read x rest e =
 pub id-spelled : (tokens : List Symbol) (n : List ℕ) (rest : List Symbol) → read_id tokens ≡ Some (n, rest) → Took IsId tokens n rest
 unfolding read_id
 id-spelled (word m ∷ r) n rest e =
-    elim (pick-inv (is_reserved m) None (Some (m, r)) (Some (n, rest)) e) [
-      | inl t ↦ absurd (none_is (n, rest) t.1)
-      | inr f ↦ took_as (record { front = word m ∷ []; parts = refl; spelled = id f.0 }) f.1
+    elim (pick-inv (is_name m) (Some (m, r)) None (Some (n, rest)) e) [
+      | inl t ↦ took_as (record { front = word m ∷ []; parts = refl; spelled = id t.0 }) t.1
+      | inr f ↦ absurd (none_is (n, rest) f.1)
     ]
 id-spelled _ n rest e = absurd (none_is (n, rest) e)
 

@@ -10,22 +10,23 @@ use Rattle.sql_tree.specs.declared.tree.ColumnRef.{ColumnRef}
 use Rattle.sql_tree.specs.declared.tree.Side.{Side}
 use Rattle.sql_tree.specs.declared.tree.Cond.{Cond}
 use Rattle.sql_tree.specs.declared.tree.Cond.TheVariants.{Compare, Between}
-use Rattle.beas_core.specs.Spelling.{is_reserved}
+use Rattle.beas_core.specs.Spelling.{is_reserved, is_name}
+use Rattle.beas_core.proofs.Identifiers.{name_facts}
 use Rattle.sql_tree.specs.Symbols.{Symbol, word, mark}
 use Rattle.sql_tree.specs.Grammar.{Commas, last, comma, IsId, id, IsMaybeIds, no_ids, ids, IsColumn, integer, int, text, IsLiteral, plain, positive, negative, between_quotes, IsTuple, tuple, IsRef, bare, dotted, IsSide, placed, written, IsSign, equal, differs, not_equal, less, at_most, more, at_least, is_literal, IsCondition, comparison, range, parentheses}
 use Rattle.sql_tree.specs.Words.{AND, BETWEEN, INT, INTEGER, TEXT, OPEN, CLOSE, COMMA, DOT}
 use Rattle.sql_parser.specs.Reading.{starts, rest_of, starts_id, read_id, read_number, read_quoted, read_commas, read_list, closed, read_maybe_ids, read_kind, read_column, read_signed, starts_quoted, read_literal, read_tuple, read_ref, read_side, sign_of, read_sign, read_range, read_comparison, read_simple, read_condition, read_conditions}
 
 -- an identifier is none of the words of the grammar
-pub id_is_no_word : (w n : List ℕ) → is_reserved w ≡ true → is_reserved n ≡ false → bytes_eq w n ≡ false
+pub id_is_no_word : (w n : List ℕ) → is_reserved w ≡ true → is_name n ≡ true → bytes_eq w n ≡ false
 id_is_no_word w n r h =
     let go : (b : Bool) → bytes_eq w n ≡ b → b ≡ false = λ b. elim b as (λ b. bytes_eq w n ≡ b → b ≡ false) [
-      | true ↦ λ e. absurd (false≢true (sym h ∙ ap is_reserved (sym ((bytes_eq-Decides w n).0 e)) ∙ r))
+      | true ↦ λ e. absurd (false≢true (sym (name_facts n h).free ∙ ap is_reserved (sym ((bytes_eq-Decides w n).0 e)) ∙ r))
       | false ↦ λ e. refl
     ] in
     go (bytes_eq w n) refl
 
-pub no_word : (w n : List ℕ) (rest : List Symbol) → is_reserved w ≡ true → is_reserved n ≡ false → starts (word w) (word n ∷ rest) ≡ false
+pub no_word : (w n : List ℕ) (rest : List Symbol) → is_reserved w ≡ true → is_name n ≡ true → starts (word w) (word n ∷ rest) ≡ false
 unfolding starts
 no_word w n rest r h = id_is_no_word w n r h
 

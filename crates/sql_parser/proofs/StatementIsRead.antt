@@ -8,7 +8,7 @@ use Rattle.sql_tree.specs.declared.tree.Cond.{Cond}
 use Rattle.sql_tree.specs.declared.tree.Statement.{Statement}
 use Rattle.sql_tree.specs.declared.tree.Statement.TheVariants.{CreateTable, CreateAccess, DropAccess, Load, Insert, Delete, DiscoverGroup, DiscoverPairs, Select, Explain}
 use Rattle.sql_tree.specs.Trees.{Tree}
-use Rattle.beas_core.specs.Spelling.{is_reserved}
+use Rattle.beas_core.specs.Spelling.{is_name}
 use Rattle.sql_tree.specs.Symbols.{Symbol, word, number, quoted}
 use Rattle.sql_tree.specs.Grammar.{Commas, IsId, id, IsMaybeIds, IsColumn, IsTuple, IsWhere, IsQuery, Spells, create_table, create_access, drop_access, load, insert, delete, discover_group, discover_pairs, select, explain, SpellsLone, lone, explained, wants_distinct}
 use Rattle.sql_tree.specs.Words.{ACCESS, CREATE, DELETE, DISCOVER, DROP, EXPLAIN, FETCH, FROM, INSERT, INTO, LIMIT, LOAD, ON, SELECT, TABLE, VALUES, OPEN, CLOSE}
@@ -28,28 +28,28 @@ fetched-closed : {a : List Symbol} {ns : List (List ℕ)} → Commas IsId a ns �
 unfolding read_fetched starts rest_of
 fetched-closed {a} {ns} h rest = closed-reads (read_list read_id (a ++ CLOSE ∷ rest)) ns rest (ids-reads h (CLOSE ∷ rest) refl)
 
-table-reads : (n : List ℕ) (cs : List Column) (tokens : List Symbol) → is_reserved n ≡ false → read_columns tokens ≡ Some (cs, []) → read_statement (CREATE ∷ TABLE ∷ word n ∷ tokens) ≡ Some (CreateTable n cs, [])
+table-reads : (n : List ℕ) (cs : List Column) (tokens : List Symbol) → is_name n ≡ true → read_columns tokens ≡ Some (cs, []) → read_statement (CREATE ∷ TABLE ∷ word n ∷ tokens) ≡ Some (CreateTable n cs, [])
 unfolding read_statement read_create read_create_table read_id starts rest_of
 table-reads n cs tokens r e = rw (r, e) refl
 
-access-reads : (n t limit : List ℕ) (key fetched : List (List ℕ)) (tokens next : List Symbol) → is_reserved n ≡ false → is_reserved t ≡ false → read_key tokens ≡ Some (key, next) → read_fetched next ≡ Some (fetched, LIMIT ∷ number limit ∷ [])
+access-reads : (n t limit : List ℕ) (key fetched : List (List ℕ)) (tokens next : List Symbol) → is_name n ≡ true → is_name t ≡ true → read_key tokens ≡ Some (key, next) → read_fetched next ≡ Some (fetched, LIMIT ∷ number limit ∷ [])
     → read_statement (CREATE ∷ ACCESS ∷ word n ∷ ON ∷ word t ∷ tokens) ≡ Some (CreateAccess (record { name = n; table = t; key = key; fetched = fetched; limit = limit }), [])
 unfolding read_statement read_create read_create_access read_id read_number starts rest_of
 access-reads n t limit key fetched tokens next r q e f = rw (r, q, e, f) refl
 
-drop-reads : (n : List ℕ) → is_reserved n ≡ false → read_statement (DROP ∷ ACCESS ∷ word n ∷ []) ≡ Some (DropAccess n, [])
+drop-reads : (n : List ℕ) → is_name n ≡ true → read_statement (DROP ∷ ACCESS ∷ word n ∷ []) ≡ Some (DropAccess n, [])
 unfolding read_statement read_drop_access read_id starts rest_of
 drop-reads n r = rw r refl
 
-load-reads : (t file : List ℕ) → is_reserved t ≡ false → read_statement (LOAD ∷ word t ∷ FROM ∷ quoted file ∷ []) ≡ Some (Load t file, [])
+load-reads : (t file : List ℕ) → is_name t ≡ true → read_statement (LOAD ∷ word t ∷ FROM ∷ quoted file ∷ []) ≡ Some (Load t file, [])
 unfolding read_statement read_load read_id read_quoted starts rest_of
 load-reads t file r = rw r refl
 
-insert-reads : (t : List ℕ) (rows : List (List Literal)) (tokens : List Symbol) → is_reserved t ≡ false → read_list read_tuple tokens ≡ Some (rows, []) → read_statement (INSERT ∷ INTO ∷ word t ∷ VALUES ∷ tokens) ≡ Some (Insert t rows, [])
+insert-reads : (t : List ℕ) (rows : List (List Literal)) (tokens : List Symbol) → is_name t ≡ true → read_list read_tuple tokens ≡ Some (rows, []) → read_statement (INSERT ∷ INTO ∷ word t ∷ VALUES ∷ tokens) ≡ Some (Insert t rows, [])
 unfolding read_statement read_insert read_id starts rest_of
 insert-reads t rows tokens r e = rw (r, e) refl
 
-delete-reads : (t : List ℕ) (cs : List Cond) (tokens : List Symbol) → is_reserved t ≡ false → read_where tokens ≡ Some (cs, []) → read_statement (DELETE ∷ FROM ∷ word t ∷ tokens) ≡ Some (Delete t cs, [])
+delete-reads : (t : List ℕ) (cs : List Cond) (tokens : List Symbol) → is_name t ≡ true → read_where tokens ≡ Some (cs, []) → read_statement (DELETE ∷ FROM ∷ word t ∷ tokens) ≡ Some (Delete t cs, [])
 unfolding read_statement read_delete read_id starts rest_of
 delete-reads t cs tokens r e = rw (r, e) refl
 
@@ -57,11 +57,11 @@ key-no_limit : (tokens : List Symbol) → starts LIMIT (OPEN ∷ tokens) ≡ fal
 unfolding starts
 key-no_limit tokens = refl
 
-group-reads : (t : List ℕ) (key fetched : List (List ℕ)) (tokens next : List Symbol) → is_reserved t ≡ false → starts LIMIT tokens ≡ false → read_key tokens ≡ Some (key, next) → read_fetched next ≡ Some (fetched, []) → read_statement (DISCOVER ∷ word t ∷ tokens) ≡ Some (DiscoverGroup t key fetched, [])
+group-reads : (t : List ℕ) (key fetched : List (List ℕ)) (tokens next : List Symbol) → is_name t ≡ true → starts LIMIT tokens ≡ false → read_key tokens ≡ Some (key, next) → read_fetched next ≡ Some (fetched, []) → read_statement (DISCOVER ∷ word t ∷ tokens) ≡ Some (DiscoverGroup t key fetched, [])
 unfolding read_statement read_discover read_group read_id starts rest_of
 group-reads t key fetched tokens next r l e f = rw (r, l, e, f) refl
 
-pairs-read : (t limit : List ℕ) → is_reserved t ≡ false → read_statement (DISCOVER ∷ word t ∷ LIMIT ∷ number limit ∷ []) ≡ Some (DiscoverPairs t limit, [])
+pairs-read : (t limit : List ℕ) → is_name t ≡ true → read_statement (DISCOVER ∷ word t ∷ LIMIT ∷ number limit ∷ []) ≡ Some (DiscoverPairs t limit, [])
 unfolding read_statement read_discover read_pairs read_id read_number starts rest_of
 pairs-read t limit r = rw r refl
 

@@ -22,7 +22,7 @@ use Rattle.sql_tree.specs.declared.tree.BlockTree.{BlockTree}
 use Rattle.sql_tree.specs.declared.tree.Statement.{Statement}
 use Rattle.sql_tree.specs.declared.tree.Statement.TheVariants.{CreateTable, CreateAccess, DropAccess, Load, Insert, Delete, DiscoverGroup, DiscoverPairs, Select, Explain}
 use Rattle.sql_tree.specs.Trees.{Tree, Block}
-use Rattle.beas_core.specs.Spelling.{is_reserved}
+use Rattle.beas_core.specs.Spelling.{is_name}
 use Rattle.sql_tree.specs.Symbols.{Symbol, word, number, quoted, mark}
 use Rattle.sql_tree.specs.Grammar.{signed, is_literal, Source}
 use Rattle.sql_parser.specs.Fronts.{joined_to}
@@ -76,12 +76,12 @@ abbrev pub expect : Symbol → List Symbol → Option (List Symbol)
 expect symbol tokens = if starts symbol tokens then Some (rest_of tokens) else None
 
 unfoldable pub read_id : List Symbol → Option (List ℕ × List Symbol)
-read_id (word n ∷ rest) = if is_reserved n then None else Some (n, rest)
+read_id (word n ∷ rest) = if is_name n then Some (n, rest) else None
 read_id _ = None
 
 -- whether an identifier is next
 unfoldable pub starts_id : List Symbol → Bool
-starts_id (word n ∷ rest) = if is_reserved n then false else true
+starts_id (word n ∷ rest) = is_name n
 starts_id _ = false
 
 unfoldable pub read_number : List Symbol → Option (List ℕ × List Symbol)

@@ -3,7 +3,7 @@ ghost use Rattle.std.specs.Prelude.{◌≡◌, ◌∷◌, [], codes, length, IsT
 ghost use Rattle.sql_parser.specs.Reading.{Gives, Passes, starts, rest_of, expect, read_id, read_number, read_quoted, starts_id, starts_quoted, read_sign, sign_of};
 ghost use Rattle.sql_tree.specs.Symbols.{word, mark, symbols};
 
-use beas_core::{Duplicate, Name, NoMemory, Sign, Text, is_reserved};
+use beas_core::{Duplicate, Name, NoMemory, Sign, Text, is_name};
 use sql_text::{Token, TokenKind};
 use std::alloc::{AllocError, AllocFailed, Global};
 use std::marker::Model;
@@ -131,7 +131,7 @@ impl<'a> Reader<'a> {
     {
         match self.rest.split_first() {
             Some((token, rest))
-                if token.kind == TokenKind::Word && !is_reserved(token.text.as_str()) => {
+                if token.kind == TokenKind::Word && is_name(token.text.as_str()) => {
                 self.rest = rest;
                 Ok(Name::from_text(token.text.copy(alloc)?))
             }
@@ -184,7 +184,7 @@ impl<'a> Reader<'a> {
         ensures { result ≡ starts_id self.now }
     {
         match self.rest.split_first() {
-            Some((token, _)) => token.kind == TokenKind::Word && !is_reserved(token.text.as_str()),
+            Some((token, _)) => token.kind == TokenKind::Word && is_name(token.text.as_str()),
             None => false,
         }
     }

@@ -17,7 +17,7 @@ use Rattle.sql_tree.specs.declared.tree.FromItem.{FromItem}
 use Rattle.sql_tree.specs.declared.tree.BlockTree.{BlockTree}
 use Rattle.sql_tree.specs.declared.tree.Statement.{Statement}
 use Rattle.sql_tree.specs.declared.tree.Statement.TheVariants.{CreateTable, CreateAccess, DropAccess, Load, Insert, Delete, DiscoverGroup, DiscoverPairs, Select, Explain}
-use Rattle.beas_core.specs.Spelling.{is_reserved}
+use Rattle.beas_core.specs.Spelling.{is_name}
 use Rattle.sql_tree.specs.Symbols.{Symbol, word, number, quoted, mark}
 use Rattle.sql_tree.specs.Trees.{Tree, Block, Union, Except}
 use Rattle.sql_tree.specs.Words.{ACCESS, AND, AS, BETWEEN, CREATE, CROSS, DELETE, DISCOVER, DISTINCT, DROP, EXCEPT, EXPLAIN, FETCH, FROM, INNER, INSERT, INT, INTEGER, INTO, JOIN, LIMIT, LOAD, ON, SELECT, TABLE, TEXT, UNION, VALUES, WHERE, OPEN, CLOSE, COMMA, DOT, STAR, PLUS, MINUS}
@@ -27,9 +27,9 @@ pub data Commas {X : Type 0} (Spelled : List Symbol → X → Type 0) : List Sym
   last : {a : List Symbol} {x : X} → Spelled a x → Commas Spelled a (x ∷ [])
   comma : {a b : List Symbol} {x : X} {xs : List X} → Spelled a x → Commas Spelled b xs → Commas Spelled (a ++ COMMA ∷ b) (x ∷ xs)
 
--- id: a word that isn't reserved
+-- id: a word that is a name
 pub data IsId : List Symbol → List ℕ → Type 0 where
-  id : {n : List ℕ} → is_reserved n ≡ false → IsId (word n ∷ []) n
+  id : {n : List ℕ} → is_name n ≡ true → IsId (word n ∷ []) n
 
 -- [ ids ]
 pub data IsMaybeIds : List Symbol → List (List ℕ) → Type 0 where
