@@ -1,3 +1,4 @@
+pub mod Accesses
 pub mod Groups
 pub mod Identifiers
 pub mod Sets

@@ -18,4 +18,4 @@ value_of-requires-clause-width c =
     let at : c.place.result + c.args.i < length c.self.inside.tuples = omega (arith, within, c.place.ensures, c.requires.member) in
     tuple_width c.self.inside.width c.self.inside.rows c.self.inside.rule c.args.self.now c.self.inside.tuples c.args.hits.now.access
     (c.place.result + c.args.i) c.as_slice.result.now c.access-2.result.now c.self.view_is c.self.invariant c.requires.live at
-    (c.as_slice.ensures ∙ c.get-tuple.ensures) c.access-2.ensures.rule
+    (c.as_slice.ensures ∙ c.get-tuple.ensures) c.access-2.ensures.access
