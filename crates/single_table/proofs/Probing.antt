@@ -1,5 +1,5 @@
 -- What a probe of a store finds.
-use Rattle.std.proofs.Common.{◌≡◌, ◌≤◌, ◌<◌, ◌+◌, ◌^◌, ℕ, cond, eq-eqb, List, [], length, map, take, drop, get_or, filter, Option, Some, None, IsSomeAnd, ap, sym, ◌∙◌, subst, arith}
+use Rattle.std.proofs.Common.{◌≡◌, ◌≤◌, ◌<◌, ◌+◌, ◌^◌, ℕ, true, cond, eq-eqb, List, [], ◌∷◌, length, map, take, drop, get_or, filter, Option, Some, None, ap, sym, ◌∙◌, subst, arith}
 use Rattle.std.proofs.lemmas.List.{length-map}
 use Rattle.beas_core.specs.declared.value.Value.{Value}
 use Rattle.beas_core.specs.declared.schema.Access.{Access}
@@ -28,7 +28,7 @@ few_tuples width rows o tuples s = omega (arith, s.few, ap length s.index, tuple
 stretch_is_group : (width : ℕ) (rows : List (List Value)) (o : Option Access) (tuples : List (List Value)) (id : AccessId) (key : List Value)
     → StoreIsSound width rows o tuples → is_live (accesses_of o) id ≡ true → length key ≡ length (access_in (accesses_of o) id).key
     → filter (begins key) tuples ≡ group_of (rows_at (record { width = width; rows = rows; rule = o }) (access_in (accesses_of o) id).table) (access_in (accesses_of o) id) key
-stretch_is_group width rows None tuples id key s k l = cc
+stretch_is_group width rows None tuples id key s k = cc
 stretch_is_group width rows (Some rule) tuples id key s k =
     let P : Access → Type 0 = λ r. length key ≡ length r.key → filter (begins key) tuples ≡ group_of (rows_at (record { width = width; rows = rows; rule = Some rule }) r.table) r key in
     subst P (sym (access_in-only rule id k)) (λ l.
@@ -39,7 +39,7 @@ stretch_is_group width rows (Some rule) tuples id key s k =
 group_within : (width : ℕ) (rows : List (List Value)) (o : Option Access) (tuples : List (List Value)) (id : AccessId) (key : List Value)
     → StoreIsSound width rows o tuples → is_live (accesses_of o) id ≡ true → length key ≡ length (access_in (accesses_of o) id).key
     → length (filter (begins key) tuples) ≤ (access_in (accesses_of o) id).bound
-group_within width rows None tuples id key s k l = cc
+group_within width rows None tuples id key s k = cc
 group_within width rows (Some rule) tuples id key s k =
     let P : Access → Type 0 = λ r. length key ≡ length r.key → length (filter (begins key) tuples) ≤ r.bound in
     subst P (sym (access_in-only rule id k)) (λ l. omega (arith, s.holds key, ap length (ap (filter (begins key)) s.index ∙ sym (group_is_filter rows rule.key rule.fetched key l))))
@@ -85,3 +85,11 @@ pub tuple_width : (width : ℕ) (rows : List (List Value)) (o : Option Access) (
 tuple_width width rows o kept tuples id at tuple rule view s k l e r =
     let P : Kept → Type 0 = λ k. is_live (accesses_of k.rule) id ≡ true → length (get_or tuples at []) ≡ length (member_columns (access_in (accesses_of k.rule) id)) in
     ap length e ∙ subst P view (λ m. inside_width rows o tuples id at s.index m l) k ∙ ap (λ u. length (member_columns u)) (sym r)
+
+-- the constraint that is lent is the one with the id
+pub lent_is : (width : ℕ) (rows : List (List Value)) (o : Option Access) (kept : Kept) (id : AccessId) (rule : Access)
+    → record { width = width; rows = rows; rule = o } ≡ kept → is_live (accesses_of kept.rule) id ≡ true → o ≡ Some rule → rule ≡ access_in (accesses_of kept.rule) id
+lent_is width rows o kept id rule view k e =
+    let same : kept.rule ≡ Some rule = sym (ap (λ s. s.rule) view) ∙ e in
+    let live : is_live (rule ∷ []) id ≡ true = subst (λ p. is_live (accesses_of p) id ≡ true) same k in
+    subst (λ p. rule ≡ access_in (accesses_of p) id) (sym same) (sym (access_in-only rule id live))
