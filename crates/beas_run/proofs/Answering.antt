@@ -1,11 +1,11 @@
 -- The answer of a query that the constraint serves, from what a fetch gives.
-use Rattle.std.proofs.Common.{◌≡◌, ◌+◌, ◌||◌, List, [], ℕ, Option, Some, true, false, refl, ap, sym, ◌∙◌, subst, eq-eqb}
+use Rattle.std.proofs.Common.{◌≡◌, ◌≤◌, ◌+◌, ◌||◌, List, [], ℕ, Option, Some, true, false, refl, ap, sym, ◌∙◌, subst, eq-eqb}
 use Rattle.beas_core.specs.declared.value.Value.{Value}
 use Rattle.beas_core.specs.declared.schema.Access.{Access}
 use Rattle.report.specs.declared.reports.Report.{Report}
 use Rattle.report.specs.declared.reports.Report.TheVariants.{Answered}
 use Rattle.single_table.specs.declared.query.Query.{Query}
-use Rattle.single_table.specs.Queries.{is_served, full_answer, reads}
+use Rattle.single_table.specs.Queries.{is_served, serves, full_answer, reads}
 use Rattle.beas_run.specs.Meaning.{Relation, kept_of, served_answer, answer}
 use Rattle.beas_core.specs.Derivations.{access_in, is_live}
 use Rattle.beas_core.proofs.Accesses.{access_in-first}
@@ -45,3 +45,16 @@ counted relation rule items query before after e t s n =
     let seen = rows_seen relation rule e t in
     let n' = rw (seen, the_rule relation rule e) at n in
     rw (served_some relation rule items query e s) n'
+
+pub at_most : (relation : Relation) (rule : Access) (items : List (List ℕ)) (query : Query) (before after : ℕ)
+    → relation.rule ≡ Some rule → rule.table.0 ≡ 0 → is_served (Some rule) query ≡ true
+    → after ≤ before + reads (rows_at (kept_of relation) (access_in (accesses_of relation.rule) rule.id).table) (access_in (accesses_of relation.rule) rule.id) query
+    → after ≤ before + (served_answer relation items query).cost
+at_most relation rule items query before after e t s l =
+    let n = reads (rows_at (kept_of relation) (access_in (accesses_of relation.rule) rule.id).table) (access_in (accesses_of relation.rule) rule.id) query in
+    let P : ℕ → Type 0 = λ m. after ≤ m in
+    subst P (counted relation rule items query before (before + n) e t s refl) l
+
+pub serves_query : (relation : Relation) (rule : Access) (query : Query) → relation.rule ≡ Some rule → is_served (Some rule) query ≡ true
+    → serves (access_in (accesses_of relation.rule) rule.id) query ≡ true
+serves_query relation rule query e s = ap (λ r. serves r query) (the_rule relation rule e) ∙ s
