@@ -2,17 +2,18 @@
 use Rattle.std.proofs.Common.{◌≡◌, ◌==◌, ◌&&◌, ◌||◌, ◌<◌, ◌≤◌, ◌+◌, ℕ, zero, suc, Bool, true, false, not, cond, List, [], ◌∷◌, length, map, get_or, ◌⊎◌, inl, inr, refl, ap, sym, ◌∙◌, subst, arith}
 use Rattle.std.specs.List.{list_any, range_with_len, enumerate_from, position_or_len}
 use Rattle.std.proofs.lemmas.Bool.{eqb-true}
+use Rattle.std.proofs.lemmas.List.Sums.{passes_at_first}
 use Rattle.std.proofs.lemmas.List.Elements.{All-contains, All-from_recursion}
 use Rattle.beas_core.specs.declared.query.Atom.{Atom}
 use Rattle.beas_core.specs.declared.query.Place.{Place}
 use Rattle.beas_core.specs.declared.query.Block.{Block}
 use Rattle.beas_core.specs.Shapes.{IsPlace, BlockIsWellFormed, width_of}
-use Rattle.beas_core.specs.Classes.{Linked, itself, equated, turned, chained, same_place, joined, places_of, firsts, leaders, class_of, normal_of}
+use Rattle.beas_core.specs.Classes.{Linked, itself, equated, turned, chained, same_place, is_joined, places_of, firsts, leaders, class_of, normal_of}
+use Rattle.beas_core.specs.Coverage.{ClassesInRange, ConstantsInRange}
 use Rattle.beas_core.proofs.Sets.{Has, Has-map, Has-from_map, Has-filter, Has-from_contains, Contains-from_has, all_from}
-use Rattle.beas_laws.specs.Premises.{ClassesInRange, ConstantsInRange}
-use Rattle.beas_laws.proofs.Tests.{and_left, and_right, and_both, or_cases, or_left, or_right, to_not, which, any_by, Has-flat_map}
-use Rattle.beas_laws.proofs.Uses.{same_number}
-use Rattle.beas_laws.proofs.Bindings.{Has-range}
+use Rattle.evaluation_facts.proofs.MemberTests.{and_left, and_right, and_both, or_cases, or_left, or_right, to_not, which, any_by, Has-flat_map}
+use Rattle.evaluation_facts.proofs.UseFacts.{same_number}
+use Rattle.evaluation_facts.proofs.BindingFacts.{Has-range}
 
 abbrev made : ℕ → ℕ → Place
 made a c = record { atom = a; column = record { 0 = c } }
@@ -25,38 +26,38 @@ place_from_test p q h =
 
 -- the three ways in which two places are joined
 abbrev First : List (Place × Place) → Place × Place → Place → Place → Type 0
-First es e p q = joined es p q ≡ true
+First es e p q = is_joined es p q ≡ true
 
 abbrev Second : List (Place × Place) → Place × Place → Place → Place → Type 0
-Second es e p q = (joined es p e.0 ≡ true) × (joined es e.1 q ≡ true)
+Second es e p q = (is_joined es p e.0 ≡ true) × (is_joined es e.1 q ≡ true)
 
 abbrev Third : List (Place × Place) → Place × Place → Place → Place → Type 0
-Third es e p q = (joined es p e.1 ≡ true) × (joined es e.0 q ≡ true)
+Third es e p q = (is_joined es p e.1 ≡ true) × (is_joined es e.0 q ≡ true)
 
-first : (es : List (Place × Place)) (e : Place × Place) (p q : Place) → First es e p q → joined (e ∷ es) p q ≡ true
-first es e p q h = or_left (joined es p q || (joined es p e.0 && joined es e.1 q)) (joined es p e.1 && joined es e.0 q) (or_left (joined es p q) (joined es p e.0 && joined es e.1 q) h)
+first : (es : List (Place × Place)) (e : Place × Place) (p q : Place) → First es e p q → is_joined (e ∷ es) p q ≡ true
+first es e p q h = or_left (is_joined es p q || (is_joined es p e.0 && is_joined es e.1 q)) (is_joined es p e.1 && is_joined es e.0 q) (or_left (is_joined es p q) (is_joined es p e.0 && is_joined es e.1 q) h)
 
-second : (es : List (Place × Place)) (e : Place × Place) (p q : Place) → Second es e p q → joined (e ∷ es) p q ≡ true
-second es e p q h = or_left (joined es p q || (joined es p e.0 && joined es e.1 q)) (joined es p e.1 && joined es e.0 q)
-    (or_right (joined es p q) (joined es p e.0 && joined es e.1 q) (and_both (joined es p e.0) (joined es e.1 q) h.0 h.1))
+second : (es : List (Place × Place)) (e : Place × Place) (p q : Place) → Second es e p q → is_joined (e ∷ es) p q ≡ true
+second es e p q h = or_left (is_joined es p q || (is_joined es p e.0 && is_joined es e.1 q)) (is_joined es p e.1 && is_joined es e.0 q)
+    (or_right (is_joined es p q) (is_joined es p e.0 && is_joined es e.1 q) (and_both (is_joined es p e.0) (is_joined es e.1 q) h.0 h.1))
 
-third : (es : List (Place × Place)) (e : Place × Place) (p q : Place) → Third es e p q → joined (e ∷ es) p q ≡ true
-third es e p q h = or_right (joined es p q || (joined es p e.0 && joined es e.1 q)) (joined es p e.1 && joined es e.0 q) (and_both (joined es p e.1) (joined es e.0 q) h.0 h.1)
+third : (es : List (Place × Place)) (e : Place × Place) (p q : Place) → Third es e p q → is_joined (e ∷ es) p q ≡ true
+third es e p q h = or_right (is_joined es p q || (is_joined es p e.0 && is_joined es e.1 q)) (is_joined es p e.1 && is_joined es e.0 q) (and_both (is_joined es p e.1) (is_joined es e.0 q) h.0 h.1)
 
-cases : (es : List (Place × Place)) (e : Place × Place) (p q : Place) → joined (e ∷ es) p q ≡ true → First es e p q ⊎ (Second es e p q ⊎ Third es e p q)
-cases es e p q h = elim (or_cases (joined es p q || (joined es p e.0 && joined es e.1 q)) (joined es p e.1 && joined es e.0 q) h) [
-  | inl g ↦ elim (or_cases (joined es p q) (joined es p e.0 && joined es e.1 q) g) [
+cases : (es : List (Place × Place)) (e : Place × Place) (p q : Place) → is_joined (e ∷ es) p q ≡ true → First es e p q ⊎ (Second es e p q ⊎ Third es e p q)
+cases es e p q h = elim (or_cases (is_joined es p q || (is_joined es p e.0 && is_joined es e.1 q)) (is_joined es p e.1 && is_joined es e.0 q) h) [
+  | inl g ↦ elim (or_cases (is_joined es p q) (is_joined es p e.0 && is_joined es e.1 q) g) [
     | inl k ↦ inl k
-    | inr k ↦ inr (inl (and_left (joined es p e.0) (joined es e.1 q) k, and_right (joined es p e.0) (joined es e.1 q) k))
+    | inr k ↦ inr (inl (and_left (is_joined es p e.0) (is_joined es e.1 q) k, and_right (is_joined es p e.0) (is_joined es e.1 q) k))
   ]
-  | inr g ↦ inr (inr (and_left (joined es p e.1) (joined es e.0 q) g, and_right (joined es p e.1) (joined es e.0 q) g))
+  | inr g ↦ inr (inr (and_left (is_joined es p e.1) (is_joined es e.0 q) g, and_right (is_joined es p e.1) (is_joined es e.0 q) g))
 ]
 
-pub joined_itself : (es : List (Place × Place)) (p : Place) → joined es p p ≡ true
+pub joined_itself : (es : List (Place × Place)) (p : Place) → is_joined es p p ≡ true
 joined_itself [] p = and_both (p.atom == p.atom) (p.column.0 == p.column.0) (same_number p.atom p.atom refl) (same_number p.column.0 p.column.0 refl)
 joined_itself (e ∷ es) p = first es e p p (joined_itself es p)
 
-pub joined_turned : (es : List (Place × Place)) (p q : Place) → joined es p q ≡ true → joined es q p ≡ true
+pub joined_turned : (es : List (Place × Place)) (p q : Place) → is_joined es p q ≡ true → is_joined es q p ≡ true
 joined_turned [] p q h = let e = place_from_test p q h in subst (λ r. same_place r p ≡ true) e (joined_itself [] p)
 joined_turned (e ∷ es) p q h = elim (cases es e p q h) [
   | inl g ↦ first es e q p (joined_turned es p q g)
@@ -66,7 +67,7 @@ joined_turned (e ∷ es) p q h = elim (cases es e p q h) [
   ]
 ]
 
-pub joined_chained : (es : List (Place × Place)) (p q r : Place) → joined es p q ≡ true → joined es q r ≡ true → joined es p r ≡ true
+pub joined_chained : (es : List (Place × Place)) (p q r : Place) → is_joined es p q ≡ true → is_joined es q r ≡ true → is_joined es p r ≡ true
 joined_chained [] p q r h g = let e = place_from_test p q h in subst (λ s. same_place s r ≡ true) (sym e) g
 joined_chained (e ∷ es) p q r h g = elim (cases es e p q h) [
   | inl a ↦ elim (cases es e q r g) [
@@ -94,16 +95,16 @@ joined_chained (e ∷ es) p q r h g = elim (cases es e p q h) [
   ]
 ]
 
-joined_here : (es : List (Place × Place)) (p q : Place) → Has es (p, q) → joined es p q ≡ true
+joined_here : (es : List (Place × Place)) (p q : Place) → Has es (p, q) → is_joined es p q ≡ true
 joined_here [] p q h = absurd h
 joined_here (e ∷ es) p q (inl d) =
     let a : p ≡ e.0 = ap (λ x. x.0) d in
     let b : q ≡ e.1 = ap (λ x. x.1) d in
-    second es e p q (subst (λ x. joined es p x ≡ true) a (joined_itself es p), subst (λ x. joined es x q ≡ true) b (joined_itself es q))
+    second es e p q (subst (λ x. is_joined es p x ≡ true) a (joined_itself es p), subst (λ x. is_joined es x q ≡ true) b (joined_itself es q))
 joined_here (e ∷ es) p q (inr h) = first es e p q (joined_here es p q h)
 
 -- the least equivalence is computed
-pub joined_from_linked : (es : List (Place × Place)) (p q : Place) → Linked es p q → joined es p q ≡ true
+pub joined_from_linked : (es : List (Place × Place)) (p q : Place) → Linked es p q → is_joined es p q ≡ true
 joined_from_linked es p q (itself r) = joined_itself es r
 joined_from_linked es p q (equated r s h) = joined_here es r s (Has-from_contains es (r, s) h)
 joined_from_linked es p q (turned r s h) = joined_turned es r s (joined_from_linked es r s h)
@@ -115,27 +116,27 @@ linked_more es e p q (equated r s h) = equated r s (Contains-from_has (e ∷ es)
 linked_more es e p q (turned r s h) = turned r s (linked_more es e r s h)
 linked_more es e p q (chained r s t h g) = chained r s t (linked_more es e r s h) (linked_more es e s t g)
 
-pub linked_from_joined : (es : List (Place × Place)) (p q : Place) → joined es p q ≡ true → Linked es p q
+pub linked_from_joined : (es : List (Place × Place)) (p q : Place) → is_joined es p q ≡ true → Linked es p q
 linked_from_joined [] p q h = subst (Linked [] p) (place_from_test p q h) (itself p)
 linked_from_joined (e ∷ es) p q h = by (cases es e p q h) (linked_from_joined es)
   where
     here : Linked (e ∷ es) e.0 e.1
     here = equated e.0 e.1 (Contains-from_has (e ∷ es) (e.0, e.1) (inl refl))
 
-    by : First es e p q ⊎ (Second es e p q ⊎ Third es e p q) → ((r s : Place) → joined es r s ≡ true → Linked es r s) → Linked (e ∷ es) p q
+    by : First es e p q ⊎ (Second es e p q ⊎ Third es e p q) → ((r s : Place) → is_joined es r s ≡ true → Linked es r s) → Linked (e ∷ es) p q
     by (inl a) later = linked_more es e p q (later p q a)
     by (inr (inl a)) later = chained p e.0 q (linked_more es e p e.0 (later p e.0 a.0)) (chained e.0 e.1 q here (linked_more es e e.1 q (later e.1 q a.1)))
     by (inr (inr a)) later = chained p e.1 q (linked_more es e p e.1 (later p e.1 a.0)) (chained e.1 e.0 q (turned e.0 e.1 here) (linked_more es e e.0 q (later e.0 q a.1)))
 
 -- each place is joined with a leader
-leader_for : (es : List (Place × Place)) (ps : List Place) (p : Place) → Has ps p → (l : Place) × (Has (firsts (joined es) ps) l) × (joined es l p ≡ true)
+leader_for : (es : List (Place × Place)) (ps : List Place) (p : Place) → Has ps p → (l : Place) × (Has (firsts (is_joined es) ps) l) × (is_joined es l p ≡ true)
 leader_for es [] p h = absurd h
-leader_for es (x ∷ xs) p (inl e) = (x, inl refl, subst (λ r. joined es x r ≡ true) (sym e) (joined_itself es x))
+leader_for es (x ∷ xs) p (inl e) = (x, inl refl, subst (λ r. is_joined es x r ≡ true) (sym e) (joined_itself es x))
 leader_for es (x ∷ xs) p (inr h) =
     let r = leader_for es xs p h in
-    elim (which (joined es x r.0)) [
+    elim (which (is_joined es x r.0)) [
       | inl e ↦ (x, inl refl, joined_chained es x r.0 p e r.2)
-      | inr e ↦ (r.0, inr (Has-filter (λ q. not (joined es x q)) (firsts (joined es) xs) r.0 r.1 (to_not (joined es x r.0) e)), r.2)
+      | inr e ↦ (r.0, inr (Has-filter (λ q. not (is_joined es x q)) (firsts (is_joined es) xs) r.0 r.1 (to_not (is_joined es x r.0) e)), r.2)
     ]
 
 -- the first place that passes a test
@@ -146,14 +147,6 @@ place_below {K} p (x ∷ xs) h = by (p x) h (place_below p xs)
     by : (b : Bool) → (b || list_any p xs) ≡ true → (list_any p xs ≡ true → position_or_len p xs < length xs) → cond (not b) (1 + position_or_len p xs) 0 < length (x ∷ xs)
     by true g later = omega arith
     by false g later = let l = later g in omega arith
-
-place_passes : {K : Type 0} (p : K → Bool) (xs : List K) (d : K) → list_any p xs ≡ true → p (get_or xs (position_or_len p xs) d) ≡ true
-place_passes p [] d h = cc
-place_passes {K} p (x ∷ xs) d h = by (p x) refl h (place_passes p xs d)
-  where
-    by : (b : Bool) → p x ≡ b → (b || list_any p xs) ≡ true → (list_any p xs ≡ true → p (get_or xs (position_or_len p xs) d) ≡ true) → p (get_or (x ∷ xs) (cond (not b) (1 + position_or_len p xs) 0) d) ≡ true
-    by true e g later = e
-    by false e g later = let n : 1 + position_or_len p xs ≡ suc (position_or_len p xs) = omega arith in ap (λ k. p (get_or (x ∷ xs) k d)) n ∙ later g
 
 same_position : {K : Type 0} (p q : K → Bool) → ((x : K) → p x ≡ q x) → (xs : List K) → position_or_len p xs ≡ position_or_len q xs
 same_position p q e [] = refl
@@ -192,24 +185,24 @@ has_place atoms p h =
     (Has-map (λ c. record { atom = p.atom; column = record { 0 = c } }) (range_with_len 0 a.width) p.column.0 (Has-range a.width 0 p.column.0 (omega arith) (let l = h.column in omega arith)))
 
 module _ (block : Block) where
-  leads : (p : Place) → Has (places_of block.atoms) p → list_any (λ l. joined block.equalities l p) (leaders block) ≡ true
-  leads p h = let r = leader_for block.equalities (places_of block.atoms) p h in any_by (λ l. joined block.equalities l p) (leaders block) r.0 r.1 r.2
+  leads : (p : Place) → Has (places_of block.atoms) p → list_any (λ l. is_joined block.equalities l p) (leaders block) ≡ true
+  leads p h = let r = leader_for block.equalities (places_of block.atoms) p h in any_by (λ l. is_joined block.equalities l p) (leaders block) r.0 r.1 r.2
 
   class_below : (p : Place) → Has (places_of block.atoms) p → class_of block p < length (leaders block)
-  class_below p h = place_below (λ l. joined block.equalities l p) (leaders block) (leads p h)
+  class_below p h = place_below (λ l. is_joined block.equalities l p) (leaders block) (leads p h)
 
   pub class_from_linked : (p q : Place) → Linked block.equalities p q → class_of block p ≡ class_of block q
   class_from_linked p q h =
       let j = joined_from_linked block.equalities p q h in
-      same_position (λ l. joined block.equalities l p) (λ l. joined block.equalities l q) (λ l. bool_same (joined block.equalities l p) (joined block.equalities l q)
+      same_position (λ l. is_joined block.equalities l p) (λ l. is_joined block.equalities l q) (λ l. bool_same (is_joined block.equalities l p) (is_joined block.equalities l q)
       (λ g. joined_chained block.equalities l p q g j) (λ g. joined_chained block.equalities l q p g (joined_turned block.equalities p q j))) (leaders block)
 
   pub linked_from_class : (p q : Place) → Has (places_of block.atoms) p → Has (places_of block.atoms) q → class_of block p ≡ class_of block q → Linked block.equalities p q
   linked_from_class p q hp hq e =
-      let a = place_passes (λ l. joined block.equalities l p) (leaders block) p (leads p hp) in
-      let b = place_passes (λ l. joined block.equalities l q) (leaders block) p (leads q hq) in
+      let a = passes_at_first (λ l. is_joined block.equalities l p) (leaders block) p (class_below p hp) in
+      let b = passes_at_first (λ l. is_joined block.equalities l q) (leaders block) p (class_below q hq) in
       let leader = get_or (leaders block) (class_of block p) p in
-      let c = subst (λ k. joined block.equalities (get_or (leaders block) k p) q ≡ true) (sym e) b in
+      let c = subst (λ k. is_joined block.equalities (get_or (leaders block) k p) q ≡ true) (sym e) b in
       linked_from_joined block.equalities p q (joined_chained block.equalities p leader q (joined_turned block.equalities leader p a) c)
 
   module _ (shape : BlockIsWellFormed block) where

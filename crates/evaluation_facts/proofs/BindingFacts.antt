@@ -1,7 +1,7 @@
 -- Bindings of classes, and the values that they give.
 --     keys w          the classes that are bound
 --     Binds set w     the classes of the set, and no others, are bound
-use Rattle.std.proofs.Common.{◌≡◌, ◌==◌, ◌<◌, ◌≤◌, ◌+◌, ℕ, zero, suc, Bool, true, false, cond, List, [], ◌∷◌, ◌++◌, length, map, inl, inr, refl, ap, sym, ◌∙◌, subst, arith}
+use Rattle.std.proofs.Common.{◌≡◌, ◌==◌, ◌<◌, ◌≤◌, ◌+◌, ℕ, zero, suc, Bool, true, false, cond, List, [], ◌∷◌, ◌++◌, length, map, inl, inr, refl, ap, sym, subst, arith}
 use Rattle.std.proofs.lemmas.List.{map-append}
 use Rattle.std.specs.declared.cmp.Ordering.{Ordering}
 use Rattle.std.specs.declared.cmp.Ordering.TheVariants.{Less, Equal, Greater}
@@ -10,24 +10,25 @@ use Rattle.std.specs.List.{zip, range_with_len}
 use Rattle.std.proofs.lemmas.Bool.{eqb-true}
 use Rattle.std.proofs.lemmas.Cmp.{tied_itself}
 use Rattle.beas_core.specs.declared.value.Value.{Value}
-use Rattle.beas_core.specs.Order.{value_cmp, row_cmp_total}
+use Rattle.beas_core.specs.Types.{Row, ClassSet, Binding, Bindings}
+use Rattle.beas_core.specs.Order.{value_cmp, value_cmp_total, row_cmp_total}
 use Rattle.beas_core.specs.Full.{same_value}
 use Rattle.beas_core.specs.Groups.{same_row}
 use Rattle.beas_core.specs.Coverage.{has, with_classes}
 use Rattle.beas_core.specs.Valuations.{value_of, agrees, classes_in, as_bindings}
-use Rattle.beas_core.proofs.Sets.{Has, Has-from_map, Has-filter, Has-from_filter, Has-append_left, Has-append_right, Has-append_cases}
+use Rattle.beas_core.proofs.Sets.{Has, Has-filter, Has-from_filter, Has-append_left, Has-append_right, Has-append_cases}
 use Rattle.beas_core.proofs.ValueOrder.{value_cmp_tells}
-use Rattle.beas_laws.proofs.Tests.{all_has, which}
-use Rattle.beas_laws.proofs.ClassSets.{has_below, has-with_kept, has-with_new, has-with_cases}
-use Rattle.beas_laws.proofs.Uses.{same_number}
+use Rattle.evaluation_facts.proofs.MemberTests.{all_has, which}
+use Rattle.evaluation_facts.proofs.ClassSetFacts.{has_below, has-with_kept, has-with_new, has-with_cases}
+use Rattle.evaluation_facts.proofs.UseFacts.{same_number}
 
-abbrev pub keys : List (ℕ × Value) → List ℕ
+abbrev pub keys : Bindings → List ℕ
 keys w = map (λ b. b.0) w
 
-abbrev pub Binds : List Bool → List (ℕ × Value) → Type 0
+abbrev pub Binds : ClassSet → Bindings → Type 0
 Binds set w = ((c : ℕ) → has set c ≡ true → Has (keys w) c) × ((c : ℕ) → Has (keys w) c → has set c ≡ true)
 
-pub value-append_in : (w v : List (ℕ × Value)) (c : ℕ) → Has (keys w) c → value_of (w ++ v) c ≡ value_of w c
+pub value-append_in : (w v : Bindings) (c : ℕ) → Has (keys w) c → value_of (w ++ v) c ≡ value_of w c
 value-append_in [] v c h = absurd h
 value-append_in (b ∷ w) v c h = by (b.0 == c) refl h (value-append_in w v c)
   where
@@ -36,7 +37,7 @@ value-append_in (b ∷ w) v c h = by (b.0 == c) refl h (value-append_in w v c)
     by false e (inl d) later = let s = same_number b.0 c (sym d) in cc
     by false e (inr g) later = later g
 
-pub value-append_out : (w v : List (ℕ × Value)) (c : ℕ) → (Has (keys w) c → ⊥) → value_of (w ++ v) c ≡ value_of v c
+pub value-append_out : (w v : Bindings) (c : ℕ) → (Has (keys w) c → ⊥) → value_of (w ++ v) c ≡ value_of v c
 value-append_out [] v c h = refl
 value-append_out (b ∷ w) v c h = by (b.0 == c) refl (value-append_out w v c (λ g. h (inr g)))
   where
@@ -56,6 +57,10 @@ value-zip f (d ∷ cs) c h = by (d == c) refl h (value-zip f cs c)
 pub keys-zip : (f : ℕ → Value) (cs : List ℕ) → keys (zip cs (map f cs)) ≡ cs
 keys-zip f [] = refl
 keys-zip f (c ∷ cs) = ap (λ ks. c ∷ ks) (keys-zip f cs)
+
+pub zip_of : (f : ℕ → Value) (cs : List ℕ) → zip cs (map f cs) ≡ map (λ c. (c, f c)) cs
+zip_of f [] = refl
+zip_of f (c ∷ cs) = ap (λ r. (c, f c) ∷ r) (zip_of f cs)
 
 pub zip-maps : {A : Type 0} (f : A → ℕ) (g : A → Value) (xs : List A) → zip (map f xs) (map g xs) ≡ map (λ x. (f x, g x)) xs
 zip-maps f g [] = refl
@@ -80,10 +85,13 @@ same_from a b e = by (value_cmp a b) refl e
     by Equal h t = value_cmp_tells a b h
     by Greater h t = cc
 
-pub same_row_to : (a b : List Value) → a ≡ b → same_row a b ≡ true
+pub same_value_to : (a b : Value) → a ≡ b → same_value a b ≡ true
+same_value_to a b e = subst (λ x. same_value a x ≡ true) e (ap is_eq (tied_itself value_cmp_total a))
+
+pub same_row_to : (a b : Row) → a ≡ b → same_row a b ≡ true
 same_row_to a b e = subst (λ x. same_row a x ≡ true) e (ap is_eq (tied_itself row_cmp_total a))
 
-pub agreed : (w : List (ℕ × Value)) (b : ℕ × Value) → agrees w ≡ true → Has w b → b.1 ≡ value_of w b.0
+pub agreed : (w : Bindings) (b : Binding) → agrees w ≡ true → Has w b → b.1 ≡ value_of w b.0
 agreed w b h m = same_from b.1 (value_of w b.0) (all_has (λ d. same_value d.1 (value_of w d.0)) w b h m)
 
 pub Has-range : (n a c : ℕ) → a ≤ c → c < a + n → Has (range_with_len a n) c
@@ -96,29 +104,28 @@ Has-range (suc n) a c l m = elim (which (a == c)) [
     false_true : (a == c) ≡ true → (a == c) ≡ false → ⊥
     false_true p q = cc
 
-pub Has-classes_in : (set : List Bool) (c : ℕ) → has set c ≡ true → Has (classes_in set) c
+pub Has-classes_in : (set : ClassSet) (c : ℕ) → has set c ≡ true → Has (classes_in set) c
 Has-classes_in set c h = Has-filter (has set) (range_with_len 0 (length set)) c (Has-range (length set) 0 c (omega arith) (let l = has_below set c h in omega arith)) h
 
-pub from_classes_in : (set : List Bool) (c : ℕ) → Has (classes_in set) c → has set c ≡ true
+pub from_classes_in : (set : ClassSet) (c : ℕ) → Has (classes_in set) c → has set c ≡ true
 from_classes_in set c h = (Has-from_filter (has set) (range_with_len 0 (length set)) c h).1
 
 -- the value that a valuation of the set's classes gives to one of them
-pub value_in_valuation : (set : List Bool) (w : List (ℕ × Value)) (c : ℕ) → has set c ≡ true → value_of (as_bindings set (map (value_of w) (classes_in set))) c ≡ value_of w c
+pub value_in_valuation : (set : ClassSet) (w : Bindings) (c : ℕ) → has set c ≡ true → value_of (as_bindings set (map (value_of w) (classes_in set))) c ≡ value_of w c
 value_in_valuation set w c h = value-zip (value_of w) (classes_in set) c (Has-classes_in set c h)
 
--- with one row's bindings the classes of its columns are bound too
-pub Binds-append : {A : Type 0} (set : List Bool) (w : List (ℕ × Value)) (f : A → ℕ) (g : A → Value) (xs : List A) → ((x : A) → f x < length set) → Binds set w
-    → Binds (with_classes set (map f xs)) (w ++ map (λ x. (f x, g x)) xs)
-Binds-append set w f g xs below b = (
-  λ c h. subst (λ ks. Has ks c) (sym split) (elim (has-with_cases (map f xs) set c h) [
-    | inl k ↦ Has-append_left (keys w) (map f xs) c (b.0 c k)
-    | inr k ↦ Has-append_right (keys w) (map f xs) c k
+-- with further bindings their classes are bound too
+pub Binds-with : (set : ClassSet) (w v : Bindings) → ((c : ℕ) → Has (keys v) c → c < length set) → Binds set w → Binds (with_classes set (keys v)) (w ++ v)
+Binds-with set w v below b = (
+  λ c h. subst (λ ks. Has ks c) (sym split) (elim (has-with_cases (keys v) set c h) [
+    | inl k ↦ Has-append_left (keys w) (keys v) c (b.0 c k)
+    | inr k ↦ Has-append_right (keys w) (keys v) c k
   ]),
-  λ c h. elim (Has-append_cases (keys w) (map f xs) c (subst (λ ks. Has ks c) split h)) [
-    | inl k ↦ has-with_kept (map f xs) set c (b.1 c k)
-    | inr k ↦ (let m = Has-from_map f xs c k in has-with_new (map f xs) set c k (subst (λ d. d < length set) (sym m.2) (below m.0)))
+  λ c h. elim (Has-append_cases (keys w) (keys v) c (subst (λ ks. Has ks c) split h)) [
+    | inl k ↦ has-with_kept (keys v) set c (b.1 c k)
+    | inr k ↦ has-with_new (keys v) set c k (below c k)
   ],
 )
   where
-    split : keys (w ++ map (λ x. (f x, g x)) xs) ≡ keys w ++ map f xs
-    split = map-append (λ b. b.0) w (map (λ x. (f x, g x)) xs) ∙ ap (λ ks. keys w ++ ks) (keys-map f g xs)
+    split : keys (w ++ v) ≡ keys w ++ keys v
+    split = map-append (λ b. b.0) w v

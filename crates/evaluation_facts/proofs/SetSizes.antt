@@ -1,9 +1,12 @@
 -- How many members sets in order have.
-use Rattle.std.proofs.Common.{◌≡◌, ◌≤◌, ◌+◌, ◌*◌, ℕ, suc, List, [], ◌∷◌, length, map, inl, inr, refl, ap, sym, ◌∙◌, subst, arith, length-append}
+use Rattle.std.proofs.Common.{◌≡◌, ◌≤◌, ◌*◌, ℕ, Bool, not, List, [], ◌∷◌, length, get_or, inl, inr, refl, sym, ◌∙◌, subst, arith}
 use Rattle.std.specs.declared.cmp.Ordering.{Ordering}
 use Rattle.std.specs.declared.cmp.Ordering.TheVariants.{Less}
 use Rattle.std.specs.Cmp.{IsTotalOrder}
-use Rattle.std.specs.List.{flat_map, sum_by, fold}
+use Rattle.std.specs.List.{flat_map, filter}
+use Rattle.std.proofs.lemmas.List.Concat.{length-flat_map}
+use Rattle.std.proofs.lemmas.List.Filters.{length-filter_both}
+use Rattle.std.proofs.lemmas.List.Sums.{sum_by-le}
 use Rattle.beas_core.specs.Order.{TellsApart}
 use Rattle.beas_core.specs.Sets.{distinct, IsInOrder}
 use Rattle.beas_core.proofs.Sets.{Has, all_at, IsInOrder-distinct, Has-distinct, length-distinct-le, not_less_itself, not_less_both}
@@ -34,28 +37,10 @@ module _ {K : Type 0} {cmp : K → K → Ordering} (o : IsTotalOrder cmp) (tells
       omega arith
 
 pub length-flat_map-le : {A B : Type 0} (f : A → List B) (n : ℕ) → ((x : A) → length (f x) ≤ n) → (xs : List A) → length (flat_map f xs) ≤ length xs * n
-length-flat_map-le f n h [] = omega arith
-length-flat_map-le f n h (x ∷ xs) =
-    let k = length-flat_map-le f n h xs in
-    let e = length-append (f x) (flat_map f xs) in
-    let g = h x in
-    let d = suc-times (length xs) n in
-    omega arith
-  where
-    suc-times : (m n : ℕ) → suc m * n ≡ n + m * n
-    suc-times m n = omega arith
+length-flat_map-le f n h xs =
+    let e = length-flat_map f xs in
+    let l = sum_by-le (λ x. length (f x)) n xs (λ i d l. h (get_or xs i d)) in
+    omega (arith, e, l)
 
-pub sum_le : {A : Type 0} (f : A → ℕ) (n : ℕ) → ((x : A) → f x ≤ n) → (xs : List A) → sum_by f xs ≤ length xs * n
-sum_le {A} f n h xs = let g = go 0 xs in omega arith
-  where
-    go : (a : ℕ) (ys : List A) → fold (λ b x. b + f x) a ys ≤ a + length ys * n
-    go a [] = omega arith
-    go a (y ∷ ys) =
-        let k = go (a + f y) ys in
-        let g = h y in
-        let d : suc (length ys) * n ≡ n + length ys * n = omega arith in
-        omega arith
-
-pub length_mapped : {A B : Type 0} (f : A → B) (xs : List A) → length (map f xs) ≡ length xs
-length_mapped f [] = refl
-length_mapped f (x ∷ xs) = ap suc (length_mapped f xs)
+pub length-filter_le : {A : Type 0} (p : A → Bool) (xs : List A) → length (filter p xs) ≤ length xs
+length-filter_le p xs = let e = length-filter_both p (λ x. not (p x)) (λ x. refl) xs in omega (arith, e)
