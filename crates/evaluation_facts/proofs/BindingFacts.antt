@@ -104,6 +104,16 @@ Has-range (suc n) a c l m = elim (which (a == c)) [
     false_true : (a == c) ≡ true → (a == c) ≡ false → ⊥
     false_true p q = cc
 
+pub from_range : (n a c : ℕ) → Has (range_with_len a n) c → c < a + n
+from_range zero a c h = absurd h
+from_range (suc n) a c (inl e) = omega (arith, e)
+from_range (suc n) a c (inr h) = let l = from_range n (a + 1) c h in omega arith
+
+pub range_least : (n a c : ℕ) → Has (range_with_len a n) c → a ≤ c
+range_least zero a c h = absurd h
+range_least (suc n) a c (inl e) = omega (arith, e)
+range_least (suc n) a c (inr h) = let l = range_least n (a + 1) c h in omega arith
+
 pub Has-classes_in : (set : ClassSet) (c : ℕ) → has set c ≡ true → Has (classes_in set) c
 Has-classes_in set c h = Has-filter (has set) (range_with_len 0 (length set)) c (Has-range (length set) 0 c (omega arith) (let l = has_below set c h in omega arith)) h
 

@@ -53,62 +53,62 @@ cases es e p q h = elim (or_cases (is_joined es p q || (is_joined es p e.0 && is
   | inr g ↦ inr (inr (and_left (is_joined es p e.1) (is_joined es e.0 q) g, and_right (is_joined es p e.1) (is_joined es e.0 q) g))
 ]
 
-pub joined_itself : (es : List (Place × Place)) (p : Place) → is_joined es p p ≡ true
-joined_itself [] p = and_both (p.atom == p.atom) (p.column.0 == p.column.0) (same_number p.atom p.atom refl) (same_number p.column.0 p.column.0 refl)
-joined_itself (e ∷ es) p = first es e p p (joined_itself es p)
+pub is_joined_itself : (es : List (Place × Place)) (p : Place) → is_joined es p p ≡ true
+is_joined_itself [] p = and_both (p.atom == p.atom) (p.column.0 == p.column.0) (same_number p.atom p.atom refl) (same_number p.column.0 p.column.0 refl)
+is_joined_itself (e ∷ es) p = first es e p p (is_joined_itself es p)
 
-pub joined_turned : (es : List (Place × Place)) (p q : Place) → is_joined es p q ≡ true → is_joined es q p ≡ true
-joined_turned [] p q h = let e = place_from_test p q h in subst (λ r. same_place r p ≡ true) e (joined_itself [] p)
-joined_turned (e ∷ es) p q h = elim (cases es e p q h) [
-  | inl g ↦ first es e q p (joined_turned es p q g)
+pub is_joined_turned : (es : List (Place × Place)) (p q : Place) → is_joined es p q ≡ true → is_joined es q p ≡ true
+is_joined_turned [] p q h = let e = place_from_test p q h in subst (λ r. same_place r p ≡ true) e (is_joined_itself [] p)
+is_joined_turned (e ∷ es) p q h = elim (cases es e p q h) [
+  | inl g ↦ first es e q p (is_joined_turned es p q g)
   | inr g ↦ elim g [
-    | inl k ↦ third es e q p (joined_turned es e.1 q k.1, joined_turned es p e.0 k.0)
-    | inr k ↦ second es e q p (joined_turned es e.0 q k.1, joined_turned es p e.1 k.0)
+    | inl k ↦ third es e q p (is_joined_turned es e.1 q k.1, is_joined_turned es p e.0 k.0)
+    | inr k ↦ second es e q p (is_joined_turned es e.0 q k.1, is_joined_turned es p e.1 k.0)
   ]
 ]
 
-pub joined_chained : (es : List (Place × Place)) (p q r : Place) → is_joined es p q ≡ true → is_joined es q r ≡ true → is_joined es p r ≡ true
-joined_chained [] p q r h g = let e = place_from_test p q h in subst (λ s. same_place s r ≡ true) (sym e) g
-joined_chained (e ∷ es) p q r h g = elim (cases es e p q h) [
+pub is_joined_chained : (es : List (Place × Place)) (p q r : Place) → is_joined es p q ≡ true → is_joined es q r ≡ true → is_joined es p r ≡ true
+is_joined_chained [] p q r h g = let e = place_from_test p q h in subst (λ s. same_place s r ≡ true) (sym e) g
+is_joined_chained (e ∷ es) p q r h g = elim (cases es e p q h) [
   | inl a ↦ elim (cases es e q r g) [
-    | inl b ↦ first es e p r (joined_chained es p q r a b)
+    | inl b ↦ first es e p r (is_joined_chained es p q r a b)
     | inr c ↦ elim c [
-      | inl b ↦ second es e p r (joined_chained es p q e.0 a b.0, b.1)
-      | inr b ↦ third es e p r (joined_chained es p q e.1 a b.0, b.1)
+      | inl b ↦ second es e p r (is_joined_chained es p q e.0 a b.0, b.1)
+      | inr b ↦ third es e p r (is_joined_chained es p q e.1 a b.0, b.1)
     ]
   ]
   | inr d ↦ elim d [
     | inl a ↦ elim (cases es e q r g) [
-      | inl b ↦ second es e p r (a.0, joined_chained es e.1 q r a.1 b)
+      | inl b ↦ second es e p r (a.0, is_joined_chained es e.1 q r a.1 b)
       | inr c ↦ elim c [
         | inl b ↦ second es e p r (a.0, b.1)
-        | inr b ↦ first es e p r (joined_chained es p e.0 r a.0 b.1)
+        | inr b ↦ first es e p r (is_joined_chained es p e.0 r a.0 b.1)
       ]
     ]
     | inr a ↦ elim (cases es e q r g) [
-      | inl b ↦ third es e p r (a.0, joined_chained es e.0 q r a.1 b)
+      | inl b ↦ third es e p r (a.0, is_joined_chained es e.0 q r a.1 b)
       | inr c ↦ elim c [
-        | inl b ↦ first es e p r (joined_chained es p e.1 r a.0 b.1)
+        | inl b ↦ first es e p r (is_joined_chained es p e.1 r a.0 b.1)
         | inr b ↦ third es e p r (a.0, b.1)
       ]
     ]
   ]
 ]
 
-joined_here : (es : List (Place × Place)) (p q : Place) → Has es (p, q) → is_joined es p q ≡ true
-joined_here [] p q h = absurd h
-joined_here (e ∷ es) p q (inl d) =
+is_joined_here : (es : List (Place × Place)) (p q : Place) → Has es (p, q) → is_joined es p q ≡ true
+is_joined_here [] p q h = absurd h
+is_joined_here (e ∷ es) p q (inl d) =
     let a : p ≡ e.0 = ap (λ x. x.0) d in
     let b : q ≡ e.1 = ap (λ x. x.1) d in
-    second es e p q (subst (λ x. is_joined es p x ≡ true) a (joined_itself es p), subst (λ x. is_joined es x q ≡ true) b (joined_itself es q))
-joined_here (e ∷ es) p q (inr h) = first es e p q (joined_here es p q h)
+    second es e p q (subst (λ x. is_joined es p x ≡ true) a (is_joined_itself es p), subst (λ x. is_joined es x q ≡ true) b (is_joined_itself es q))
+is_joined_here (e ∷ es) p q (inr h) = first es e p q (is_joined_here es p q h)
 
 -- the least equivalence is computed
 pub joined_from_linked : (es : List (Place × Place)) (p q : Place) → Linked es p q → is_joined es p q ≡ true
-joined_from_linked es p q (itself r) = joined_itself es r
-joined_from_linked es p q (equated r s h) = joined_here es r s (Has-from_contains es (r, s) h)
-joined_from_linked es p q (turned r s h) = joined_turned es r s (joined_from_linked es r s h)
-joined_from_linked es p q (chained r s t h g) = joined_chained es r s t (joined_from_linked es r s h) (joined_from_linked es s t g)
+joined_from_linked es p q (itself r) = is_joined_itself es r
+joined_from_linked es p q (equated r s h) = is_joined_here es r s (Has-from_contains es (r, s) h)
+joined_from_linked es p q (turned r s h) = is_joined_turned es r s (joined_from_linked es r s h)
+joined_from_linked es p q (chained r s t h g) = is_joined_chained es r s t (joined_from_linked es r s h) (joined_from_linked es s t g)
 
 linked_more : (es : List (Place × Place)) (e : Place × Place) (p q : Place) → Linked es p q → Linked (e ∷ es) p q
 linked_more es e p q (itself r) = itself r
@@ -131,11 +131,11 @@ linked_from_joined (e ∷ es) p q h = by (cases es e p q h) (linked_from_joined 
 -- each place is joined with a leader
 leader_for : (es : List (Place × Place)) (ps : List Place) (p : Place) → Has ps p → (l : Place) × (Has (firsts (is_joined es) ps) l) × (is_joined es l p ≡ true)
 leader_for es [] p h = absurd h
-leader_for es (x ∷ xs) p (inl e) = (x, inl refl, subst (λ r. is_joined es x r ≡ true) (sym e) (joined_itself es x))
+leader_for es (x ∷ xs) p (inl e) = (x, inl refl, subst (λ r. is_joined es x r ≡ true) (sym e) (is_joined_itself es x))
 leader_for es (x ∷ xs) p (inr h) =
     let r = leader_for es xs p h in
     elim (which (is_joined es x r.0)) [
-      | inl e ↦ (x, inl refl, joined_chained es x r.0 p e r.2)
+      | inl e ↦ (x, inl refl, is_joined_chained es x r.0 p e r.2)
       | inr e ↦ (r.0, inr (Has-filter (λ q. not (is_joined es x q)) (firsts (is_joined es) xs) r.0 r.1 (to_not (is_joined es x r.0) e)), r.2)
     ]
 
@@ -185,17 +185,17 @@ has_place atoms p h =
     (Has-map (λ c. record { atom = p.atom; column = record { 0 = c } }) (range_with_len 0 a.width) p.column.0 (Has-range a.width 0 p.column.0 (omega arith) (let l = h.column in omega arith)))
 
 module _ (block : Block) where
-  leads : (p : Place) → Has (places_of block.atoms) p → list_any (λ l. is_joined block.equalities l p) (leaders block) ≡ true
+  pub leads : (p : Place) → Has (places_of block.atoms) p → list_any (λ l. is_joined block.equalities l p) (leaders block) ≡ true
   leads p h = let r = leader_for block.equalities (places_of block.atoms) p h in any_by (λ l. is_joined block.equalities l p) (leaders block) r.0 r.1 r.2
 
-  class_below : (p : Place) → Has (places_of block.atoms) p → class_of block p < length (leaders block)
+  pub class_below : (p : Place) → Has (places_of block.atoms) p → class_of block p < length (leaders block)
   class_below p h = place_below (λ l. is_joined block.equalities l p) (leaders block) (leads p h)
 
   pub class_from_linked : (p q : Place) → Linked block.equalities p q → class_of block p ≡ class_of block q
   class_from_linked p q h =
       let j = joined_from_linked block.equalities p q h in
       same_position (λ l. is_joined block.equalities l p) (λ l. is_joined block.equalities l q) (λ l. bool_same (is_joined block.equalities l p) (is_joined block.equalities l q)
-      (λ g. joined_chained block.equalities l p q g j) (λ g. joined_chained block.equalities l q p g (joined_turned block.equalities p q j))) (leaders block)
+      (λ g. is_joined_chained block.equalities l p q g j) (λ g. is_joined_chained block.equalities l q p g (is_joined_turned block.equalities p q j))) (leaders block)
 
   pub linked_from_class : (p q : Place) → Has (places_of block.atoms) p → Has (places_of block.atoms) q → class_of block p ≡ class_of block q → Linked block.equalities p q
   linked_from_class p q hp hq e =
@@ -203,7 +203,7 @@ module _ (block : Block) where
       let b = passes_at_first (λ l. is_joined block.equalities l q) (leaders block) p (class_below q hq) in
       let leader = get_or (leaders block) (class_of block p) p in
       let c = subst (λ k. is_joined block.equalities (get_or (leaders block) k p) q ≡ true) (sym e) b in
-      linked_from_joined block.equalities p q (joined_chained block.equalities p leader q (joined_turned block.equalities leader p a) c)
+      linked_from_joined block.equalities p q (is_joined_chained block.equalities p leader q (is_joined_turned block.equalities leader p a) c)
 
   module _ (shape : BlockIsWellFormed block) where
     some_leader : 0 < length (leaders block)

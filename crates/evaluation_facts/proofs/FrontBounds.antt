@@ -170,7 +170,7 @@ module _ (rows : TableRows) (normal : Normal) (accesses : List Access) (guide : 
   pub next_valuations : (done later : List DStep) (s : DStep) → steps_are_sound normal accesses (start_classes normal (is_some guide)) (done ++ s ∷ later) ≡ true
       → valuations rows normal accesses guide (done ++ s ∷ [])
       ≡ kept normal (bound_by normal accesses (bound_after normal accesses (start_classes normal (is_some guide)) done) s)
-          (extensions rows normal accesses s (bound_after normal accesses (start_classes normal (is_some guide)) done) (valuations rows normal accesses guide done))
+      (extensions rows normal accesses s (bound_after normal accesses (start_classes normal (is_some guide)) done) (valuations rows normal accesses guide done))
   unfolding valuations
   next_valuations done later s h =
       let n = next_step normal accesses start done later s h in

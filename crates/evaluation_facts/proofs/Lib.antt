@@ -1,14 +1,17 @@
 pub mod AnswerFacts
 pub mod BindingFacts
 pub mod ClassFacts
+pub mod ClassNumbers
 pub mod ClassSetFacts
 pub mod ConsistencyFacts
 pub mod CoveredSetFacts
 pub mod DerivationsExist
 pub mod FrontBounds
 pub mod MemberTests
+pub mod MoreAccesses
 pub mod QueryBounds
 pub mod ReadFacts
+pub mod ReasonFacts
 pub mod SetSizes
 pub mod SoundDerivations
 pub mod SoundParts

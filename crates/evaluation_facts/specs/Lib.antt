@@ -1,2 +1,4 @@
+pub mod Covered
 pub mod Extensions
 pub mod Guides
+pub mod Numbering
