@@ -104,11 +104,11 @@ is_joined_here (e ∷ es) p q (inl d) =
 is_joined_here (e ∷ es) p q (inr h) = first es e p q (is_joined_here es p q h)
 
 -- the least equivalence is computed
-pub joined_from_linked : (es : List (Place × Place)) (p q : Place) → Linked es p q → is_joined es p q ≡ true
-joined_from_linked es p q (itself r) = is_joined_itself es r
-joined_from_linked es p q (equated r s h) = is_joined_here es r s (Has-from_contains es (r, s) h)
-joined_from_linked es p q (turned r s h) = is_joined_turned es r s (joined_from_linked es r s h)
-joined_from_linked es p q (chained r s t h g) = is_joined_chained es r s t (joined_from_linked es r s h) (joined_from_linked es s t g)
+pub is_joined_from_linked : (es : List (Place × Place)) (p q : Place) → Linked es p q → is_joined es p q ≡ true
+is_joined_from_linked es p q (itself r) = is_joined_itself es r
+is_joined_from_linked es p q (equated r s h) = is_joined_here es r s (Has-from_contains es (r, s) h)
+is_joined_from_linked es p q (turned r s h) = is_joined_turned es r s (is_joined_from_linked es r s h)
+is_joined_from_linked es p q (chained r s t h g) = is_joined_chained es r s t (is_joined_from_linked es r s h) (is_joined_from_linked es s t g)
 
 linked_more : (es : List (Place × Place)) (e : Place × Place) (p q : Place) → Linked es p q → Linked (e ∷ es) p q
 linked_more es e p q (itself r) = itself r
@@ -116,9 +116,9 @@ linked_more es e p q (equated r s h) = equated r s (Contains-from_has (e ∷ es)
 linked_more es e p q (turned r s h) = turned r s (linked_more es e r s h)
 linked_more es e p q (chained r s t h g) = chained r s t (linked_more es e r s h) (linked_more es e s t g)
 
-pub linked_from_joined : (es : List (Place × Place)) (p q : Place) → is_joined es p q ≡ true → Linked es p q
-linked_from_joined [] p q h = subst (Linked [] p) (place_from_test p q h) (itself p)
-linked_from_joined (e ∷ es) p q h = by (cases es e p q h) (linked_from_joined es)
+pub linked_from_is_joined : (es : List (Place × Place)) (p q : Place) → is_joined es p q ≡ true → Linked es p q
+linked_from_is_joined [] p q h = subst (Linked [] p) (place_from_test p q h) (itself p)
+linked_from_is_joined (e ∷ es) p q h = by (cases es e p q h) (linked_from_is_joined es)
   where
     here : Linked (e ∷ es) e.0 e.1
     here = equated e.0 e.1 (Contains-from_has (e ∷ es) (e.0, e.1) (inl refl))
@@ -193,7 +193,7 @@ module _ (block : Block) where
 
   pub class_from_linked : (p q : Place) → Linked block.equalities p q → class_of block p ≡ class_of block q
   class_from_linked p q h =
-      let j = joined_from_linked block.equalities p q h in
+      let j = is_joined_from_linked block.equalities p q h in
       same_position (λ l. is_joined block.equalities l p) (λ l. is_joined block.equalities l q) (λ l. bool_same (is_joined block.equalities l p) (is_joined block.equalities l q)
       (λ g. is_joined_chained block.equalities l p q g j) (λ g. is_joined_chained block.equalities l q p g (is_joined_turned block.equalities p q j))) (leaders block)
 
@@ -203,7 +203,7 @@ module _ (block : Block) where
       let b = passes_at_first (λ l. is_joined block.equalities l q) (leaders block) p (class_below q hq) in
       let leader = get_or (leaders block) (class_of block p) p in
       let c = subst (λ k. is_joined block.equalities (get_or (leaders block) k p) q ≡ true) (sym e) b in
-      linked_from_joined block.equalities p q (is_joined_chained block.equalities p leader q (is_joined_turned block.equalities leader p a) c)
+      linked_from_is_joined block.equalities p q (is_joined_chained block.equalities p leader q (is_joined_turned block.equalities leader p a) c)
 
   module _ (shape : BlockIsWellFormed block) where
     some_leader : 0 < length (leaders block)

@@ -4,12 +4,14 @@ use Rattle.std.specs.Option.{option_map, is_some}
 use Rattle.beas_core.specs.declared.schema.Access.{Access}
 use Rattle.beas_core.specs.declared.plan.DStep.{DStep}
 use Rattle.beas_core.specs.declared.plan.Normal.{Normal}
+use Rattle.beas_core.specs.declared.plan.NotCovered.{NotCovered}
 use Rattle.beas_core.specs.Types.{ClassSet, Use}
-use Rattle.beas_core.specs.Coverage.{has, holds_classes, key_classes, fetched_classes, class_at, uses, Within, IsClosed, is_covered, covered_set, atoms_of, ClassesInRange}
+use Rattle.beas_core.specs.Coverage.{has, holds_classes, key_classes, fetched_classes, class_at, uses, Within, IsClosed, is_covered, covered_set, reason, atoms_of, ClassesInRange}
 use Rattle.beas_core.specs.Derivations.{member_classes, bound_after, adds_class, step_of, with_use, enabled_uses, least_bound, then_step, adding_steps, serving_steps, greedy_steps, derivation}
 use Rattle.beas_core.specs.Groups.{member_columns}
 use Rattle.beas_core.specs.Shapes.{EachIdOnce}
 use Rattle.beas_core.proofs.Sets.{Has, Has-filter, Has-from_filter, Has-from_map, Has-map, Has-append_right, Has-append_cases, Has-from_contains, Contains-from_has}
+use Rattle.evaluation_facts.proofs.ReasonFacts.{reason-covered, covered-reason}
 use Rattle.evaluation_facts.proofs.MemberTests.{and_left, and_right, and_both, from_not, to_not, which, all_has, not_all_has}
 use Rattle.evaluation_facts.proofs.ClassSetFacts.{has_below, has-with_kept, has-with_new, has-with_cases, length-with, holds-within, trues, all_true, trues_more}
 use Rattle.evaluation_facts.proofs.CoveredSetFacts.{covered_set_least, length-covered}
@@ -145,3 +147,25 @@ module _ (normal : Normal) (accesses : List Access) where
           let least = covered_set_least normal accesses start starts ranges in
           let inside = reached once (covered_set normal accesses start) least.closed normal.count start steps least.from_start e in
           covered_within normal accesses (bound_after normal accesses start steps) (covered_set normal accesses start) inside (added normal accesses once normal.count start steps e).1
+
+  -- a derivation is lacking exactly where there is a reason
+  module _ (once : EachIdOnce accesses) (ranges : ClassesInRange normal) (start : ClassSet) (starts : length start ≡ normal.count) where
+    pub reason_if_lacking : derivation normal accesses start ≡ None → is_some (reason normal accesses (covered_set normal accesses start)) ≡ true
+    reason_if_lacking none = by (reason normal accesses (covered_set normal accesses start)) refl
+      where
+        by : (o : Option NotCovered) → reason normal accesses (covered_set normal accesses start) ≡ o → is_some o ≡ true
+        by None e =
+            let there = derivation_exists ranges start starts (reason-covered normal accesses (covered_set normal accesses start) e) in
+            let lacks = ap is_some none in
+            cc
+        by (Some why) e = refl
+
+    pub lacking_if_reason : is_some (reason normal accesses (covered_set normal accesses start)) ≡ true → derivation normal accesses start ≡ None
+    lacking_if_reason some = by (derivation normal accesses start) refl
+      where
+        by : (o : Option (List DStep)) → derivation normal accesses start ≡ o → o ≡ None
+        by None e = refl
+        by (Some steps) e =
+            let covered = derivation_only_if once ranges start starts (ap is_some e) in
+            let lacks = ap is_some (covered-reason normal accesses (covered_set normal accesses start) covered) in
+            cc

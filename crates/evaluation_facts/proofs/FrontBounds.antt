@@ -22,7 +22,8 @@ use Rattle.beas_core.specs.Numbers.{size_after, announced, last_size}
 use Rattle.beas_core.specs.Valuations.{with_row_for, ways, starts, valued, valuations}
 use Rattle.beas_core.proofs.Sets.{Has, Has-append_left, Has-append_right, Has-from_contains, Contains-from_has}
 use Rattle.evaluation_facts.specs.Extensions.{extensions, kept}
-use Rattle.evaluation_facts.specs.Guides.{GuideFits}
+use Rattle.evaluation_facts.specs.Fronts.{FrontsAreBounded, FrontsExtend}
+use Rattle.evaluation_facts.specs.Guides.{GuideFits, BlockStart, StartFits}
 use Rattle.evaluation_facts.proofs.MemberTests.{and_left, and_right, and_both, all_has, all_by}
 use Rattle.evaluation_facts.proofs.ClassSetFacts.{length-with}
 use Rattle.evaluation_facts.proofs.BindingFacts.{Binds}
@@ -225,3 +226,24 @@ module _ (rows : TableRows) (normal : Normal) (accesses : List Access) (guide : 
         let product = mul-le-mul_left (access_in accesses s.access).bound (valuations_few done (s ∷ later) h hold) in
         let whole = announced-append accesses done (s ∷ later) b in
         omega (arith, front, product, whole)
+
+module _ (rows : TableRows) (normal : Normal) (accesses : List Access) (ranges : ClassesInRange normal) (inside : ConstantsInRange normal) (steps : List DStep) where
+  pub fronts_bounded : StepsHold rows accesses steps → (start : BlockStart) → StartFits normal start → steps_are_sound normal accesses (start_classes normal (is_some start.guide)) steps ≡ true
+      → FrontsAreBounded rows normal accesses start steps
+  fronts_bounded hold from fit sound =
+      let start = start_classes normal (is_some from.guide) in
+      record {
+        valuations_are = λ done later e. valuations_few rows normal accesses from.guide ranges inside fit.guide from.size fit.size done later
+            (subst (λ all. steps_are_sound normal accesses start all ≡ true) e sound) (subst (StepsHold rows accesses) e hold);
+        room = λ done later next e.
+            subst (λ all. reads_of rows normal accesses from.guide done + length (valuations rows normal accesses from.guide done) * (access_in accesses next.access).bound ≤ announced accesses from.size all) (sym e)
+            (reads_room rows normal accesses from.guide ranges inside fit.guide from.size fit.size done later next
+            (subst (λ all. steps_are_sound normal accesses start all ≡ true) e sound) (subst (StepsHold rows accesses) e hold));
+        reads_are = reads_few rows normal accesses from.guide ranges inside fit.guide from.size fit.size steps sound hold;
+      }
+
+  pub fronts_extend : (guide : Guide) → GuideFits normal guide → steps_are_sound normal accesses (start_classes normal (is_some guide)) steps ≡ true → FrontsExtend rows normal accesses guide steps
+  fronts_extend guide fit sound = record {
+    step = λ done later next e. next_valuations rows normal accesses guide ranges inside fit done later next
+        (subst (λ all. steps_are_sound normal accesses (start_classes normal (is_some guide)) all ≡ true) e sound);
+  }

@@ -1,10 +1,12 @@
 -- The reads of a prepared query that fits are at most its bound.
-use Rattle.std.proofs.Common.{false, ◌≤◌, List, [], ◌∷◌, map, None, inl, inr, refl, sym, subst, arith}
-use Rattle.std.specs.List.{AllZip}
+use Rattle.std.proofs.Common.{true, false, ◌≡◌, ◌≤◌, List, [], ◌∷◌, map, None, inl, inr, refl, sym, subst, arith}
+use Rattle.std.specs.List.{All, AllZip}
+use Rattle.beas_core.specs.Derivations.{is_live}
 use Rattle.std.proofs.lemmas.List.Elements.{All-contains}
 use Rattle.beas_core.specs.declared.schema.Access.{Access}
 use Rattle.beas_core.specs.declared.query.Block.{Block}
 use Rattle.beas_core.specs.declared.plan.Derivation.{Derivation}
+use Rattle.beas_core.specs.declared.plan.Normal.{Normal}
 use Rattle.beas_core.specs.declared.plan.Prepared.{Prepared}
 use Rattle.beas_core.specs.Types.{TableRows}
 use Rattle.beas_core.specs.Shapes.{BlockIsWellFormed}
@@ -18,6 +20,15 @@ use Rattle.beas_core.proofs.Sets.{Has, Contains-from_has}
 use Rattle.evaluation_facts.proofs.ClassFacts.{classes_in_range, constants_in_range}
 use Rattle.evaluation_facts.proofs.FrontBounds.{reads_few}
 use Rattle.evaluation_facts.proofs.SoundParts.{sound_parts, steps_from}
+
+-- the steps of derivations that fit are live
+pub plans_live : (accesses : List Access) (normals : List Normal) (plans : List Derivation) → AllZip (OwnPlanIsSound accesses) normals plans
+    → (plan : Derivation) → Has plans plan → All (λ s. is_live accesses s.access ≡ true) plan.steps
+plans_live accesses [] [] h plan m = absurd m
+plans_live accesses [] (p ∷ plans) h plan m = absurd h
+plans_live accesses (n ∷ normals) [] h plan m = absurd h
+plans_live accesses (n ∷ normals) (p ∷ plans) h plan (inl e) = subst (λ q. All (λ s. is_live accesses s.access ≡ true) q.steps) (sym e) h.0.sound.live
+plans_live accesses (n ∷ normals) (p ∷ plans) h plan (inr m) = plans_live accesses normals plans h.1 plan m
 
 module _ (rows : TableRows) (accesses : List Access) where
   all_reads : (blocks : List Block) (plans : List Derivation) → ((b : Block) → Has blocks b → BlockIsWellFormed b) → AllZip (OwnPlanIsSound accesses) (map normal_of blocks) plans

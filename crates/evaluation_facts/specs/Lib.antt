@@ -1,4 +1,5 @@
 pub mod Covered
 pub mod Extensions
+pub mod Fronts
 pub mod Guides
 pub mod Numbering
