@@ -23,6 +23,7 @@ use Rattle.beas_core.specs.Valuations.{with_row_for, ways, starts, valued, valua
 use Rattle.beas_core.proofs.Sets.{Has, Has-append_left, Has-append_right, Has-from_contains, Contains-from_has}
 use Rattle.evaluation_facts.specs.Extensions.{extensions, kept}
 use Rattle.evaluation_facts.specs.Fronts.{FrontsAreBounded, FrontsExtend}
+use Rattle.evaluation_facts.specs.StepReads.{reads_at, reads_from}
 use Rattle.evaluation_facts.specs.Guides.{GuideFits, BlockStart, StartFits}
 use Rattle.evaluation_facts.proofs.MemberTests.{and_left, and_right, and_both, all_has, all_by}
 use Rattle.evaluation_facts.proofs.ClassSetFacts.{length-with}
@@ -32,7 +33,7 @@ use Rattle.evaluation_facts.proofs.SoundParts.{step_parts, steps_from}
 use Rattle.evaluation_facts.proofs.StartFacts.{start_counted, start_binds, start_few}
 use Rattle.evaluation_facts.proofs.StepExtends.{binds_more, step_is}
 use Rattle.evaluation_facts.proofs.StepSizes.{step_count, step_reads_count}
-use Rattle.evaluation_facts.proofs.ReadFacts.{reads_at, reads_from, reads_by_step}
+use Rattle.evaluation_facts.proofs.ReadFacts.{reads_by_step}
 
 pub table_from_test : (normal : Normal) (accesses : List Access) (s : DStep) → is_on_table normal accesses s ≡ true → table_of normal s.atom ≡ (access_in accesses s.access).table
 table_from_test normal accesses s h =

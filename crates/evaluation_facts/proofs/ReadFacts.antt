@@ -14,6 +14,7 @@ use Rattle.beas_core.specs.Types.{TableRows, Guide}
 use Rattle.beas_core.specs.Coverage.{start_classes}
 use Rattle.beas_core.specs.Derivations.{access_in, bound_after}
 use Rattle.beas_core.specs.Valuations.{valuations}
+use Rattle.evaluation_facts.specs.StepReads.{reads_at, reads_from}
 use Rattle.beas_core.specs.Reads.{Probe, keys_after, probes_after, probes, probe_reads, access_of_step, reads_of, step_reads}
 
 sum_mapped : {A B : Type 0} (f : B → ℕ) (g : A → B) (xs : List A) → sum_by f (map g xs) ≡ sum_by (λ x. f (g x)) xs
@@ -40,10 +41,6 @@ module _ (rows : TableRows) (normal : Normal) (accesses : List Access) (guide : 
   abbrev counts : List DStep → Probe → ℕ
   counts all p = probe_reads rows (access_of_step accesses all p.step) p.key
 
-  -- the reads of one step after those that are done
-  abbrev pub reads_at : List DStep → DStep → ℕ
-  reads_at done s = step_reads rows normal accesses s (bound_after normal accesses (start_classes normal (is_some guide)) done) (valuations rows normal accesses guide done)
-
   probes_after-append : (xs ys done : List DStep) → probes_after rows normal accesses guide done (xs ++ ys) ≡ probes_after rows normal accesses guide done xs ++ probes_after rows normal accesses guide (done ++ xs) ys
   probes_after-append [] ys done = ap (λ d. probes_after rows normal accesses guide d ys) (sym (append-nil done))
   probes_after-append (x ∷ xs) ys done =
@@ -57,44 +54,39 @@ module _ (rows : TableRows) (normal : Normal) (accesses : List Access) (guide : 
       → probes rows normal accesses guide (done ++ s ∷ []) ≡ probes rows normal accesses guide done ++ map (λ key. record { step = length done; key = key }) (keys_after rows normal accesses guide done s)
   probes-snoc done s = probes-append done (s ∷ []) ∙ ap (λ ps. probes rows normal accesses guide done ++ ps) (append-nil (of_step done s))
 
-  step_counts : (done later : List DStep) (s : DStep) → sum_by (counts (done ++ s ∷ later)) (of_step done s) ≡ reads_at done s
+  step_counts : (done later : List DStep) (s : DStep) → sum_by (counts (done ++ s ∷ later)) (of_step done s) ≡ reads_at rows normal accesses guide done s
   step_counts done later s =
       sum_mapped (counts (done ++ s ∷ later)) (λ key. record { step = length done; key = key }) (keys_after rows normal accesses guide done s)
       ∙ ap (λ a. sum_by (probe_reads rows a) (keys_after rows normal accesses guide done s)) (access_at accesses done later s)
 
-  -- the reads of further steps, step by step
-  abbrev pub reads_from : List DStep → List DStep → ℕ
-  reads_from done [] = 0
-  reads_from done (s ∷ steps) = reads_at done s + reads_from (done ++ s ∷ []) steps
-
-  counted_from : (steps done : List DStep) → sum_by (counts (done ++ steps)) (probes_after rows normal accesses guide done steps) ≡ reads_from done steps
+  counted_from : (steps done : List DStep) → sum_by (counts (done ++ steps)) (probes_after rows normal accesses guide done steps) ≡ reads_from rows normal accesses guide done steps
   counted_from [] done = refl
   counted_from (s ∷ steps) done =
       sum_by-append (counts (done ++ s ∷ steps)) (of_step done s) (probes_after rows normal accesses guide (done ++ s ∷ []) steps)
       ∙ ap (λ n. n + sum_by (counts (done ++ s ∷ steps)) (probes_after rows normal accesses guide (done ++ s ∷ []) steps)) (step_counts done steps s)
-      ∙ ap (λ all. reads_at done s + sum_by (counts all) (probes_after rows normal accesses guide (done ++ s ∷ []) steps)) (sym (append_assoc done (s ∷ []) steps))
-      ∙ ap (λ n. reads_at done s + n) (counted_from steps (done ++ s ∷ []))
+      ∙ ap (λ all. reads_at rows normal accesses guide done s + sum_by (counts all) (probes_after rows normal accesses guide (done ++ s ∷ []) steps)) (sym (append_assoc done (s ∷ []) steps))
+      ∙ ap (λ n. reads_at rows normal accesses guide done s + n) (counted_from steps (done ++ s ∷ []))
 
-  pub reads_by_step : (steps : List DStep) → reads_of rows normal accesses guide steps ≡ reads_from [] steps
+  pub reads_by_step : (steps : List DStep) → reads_of rows normal accesses guide steps ≡ reads_from rows normal accesses guide [] steps
   unfolding reads_of
   reads_by_step steps = counted_from steps []
 
-  from-append : (xs ys done : List DStep) → reads_from done (xs ++ ys) ≡ reads_from done xs + reads_from (done ++ xs) ys
-  from-append [] ys done = ap (λ d. reads_from d ys) (sym (append-nil done)) ∙ zero_plus (reads_from (done ++ []) ys)
+  from-append : (xs ys done : List DStep) → reads_from rows normal accesses guide done (xs ++ ys) ≡ reads_from rows normal accesses guide done xs + reads_from rows normal accesses guide (done ++ xs) ys
+  from-append [] ys done = ap (λ d. reads_from rows normal accesses guide d ys) (sym (append-nil done)) ∙ zero_plus (reads_from rows normal accesses guide (done ++ []) ys)
     where
       zero_plus : (n : ℕ) → n ≡ 0 + n
       zero_plus n = omega arith
   from-append (x ∷ xs) ys done =
       let e = from-append xs ys (done ++ x ∷ []) in
-      let d = ap (λ d. reads_from d ys) (append_assoc done (x ∷ []) xs) in
+      let d = ap (λ d. reads_from rows normal accesses guide d ys) (append_assoc done (x ∷ []) xs) in
       omega (arith, e, d)
 
-  pub reads-append : (xs ys : List DStep) → reads_of rows normal accesses guide (xs ++ ys) ≡ reads_of rows normal accesses guide xs + reads_from xs ys
+  pub reads-append : (xs ys : List DStep) → reads_of rows normal accesses guide (xs ++ ys) ≡ reads_of rows normal accesses guide xs + reads_from rows normal accesses guide xs ys
   reads-append xs ys =
       let whole = reads_by_step (xs ++ ys) in
       let first = reads_by_step xs in
       let e = from-append xs ys [] in
       omega (arith, whole, first, e)
 
-  pub reads-snoc : (done : List DStep) (s : DStep) → reads_of rows normal accesses guide (done ++ s ∷ []) ≡ reads_of rows normal accesses guide done + reads_at done s
+  pub reads-snoc : (done : List DStep) (s : DStep) → reads_of rows normal accesses guide (done ++ s ∷ []) ≡ reads_of rows normal accesses guide done + reads_at rows normal accesses guide done s
   reads-snoc done s = let e = reads-append done (s ∷ []) in omega (arith, e)

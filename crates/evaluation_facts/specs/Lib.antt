@@ -3,3 +3,4 @@ pub mod Extensions
 pub mod Fronts
 pub mod Guides
 pub mod Numbering
+pub mod StepReads
