@@ -1,11 +1,11 @@
 // Queries, from names to answers.
-ghost use Rattle.std.specs.Prelude.{◌≡◌, ◌≤◌, ◌<◌, ◌+◌, length, IfOk, OnOk, option_map};
+ghost use Rattle.std.specs.Prelude.{◌≡◌, ◌≤◌, ◌<◌, ◌+◌, length, IfOk, OnOk, IfSome, option_map};
 ghost use Rattle.beas_run.specs.Meaning.{query_of, select, not_covered, served_answer, column_name};
 
 use crate::form::Condition;
 use crate::names::{column_numbers, tests_of};
 use crate::table::Table;
-use beas_core::{ColumnId, Duplicate, List, Name, NoMemory, Refusal, Steps, Text};
+use beas_core::{ColumnId, Duplicate, List, Name, NoMemory, Refusal, Steps};
 use report::Report;
 use single_table::{Query, fetch, is_served, open_column};
 use std::alloc::Global;
@@ -42,19 +42,18 @@ fn column_name(
     table: &Table,
     column: Option<ColumnId>,
 ) -> Result<Option<Name>, NoMemory>
+    requires { IfSome column (λ c. c.0 < length table.now.columns) }
     ensures { IfOk result (λ name. name ≡ option_map (column_name table.now.columns) column) }
 {
     match column {
-        Some(column) => match table.columns().get(usize::from(column.0)) {
-            Some(name) => Ok(Some(name.copy(alloc)?)),
-            None => Ok(Some(Name::from_text(Text::new(alloc)))),
-        },
+        Some(column) => Ok(Some(table.columns()[usize::from(column.0)].copy(alloc)?)),
         None => Ok(None),
     }
 }
 
 /// That the query isn't covered, and why.
 fn not_covered(alloc: Global, table: &Table, column: Option<ColumnId>) -> Result<Report, NoMemory>
+    requires { IfSome column (λ c. c.0 < length table.now.columns) }
     ensures { IfOk result (λ report. report ≡ (not_covered table.now column).report) }
 {
     Ok(Report::Refused {

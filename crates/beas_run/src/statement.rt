@@ -2,7 +2,7 @@
 ghost use Rattle.std.specs.Prelude.{◌≡◌, ◌≤◌, ◌<◌, ◌+◌, ℕ, [], length, All, IfOk, OnOk, Some, None, IfSome};
 ghost use Rattle.beas_core.specs.Shapes.{EachOnce};
 ghost use Rattle.beas_run.specs.Meaning.{create_table, rule_of, rule_with, constrain, insert, query_of, step, step_on};
-ghost use Rattle.single_table.specs.Store.{Fits};
+ghost use Rattle.single_table.specs.Store.{IsOnTable};
 
 use crate::form::Form;
 use crate::names::{all_differ, different_numbers};
@@ -130,7 +130,7 @@ fn rule_of(
     ensures rule { IfOk result (λ rule. rule ≡ rule_of table.now name on.now key.now fetched.now bound) }
     ensures empty { IfOk result (λ rule. IfSome rule (λ _. table.now.rows ≡ [])) }
     ensures free { IfOk result (λ rule. IfSome rule (λ _. table.now.rule ≡ None)) }
-    ensures fits { IfOk result (λ rule. IfSome rule (λ r. Fits r (length table.now.columns))) }
+    ensures fits { IfOk result (λ rule. IfSome rule (λ r. IsOnTable r (length table.now.columns))) }
 {
     if !table.is(on) || table.rows_len() > 0 || table.rule().is_some() {
         return Ok(None);
@@ -147,7 +147,7 @@ fn rule_of(
 fn rule_with(name: Name, key: List<ColumnId>, fetched: List<ColumnId>, bound: u32) -> Option<Access>
     ensures rule { result ≡ rule_with name key fetched bound }
     ensures fits { (width : ℕ) → EachOnce key → EachOnce fetched → All (λ c. c.0 < width) key → All (λ c. c.0 < width) fetched
-        → IfSome result (λ rule. Fits rule width) }
+        → IfSome result (λ rule. IsOnTable rule width) }
 {
     if fetched.is_empty() || bound == 0 {
         return None;

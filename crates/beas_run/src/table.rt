@@ -4,7 +4,7 @@ ghost use Rattle.std.specs.Option.{option_copied};
 ghost use Rattle.beas_core.specs.declared.errors.Fail.TheVariants.{NoMemory as Want, Refused as Refusing};
 ghost use Rattle.beas_core.specs.Groups.{member_columns};
 ghost use Rattle.beas_run.specs.Meaning.{kept_of};
-ghost use Rattle.single_table.specs.Store.{insert_refusal, Fits};
+ghost use Rattle.single_table.specs.Store.{insert_refusal, IsOnTable};
 
 use beas_core::{Access, Fail, List, Name, Row};
 use single_table::Store;
@@ -67,7 +67,7 @@ impl Table {
     /// The constraint, if there is one.
     pub fn rule(&self) -> Option<&Access>
         ensures rule { option_copied result ≡ self.now.rule }
-        ensures fits { IfSome result (λ rule. Fits rule.now (length self.now.columns)) }
+        ensures fits { IfSome result (λ rule. IsOnTable rule.now (length self.now.columns)) }
     {
         self.store.rule()
     }
@@ -83,7 +83,7 @@ impl Table {
     pub fn constrain(&mut self, rule: Access)
         requires empty { self.old.rows ≡ [] }
         requires free { self.old.rule ≡ None }
-        requires fits { Fits rule (length self.old.columns) }
+        requires fits { IsOnTable rule (length self.old.columns) }
         ensures { self.new ≡ record self.old { rule = Some rule } }
     {
         self.store.constrain(rule);

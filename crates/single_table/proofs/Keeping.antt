@@ -21,7 +21,7 @@ use Rattle.beas_core.proofs.ValueOrder.{row_cmp_tells}
 use Rattle.beas_core.proofs.Sets.{Has, Has-from_contains, Contains-from_has, Has-filter, Has-from_filter, IsInOrder-distinct, add_known, distinct_push, length-add-le}
 use Rattle.beas_core.proofs.Groups.{group_is_filter, group_push_own, begins_project, same_row_itself, length-project, project-append, Holds-push, Holds-from_greatest, greatest-from_Holds}
 use Rattle.single_table.specs.Stretches.{begins}
-use Rattle.single_table.specs.Store.{Kept, IsSound, HasRoom, tuples_over, tuples_of, bound_refusal, insert_refusal}
+use Rattle.single_table.specs.Store.{Kept, StoreIsSound, HasRoom, tuples_over, tuples_of, bound_refusal, insert_refusal}
 
 -- a row that makes a set no longer is in it
 has-from_add : (k : List Value) (xs : List (List Value)) → length (add_in_order row_cmp k xs) ≤ length xs → Has xs k
@@ -165,8 +165,8 @@ tuples_push rule rows row =
     ∙ distinct_push row_cmp_total row_cmp_tells (map (project (member_columns rule)) rows) (project (member_columns rule) row)
 
 grown : (width : ℕ) (rows : List (List Value)) (o : Option Access) (tuples more : List (List Value)) (row : List Value) (limit : ℕ)
-    → IsSound width rows o tuples → length row ≡ width → length rows < limit → limit < 2 ^ 32 → IfSome o (Holds (rows ++ row ∷ [])) → more ≡ tuples_of o (rows ++ row ∷ [])
-    → IsSound width (rows ++ row ∷ []) o more
+    → StoreIsSound width rows o tuples → length row ≡ width → length rows < limit → limit < 2 ^ 32 → IfSome o (Holds (rows ++ row ∷ [])) → more ≡ tuples_of o (rows ++ row ∷ [])
+    → StoreIsSound width (rows ++ row ∷ []) o more
 grown width rows o tuples more row limit s w l f h e = record {
   few = omega (arith, l, f, length_push rows row);
   wide = All-push (λ r. length r ≡ width) rows row s.wide w;
@@ -176,15 +176,15 @@ grown width rows o tuples more row limit s w l f h e = record {
 }
 
 pub sound_after_put : (r : Result (Unit {0}) Fail) (width : ℕ) (rows more_rows : List (List Value)) (o : Option Access) (kept : Kept) (tuples more : List (List Value)) (row tuple : List Value) (limit : ℕ)
-    → record { width = width; rows = rows; rule = o } ≡ kept → IsSound width rows o tuples
+    → record { width = width; rows = rows; rule = o } ≡ kept → StoreIsSound width rows o tuples
     → length row ≡ kept.width → insert_refusal kept row limit ≡ None → limit < 2 ^ 32
     → Some tuple ≡ option_map (λ rule. project (member_columns rule) row) kept.rule
     → OnOk r (more_rows ≡ rows ++ row ∷ []) → OnOk r (more ≡ add_in_order row_cmp tuple tuples) → OnErr r (more_rows ≡ rows) → OnErr r (more ≡ tuples)
-    → IsSound width more_rows o more
+    → StoreIsSound width more_rows o more
 sound_after_put (Err e) width rows more_rows o kept tuples more row tuple limit view s w n f t a b c d =
-    subst (λ rs. IsSound width rs o more) (sym c) (subst (IsSound width rows o) (sym d) s)
+    subst (λ rs. StoreIsSound width rs o more) (sym c) (subst (StoreIsSound width rows o) (sym d) s)
 sound_after_put (Ok u) width rows more_rows o kept tuples more row tuple limit view s w n f t a b c d =
-    subst (λ rs. IsSound width rs o more) (sym a)
+    subst (λ rs. StoreIsSound width rs o more) (sym a)
     (grown width rows o tuples more row limit s (w ∙ sym (ap (λ k. k.width) view))
     (subst (λ k. length k.rows < limit) (sym view) (taken_below_limit kept row limit n)) f
     (let P : Kept → Type 0 = λ k. IfSome k.rule (Holds (k.rows ++ row ∷ [])) in subst P (sym view) (taken_holds kept row limit n))
@@ -198,15 +198,15 @@ sound_after_put (Ok u) width rows more_rows o kept tuples more row tuple limit v
         ap (λ k. add_in_order row_cmp k tuples) same ∙ ap (add_in_order row_cmp (project (member_columns rule) row)) i ∙ sym (tuples_push rule rows row)
 
 pub sound_after_push : (r : Result (Unit {0}) Fail) (width : ℕ) (rows more_rows : List (List Value)) (o : Option Access) (kept : Kept) (tuples : List (List Value)) (row : List Value) (limit : ℕ)
-    → record { width = width; rows = rows; rule = o } ≡ kept → IsSound width rows o tuples
+    → record { width = width; rows = rows; rule = o } ≡ kept → StoreIsSound width rows o tuples
     → length row ≡ kept.width → insert_refusal kept row limit ≡ None → limit < 2 ^ 32
     → None ≡ option_map (λ rule. project (member_columns rule) row) kept.rule
     → OnOk r (more_rows ≡ rows ++ row ∷ []) → OnErr r (more_rows ≡ rows)
-    → IsSound width more_rows o tuples
+    → StoreIsSound width more_rows o tuples
 sound_after_push (Err e) width rows more_rows o kept tuples row limit view s w n f t a c =
-    subst (λ rs. IsSound width rs o tuples) (sym c) s
+    subst (λ rs. StoreIsSound width rs o tuples) (sym c) s
 sound_after_push (Ok u) width rows more_rows o kept tuples row limit view s w n f t a c =
-    subst (λ rs. IsSound width rs o tuples) (sym a)
+    subst (λ rs. StoreIsSound width rs o tuples) (sym a)
     (grown width rows o tuples tuples row limit s (w ∙ sym (ap (λ k. k.width) view))
     (subst (λ k. length k.rows < limit) (sym view) (taken_below_limit kept row limit n)) f
     (let P : Kept → Type 0 = λ k. IfSome k.rule (Holds (k.rows ++ row ∷ [])) in subst P (sym view) (taken_holds kept row limit n))

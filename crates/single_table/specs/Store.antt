@@ -1,6 +1,6 @@
 -- The rows of one table, and at most one constraint over them.
 --     Kept                            what a store keeps
---     Fits rule width                 the constraint is one of this table
+--     IsOnTable rule width                 the constraint is one of this table
 --     tuples_of rule rows             the constraint's index: the distinct tuples over its columns, in order
 --     holds rows rule                 whether the constraint holds
 --     insert_refusal kept row limit   why a row isn't taken, if it isn't
@@ -27,7 +27,7 @@ pub record Kept : Type 0 where
   pub rule : Option Access
 
 -- the constraint is one of the table with number 0, of this many columns
-pub record Fits (rule : Access) (width : ℕ) : Type 0 where
+pub record IsOnTable (rule : Access) (width : ℕ) : Type 0 where
   pub table : rule.table.0 ≡ 0
   pub form : AccessIsWellFormed width rule
 
@@ -39,10 +39,10 @@ tuples_of None rows = []
 tuples_of (Some rule) rows = tuples_over rule rows
 
 -- what is true of every store: the rows have the table's width, the constraint is the table's and holds, and its index is up to date
-pub record IsSound (width : ℕ) (rows : List (List Value)) (rule : Option Access) (tuples : List (List Value)) : Type 0 where
+pub record StoreIsSound (width : ℕ) (rows : List (List Value)) (rule : Option Access) (tuples : List (List Value)) : Type 0 where
   pub few : length rows < 2 ^ 32
   pub wide : All (λ row. length row ≡ width) rows
-  pub fits : IfSome rule (λ r. Fits r width)
+  pub fits : IfSome rule (λ r. IsOnTable r width)
   pub holds : IfSome rule (λ r. Holds rows r)
   pub index : tuples ≡ tuples_of rule rows
 
@@ -66,12 +66,9 @@ HasRoom rule tuples tuple = (length (filter (begins (take (length rule.key) tupl
 abbrev pub rows_at : Kept → TableId → List (List Value)
 rows_at kept table = if table.0 == 0 then kept.rows else []
 
-abbrev pub Knows : Kept → AccessId → Type 0
-Knows kept id = IsSomeAnd kept.rule (λ rule. rule.id ≡ id)
-
-abbrev pub rule_or_none : Option Access → Access
-rule_or_none None = record { id = record { 0 = 0 }; name = []; table = record { 0 = 0 }; key = []; fetched = []; bound = 0 }
-rule_or_none (Some rule) = rule
+abbrev pub accesses_of : Option Access → List Access
+accesses_of None = []
+accesses_of (Some rule) = rule ∷ []
 
 abbrev pub members_at : Kept → Found → List (List Value)
 members_at kept found = take found.len (drop found.place (tuples_of kept.rule kept.rows))

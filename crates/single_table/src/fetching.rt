@@ -3,6 +3,7 @@ ghost use Rattle.std.specs.Prelude.{◌≡◌, ◌+◌, ◌<◌, ◌≤◌, [], 
 ghost use Rattle.std.specs.List.{list_all};
 ghost use Rattle.beas_core.specs.declared.value.Value.{Value as Cell};
 ghost use Rattle.beas_core.specs.declared.schema.ColumnId.{ColumnId as Column};
+ghost use Rattle.beas_core.specs.Derivations.{access_in, is_live};
 ghost use Rattle.beas_core.specs.Full.{same_value};
 ghost use Rattle.beas_core.specs.Groups.{has_column, member_columns, value_in};
 ghost use Rattle.beas_core.specs.Order.{row_cmp};
@@ -47,11 +48,11 @@ fn key_of(alloc: Global, tests: &[Test], columns: &[ColumnId]) -> Result<Row, No
 
 /// Whether a tuple that was found meets all tests.
 fn is_met<P: AccessPort>(port: &P, hits: &Hits, at: u32, tests: &[Test]) -> bool
-    requires live { P.knows port.now hits.now.access }
+    requires live { IsTrue (is_live (P.accesses port.now) hits.now.access) }
     requires stands { P.stands port.now hits.now }
     requires member { at < hits.now.len }
-    requires columns { All (λ test. IsTrue (has_column (member_columns (P.rule port.now hits.now.access)) test.column)) tests.now }
-    ensures { result ≡ list_all (λ test. same_value (value_in (member_columns (P.rule port.now hits.now.access)) (slice_index_or (P.members port.now hits.now) at []) test.column) test.value) tests.now }
+    requires columns { All (λ test. IsTrue (has_column (member_columns (access_in (P.accesses port.now) hits.now.access)) test.column)) tests.now }
+    ensures { result ≡ list_all (λ test. same_value (value_in (member_columns (access_in (P.accesses port.now) hits.now.access)) (slice_index_or (P.members port.now hits.now) at []) test.column) test.value) tests.now }
 {
     for test in tests {
         if *port.value(hits, at, test.column) != test.value {
@@ -69,11 +70,11 @@ fn items_of<P: AccessPort>(
     at: u32,
     items: &[ColumnId],
 ) -> Result<Row, NoMemory>
-    requires live { P.knows port.now hits.now.access }
+    requires live { IsTrue (is_live (P.accesses port.now) hits.now.access) }
     requires stands { P.stands port.now hits.now }
     requires member { at < hits.now.len }
-    requires columns { All (λ column. IsTrue (has_column (member_columns (P.rule port.now hits.now.access)) column)) items.now }
-    ensures { IfOk result (λ row. row ≡ map (value_in (member_columns (P.rule port.now hits.now.access)) (slice_index_or (P.members port.now hits.now) at [])) items.now) }
+    requires columns { All (λ column. IsTrue (has_column (member_columns (access_in (P.accesses port.now) hits.now.access)) column)) items.now }
+    ensures { IfOk result (λ row. row ≡ map (value_in (member_columns (access_in (P.accesses port.now) hits.now.access)) (slice_index_or (P.members port.now hits.now) at [])) items.now) }
 {
     let mut row = List::new(alloc);
     for column in items {
@@ -90,14 +91,14 @@ fn rows_of<P: AccessPort>(
     items: &[ColumnId],
     tests: &[Test],
 ) -> Result<Vec<Row>, NoMemory>
-    requires live { P.knows port.now hits.now.access }
+    requires live { IsTrue (is_live (P.accesses port.now) hits.now.access) }
     requires stands { P.stands port.now hits.now }
     requires len { hits.now.len ≡ length (P.members port.now hits.now) }
-    requires items { All (λ column. IsTrue (has_column (member_columns (P.rule port.now hits.now.access)) column)) items.now }
-    requires tests { All (λ test. IsTrue (has_column (member_columns (P.rule port.now hits.now.access)) test.column)) tests.now }
+    requires items { All (λ column. IsTrue (has_column (member_columns (access_in (P.accesses port.now) hits.now.access)) column)) items.now }
+    requires tests { All (λ test. IsTrue (has_column (member_columns (access_in (P.accesses port.now) hits.now.access)) test.column)) tests.now }
     ensures { IfOk result (λ rows. rows.items
-        ≡ map (λ tuple. map (value_in (member_columns (P.rule port.now hits.now.access)) tuple) items.now)
-        (filter (λ tuple. list_all (λ test. same_value (value_in (member_columns (P.rule port.now hits.now.access)) tuple test.column) test.value) tests.now) (P.members port.now hits.now))) }
+        ≡ map (λ tuple. map (value_in (member_columns (access_in (P.accesses port.now) hits.now.access)) tuple) items.now)
+        (filter (λ tuple. list_all (λ test. same_value (value_in (member_columns (access_in (P.accesses port.now) hits.now.access)) tuple test.column) test.value) tests.now) (P.members port.now hits.now))) }
 {
     let mut rows = Vec::new(alloc);
     for at in 0..hits.len() {
@@ -126,17 +127,17 @@ fn fetch_by<P: AccessPort, L: Ledger>(
     firsts: &[Test],
     steps: &mut Steps<L>,
 ) -> Result<Fetched, NoMemory>
-    requires live { P.knows port.now id }
-    requires serves { IsTrue (serves (P.rule port.now id) query.now) }
+    requires live { IsTrue (is_live (P.accesses port.now) id) }
+    requires serves { IsTrue (serves (access_in (P.accesses port.now) id) query.now) }
     requires clean { contradict query.now.tests ≡ false }
     requires meets { (row : List Cell) → meets firsts.now row ≡ meets query.now.tests row }
     requires constants { (column : Column) → constant_on firsts.now column ≡ constant_on query.now.tests column }
     requires columns { (column : Column) → has_column (map (λ t. t.column) firsts.now) column ≡ has_column (constant_columns query.now) column }
-    ensures rows { IfOk result (λ f. f.rows ≡ full_answer (P.rows port.now (P.rule port.now id).table) query.now) }
-    ensures reads { IfOk result (λ f. f.reads ≡ reads (P.rows port.now (P.rule port.now id).table) (P.rule port.now id) query.now) }
-    ensures cost { OnOk result (steps.new ≡ steps.old + reads (P.rows port.now (P.rule port.now id).table) (P.rule port.now id) query.now) }
+    ensures rows { IfOk result (λ f. f.rows ≡ full_answer (P.rows port.now (access_in (P.accesses port.now) id).table) query.now) }
+    ensures reads { IfOk result (λ f. f.reads ≡ reads (P.rows port.now (access_in (P.accesses port.now) id).table) (access_in (P.accesses port.now) id) query.now) }
+    ensures cost { OnOk result (steps.new ≡ steps.old + reads (P.rows port.now (access_in (P.accesses port.now) id).table) (access_in (P.accesses port.now) id) query.now) }
     ensures no_fewer { steps.old ≤ steps.new }
-    ensures at_most { steps.new ≤ steps.old + reads (P.rows port.now (P.rule port.now id).table) (P.rule port.now id) query.now }
+    ensures at_most { steps.new ≤ steps.old + reads (P.rows port.now (access_in (P.accesses port.now) id).table) (access_in (P.accesses port.now) id) query.now }
 {
     let rule = port.access(id);
     let key = key_of(alloc, firsts, rule.key.as_slice())?;
@@ -158,13 +159,13 @@ pub fn fetch<P: AccessPort, L: Ledger>(
     query: &Query,
     steps: &mut Steps<L>,
 ) -> Result<Fetched, NoMemory>
-    requires live { P.knows port.now id }
-    requires serves { IsTrue (serves (P.rule port.now id) query.now) }
-    ensures rows { IfOk result (λ f. f.rows ≡ full_answer (P.rows port.now (P.rule port.now id).table) query.now) }
-    ensures reads { IfOk result (λ f. f.reads ≡ reads (P.rows port.now (P.rule port.now id).table) (P.rule port.now id) query.now) }
-    ensures cost { OnOk result (steps.new ≡ steps.old + reads (P.rows port.now (P.rule port.now id).table) (P.rule port.now id) query.now) }
+    requires live { IsTrue (is_live (P.accesses port.now) id) }
+    requires serves { IsTrue (serves (access_in (P.accesses port.now) id) query.now) }
+    ensures rows { IfOk result (λ f. f.rows ≡ full_answer (P.rows port.now (access_in (P.accesses port.now) id).table) query.now) }
+    ensures reads { IfOk result (λ f. f.reads ≡ reads (P.rows port.now (access_in (P.accesses port.now) id).table) (access_in (P.accesses port.now) id) query.now) }
+    ensures cost { OnOk result (steps.new ≡ steps.old + reads (P.rows port.now (access_in (P.accesses port.now) id).table) (access_in (P.accesses port.now) id) query.now) }
     ensures no_fewer { steps.old ≤ steps.new }
-    ensures at_most { steps.new ≤ steps.old + reads (P.rows port.now (P.rule port.now id).table) (P.rule port.now id) query.now }
+    ensures at_most { steps.new ≤ steps.old + reads (P.rows port.now (access_in (P.accesses port.now) id).table) (access_in (P.accesses port.now) id) query.now }
 {
     match constants(alloc, query.tests.as_slice())? {
         Some(firsts) => fetch_by(alloc, port, id, query, firsts.as_slice(), steps),

@@ -9,7 +9,7 @@ ghost use Rattle.beas_core.specs.declared.refusal.Counted.TheVariants.{Rows as O
 ghost use Rattle.beas_core.specs.Groups.{Holds, project, member_columns};
 ghost use Rattle.beas_core.specs.Order.{row_cmp};
 ghost use Rattle.beas_core.specs.Sets.{add_in_order};
-ghost use Rattle.single_table.specs.Store.{Kept, Fits, HasRoom, insert_refusal, rows_at, Knows, rule_or_none, members_at, Stands};
+ghost use Rattle.single_table.specs.Store.{Kept, IsOnTable, HasRoom, insert_refusal, rows_at, accesses_of, members_at, Stands};
 
 use crate::columns::{key_of, tuple_of, value_of};
 use crate::tuples::Tuples;
@@ -32,13 +32,13 @@ pub struct Store {
 }
 
 impl Model for Store {
-    ghost use Rattle.single_table.specs.Store.{Kept, IsSound};
+    ghost use Rattle.single_table.specs.Store.{Kept, StoreIsSound};
 
     ghost Value = { Kept };
 
     ghost view = { λ s. record { width = s.width; rows = s.rows; rule = s.rule } };
 
-    ghost invariant = { λ s. IsSound s.width s.rows s.rule s.tuples };
+    ghost invariant = { λ s. StoreIsSound s.width s.rows s.rule s.tuples };
 }
 
 /// Whether the group of a tuple has room for it, or has it already.
@@ -111,7 +111,7 @@ impl Store {
     /// The constraint, if there is one: a well-formed one of this table, which holds.
     pub fn rule(&self) -> Option<&Access>
         ensures rule { option_copied result ≡ self.now.rule }
-        ensures fits { IfSome self.now.rule (λ rule. Fits rule self.now.width) }
+        ensures fits { IfSome self.now.rule (λ rule. IsOnTable rule self.now.width) }
         ensures holds { IfSome self.now.rule (Holds self.now.rows) }
     {
         self.rule.as_ref()
@@ -121,7 +121,7 @@ impl Store {
     pub fn constrain(&mut self, rule: Access)
         requires empty { self.old.rows ≡ [] }
         requires free { self.old.rule ≡ None }
-        requires fits { Fits rule self.old.width }
+        requires fits { IsOnTable rule self.old.width }
         ensures { self.new ≡ record self.old { rule = Some rule } }
     {
         self.rule = Some(rule);
@@ -184,9 +184,7 @@ impl Store {
 impl AccessPort for Store {
     ghost rows = { rows_at };
 
-    ghost knows = { Knows };
-
-    ghost rule = { λ kept id. rule_or_none kept.rule };
+    ghost accesses = { λ kept. accesses_of kept.rule };
 
     ghost members = { members_at };
 

@@ -130,11 +130,11 @@ impl<'a> Reader<'a> {
         ensures { Gives result self.new (read_id self.old) }
     {
         match self.rest.split_first() {
-            Some((token, rest))
-                if token.kind == TokenKind::Word && is_name(token.text.as_str()) => {
-                self.rest = rest;
-                Ok(Name::from_text(token.text.copy(alloc)?))
-            }
+            Some((token, rest)) if token.kind == TokenKind::Word && is_name(token.text.as_str()) =>
+                {
+                    self.rest = rest;
+                    Ok(Name::from_text(token.text.copy(alloc)?))
+                }
             _ => Err(ReadError::Syntax),
         }
     }

@@ -1,4 +1,5 @@
 use Rattle.std.proofs.Common.{◌<◌, length, ap, sym, ◌∙◌, arith}
+use Rattle.beas_core.specs.Derivations.{access_in}
 use Rattle.beas_core.specs.Groups.{member_columns}
 use Rattle.single_table.proofs.Answered.{kept_more, found_skip}
 use Rattle.single_table.proofs.fetching.rows_of.Goals as goal
@@ -7,7 +8,7 @@ use Rattle.single_table.proofs.fetching.rows_of.Goals.{then-is_met+in_ok-items_o
 pub loop-at-preserved : goal.loop-at-preserved
 loop-at-preserved g c =
     let members = g.P.AccessPort.members c.args.port.now c.args.hits.now in
-    let columns = member_columns (g.P.AccessPort.rule c.args.port.now c.args.hits.now.access) in
+    let columns = member_columns (access_in (g.P.AccessPort.accesses c.args.port.now) c.args.hits.now.access) in
     let l : c.loop-at.at < length members = omega (arith, c.loop-at-test.true, c.len-at-end.ensures, c.requires.len) in
     elim c.if-is_met.branch [
       | then-is_met+in_ok-items_of+in_ok-push w ↦
