@@ -1,7 +1,6 @@
 -- A derivation stays sound with more constraints live.
-use Rattle.std.proofs.Common.{◌≡◌, ◌==◌, ◌&&◌, ◌||◌, ℕ, Bool, true, false, not, cond, nat_lt, List, [], ◌∷◌, length, Some, inl, inr, refl, ap, sym, ◌∙◌, subst}
-use Rattle.std.specs.List.{list_any, find, Contains}
-use Rattle.std.specs.Option.{unwrap_or}
+use Rattle.std.proofs.Common.{◌≡◌, ◌==◌, ◌&&◌, ◌||◌, ℕ, Bool, true, false, not, cond, nat_lt, List, [], ◌∷◌, length, inl, inr, refl, ap, sym, ◌∙◌, subst}
+use Rattle.std.specs.List.{list_any, Contains}
 use Rattle.std.proofs.lemmas.Bool.{eqb-true}
 use Rattle.std.proofs.lemmas.List.Elements.{All-contains, All-from_recursion}
 use Rattle.beas_core.specs.declared.schema.AccessId.{AccessId}
@@ -12,26 +11,20 @@ use Rattle.beas_core.specs.Types.{ClassSet}
 use Rattle.beas_core.specs.Shapes.{EachIdOnce}
 use Rattle.beas_core.specs.Coverage.{with_classes, key_classes, holds_classes, holds_needed, needed_places, is_open, atoms_of}
 use Rattle.beas_core.specs.Derivations.{access_in, is_live, table_of, member_classes, use_of, adds_class, bound_by, bound_after, each_step, is_on_table, key_is_bound, adds_rightly, is_served_by, IsSound}
+use Rattle.beas_core.proofs.Accesses.{access_in-first, access_in-rest, access_in-member}
 use Rattle.beas_core.proofs.Sets.{Has, Has-from_contains, Contains-from_has, all_from}
 use Rattle.evaluation_facts.proofs.MemberTests.{and_left, and_right, and_both, any_has, any_by, all_has, all_by}
 use Rattle.evaluation_facts.proofs.SoundParts.{sound_parts, sound_from}
 use Rattle.evaluation_facts.proofs.UseFacts.{same_number, found_by_id}
 
--- a live id finds a member with this id
-pub live_found : (accesses : List Access) (id : AccessId) → is_live accesses id ≡ true → Has accesses (access_in accesses id) × ((access_in accesses id).id ≡ id)
-unfolding access_in
-live_found [] id h = cc
-live_found (a ∷ accesses) id h = by (a.id.0 == id.0) refl h (live_found accesses id)
+-- a live id finds a constraint with this id
+pub live_id : (accesses : List Access) (id : AccessId) → is_live accesses id ≡ true → (access_in accesses id).id ≡ id
+live_id [] id h = cc
+live_id (a ∷ accesses) id h = by (a.id.0 == id.0) refl h (live_id accesses id)
   where
-    by : (b : Bool) → (a.id.0 == id.0) ≡ b → (b || is_live accesses id) ≡ true
-        → (is_live accesses id ≡ true → Has accesses (access_in accesses id) × ((access_in accesses id).id ≡ id))
-        → Has (a ∷ accesses) (unwrap_or (cond b (Some a) (find (λ c. c.id.0 == id.0) accesses)) (record { id = id; name = []; table = record { 0 = 0 }; key = []; fetched = []; bound = 0 }))
-        × ((unwrap_or (cond b (Some a) (find (λ c. c.id.0 == id.0) accesses)) (record { id = id; name = []; table = record { 0 = 0 }; key = []; fetched = []; bound = 0 })).id ≡ id)
-    by true e g later = (inl refl, same_id (eqb-true a.id.0 id.0 e))
-      where
-        same_id : a.id.0 ≡ id.0 → a.id ≡ id
-        same_id d = let made : ℕ → AccessId = λ n. record { 0 = n } in ap made d
-    by false e g later = let r = later g in (inr r.0, r.1)
+    by : (b : Bool) → (a.id.0 == id.0) ≡ b → (b || is_live accesses id) ≡ true → (is_live accesses id ≡ true → (access_in accesses id).id ≡ id) → (access_in (a ∷ accesses) id).id ≡ id
+    by true e l rest = let made : ℕ → AccessId = λ n. record { 0 = n } in ap (λ c. c.id) (access_in-first a accesses id e) ∙ ap made (eqb-true a.id.0 id.0 e)
+    by false e l rest = ap (λ c. c.id) (access_in-rest a accesses id e) ∙ rest l
 
 module _ (normal : Normal) (few many : List Access) where
   -- both lists give these steps the same constraints
@@ -59,8 +52,7 @@ module _ (normal : Normal) (few many : List Access) where
   module _ (once : EachIdOnce many) (within : (access : Access) → Contains few access → Contains many access) where
     still_there : (id : AccessId) → is_live few id ≡ true → Has many (access_in few id) × ((access_in few id).id ≡ id)
     still_there id h =
-        let r = live_found few id h in
-        (Has-from_contains many (access_in few id) (within (access_in few id) (Contains-from_has few (access_in few id) r.0)), r.1)
+        (Has-from_contains many (access_in few id) (within (access_in few id) (Contains-from_has few (access_in few id) (access_in-member few id h))), live_id few id h)
 
     same_access : (id : AccessId) → is_live few id ≡ true → access_in many id ≡ access_in few id
     same_access id h = let r = still_there id h in ap (access_in many) (sym r.1) ∙ found_by_id many once (access_in few id) r.0

@@ -3,7 +3,6 @@
 --     reads-snoc       its reads
 use Rattle.std.proofs.Common.{◌≡◌, ◌+◌, ℕ, List, [], ◌∷◌, ◌++◌, length, map, get_or, refl, ap, sym, ◌∙◌, arith}
 use Rattle.std.specs.List.{sum_by}
-use Rattle.std.specs.Option.{is_some}
 use Rattle.std.proofs.Math.Seq.{get_or-append_seam}
 use Rattle.std.proofs.lemmas.List.{append_assoc, append-nil, map-append, length-map}
 use Rattle.std.proofs.lemmas.List.Sums.{sum_by-append, sum-map}
@@ -11,11 +10,9 @@ use Rattle.beas_core.specs.declared.schema.Access.{Access}
 use Rattle.beas_core.specs.declared.plan.DStep.{DStep}
 use Rattle.beas_core.specs.declared.plan.Normal.{Normal}
 use Rattle.beas_core.specs.Types.{TableRows, Guide}
-use Rattle.beas_core.specs.Coverage.{start_classes}
-use Rattle.beas_core.specs.Derivations.{access_in, bound_after}
-use Rattle.beas_core.specs.Valuations.{valuations}
+use Rattle.beas_core.specs.Derivations.{access_in}
 use Rattle.evaluation_facts.specs.StepReads.{reads_at, reads_from}
-use Rattle.beas_core.specs.Reads.{Probe, keys_after, probes_after, probes, probe_reads, access_of_step, reads_of, step_reads}
+use Rattle.beas_core.specs.Reads.{Probe, keys_after, probes_after, probes, probe_reads, access_of_step, reads_of}
 
 sum_mapped : {A B : Type 0} (f : B → ℕ) (g : A → B) (xs : List A) → sum_by f (map g xs) ≡ sum_by (λ x. f (g x)) xs
 sum_mapped {A} f g xs = sym (sum-map f (map g xs)) ∙ ap (sum_by (λ n. n)) (twice xs) ∙ sum-map (λ x. f (g x)) xs

@@ -1,7 +1,6 @@
 -- What is known of a use of a constraint on an atom, and of the constraint that an id finds.
 use Rattle.std.proofs.Common.{◌≡◌, ◌≢◌, ◌==◌, ◌<◌, ◌+◌, ℕ, suc, Bool, true, false, cond, nat_lt, List, [], ◌∷◌, length, map, get_or, Some, None, inl, inr, refl, ap, sym, ◌∙◌, subst, arith, add-zero, zero-add, eq-eqb}
-use Rattle.std.specs.List.{filter, find, fold, enumerate_from, best_of}
-use Rattle.std.specs.Option.{unwrap_or}
+use Rattle.std.specs.List.{filter, fold, enumerate_from, best_of}
 use Rattle.std.proofs.lemmas.Bool.{eqb-true}
 use Rattle.beas_core.specs.declared.schema.Access.{Access}
 use Rattle.beas_core.specs.declared.plan.Normal.{Normal}
@@ -9,6 +8,7 @@ use Rattle.beas_core.specs.Types.{Use}
 use Rattle.beas_core.specs.Shapes.{EachIdOnce}
 use Rattle.beas_core.specs.Coverage.{uses}
 use Rattle.beas_core.specs.Derivations.{access_in, table_of, least_bound}
+use Rattle.beas_core.proofs.Accesses.{access_in-first, access_in-rest}
 use Rattle.beas_core.proofs.Sets.{Has, Has-from_map, Has-from_filter}
 use Rattle.evaluation_facts.proofs.MemberTests.{Has-from_flat_map, first_of_pairs, rest_of_pairs}
 
@@ -23,16 +23,14 @@ enumerated f d n (x ∷ xs) a (inr h) = let r = enumerated f d (n + 1) xs a h in
 
 -- a member of a list of constraints is the one that its id finds
 pub found_by_id : (accesses : List Access) → EachIdOnce accesses → (access : Access) → Has accesses access → access_in accesses access.id ≡ access
-unfolding access_in
 found_by_id [] once access h = absurd h
 found_by_id (a ∷ accesses) once access h = by (a.id.0 == access.id.0) refl h (found_by_id accesses (rest_of_pairs (λ x y. x.id.0 ≢ y.id.0) a accesses once) access)
   where
-    by : (b : Bool) → (a.id.0 == access.id.0) ≡ b → Has (a ∷ accesses) access → (Has accesses access → access_in accesses access.id ≡ access)
-        → unwrap_or (cond b (Some a) (find (λ c. c.id.0 == access.id.0) accesses)) (record { id = access.id; name = []; table = record { 0 = 0 }; key = []; fetched = []; bound = 0 }) ≡ access
-    by true t (inl e) later = sym e
+    by : (b : Bool) → (a.id.0 == access.id.0) ≡ b → Has (a ∷ accesses) access → (Has accesses access → access_in accesses access.id ≡ access) → access_in (a ∷ accesses) access.id ≡ access
+    by true t (inl e) later = access_in-first a accesses access.id t ∙ sym e
     by true t (inr g) later = absurd (first_of_pairs (λ x y. x.id.0 ≢ y.id.0) a accesses once access g (eqb-true a.id.0 access.id.0 t))
     by false t (inl e) later = let s = same_number a.id.0 access.id.0 (ap (λ x. x.id.0) (sym e)) in cc
-    by false t (inr g) later = later g
+    by false t (inr g) later = access_in-rest a accesses access.id t ∙ later g
 
 pub best_has : {K : Type 0} (beats : K → K → Bool) (u : K) (us : List K) → Has (u ∷ us) (best_of beats u us)
 best_has beats u [] = inl refl

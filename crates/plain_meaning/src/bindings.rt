@@ -1,5 +1,5 @@
 // Valuations by choice of rows, and the reads of a derivation over them.
-ghost use Rattle.std.specs.Prelude.{◌≡◌, ◌<◌, ◌++◌, ◌∷◌, [], if◌then◌else◌, OnOk, pos, map, filter, flat_map, zip, length, IfOk};
+ghost use Rattle.std.specs.Prelude.{◌≡◌, ◌<◌, ◌++◌, ◌∷◌, [], if◌then◌else◌, OnOk, pos, map, filter, flat_map, zip, length, is_some, IfOk};
 ghost use Rattle.std.specs.List.{list_all, range_with_len};
 ghost use Rattle.beas_core.specs.declared.value.Value.TheVariants.{Int as Number};
 ghost use Rattle.beas_core.specs.Groups.{member_columns, value_at};
@@ -397,8 +397,17 @@ pub fn starts_of(
     }
 }
 
+/// Whether there are answers that guide a block.
+pub fn is_guided(guide: &Option<List<Row>>) -> bool
+    ensures { result ≡ is_some guide.now }
+{
+    match guide {
+        None => false,
+        Some(_) => true,
+    }
+}
+
 /// The valuations after some steps, over tables: the values of the bound classes, ascending by class.
-#[tactic(auto, unfolding(beas_core::specs::Valuations::valuations))]
 pub fn valuations(
     alloc: Global,
     tables: &[List<Row>],
@@ -411,7 +420,7 @@ pub fn valuations(
 {
     let zero = Value::Int(0);
     let _count = normal.count;
-    let start = start_classes(alloc, normal, guide.is_some())?;
+    let start = start_classes(alloc, normal, is_guided(guide))?;
     let set = bound_after(alloc, normal, accesses, start.as_slice(), steps)?;
     let classes = classes_held(alloc, set.as_slice())?;
     let starts = starts_of(alloc, normal, guide)?;
@@ -424,6 +433,5 @@ pub fn valuations(
         ways.as_slice(),
         &zero,
     )?;
-    let found = distinct_rows(rows)?;
-    Ok(found)
+    Ok(distinct_rows(rows))
 }

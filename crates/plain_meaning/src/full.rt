@@ -208,7 +208,8 @@ pub fn full_of_block(
 {
     let zero = Value::Int(0);
     let all = all_choices(alloc, tables, block.atoms.as_slice())?;
-    distinct_rows(outputs(alloc, block, all.as_slice(), &zero)?)
+    let found = outputs(alloc, block, all.as_slice(), &zero)?;
+    Ok(distinct_rows(found))
 }
 
 fn has_row(rows: &[Row], row: &Row) -> bool
@@ -229,7 +230,7 @@ fn unite(left: List<Row>, right: List<Row>) -> Result<List<Row>, NoMemory>
     for row in right.into_vec() {
         rows.push(row)?;
     }
-    distinct_rows(rows)
+    Ok(distinct_rows(rows))
 }
 
 fn subtract(alloc: Global, left: List<Row>, right: &[Row]) -> Result<List<Row>, NoMemory>

@@ -9,7 +9,7 @@ ghost use Rattle.beas_core.specs.Reads.{reads_of as all_reads};
 ghost use Rattle.evaluation_facts.specs.StepReads.{reads_at, reads_from};
 ghost use Rattle.plain_meaning.specs.Tables.{rows_in};
 
-use crate::bindings::{bindings_between, valuations, value_in};
+use crate::bindings::{bindings_between, is_guided, valuations, value_in};
 use crate::rows::{distinct_rows, rows_of, value_or};
 use beas_core::{
     Access, AccessId, ColumnId, DStep, Duplicate, List, NoMemory, Normal, Row, Value, compare_rows,
@@ -178,7 +178,7 @@ fn reads_of_probe(
         key,
         zero,
     )?;
-    let group = distinct_rows(members)?;
+    let group = distinct_rows(members);
     Ok((group.len() as u64).max(1))
 }
 
@@ -226,7 +226,7 @@ fn reads_of_step(
         found,
         &zero,
     )?;
-    let distinct = distinct_rows(keys)?;
+    let distinct = distinct_rows(keys);
     let reads = reads_of_keys(
         alloc,
         tables,
@@ -301,7 +301,7 @@ fn reads_of_next(
     ensures { IfOk result (λ reads. reads ≡ reads_at (rows_in tables.now) normal.now accesses.now guide.now done.now step.now) }
 {
     let _count = normal.count;
-    let start = start_classes(alloc, normal, guide.is_some())?;
+    let start = start_classes(alloc, normal, is_guided(guide))?;
     let set = bound_after(alloc, normal, accesses, start.as_slice(), done)?;
     let found = valuations(alloc, tables, normal, accesses, guide, done)?;
     reads_of_step(
