@@ -1,0 +1,124 @@
+//! Runs scripts and compares what they write with what they are to write.
+//!
+//! Each folder of the folder that the program is started in is a case. It has the files
+//!
+//! - `script.beas`, the script, and `output`, what is to be written for it;
+//! - `status`, the status that is wanted, where that isn't 0, and `error`, what is wanted on standard error, where that
+//!   isn't nothing;
+//! - `words`, the command line's words, one a line, where they aren't `script.beas`;
+//! - all files that the script loads.
+//!
+//! A case is run whole, and then once for each length at which its output may fail: then the status is 4 and the
+//! output is what comes before the failure.
+#![tactic(auto)]
+
+ghost use Rattle.std.specs.Prelude.{◌≡◌, ◌<◌};
+
+mod cases;
+
+use beas_core::{Bytes, Steps, Text};
+use beas_run::run;
+use cases::{Case, cases_of};
+use outside::{MemoryFiles, MemorySink};
+use std::alloc::Global;
+use std::io;
+use std::marker::Brand;
+use std::sync::ledger::{Blank, Ledger};
+
+/// The most lengths at which the output of one case is let fail.
+const LENGTHS: usize = 400;
+
+/// What a run left behind.
+#[derive(Drop)]
+struct Ending {
+    status: u8,
+    out: MemorySink,
+    err: MemorySink,
+}
+
+/// The case's files in memory.
+fn files_of(alloc: Global, case: &Case) -> io::Result<MemoryFiles> {
+    let mut files = MemoryFiles::new(alloc);
+    for file in case.files.iter() {
+        let name = Text::from_str(alloc, file.name.as_str()).map_err(out_of_memory)?;
+        let bytes = Bytes::from_vec(file.bytes.to_vec(alloc)?);
+        files.add(name, bytes).map_err(out_of_memory)?;
+    }
+    Ok(files)
+}
+
+fn out_of_memory(_: beas_core::NoMemory) -> io::Error {
+    io::Error::from(io::ErrorKind::OutOfMemory)
+}
+
+/// Runs a case over an output that fails after so many bytes.
+fn run_case<L: Ledger>(alloc: Global, case: &Case, total: u64, blank: Blank) -> io::Result<Ending>
+    requires name { blank.name ≡ L.name }
+    requires parts { blank.parts ≡ L.parts }
+    requires some { 0 < blank.parts }
+{
+    let mut files = files_of(alloc, case)?;
+    let mut out = MemorySink::new(alloc);
+    out.fail_after(total);
+    let mut err = MemorySink::new(alloc);
+    let mut steps = Steps::<L>::start(blank);
+    let status = run(
+        alloc,
+        &case.words,
+        &mut files,
+        &mut out,
+        &mut err,
+        &mut steps,
+    );
+    Ok(Ending { status, out, err })
+}
+
+/// Whether a whole run of the case is as it is to be.
+fn is_as_wanted(alloc: Global, case: &Case) -> io::Result<bool> {
+    let ending = run_case::<Brand>(alloc, case, u64::MAX, Blank::new(1))?;
+    let status = ending.status == case.status;
+    let out = ending.out.bytes() == case.output.as_slice();
+    let err = ending.err.bytes() == case.error.as_slice();
+    Ok(status && out && err)
+}
+
+/// The first length at which the output fails otherwise than it is to.
+fn wrong_length(alloc: Global, case: &Case) -> io::Result<Option<usize>> {
+    let length = case.output.len();
+    for total in (0..length).step_by(length / LENGTHS + 1) {
+        let ending = run_case::<Brand>(alloc, case, total as u64, Blank::new(1))?;
+        let is_prefix = case.output.starts_with(ending.out.bytes())
+            && ending.out.bytes().len() == total;
+        if ending.status != 4 || !is_prefix {
+            return Ok(Some(total));
+        }
+    }
+    Ok(None)
+}
+
+/// Tries a case, and says where it goes wrong. Whether it went well.
+fn try_case(rt: &HostRuntime, case: &Case) -> io::Result<bool> {
+    let name = case.name.as_str();
+    if !is_as_wanted(rt.alloc(), case)? {
+        let ending = run_case::<Brand>(rt.alloc(), case, u64::MAX, Blank::new(1))?;
+        let wrote = String::from_utf8_lossy(rt.alloc(), ending.out.bytes())?;
+        println!(rt; "{name}: status {}, and it wrote\n{wrote}", ending.status)?;
+        return Ok(false);
+    }
+    if let Some(total) = wrong_length(rt.alloc(), case)? {
+        println!(rt; "{name}: wrong where the output fails after {total} bytes")?;
+        return Ok(false);
+    }
+    Ok(true)
+}
+
+fn main(rt: HostRuntime) -> io::Result<()> {
+    let cases = cases_of(&rt)?;
+    let mut well = 0_usize;
+    for case in cases.iter() {
+        if try_case(&rt, case)? {
+            well = well.saturating_add(1);
+        }
+    }
+    println!(rt; "{well} of {} cases as wanted", cases.len())
+}
