@@ -80,9 +80,10 @@ fn status_of(alloc: Global, files: &[CaseFile]) -> io::Result<u8> {
     Ok(digits.as_str().trim().parse::<u8>().unwrap_or(0))
 }
 
-fn case_in(rt: &HostRuntime, name: String) -> io::Result<Case> {
+fn case_in(rt: &HostRuntime, folder: &str, name: String) -> io::Result<Case> {
     let alloc = rt.alloc();
-    let files = files_in(rt, name.as_str())?;
+    let path = format!(in alloc; "{folder}/{name}")?;
+    let files = files_in(rt, path.as_str())?;
     Ok(Case {
         words: words_of(alloc, &files)?,
         output: bytes_of(alloc, &files, "output")?,
@@ -93,11 +94,11 @@ fn case_in(rt: &HostRuntime, name: String) -> io::Result<Case> {
     })
 }
 
-/// The cases of the folder that the program is started in, in order of their names.
-pub fn cases_of(rt: &HostRuntime) -> io::Result<Vec<Case>> {
+/// The cases of a folder, in order of their names.
+pub fn cases_of(rt: &HostRuntime, folder: &str) -> io::Result<Vec<Case>> {
     let mut cases = Vec::new(rt.alloc());
-    for name in names_in(rt, ".", true)? {
-        cases.push(case_in(rt, name)?)?;
+    for name in names_in(rt, folder, true)? {
+        cases.push(case_in(rt, folder, name)?)?;
     }
     Ok(cases)
 }

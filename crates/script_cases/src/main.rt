@@ -1,6 +1,6 @@
 //! Runs scripts and compares what they write with what they are to write.
 //!
-//! Each folder of the folder that the program is started in is a case. It has the files
+//! Each folder of the folder that its word names, or of the one that it is started in, is a case. It has the files
 //!
 //! - `script.beas`, the script, and `output`, what is to be written for it;
 //! - `status`, the status that is wanted, where that isn't 0, and `error`, what is wanted on standard error, where that
@@ -21,9 +21,9 @@ use beas_run::run;
 use cases::{Case, cases_of};
 use outside::{MemoryFiles, MemorySink};
 use std::alloc::Global;
-use std::io;
 use std::marker::Brand;
 use std::sync::ledger::{Blank, Ledger};
+use std::{env, io};
 
 /// The most lengths at which the output of one case is let fail.
 const LENGTHS: usize = 400;
@@ -113,7 +113,11 @@ fn try_case(rt: &HostRuntime, case: &Case) -> io::Result<bool> {
 }
 
 fn main(rt: HostRuntime) -> io::Result<()> {
-    let cases = cases_of(&rt)?;
+    let folder = match env::args(&rt)?.nth(1) {
+        Some(word) => word,
+        None => String::from_str(rt.alloc(), ".")?,
+    };
+    let cases = cases_of(&rt, folder.as_str())?;
     let mut well = 0_usize;
     for case in cases.iter() {
         if try_case(&rt, case)? {
