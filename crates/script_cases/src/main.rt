@@ -51,8 +51,13 @@ fn out_of_memory(_: beas_core::NoMemory) -> io::Error {
     io::Error::from(io::ErrorKind::OutOfMemory)
 }
 
-/// Runs a case over an output that fails after so many bytes.
-fn run_case<L: Ledger>(alloc: Global, case: &Case, total: u64, blank: Blank) -> io::Result<Ending>
+/// Runs a case with a counter of its own.
+fn run_counted<L: Ledger>(
+    alloc: Global,
+    case: &Case,
+    total: u64,
+    blank: Blank,
+) -> io::Result<Ending>
     requires name { blank.name ≡ L.name }
     requires parts { blank.parts ≡ L.parts }
     requires some { 0 < blank.parts }
@@ -73,9 +78,14 @@ fn run_case<L: Ledger>(alloc: Global, case: &Case, total: u64, blank: Blank) -> 
     Ok(Ending { status, out, err })
 }
 
+/// Runs a case over an output that fails after so many bytes.
+fn run_case(alloc: Global, case: &Case, total: u64) -> io::Result<Ending> {
+    run_counted::<Brand>(alloc, case, total, Blank::new(1))
+}
+
 /// Whether a whole run of the case is as it is to be.
 fn is_as_wanted(alloc: Global, case: &Case) -> io::Result<bool> {
-    let ending = run_case::<Brand>(alloc, case, u64::MAX, Blank::new(1))?;
+    let ending = run_case(alloc, case, u64::MAX)?;
     let status = ending.status == case.status;
     let out = ending.out.bytes() == case.output.as_slice();
     let err = ending.err.bytes() == case.error.as_slice();
@@ -86,7 +96,7 @@ fn is_as_wanted(alloc: Global, case: &Case) -> io::Result<bool> {
 fn wrong_length(alloc: Global, case: &Case) -> io::Result<Option<usize>> {
     let length = case.output.len();
     for total in (0..length).step_by(length / LENGTHS + 1) {
-        let ending = run_case::<Brand>(alloc, case, total as u64, Blank::new(1))?;
+        let ending = run_case(alloc, case, total as u64)?;
         let is_prefix = case.output.starts_with(ending.out.bytes())
             && ending.out.bytes().len() == total;
         if ending.status != 4 || !is_prefix {
@@ -100,7 +110,7 @@ fn wrong_length(alloc: Global, case: &Case) -> io::Result<Option<usize>> {
 fn try_case(rt: &HostRuntime, case: &Case) -> io::Result<bool> {
     let name = case.name.as_str();
     if !is_as_wanted(rt.alloc(), case)? {
-        let ending = run_case::<Brand>(rt.alloc(), case, u64::MAX, Blank::new(1))?;
+        let ending = run_case(rt.alloc(), case, u64::MAX)?;
         let wrote = String::from_utf8_lossy(rt.alloc(), ending.out.bytes())?;
         println!(rt; "{name}: status {}, and it wrote\n{wrote}", ending.status)?;
         return Ok(false);
