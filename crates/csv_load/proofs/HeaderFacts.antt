@@ -1,16 +1,15 @@
 -- Loops over the places of a record see what is left of it: one field, and then the rest.
-use Rattle.std.proofs.Common.{◌≡◌, ◌<◌, ◌+◌, ℕ, Bool, true, false, cond, List, [], ◌∷◌, ◌++◌, length, drop, get_or, map, Option, Some, None, suc, refl, ap, sym, ◌∙◌, slice_get, drop-cons, add-one, append_assoc}
+use Rattle.std.proofs.Common.{◌≡◌, ◌<◌, ◌+◌, ℕ, Bool, true, false, cond, List, [], ◌∷◌, ◌++◌, length, drop, get_or, map, Option, Some, None, refl, ap, sym, ◌∙◌, slice_get, append_assoc}
 use Rattle.std.specs.List.{list_all, filter, filter_map, enumerate_from}
 use Rattle.std.specs.Option.{is_some, option_and_then, option_map_or, option_to_list}
-use Rattle.std.proofs.lemmas.List.{map-append}
+use Rattle.std.proofs.lemmas.List.{drop_more, map-append}
 use Rattle.std.proofs.lemmas.Option.{slice_get-get_or, slice_get_within, get_or_from_slice_get}
 use Rattle.csv_load.specs.CsvRows.{the_only}
 
 pub drop_got : {X : Type 0} (xs : List X) (i : ℕ) (x : X) → slice_get xs i ≡ Some x → drop i xs ≡ x ∷ drop (i + 1) xs
 drop_got xs i x e =
-    drop-cons xs i x (slice_get_within xs i x e)
-    ∙ ap (λ y. y ∷ drop (suc i) xs) (get_or_from_slice_get xs i x x e)
-    ∙ ap (λ n. x ∷ drop n xs) (sym (add-one i))
+    drop_more xs i x (slice_get_within xs i x e)
+    ∙ ap (λ y. y ∷ drop (i + 1) xs) (get_or_from_slice_get xs i x x e)
 
 -- the places from one on whose fields pass a test
 abbrev pub places : (List ℕ → Bool) → List (List ℕ) → ℕ → List ℕ
