@@ -1,56 +1,19 @@
-//! Scripts and what is to be written for them: tables of cases over the whole engine, in memory.
+//! Runs over files and sinks that never fail. Scripts with what is to be written for them are in `script_cases`.
 #![tactic(auto)]
 
-ghost use Rattle.std.specs.Prelude.{◌≡◌, ◌<◌, ℕ, List, [], true, Some, None, map, unwrap_or, IfOk};
+ghost use Rattle.std.specs.Prelude.{◌≡◌, ◌<◌, ℕ, List, [], Some, map, unwrap_or};
 ghost use Rattle.std.specs.String.{string_bytes};
 ghost use Rattle.outside.specs.Contents.{content_of};
-ghost use Rattle.outside.specs.Parts.{SentPart};
-ghost use Rattle.sql_parser.specs.Outcome.{Reading};
-ghost use Rattle.beas_run.specs.Scripts.{Readings};
-ghost use Rattle.beas_run.specs.Runs.{script_name, line, HasScript, Completes, Ran as Meant};
+ghost use Rattle.beas_run.specs.Runs.{script_name, Completes};
 
-use beas_core::{Bytes, NoMemory, Steps, Text};
+use beas_core::Steps;
 use beas_run::run;
-use outside::{MemoryFiles, MemorySink, SteadyFiles, SteadySink};
+use outside::{SteadyFiles, SteadySink};
 use std::alloc::Global;
 use std::sync::ledger::{Blank, Ledger};
 
-#[cfg(test)]
-mod tests;
-
-/// What a run in memory left behind.
-#[derive(Drop)]
-pub struct Ran {
-    pub status: u8,
-    pub out: MemorySink,
-    pub err: MemorySink,
-}
-
-/// A run over files and sinks in memory, which may be told to fail.
-pub fn run_words<L: Ledger>(
-    alloc: Global,
-    words: &[String],
-    mut files: MemoryFiles,
-    mut out: MemorySink,
-    mut err: MemorySink,
-    blank: Blank,
-) -> Ran
-    requires name { blank.name ≡ L.name }
-    requires parts { blank.parts ≡ L.parts }
-    requires some { 0 < blank.parts }
-    ensures ran { (script : List ℕ) × (readings : List Reading) × (reads : ℕ) × Readings script readings
-        × Meant readings result.status true out.sent.items result.out.sent.items 0 reads
-        × HasScript script result.status (script_name (map string_bytes words.now)) true (content_of files.shelf) }
-    ensures words { result.status ≡ 2 → script_name (map string_bytes words.now) ≡ None }
-    ensures said { SentPart err.sent.items result.err.sent.items (line result.status) }
-{
-    let mut steps = Steps::<L>::start(blank);
-    let status = run(alloc, words, &mut files, &mut out, &mut err, &mut steps);
-    Ran { status, out, err }
-}
-
 /// A run over the steady kinds, which never fail: it has no fault to end with, and every script that may be run is
-/// run, unless memory is wanting.
+/// run, unless memory runs out.
 pub fn run_steady<L: Ledger>(
     alloc: Global,
     words: &[String],
@@ -61,6 +24,7 @@ pub fn run_steady<L: Ledger>(
     requires name { blank.name ≡ L.name }
     requires parts { blank.parts ≡ L.parts }
     requires some { 0 < blank.parts }
+
     ensures read { result ≡ 3 → ⊥ }
     ensures sent { result ≡ 4 → ⊥ }
     ensures complete { (name : List ℕ) → script_name (map string_bytes words.now) ≡ Some name
@@ -71,12 +35,24 @@ pub fn run_steady<L: Ledger>(
     run(alloc, words, &mut files, &mut out, &mut err, &mut steps)
 }
 
-/// Files with one script.
-pub fn files_with(alloc: Global, name: &str, script: Vec<u8>) -> Result<MemoryFiles, NoMemory>
-    ensures content { IfOk result (λ files. content_of files.shelf name.now ≡ Some script.items) }
-    ensures steady { IfOk result (λ files. files.failing ≡ []) }
-{
-    let mut files = MemoryFiles::new(alloc);
-    files.add(Text::from_str(alloc, name)?, Bytes::from_vec(script))?;
-    Ok(files)
+#[cfg(test)]
+mod tests {
+    use super::*;
+    use beas_core::{Bytes, Text};
+    use std::marker::Brand;
+    use std::test::Fail;
+
+    #[test]
+    fn a_missing_script_is_empty(rt: HostRuntime) -> Result<(), Fail> {
+        let alloc = rt.alloc();
+        let mut files = SteadyFiles::new(alloc);
+        let script = Bytes::from_vec(b"CREATE TABLE r (a INTEGER)".to_vec(alloc)?);
+        files.add(Text::from_str(alloc, "script")?, script)?;
+        let mut words = Vec::new(alloc);
+        words.push(String::from_str(alloc, "other")?)?;
+        let out = SteadySink::new(alloc);
+        let status = run_steady::<Brand>(alloc, &words, files, out, Blank::new(1));
+        assert_eq!(rt; status, 0);
+        Ok(())
+    }
 }

@@ -1,13 +1,5 @@
-pub mod Answered
-pub mod Bindings
-pub mod Bounds
-pub mod ClassSets
 pub mod Clean
-pub mod Counting
-pub mod Covers
-pub mod Derives
-pub mod Exists
-pub mod Joins
+pub mod HeldFacts
 pub mod Leading
 pub mod Lexicals
 pub mod Printed
@@ -16,7 +8,3 @@ pub mod PrintedParts
 pub mod PrintedQueries
 pub mod PrintedStatements
 pub mod Rereading
-pub mod Sizes
-pub mod Tests
-pub mod Uses
-pub mod Whole

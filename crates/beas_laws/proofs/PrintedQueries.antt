@@ -1,11 +1,11 @@
 -- The lexemes of blocks and queries spell them again, without joins and with the parentheses that are needed.
-use Rattle.std.proofs.Common.{◌≡◌, ℕ, Bool, false, List, [], ◌∷◌, ◌++◌, refl, sym, ap, subst, ◌∙◌, inl, inr}
+use Rattle.std.proofs.Common.{◌≡◌, ℕ, Bool, true, List, [], ◌∷◌, ◌++◌, refl, sym, ap, subst, ◌∙◌, inl, inr}
 use Rattle.std.specs.Prelude.{codes, bytes_eq, map}
 use Rattle.std.specs.List.{flat_map, AllByRecursion as Each}
 use Rattle.std.proofs.lemmas.Bool.{cases_Bool}
 use Rattle.std.proofs.lemmas.List.{append-nil, map-append}
 use Rattle.std.proofs.lemmas.Slice.Eq.{bytes_eq-Decides}
-use Rattle.beas_core.specs.Spelling.{is_reserved}
+use Rattle.beas_core.specs.Spelling.{is_name}
 use Rattle.sql_tree.specs.declared.tree.ColumnRef.{ColumnRef}
 use Rattle.sql_tree.specs.declared.tree.Cond.{Cond}
 use Rattle.sql_tree.specs.declared.tree.FromItem.{FromItem}
@@ -21,7 +21,7 @@ use Rattle.beas_laws.proofs.PrintedParts.{Again, clean-keyword, closed, clean-cl
 use Rattle.beas_laws.proofs.PrintedConditions.{each-append, ConditionAgain, conditions-again, where-again, where_again}
 
 -- ---- tables
-item-spelled : (t n : List ℕ) → is_reserved t ≡ false → is_reserved n ≡ false → IsNameText t → IsNameText n → Again IsItem item_of (record { table = t; alias = n })
+item-spelled : (t n : List ℕ) → is_name t ≡ true → is_name n ≡ true → IsNameText t → IsNameText n → Again IsItem item_of (record { table = t; alias = n })
 item-spelled t n p q h k =
     elim (cases_Bool (bytes_eq n t)) [
       | inl e ↦ record {

@@ -1,2 +1,2 @@
-pub mod Premises
+pub mod Held
 pub mod Spelled

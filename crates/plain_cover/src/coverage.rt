@@ -1,13 +1,14 @@
 // The covered set, grown turn by turn, and the reason why a block isn't covered.
 ghost use Rattle.std.specs.Prelude.{◌≡◌, ◌<◌, ◌++◌, ◌∷◌, [], ◌+◌, ◌&&◌, ◌==◌, if◌then◌else◌, not, map, filter, flat_map, find, length, replicate, slice_set, IfOk, OnOk, true, false, option_map};
 ghost use Rattle.std.specs.List.{list_all, list_any, enumerate_from};
-ghost use Rattle.beas_core.specs.Coverage.{has, with_classes, holds_classes, key_classes, fetched_classes, uses, grow, grown, is_open, is_served, serves, holds_needed, needed_of, needed_places, atoms_of};
-ghost use Rattle.beas_core.specs.Coverage.{class_at as class_of_column, constant_classes as classes_of_constants, covered_set as least_cover, is_covered as covers, reason as reason_why};
+ghost use Rattle.beas_core.specs.Coverage.{has, with_classes, holds_classes, key_classes, fetched_classes, uses, grow, grow_times, is_open, is_served, serves, holds_needed, needed_of, needed_places, atoms_of};
+ghost use Rattle.beas_core.specs.Coverage.{class_at as class_of_column, constant_classes as classes_of_constants, output_classes as classes_of_output, start_classes as classes_at_start, covered_set as least_cover, is_covered as covers, reason as reason_why};
 ghost use Rattle.beas_core.specs.Valuations.{classes_in};
 ghost use Rattle.std.specs.Option.{option_or};
 ghost use Rattle.beas_core.specs.Groups.{has_column, member_columns};
 
-use crate::lists::{append, numbers_below, with_first};
+use crate::lists::{append, numbers_below};
+use crate::uses::AccessUse;
 use beas_core::{
     Access, Atom, ColumnId, Duplicate, List, NoMemory, Normal, NotCovered, Place, TableId, Value,
 };
@@ -119,13 +120,46 @@ fn classes_of(alloc: Global, constants: &[(u16, Value)]) -> Result<List<u16>, No
     Ok(classes)
 }
 
+/// The classes that a block starts with: those that are equated with a constant, and where it is guided those of its
+/// output.
+#[tactic(auto, using(crate::proofs::Steps::length_with))]
+pub fn start_classes(
+    alloc: Global,
+    normal: &Normal,
+    is_guided: bool,
+) -> Result<List<bool>, NoMemory>
+    ensures set { IfOk result (λ set. set ≡ classes_at_start normal.now is_guided) }
+    ensures len { IfOk result (λ set. length set ≡ normal.now.count) }
+{
+    let constants = constant_classes(alloc, normal)?;
+    if !is_guided {
+        return Ok(constants);
+    }
+    let classes = output_classes(alloc, normal)?;
+    let set = with_all(alloc, constants.as_slice(), classes.as_slice())?;
+    Ok(set)
+}
+
+/// The classes of the places of the output.
+pub fn output_classes(alloc: Global, normal: &Normal) -> Result<List<u16>, NoMemory>
+    ensures { IfOk result (λ classes. classes ≡ classes_of_output normal.now) }
+{
+    let mut classes = List::new(alloc);
+    for place in normal.output.as_slice() {
+        classes.push(class_at(normal, place.atom, place.column))?;
+    }
+    Ok(classes)
+}
+
 /// The classes that are equated with a constant.
 pub fn constant_classes(alloc: Global, normal: &Normal) -> Result<List<bool>, NoMemory>
-    ensures { IfOk result (λ set. set ≡ classes_of_constants normal.now) }
+    ensures set { IfOk result (λ set. set ≡ classes_of_constants normal.now) }
+    ensures len { IfOk result (λ set. length set ≡ normal.now.count) }
 {
     let none = no_classes(alloc, normal.count)?;
     let classes = classes_of(alloc, normal.constants.as_slice())?;
-    with_all(alloc, none.as_slice(), classes.as_slice())
+    let set = with_all(alloc, none.as_slice(), classes.as_slice())?;
+    Ok(set)
 }
 
 fn uses_on(
@@ -133,13 +167,16 @@ fn uses_on(
     accesses: &[Access],
     atom: u16,
     table: TableId,
-) -> Result<List<(u16, Access)>, NoMemory>
-    ensures { IfOk result (λ found. found ≡ map (λ rule. (atom, rule)) (filter (λ rule. rule.table.0 == table.0) accesses.now)) }
+) -> Result<List<AccessUse>, NoMemory>
+    ensures { IfOk result (λ found. found ≡ map (λ access. record { atom = atom; access = access }) (filter (λ access. access.table.0 == table.0) accesses.now)) }
 {
     let mut found = List::new(alloc);
     for access in accesses {
         if access.table.0 == table.0 {
-            found.push((atom, access.copy(alloc)?))?;
+            found.push(AccessUse {
+                atom,
+                access: access.copy(alloc)?,
+            })?;
         }
     }
     Ok(found)
@@ -150,10 +187,10 @@ fn uses_from(
     accesses: &[Access],
     from: u16,
     atoms: &[Atom],
-) -> Result<List<(u16, Access)>, NoMemory>
+) -> Result<List<AccessUse>, NoMemory>
     requires { from + length atoms.now < 65536 }
     ensures { IfOk result (λ found. found
-        ≡ flat_map (λ a. map (λ rule. (a.0, rule)) (filter (λ rule. rule.table.0 == a.1.table.0) accesses.now)) (enumerate_from from atoms.now)) }
+        ≡ flat_map (λ a. map (λ access. record { atom = a.0; access = access }) (filter (λ access. access.table.0 == a.1.table.0) accesses.now)) (enumerate_from from atoms.now)) }
 {
     match atoms {
         [] => Ok(List::new(alloc)),
@@ -169,11 +206,12 @@ pub fn uses_of(
     alloc: Global,
     accesses: &[Access],
     normal: &Normal,
-) -> Result<List<(u16, Access)>, NoMemory>
+) -> Result<List<AccessUse>, NoMemory>
     requires { length normal.now.atoms < 65536 }
-    ensures { IfOk result (λ found. found ≡ uses accesses.now normal.now) }
+    ensures { IfOk result (λ found. found ≡ uses normal.now accesses.now) }
 {
-    uses_from(alloc, accesses, 0, normal.atoms.as_slice())
+    let found = uses_from(alloc, accesses, 0, normal.atoms.as_slice())?;
+    Ok(found)
 }
 
 fn fetches_class(normal: &Normal, atom: u16, fetched: &[ColumnId], class: u16) -> bool
@@ -189,14 +227,14 @@ fn fetches_class(normal: &Normal, atom: u16, fetched: &[ColumnId], class: u16) -
     }
 }
 
-fn some_use_adds(normal: &Normal, found: &[(u16, Access)], set: &[bool], class: u16) -> bool
+fn some_use_adds(normal: &Normal, found: &[AccessUse], set: &[bool], class: u16) -> bool
     ensures { result ≡ list_any (λ u. holds_classes set.now (key_classes normal.now u) && list_any (λ d. d == class) (fetched_classes normal.now u)) found.now }
 {
     match found {
         [] => false,
         [first, rest @ ..] => {
-            let enabled = holds_columns(normal, set, first.0, first.1.key.as_slice());
-            let fetched = fetches_class(normal, first.0, first.1.fetched.as_slice(), class);
+            let enabled = holds_columns(normal, set, first.atom, first.access.key.as_slice());
+            let fetched = fetches_class(normal, first.atom, first.access.fetched.as_slice(), class);
             let later = some_use_adds(normal, rest, set, class);
             enabled & fetched | later
         }
@@ -209,10 +247,10 @@ fn grow_once(
     alloc: Global,
     normal: &Normal,
     accesses: &[Access],
-    found: &[(u16, Access)],
+    found: &[AccessUse],
     set: &[bool],
 ) -> Result<List<bool>, NoMemory>
-    requires { found.now ≡ uses accesses.now normal.now }
+    requires { found.now ≡ uses normal.now accesses.now }
     ensures { IfOk result (λ more. more ≡ grow normal.now accesses.now set.now) }
 {
     let mut more = List::new(alloc);
@@ -228,11 +266,11 @@ fn grow_often(
     alloc: Global,
     normal: &Normal,
     accesses: &[Access],
-    found: &[(u16, Access)],
+    found: &[AccessUse],
     start: &[bool],
 ) -> Result<List<bool>, NoMemory>
-    requires { found.now ≡ uses accesses.now normal.now }
-    ensures { IfOk result (λ set. set ≡ grown normal.now.count normal.now accesses.now start.now) }
+    requires { found.now ≡ uses normal.now accesses.now }
+    ensures { IfOk result (λ set. set ≡ grow_times normal.now.count normal.now accesses.now start.now) }
 {
     let mut set = copy_set(alloc, start)?;
     for _turn in 0..normal.count {
@@ -324,37 +362,50 @@ fn all_in(key: &[ColumnId], fetched: &[ColumnId], needed: &[ColumnId]) -> bool
     }
 }
 
-/// Whether key and fetched columns of a constraint hold all needed columns of an atom.
-pub fn has_needed(normal: &Normal, atom: u16, access: &Access) -> bool
-    ensures { result ≡ holds_needed normal.now (atom, access.now) }
+/// Whether these key and fetched columns hold all needed columns of an atom.
+pub fn columns_have_needed(
+    normal: &Normal,
+    atom: u16,
+    key: &[ColumnId],
+    fetched: &[ColumnId],
+) -> bool
+    ensures { result ≡ list_all (has_column (key.now ++ fetched.now)) (needed_of normal.now atom) }
 {
     match normal.needed.as_slice().get(atom as usize) {
-        Some(needed) => all_in(
-            access.key.as_slice(),
-            access.fetched.as_slice(),
-            needed.as_slice(),
-        ),
+        Some(needed) => all_in(key, fetched, needed.as_slice()),
         None => true,
     }
 }
 
+/// Whether key and fetched columns of a constraint hold all needed columns of an atom.
+pub fn has_needed(normal: &Normal, atom: u16, access: &Access) -> bool
+    ensures { result ≡ holds_needed normal.now (record { atom = atom; access = access.now }) }
+{
+    columns_have_needed(
+        normal,
+        atom,
+        access.key.as_slice(),
+        access.fetched.as_slice(),
+    )
+}
+
 /// Whether a use of a constraint serves its atom.
 pub fn use_serves(normal: &Normal, set: &[bool], atom: u16, access: &Access) -> bool
-    ensures { result ≡ serves normal.now set.now (atom, access.now) }
+    ensures { result ≡ serves normal.now set.now (record { atom = atom; access = access.now }) }
 {
     let held = holds_columns(normal, set, atom, access.key.as_slice());
     let whole = has_needed(normal, atom, access);
     held & whole
 }
 
-fn some_use_serves(normal: &Normal, found: &[(u16, Access)], set: &[bool], atom: u16) -> bool
-    ensures { result ≡ list_any (λ u. (u.0 == atom) && serves normal.now set.now u) found.now }
+fn some_use_serves(normal: &Normal, found: &[AccessUse], set: &[bool], atom: u16) -> bool
+    ensures { result ≡ list_any (λ u. (u.atom == atom) && serves normal.now set.now u) found.now }
 {
     match found {
         [] => false,
         [first, rest @ ..] => {
-            let here = first.0 == atom;
-            let served = use_serves(normal, set, first.0, &first.1);
+            let here = first.atom == atom;
+            let served = use_serves(normal, set, first.atom, &first.access);
             let later = some_use_serves(normal, rest, set, atom);
             here & served | later
         }
@@ -364,11 +415,11 @@ fn some_use_serves(normal: &Normal, found: &[(u16, Access)], set: &[bool], atom:
 fn atom_is_served(
     normal: &Normal,
     accesses: &[Access],
-    found: &[(u16, Access)],
+    found: &[AccessUse],
     set: &[bool],
     atom: u16,
 ) -> bool
-    requires { found.now ≡ uses accesses.now normal.now }
+    requires { found.now ≡ uses normal.now accesses.now }
     ensures { result ≡ is_served normal.now accesses.now set.now atom }
 {
     some_use_serves(normal, found, set, atom)
@@ -377,11 +428,11 @@ fn atom_is_served(
 fn first_unserved(
     normal: &Normal,
     accesses: &[Access],
-    found: &[(u16, Access)],
+    found: &[AccessUse],
     set: &[bool],
     atoms: &[u16],
 ) -> Option<u16>
-    requires { found.now ≡ uses accesses.now normal.now }
+    requires { found.now ≡ uses normal.now accesses.now }
     ensures { result ≡ find (λ atom. not (is_served normal.now accesses.now set.now atom)) atoms.now }
 {
     match atoms {
@@ -399,11 +450,11 @@ fn first_unserved(
 fn unserved(
     normal: &Normal,
     accesses: &[Access],
-    found: &[(u16, Access)],
+    found: &[AccessUse],
     set: &[bool],
     atoms: &[u16],
 ) -> Option<NotCovered>
-    requires { found.now ≡ uses accesses.now normal.now }
+    requires { found.now ≡ uses normal.now accesses.now }
     ensures { result ≡ option_map (λ atom. NotCovered.AtomUnindexed atom) (find (λ atom. not (is_served normal.now accesses.now set.now atom)) atoms.now) }
 {
     match first_unserved(normal, accesses, found, set, atoms) {
@@ -496,11 +547,11 @@ fn some_open(normal: &Normal, set: &[bool], places: &[Place]) -> bool
 fn all_served(
     normal: &Normal,
     accesses: &[Access],
-    found: &[(u16, Access)],
+    found: &[AccessUse],
     set: &[bool],
     atoms: &[u16],
 ) -> bool
-    requires { found.now ≡ uses accesses.now normal.now }
+    requires { found.now ≡ uses normal.now accesses.now }
     ensures { result ≡ list_all (is_served normal.now accesses.now set.now) atoms.now }
 {
     match atoms {

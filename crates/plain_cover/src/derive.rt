@@ -1,53 +1,103 @@
 // The canonical derivation, and its announced number.
-ghost use Rattle.std.specs.Prelude.{◌≡◌, ◌<◌, ◌≤◌, ◌^◌, ◌*◌, ◌&&◌, ◌==◌, ◌∷◌, filter, length, nat_lt, if◌then◌else◌, IfOk, MatchOption, option_copied, option_map};
+ghost use Rattle.std.specs.Prelude.{find, ◌≡◌, ◌<◌, ◌≤◌, ◌^◌, ◌*◌, ◌&&◌, ◌==◌, ◌∷◌, map, filter, length, nat_lt, if◌then◌else◌, IfOk, MatchOption, option_copied, option_map};
 ghost use Rattle.std.specs.List.{best_of};
-ghost use Rattle.beas_core.specs.Coverage.{holds_classes, key_classes, serves};
-ghost use Rattle.beas_core.specs.Derivations.{rule_in, least_bound, adds_class, step_of, with_use, adding_steps, enabled, serving_steps, is_served_by};
+ghost use Rattle.beas_core.specs.Coverage.{holds_classes, holds_needed, key_classes, serves};
+ghost use Rattle.beas_core.specs.Derivations.{access_in, use_of, least_bound, adds_class, step_of, with_use, adding_steps, serving_steps, is_served_by};
 ghost use Rattle.plain_cover.specs.Turns.{serving_choice};
-ghost use Rattle.beas_core.specs.Derivations.{bound_after as classes_after, derivation as canonical};
+ghost use Rattle.beas_core.specs.Coverage.{class_at as class_of_column, with_classes};
+ghost use Rattle.beas_core.specs.Derivations.{bound_after as classes_after, derivation as canonical, enabled_uses as uses_enabled};
 ghost use Rattle.beas_core.specs.Groups.{member_columns};
 ghost use Rattle.beas_core.specs.Numbers.{announced as number_of_reads};
 
 use crate::coverage::{
-    atom_numbers, classes_at, copy_set, has_needed, holds_columns, is_covered, use_serves, uses_of,
-    with_all,
+    atom_numbers, classes_at, columns_have_needed, copy_set, has_needed, holds_columns, is_covered,
+    use_serves, uses_of, with_all,
 };
 use crate::lists::{append, with_first};
-use beas_core::{
-    Access, AccessId, ColumnId, DStep, Duplicate, List, Name, NoMemory, Normal, TableId, Text,
-};
+use crate::uses::AccessUse;
+use beas_core::{Access, AccessId, ColumnId, DStep, Duplicate, List, NoMemory, Normal, TableId};
 use std::alloc::Global;
 
-/// The constraint with this id, one that fetches nothing where there is none.
-pub fn rule_for(alloc: Global, accesses: &[Access], id: AccessId) -> Result<Access, NoMemory>
-    ensures { IfOk result (λ rule. rule ≡ rule_in accesses.now id) }
+// The constraint with this id.
+fn find_access(accesses: &[Access], id: AccessId) -> Option<&Access>
+    ensures { option_copied result ≡ find (λ a. a.id.0 == id.0) accesses.now }
 {
     match accesses {
-        [] => Ok(Access {
-            id,
-            name: Name::from_text(Text::new(alloc)),
-            table: TableId(0),
-            key: List::new(alloc),
-            fetched: List::new(alloc),
-            bound: 0,
-        }),
+        [] => None,
         [first, rest @ ..] => {
             if first.id.0 == id.0 {
-                first.copy(alloc)
+                Some(first)
             } else {
-                rule_for(alloc, rest, id)
+                find_access(rest, id)
             }
         }
     }
 }
 
-fn best_from<'a>(best: &'a (u16, Access), others: &'a [(u16, Access)]) -> &'a (u16, Access)
-    ensures { result.now ≡ best_of (λ v w. nat_lt v.1.bound w.1.bound) best.now others.now }
+/// The key columns of the constraint with this id, none where there is no such constraint.
+#[tactic(auto, unfolding(beas_core::specs::Derivations::access_in))]
+pub fn key_for(alloc: Global, accesses: &[Access], id: AccessId) -> Result<List<ColumnId>, NoMemory>
+    ensures { IfOk result (λ key. key ≡ (access_in accesses.now id).key) }
+{
+    match find_access(accesses, id) {
+        Some(access) => access.key.copy(alloc),
+        None => Ok(List::new(alloc)),
+    }
+}
+
+/// The key columns of the constraint with this id and then its fetched ones, none where there is no such constraint.
+#[tactic(auto, unfolding(beas_core::specs::Derivations::access_in))]
+pub fn columns_for(
+    alloc: Global,
+    accesses: &[Access],
+    id: AccessId,
+) -> Result<List<ColumnId>, NoMemory>
+    ensures { IfOk result (λ columns. columns ≡ member_columns (access_in accesses.now id)) }
+{
+    match find_access(accesses, id) {
+        Some(access) => columns_of(alloc, access),
+        None => Ok(List::new(alloc)),
+    }
+}
+
+/// The table of the constraint with this id, the first where there is no such constraint.
+#[tactic(auto, unfolding(beas_core::specs::Derivations::access_in))]
+pub fn table_for(accesses: &[Access], id: AccessId) -> TableId
+    ensures { result ≡ (access_in accesses.now id).table }
+{
+    match find_access(accesses, id) {
+        Some(access) => access.table,
+        None => TableId(0),
+    }
+}
+
+#[tactic(auto, unfolding(beas_core::specs::Derivations::access_in))]
+fn bound_for(accesses: &[Access], id: AccessId) -> u32
+    ensures { result ≡ (access_in accesses.now id).bound }
+{
+    match find_access(accesses, id) {
+        Some(access) => access.bound,
+        None => 0,
+    }
+}
+
+#[tactic(auto, unfolding(beas_core::specs::Derivations::access_in))]
+fn step_has_needed(normal: &Normal, accesses: &[Access], step: &DStep) -> bool
+    ensures { result ≡ holds_needed normal.now (use_of accesses.now step.now) }
+{
+    match find_access(accesses, step.access) {
+        Some(access) => has_needed(normal, step.atom, access),
+        None => columns_have_needed(normal, step.atom, &[], &[]),
+    }
+}
+
+fn best_from<'a>(best: &'a AccessUse, others: &'a [AccessUse]) -> &'a AccessUse
+    ensures { result.now ≡ best_of (λ v w. nat_lt v.access.bound w.access.bound) best.now others.now }
 {
     match others {
         [] => best,
         [first, rest @ ..] => {
-            if first.1.bound < best.1.bound {
+            if first.access.bound < best.access.bound {
                 best_from(first, rest)
             } else {
                 best_from(best, rest)
@@ -56,7 +106,7 @@ fn best_from<'a>(best: &'a (u16, Access), others: &'a [(u16, Access)]) -> &'a (u
     }
 }
 
-fn least(found: &[(u16, Access)]) -> Option<&(u16, Access)>
+fn least(found: &[AccessUse]) -> Option<&AccessUse>
     ensures { option_copied result ≡ least_bound found.now }
 {
     match found {
@@ -65,16 +115,16 @@ fn least(found: &[(u16, Access)]) -> Option<&(u16, Access)>
     }
 }
 
-fn adds_any(normal: &Normal, set: &[bool], chosen: &(u16, Access)) -> bool
+fn adds_any(normal: &Normal, set: &[bool], chosen: &AccessUse) -> bool
     ensures { result ≡ adds_class normal.now set.now chosen.now }
 {
-    !holds_columns(normal, set, chosen.0, chosen.1.fetched.as_slice())
+    !holds_columns(normal, set, chosen.atom, chosen.access.fetched.as_slice())
 }
 
-fn is_enabled(normal: &Normal, set: &[bool], chosen: &(u16, Access)) -> bool
+fn is_enabled(normal: &Normal, set: &[bool], chosen: &AccessUse) -> bool
     ensures { result ≡ (holds_classes set.now (key_classes normal.now chosen.now) && adds_class normal.now set.now chosen.now) }
 {
-    let held = holds_columns(normal, set, chosen.0, chosen.1.key.as_slice());
+    let held = holds_columns(normal, set, chosen.atom, chosen.access.key.as_slice());
     let adds = adds_any(normal, set, chosen);
     held & adds
 }
@@ -83,8 +133,8 @@ fn enabled_uses(
     alloc: Global,
     normal: &Normal,
     set: &[bool],
-    found: &[(u16, Access)],
-) -> Result<List<(u16, Access)>, NoMemory>
+    found: &[AccessUse],
+) -> Result<List<AccessUse>, NoMemory>
     ensures { IfOk result (λ ready. ready ≡ filter (λ u. holds_classes set.now (key_classes normal.now u) && adds_class normal.now set.now u) found.now) }
 {
     let mut ready = List::new(alloc);
@@ -96,12 +146,12 @@ fn enabled_uses(
     Ok(ready)
 }
 
-fn step_for(normal: &Normal, set: &[bool], chosen: &(u16, Access)) -> DStep
+fn step_for(normal: &Normal, set: &[bool], chosen: &AccessUse) -> DStep
     ensures { result ≡ step_of normal.now set.now chosen.now }
 {
     DStep {
-        atom: chosen.0,
-        access: chosen.1.id,
+        atom: chosen.atom,
+        access: chosen.access.id,
         adds: adds_any(normal, set, chosen),
     }
 }
@@ -114,6 +164,19 @@ pub fn columns_of(alloc: Global, access: &Access) -> Result<List<ColumnId>, NoMe
     append(key, access.fetched.copy(alloc)?)
 }
 
+fn with_columns(
+    alloc: Global,
+    normal: &Normal,
+    set: &[bool],
+    atom: u16,
+    columns: &[ColumnId],
+) -> Result<List<bool>, NoMemory>
+    ensures { IfOk result (λ more. more ≡ with_classes set.now (map (class_of_column normal.now atom) columns.now)) }
+{
+    let classes = classes_at(alloc, normal, atom, columns)?;
+    with_all(alloc, set, classes.as_slice())
+}
+
 fn with_classes_of(
     alloc: Global,
     normal: &Normal,
@@ -121,11 +184,10 @@ fn with_classes_of(
     atom: u16,
     access: &Access,
 ) -> Result<List<bool>, NoMemory>
-    ensures { IfOk result (λ more. more ≡ with_use normal.now set.now (atom, access.now)) }
+    ensures { IfOk result (λ more. more ≡ with_use normal.now set.now (record { atom = atom; access = access.now })) }
 {
     let columns = columns_of(alloc, access)?;
-    let classes = classes_at(alloc, normal, atom, columns.as_slice())?;
-    with_all(alloc, set, classes.as_slice())
+    with_columns(alloc, normal, set, atom, columns.as_slice())
 }
 
 /// The classes that are bound after some steps.
@@ -137,14 +199,14 @@ pub fn bound_after(
     start: &[bool],
     steps: &[DStep],
 ) -> Result<List<bool>, NoMemory>
-    ensures set { IfOk result (λ set. set ≡ classes_after normal.now (rule_in accesses.now) start.now steps.now) }
+    ensures set { IfOk result (λ set. set ≡ classes_after normal.now accesses.now start.now steps.now) }
     ensures len { IfOk result (λ set. length set ≡ length start.now) }
 {
     match steps {
         [] => copy_set(alloc, start),
         [first, rest @ ..] => {
-            let rule = rule_for(alloc, accesses, first.access)?;
-            let more = with_classes_of(alloc, normal, start, first.atom, &rule)?;
+            let columns = columns_for(alloc, accesses, first.access)?;
+            let more = with_columns(alloc, normal, start, first.atom, columns.as_slice())?;
             bound_after(alloc, normal, accesses, more.as_slice(), rest)
         }
     }
@@ -168,9 +230,9 @@ fn least_enabled(
     normal: &Normal,
     accesses: &[Access],
     set: &[bool],
-) -> Result<Option<(u16, Access)>, NoMemory>
+) -> Result<Option<AccessUse>, NoMemory>
     requires { length normal.now.atoms < 65536 }
-    ensures { IfOk result (λ chosen. chosen ≡ least_bound (enabled normal.now accesses.now set.now)) }
+    ensures { IfOk result (λ chosen. chosen ≡ least_bound (uses_enabled normal.now accesses.now set.now)) }
 {
     let found = uses_of(alloc, accesses, normal)?;
     let ready = enabled_uses(alloc, normal, set, found.as_slice())?;
@@ -201,7 +263,7 @@ fn adding(
     match least_enabled(alloc, normal, accesses, set)? {
         None => Ok(None),
         Some(chosen) => {
-            let more = with_classes_of(alloc, normal, set, chosen.0, &chosen.1)?;
+            let more = with_classes_of(alloc, normal, set, chosen.atom, &chosen.access)?;
             let later = adding(alloc, turns - 1, normal, accesses, more.as_slice())?;
             let steps = after_step(alloc, step_for(normal, set, &chosen), later)?;
             Ok(steps)
@@ -209,23 +271,16 @@ fn adding(
     }
 }
 
-fn served_by(
-    alloc: Global,
-    normal: &Normal,
-    accesses: &[Access],
-    steps: &[DStep],
-    atom: u16,
-) -> Result<bool, NoMemory>
-    ensures { IfOk result (λ served. served ≡ is_served_by normal.now (rule_in accesses.now) steps.now atom) }
+fn served_by(normal: &Normal, accesses: &[Access], steps: &[DStep], atom: u16) -> bool
+    ensures { result ≡ is_served_by normal.now accesses.now steps.now atom }
 {
     match steps {
-        [] => Ok(false),
+        [] => false,
         [first, rest @ ..] => {
-            let rule = rule_for(alloc, accesses, first.access)?;
             let here = first.atom == atom;
-            let whole = has_needed(normal, first.atom, &rule);
-            let later = served_by(alloc, normal, accesses, rest, atom)?;
-            Ok(here & whole | later)
+            let whole = step_has_needed(normal, accesses, first);
+            let later = served_by(normal, accesses, rest, atom);
+            here & whole | later
         }
     }
 }
@@ -234,15 +289,15 @@ fn serving_uses(
     alloc: Global,
     normal: &Normal,
     set: &[bool],
-    found: &[(u16, Access)],
+    found: &[AccessUse],
     atom: u16,
-) -> Result<List<(u16, Access)>, NoMemory>
-    ensures { IfOk result (λ ready. ready ≡ filter (λ u. (u.0 == atom) && serves normal.now set.now u) found.now) }
+) -> Result<List<AccessUse>, NoMemory>
+    ensures { IfOk result (λ ready. ready ≡ filter (λ u. (u.atom == atom) && serves normal.now set.now u) found.now) }
 {
     let mut ready = List::new(alloc);
     for candidate in found {
-        let here = candidate.0 == atom;
-        if here & use_serves(normal, set, candidate.0, &candidate.1) {
+        let here = candidate.atom == atom;
+        if here & use_serves(normal, set, candidate.atom, &candidate.access) {
             ready.push(candidate.copy(alloc)?)?;
         }
     }
@@ -256,11 +311,11 @@ fn least_serving(
     steps: &[DStep],
     set: &[bool],
     atom: u16,
-) -> Result<Option<(u16, Access)>, NoMemory>
+) -> Result<Option<AccessUse>, NoMemory>
     requires { length normal.now.atoms < 65536 }
     ensures { IfOk result (λ chosen. chosen ≡ serving_choice normal.now accesses.now steps.now set.now atom) }
 {
-    if served_by(alloc, normal, accesses, steps, atom)? {
+    if served_by(normal, accesses, steps, atom) {
         return Ok(None);
     }
     let found = uses_of(alloc, accesses, normal)?;
@@ -289,7 +344,7 @@ fn serving(
             match least_serving(alloc, normal, accesses, steps, set, *first)? {
                 None => serving(alloc, normal, accesses, steps, set, rest),
                 Some(chosen) => {
-                    let more = with_classes_of(alloc, normal, set, chosen.0, &chosen.1)?;
+                    let more = with_classes_of(alloc, normal, set, chosen.atom, &chosen.access)?;
                     let later = serving(alloc, normal, accesses, steps, more.as_slice(), rest)?;
                     with_first(alloc, step_for(normal, set, &chosen), later)
                 }
@@ -299,7 +354,7 @@ fn serving(
 }
 
 /// The canonical derivation from a start set of classes, nothing where the block isn't covered.
-#[tactic(auto, unfolding(beas_core::specs::Derivations::derivation))]
+#[tactic(auto, unfolding(beas_core::specs::Derivations::derivation, beas_core::specs::Derivations::greedy_steps))]
 pub fn derivation(
     alloc: Global,
     normal: &Normal,
@@ -329,21 +384,6 @@ pub fn derivation(
     }
 }
 
-fn bound_for(accesses: &[Access], id: AccessId) -> u32
-    ensures { result ≡ (rule_in accesses.now id).bound }
-{
-    match accesses {
-        [] => 0,
-        [first, rest @ ..] => {
-            if first.id.0 == id.0 {
-                first.bound
-            } else {
-                bound_for(rest, id)
-            }
-        }
-    }
-}
-
 fn next_size(adds: bool, cost: u128, size: u128) -> u128
     ensures { result ≡ (if adds then cost else size) }
 {
@@ -352,7 +392,7 @@ fn next_size(adds: bool, cost: u128, size: u128) -> u128
 
 /// The reads of the steps at most, where `size` valuations stand before them; nothing where that passes 2^128 - 1.
 pub fn announced(accesses: &[Access], size: u128, steps: &[DStep]) -> Option<u128>
-    ensures { MatchOption result (2 ^ 128 ≤ number_of_reads (rule_in accesses.now) size steps.now) (λ n. n ≡ number_of_reads (rule_in accesses.now) size steps.now) }
+    ensures { MatchOption result (2 ^ 128 ≤ number_of_reads accesses.now size steps.now) (λ n. n ≡ number_of_reads accesses.now size steps.now) }
 {
     match steps {
         [] => Some(0),

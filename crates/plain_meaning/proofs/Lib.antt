@@ -1,3 +1,3 @@
-pub mod DistinctRows
 pub mod Steps
+pub mod Valued
 pub mod Ways

@@ -1,15 +1,15 @@
 // Valuations by choice of rows, and the reads of a derivation over them.
-ghost use Rattle.std.specs.Prelude.{◌≡◌, ◌<◌, ◌++◌, ◌∷◌, [], if◌then◌else◌, OnOk, pos, map, filter, flat_map, length, IfOk};
+ghost use Rattle.std.specs.Prelude.{◌≡◌, ◌<◌, ◌++◌, ◌∷◌, [], if◌then◌else◌, OnOk, pos, map, filter, flat_map, zip, length, is_some, IfOk};
 ghost use Rattle.std.specs.List.{list_all, range_with_len};
 ghost use Rattle.beas_core.specs.declared.value.Value.TheVariants.{Int as Number};
 ghost use Rattle.beas_core.specs.Groups.{member_columns, value_at};
 ghost use Rattle.beas_core.specs.Full.{same_value, comparison_holds};
 ghost use Rattle.beas_core.specs.Coverage.{has, place_class};
 ghost use Rattle.beas_core.specs.Coverage.{class_at as class_of_column};
-ghost use Rattle.beas_core.specs.Derivations.{rule_in};
+ghost use Rattle.beas_core.specs.Derivations.{access_in};
 ghost use Rattle.beas_core.specs.Derivations.{table_of as table_of_atom, bound_after as classes_after};
 ghost use Rattle.beas_core.specs.Valuations.{value_of, agrees, bindings_of, with_row_for, comparison_is_bound, operand_is_bound, comparison_is_met, is_consistent, as_bindings, classes_in};
-ghost use Rattle.beas_core.specs.Valuations.{ways as all_ways, valuations as valuations_of};
+ghost use Rattle.beas_core.specs.Valuations.{starts, ways as all_ways, valuations as valuations_of};
 ghost use Rattle.plain_meaning.specs.Tables.{rows_in};
 ghost use Rattle.plain_meaning.specs.Ways.{with_each_row};
 
@@ -19,7 +19,10 @@ use beas_core::{
     Access, ColumnId, Comparison, DStep, Duplicate, List, NoMemory, Normal, Operand, Row, TableId,
     Value,
 };
-use plain_cover::{append, bound_after, class_at, classes_held, columns_of, has_class, rule_for};
+use plain_cover::{
+    append, bound_after, class_at, classes_held, columns_for, has_class, output_classes,
+    start_classes, with_first,
+};
 use std::alloc::Global;
 
 /// Classes with their values.
@@ -86,9 +89,9 @@ fn with_row(
     row: &[Value],
     zero: &Value,
 ) -> Result<Bindings, NoMemory>
-    requires columns { columns.now ≡ member_columns (rule_in accesses.now step.now.access) }
+    requires columns { columns.now ≡ member_columns (access_in accesses.now step.now.access) }
     requires zero { zero.now ≡ Number (pos 0) }
-    ensures { IfOk result (λ more. more ≡ way.now ++ bindings_of normal.now (rule_in accesses.now) step.now row.now) }
+    ensures { IfOk result (λ more. more ≡ way.now ++ bindings_of normal.now accesses.now step.now row.now) }
 {
     let bindings = bindings_on(alloc, normal, step.atom, columns, row, zero)?;
     let more = append(way.copy(alloc)?, bindings)?;
@@ -107,9 +110,9 @@ fn with_rows(
     way: &Bindings,
     zero: &Value,
 ) -> Result<List<Bindings>, NoMemory>
-    requires columns { columns.now ≡ member_columns (rule_in accesses.now step.now.access) }
+    requires columns { columns.now ≡ member_columns (access_in accesses.now step.now.access) }
     requires zero { zero.now ≡ Number (pos 0) }
-    ensures { IfOk result (λ ways. ways ≡ with_each_row rows.now normal.now (rule_in accesses.now) step.now way.now) }
+    ensures { IfOk result (λ ways. ways ≡ with_each_row rows.now normal.now accesses.now step.now way.now) }
 {
     let mut ways = List::new(alloc);
     for row in rows {
@@ -137,9 +140,9 @@ fn each_with_rows(
     found: &[Bindings],
     zero: &Value,
 ) -> Result<List<Bindings>, NoMemory>
-    requires columns { columns.now ≡ member_columns (rule_in accesses.now step.now.access) }
+    requires columns { columns.now ≡ member_columns (access_in accesses.now step.now.access) }
     requires zero { zero.now ≡ Number (pos 0) }
-    ensures { IfOk result (λ ways. ways ≡ flat_map (with_each_row rows.now normal.now (rule_in accesses.now) step.now) found.now) }
+    ensures { IfOk result (λ ways. ways ≡ flat_map (with_each_row rows.now normal.now accesses.now step.now) found.now) }
 {
     match found {
         [] => Ok(List::new(alloc)),
@@ -153,7 +156,7 @@ fn each_with_rows(
     }
 }
 
-fn table_for(normal: &Normal, atom: u16) -> TableId
+fn table_at(normal: &Normal, atom: u16) -> TableId
     ensures { result ≡ table_of_atom normal.now atom }
 {
     match normal.atoms.as_slice().get(atom as usize) {
@@ -173,11 +176,10 @@ fn with_step(
     zero: &Value,
 ) -> Result<List<Bindings>, NoMemory>
     requires { zero.now ≡ Number (pos 0) }
-    ensures { IfOk result (λ ways. ways ≡ with_row_for (rows_in tables.now) normal.now (rule_in accesses.now) found.now step.now) }
+    ensures { IfOk result (λ ways. ways ≡ with_row_for (rows_in tables.now) normal.now accesses.now found.now step.now) }
 {
-    let rule = rule_for(alloc, accesses, step.access)?;
-    let columns = columns_of(alloc, &rule)?;
-    let rows = rows_of(tables, table_for(normal, step.atom));
+    let columns = columns_for(alloc, accesses, step.access)?;
+    let rows = rows_of(tables, table_at(normal, step.atom));
     let ways = each_with_rows(
         alloc,
         normal,
@@ -201,7 +203,7 @@ fn ways_after(
     zero: &Value,
 ) -> Result<List<Bindings>, NoMemory>
     requires { zero.now ≡ Number (pos 0) }
-    ensures { IfOk result (λ ways. ways ≡ all_ways (rows_in tables.now) normal.now (rule_in accesses.now) found.now steps.now) }
+    ensures { IfOk result (λ ways. ways ≡ all_ways (rows_in tables.now) normal.now accesses.now found.now steps.now) }
 {
     match steps {
         [] => found.copy(alloc),
@@ -327,24 +329,102 @@ fn valuations_from(
     Ok(rows)
 }
 
+/// Classes with their values, as far as both lists go.
+pub fn bindings_between(
+    alloc: Global,
+    classes: &[u16],
+    values: &[Value],
+) -> Result<Bindings, NoMemory>
+    ensures { IfOk result (λ bindings. bindings ≡ zip classes.now values.now) }
+{
+    match classes {
+        [] => Ok(List::new(alloc)),
+        [class, rest @ ..] => match values {
+            [] => Ok(List::new(alloc)),
+            [value, others @ ..] => {
+                let later = bindings_between(alloc, rest, others)?;
+                with_first(alloc, (*class, value.copy(alloc)?), later)
+            }
+        },
+    }
+}
+
+fn with_answer(
+    alloc: Global,
+    normal: &Normal,
+    classes: &[u16],
+    answer: &[Value],
+) -> Result<Bindings, NoMemory>
+    ensures { IfOk result (λ start. start ≡ normal.now.constants ++ zip classes.now answer.now) }
+{
+    let own = bindings_between(alloc, classes, answer)?;
+    append(normal.constants.copy(alloc)?, own)
+}
+
+fn with_answers(
+    alloc: Global,
+    normal: &Normal,
+    classes: &[u16],
+    answers: &[Row],
+) -> Result<List<Bindings>, NoMemory>
+    ensures { IfOk result (λ all. all ≡ map (λ row. normal.now.constants ++ zip classes.now row) answers.now) }
+{
+    let mut all = List::new(alloc);
+    for answer in answers {
+        all.push(with_answer(alloc, normal, classes, answer.as_slice())?)?;
+    }
+    Ok(all)
+}
+
+/// The bindings that stand before the first step, in each way that they can.
+pub fn starts_of(
+    alloc: Global,
+    normal: &Normal,
+    guide: &Option<List<Row>>,
+) -> Result<List<Bindings>, NoMemory>
+    ensures { IfOk result (λ all. all ≡ starts normal.now guide.now) }
+{
+    match guide {
+        None => {
+            let mut all = List::new(alloc);
+            all.push(normal.constants.copy(alloc)?)?;
+            Ok(all)
+        }
+        Some(answers) => {
+            let classes = output_classes(alloc, normal)?;
+            with_answers(alloc, normal, classes.as_slice(), answers.as_slice())
+        }
+    }
+}
+
+/// Whether there are answers that guide a block.
+pub fn is_guided(guide: &Option<List<Row>>) -> bool
+    ensures { result ≡ is_some guide.now }
+{
+    match guide {
+        None => false,
+        Some(_) => true,
+    }
+}
+
 /// The valuations after some steps, over tables: the values of the bound classes, ascending by class.
-#[tactic(auto, unfolding(beas_core::specs::Valuations::valuations))]
 pub fn valuations(
     alloc: Global,
     tables: &[List<Row>],
     normal: &Normal,
     accesses: &[Access],
-    start: &[bool],
-    starts: &List<Bindings>,
+    guide: &Option<List<Row>>,
     steps: &[DStep],
 ) -> Result<List<Row>, NoMemory>
-    requires { length start.now < 65536 }
-    ensures { IfOk result (λ found. found ≡ valuations_of (rows_in tables.now) normal.now (rule_in accesses.now) start.now starts.now steps.now) }
+    ensures { IfOk result (λ found. found ≡ valuations_of (rows_in tables.now) normal.now accesses.now guide.now steps.now) }
 {
     let zero = Value::Int(0);
-    let set = bound_after(alloc, normal, accesses, start, steps)?;
+    let _count = normal.count;
+    let start = start_classes(alloc, normal, is_guided(guide))?;
+    let set = bound_after(alloc, normal, accesses, start.as_slice(), steps)?;
     let classes = classes_held(alloc, set.as_slice())?;
-    let ways = ways_after(alloc, tables, normal, accesses, starts, steps, &zero)?;
+    let starts = starts_of(alloc, normal, guide)?;
+    let ways = ways_after(alloc, tables, normal, accesses, &starts, steps, &zero)?;
     let rows = valuations_from(
         alloc,
         normal,
@@ -353,6 +433,5 @@ pub fn valuations(
         ways.as_slice(),
         &zero,
     )?;
-    let found = distinct_rows(rows)?;
-    Ok(found)
+    Ok(distinct_rows(rows))
 }

@@ -4,15 +4,14 @@ ghost use Rattle.std.specs.List.{list_all, list_any};
 ghost use Rattle.beas_core.specs.Groups.{same_row};
 ghost use Rattle.beas_core.specs.declared.value.Value.TheVariants.{Int as Number};
 ghost use Rattle.beas_core.specs.Order.{value_cmp};
-ghost use Rattle.beas_core.specs.Full.{choices, chosen, comparison_holds, meets, same_value, sign_holds, united, subtracted};
+ghost use Rattle.beas_core.specs.Full.{choices, choice_value, comparison_holds, meets, same_value, sign_holds, set_union, set_difference};
 ghost use Rattle.beas_core.specs.Full.{full_of as answer_to, full_of_block as answer_to_block};
-ghost use Rattle.beas_core.specs.Trees.{tree_of};
 ghost use Rattle.plain_meaning.specs.Tables.{rows_in};
 
 use crate::rows::{distinct_rows, rows_of, value_or};
 use beas_core::{
-    Atom, Block, Comparison, Duplicate, List, NoMemory, Operand, Place, Query, Row, Sign, Value,
-    compare, compare_rows,
+    Atom, Block, Comparison, Duplicate, List, NoMemory, Operand, Place, Query, QueryNode, Row,
+    Sign, Value, compare, compare_rows,
 };
 use std::alloc::Global;
 use std::cmp::Ordering;
@@ -92,7 +91,7 @@ pub fn all_choices(
 
 fn chosen_value<'a>(choice: &'a [Row], place: Place, zero: &'a Value) -> &'a Value
     requires { zero.now ≡ Number (pos 0) }
-    ensures { result.now ≡ chosen choice.now place }
+    ensures { result.now ≡ choice_value choice.now place }
 {
     match choice.get(place.atom as usize) {
         Some(row) => value_or(row.as_slice(), place.column, zero),
@@ -102,7 +101,7 @@ fn chosen_value<'a>(choice: &'a [Row], place: Place, zero: &'a Value) -> &'a Val
 
 fn equalities_hold(equalities: &[(Place, Place)], choice: &[Row], zero: &Value) -> bool
     requires { zero.now ≡ Number (pos 0) }
-    ensures { result ≡ list_all (λ e. same_value (chosen choice.now e.0) (chosen choice.now e.1)) equalities.now }
+    ensures { result ≡ list_all (λ e. same_value (choice_value choice.now e.0) (choice_value choice.now e.1)) equalities.now }
 {
     for equality in equalities {
         let left = chosen_value(choice, equality.0, zero);
@@ -116,7 +115,7 @@ fn equalities_hold(equalities: &[(Place, Place)], choice: &[Row], zero: &Value) 
 
 fn constants_hold(constants: &[(Place, Value)], choice: &[Row], zero: &Value) -> bool
     requires { zero.now ≡ Number (pos 0) }
-    ensures { result ≡ list_all (λ c. same_value (chosen choice.now c.0) c.1) constants.now }
+    ensures { result ≡ list_all (λ c. same_value (choice_value choice.now c.0) c.1) constants.now }
 {
     for constant in constants {
         if *chosen_value(choice, constant.0, zero) != constant.1 {
@@ -128,7 +127,7 @@ fn constants_hold(constants: &[(Place, Value)], choice: &[Row], zero: &Value) ->
 
 fn comparison_is_met(comparison: &Comparison, choice: &[Row], zero: &Value) -> bool
     requires { zero.now ≡ Number (pos 0) }
-    ensures { result ≡ comparison_holds (chosen choice.now) comparison.now }
+    ensures { result ≡ comparison_holds (choice_value choice.now) comparison.now }
 {
     let left = chosen_value(choice, comparison.left, zero);
     match &comparison.right {
@@ -143,7 +142,7 @@ fn comparison_is_met(comparison: &Comparison, choice: &[Row], zero: &Value) -> b
 
 fn comparisons_hold(comparisons: &[Comparison], choice: &[Row], zero: &Value) -> bool
     requires { zero.now ≡ Number (pos 0) }
-    ensures { result ≡ list_all (comparison_holds (chosen choice.now)) comparisons.now }
+    ensures { result ≡ list_all (comparison_holds (choice_value choice.now)) comparisons.now }
 {
     for comparison in comparisons {
         if !comparison_is_met(comparison, choice, zero) {
@@ -170,7 +169,7 @@ fn project_choice(
     zero: &Value,
 ) -> Result<Row, NoMemory>
     requires { zero.now ≡ Number (pos 0) }
-    ensures { IfOk result (λ row. row ≡ map (chosen choice.now) output.now) }
+    ensures { IfOk result (λ row. row ≡ map (choice_value choice.now) output.now) }
 {
     let mut row = List::new(alloc);
     for place in output {
@@ -187,7 +186,7 @@ fn outputs(
     zero: &Value,
 ) -> Result<List<Row>, NoMemory>
     requires { zero.now ≡ Number (pos 0) }
-    ensures { IfOk result (λ found. found ≡ map (λ choice. map (chosen choice) block.now.output) (filter (meets block.now) all.now)) }
+    ensures { IfOk result (λ found. found ≡ map (λ choice. map (choice_value choice) block.now.output) (filter (meets block.now) all.now)) }
 {
     let mut found = List::new(alloc);
     for choice in all {
@@ -209,7 +208,8 @@ pub fn full_of_block(
 {
     let zero = Value::Int(0);
     let all = all_choices(alloc, tables, block.atoms.as_slice())?;
-    distinct_rows(outputs(alloc, block, all.as_slice(), &zero)?)
+    let found = outputs(alloc, block, all.as_slice(), &zero)?;
+    Ok(distinct_rows(found))
 }
 
 fn has_row(rows: &[Row], row: &Row) -> bool
@@ -224,17 +224,17 @@ fn has_row(rows: &[Row], row: &Row) -> bool
 }
 
 fn unite(left: List<Row>, right: List<Row>) -> Result<List<Row>, NoMemory>
-    ensures { IfOk result (λ rows. rows ≡ united left right) }
+    ensures { IfOk result (λ rows. rows ≡ set_union left right) }
 {
     let mut rows = left;
     for row in right.into_vec() {
         rows.push(row)?;
     }
-    distinct_rows(rows)
+    Ok(distinct_rows(rows))
 }
 
 fn subtract(alloc: Global, left: List<Row>, right: &[Row]) -> Result<List<Row>, NoMemory>
-    ensures { IfOk result (λ rows. rows ≡ subtracted left right.now) }
+    ensures { IfOk result (λ rows. rows ≡ set_difference left right.now) }
 {
     let mut rows = List::new(alloc);
     for row in left.as_slice() {
@@ -247,15 +247,15 @@ fn subtract(alloc: Global, left: List<Row>, right: &[Row]) -> Result<List<Row>, 
 
 /// The full answer of a query over tables.
 pub fn full_of(alloc: Global, tables: &[List<Row>], query: &Query) -> Result<List<Row>, NoMemory>
-    ensures { IfOk result (λ answer. answer ≡ answer_to (rows_in tables.now) (tree_of query.now)) }
+    ensures { IfOk result (λ answer. answer ≡ answer_to (rows_in tables.now) query.now) }
 {
-    match query {
-        Query::Block(block) => full_of_block(alloc, tables, block),
-        Query::Union(left, right) => unite(
+    match &query.node {
+        QueryNode::Block(block) => full_of_block(alloc, tables, block),
+        QueryNode::Union(left, right) => unite(
             full_of(alloc, tables, left)?,
             full_of(alloc, tables, right)?,
         ),
-        Query::Except(left, right) => {
+        QueryNode::Except(left, right) => {
             let others = full_of(alloc, tables, right)?;
             subtract(alloc, full_of(alloc, tables, left)?, others.as_slice())
         }

@@ -2,39 +2,23 @@
 ghost use Rattle.std.specs.Prelude.{◌≡◌, ◌<◌, ◌≤◌, ◌^◌, ◌+◌, ◌++◌, ◌∷◌, [], ℕ, pos, map, filter, zip, length, sum_by, IfOk, MatchOption};
 ghost use Rattle.beas_core.specs.declared.value.Value.TheVariants.{Int as Number};
 ghost use Rattle.beas_core.specs.Groups.{member_columns, project, same_row, group_of, value_at};
-ghost use Rattle.beas_core.specs.Derivations.{rule_in};
+ghost use Rattle.beas_core.specs.Derivations.{access_in};
 ghost use Rattle.beas_core.specs.Valuations.{as_bindings, classes_in};
 ghost use Rattle.beas_core.specs.Reads.{key_for, probe_reads, step_reads};
-ghost use Rattle.beas_core.specs.Reads.{reads_after as further_reads, reads_of as all_reads};
+ghost use Rattle.beas_core.specs.Reads.{reads_of as all_reads};
+ghost use Rattle.evaluation_facts.specs.StepReads.{reads_at, reads_from};
 ghost use Rattle.plain_meaning.specs.Tables.{rows_in};
 
-use crate::bindings::{Bindings, valuations, value_in};
+use crate::bindings::{bindings_between, is_guided, valuations, value_in};
 use crate::rows::{distinct_rows, rows_of, value_or};
 use beas_core::{
     Access, AccessId, ColumnId, DStep, Duplicate, List, NoMemory, Normal, Row, Value, compare_rows,
 };
-use plain_cover::{bound_after, class_at, classes_held, columns_of, rule_for, with_first};
+use plain_cover::{
+    bound_after, class_at, classes_held, columns_for, key_for, start_classes, table_for,
+};
 use std::alloc::Global;
 use std::cmp::Ordering;
-
-fn bindings_between(
-    alloc: Global,
-    classes: &[u16],
-    valuation: &[Value],
-) -> Result<Bindings, NoMemory>
-    ensures { IfOk result (λ bindings. bindings ≡ zip classes.now valuation.now) }
-{
-    match classes {
-        [] => Ok(List::new(alloc)),
-        [class, rest @ ..] => match valuation {
-            [] => Ok(List::new(alloc)),
-            [value, values @ ..] => {
-                let others = bindings_between(alloc, rest, values)?;
-                with_first(alloc, (*class, value.copy(alloc)?), others)
-            }
-        },
-    }
-}
 
 fn key_in(
     alloc: Global,
@@ -47,10 +31,10 @@ fn key_in(
     bindings: &[(u16, Value)],
     zero: &Value,
 ) -> Result<Row, NoMemory>
-    requires key { key.now ≡ (rule_in accesses.now step.now.access).key }
+    requires key { key.now ≡ (access_in accesses.now step.now.access).key }
     requires bindings { bindings.now ≡ as_bindings set.now valuation.now }
     requires zero { zero.now ≡ Number (pos 0) }
-    ensures { IfOk result (λ row. row ≡ key_for normal.now (rule_in accesses.now) step.now set.now valuation.now) }
+    ensures { IfOk result (λ row. row ≡ key_for normal.now accesses.now step.now set.now valuation.now) }
 {
     let mut row = List::new(alloc);
     for column in key {
@@ -70,10 +54,10 @@ fn key_of(
     valuation: &[Value],
     zero: &Value,
 ) -> Result<Row, NoMemory>
-    requires key { key.now ≡ (rule_in accesses.now step.now.access).key }
+    requires key { key.now ≡ (access_in accesses.now step.now.access).key }
     requires classes { classes.now ≡ classes_in set.now }
     requires zero { zero.now ≡ Number (pos 0) }
-    ensures { IfOk result (λ row. row ≡ key_for normal.now (rule_in accesses.now) step.now set.now valuation.now) }
+    ensures { IfOk result (λ row. row ≡ key_for normal.now accesses.now step.now set.now valuation.now) }
 {
     let bindings = bindings_between(alloc, classes, valuation)?;
     let row = key_in(
@@ -101,10 +85,10 @@ fn keys_in(
     found: &[Row],
     zero: &Value,
 ) -> Result<List<Row>, NoMemory>
-    requires key { key.now ≡ (rule_in accesses.now step.now.access).key }
+    requires key { key.now ≡ (access_in accesses.now step.now.access).key }
     requires classes { classes.now ≡ classes_in set.now }
     requires zero { zero.now ≡ Number (pos 0) }
-    ensures { IfOk result (λ keys. keys ≡ map (key_for normal.now (rule_in accesses.now) step.now set.now) found.now) }
+    ensures { IfOk result (λ keys. keys ≡ map (key_for normal.now accesses.now step.now set.now) found.now) }
 {
     let mut keys = List::new(alloc);
     for valuation in found {
@@ -156,17 +140,17 @@ fn has_key(
 fn members_of(
     alloc: Global,
     rows: &[Row],
-    rule: &Access,
+    key_columns: &[ColumnId],
     columns: &[ColumnId],
     key: &[Value],
     zero: &Value,
 ) -> Result<List<Row>, NoMemory>
     requires { zero.now ≡ Number (pos 0) }
-    ensures { IfOk result (λ members. members ≡ map (project columns.now) (filter (λ row. same_row (project rule.now.key row) key.now) rows.now)) }
+    ensures { IfOk result (λ members. members ≡ map (project columns.now) (filter (λ row. same_row (project key_columns.now row) key.now) rows.now)) }
 {
     let mut members = List::new(alloc);
     for row in rows {
-        if has_key(alloc, rule.key.as_slice(), row.as_slice(), key, zero)? {
+        if has_key(alloc, key_columns, row.as_slice(), key, zero)? {
             members.push(project_row(alloc, columns, row.as_slice(), zero)?)?;
         }
     }
@@ -176,23 +160,25 @@ fn members_of(
 fn reads_of_probe(
     alloc: Global,
     tables: &[List<Row>],
-    rule: &Access,
+    accesses: &[Access],
+    id: AccessId,
     key: &[Value],
     zero: &Value,
 ) -> Result<u64, NoMemory>
     requires { zero.now ≡ Number (pos 0) }
-    ensures { IfOk result (λ reads. reads ≡ probe_reads (rows_in tables.now) rule.now key.now) }
+    ensures { IfOk result (λ reads. reads ≡ probe_reads (rows_in tables.now) (access_in accesses.now id) key.now) }
 {
-    let columns = columns_of(alloc, rule)?;
+    let key_columns = key_for(alloc, accesses, id)?;
+    let columns = columns_for(alloc, accesses, id)?;
     let members = members_of(
         alloc,
-        rows_of(tables, rule.table),
-        rule,
+        rows_of(tables, table_for(accesses, id)),
+        key_columns.as_slice(),
         columns.as_slice(),
         key,
         zero,
     )?;
-    let group = distinct_rows(members)?;
+    let group = distinct_rows(members);
     Ok((group.len() as u64).max(1))
 }
 
@@ -201,17 +187,15 @@ fn reads_of_keys(
     tables: &[List<Row>],
     accesses: &[Access],
     id: AccessId,
-    rule: &Access,
     keys: &[Row],
     zero: &Value,
 ) -> Result<u128, NoMemory>
-    requires rule { rule.now ≡ rule_in accesses.now id }
-    requires zero { zero.now ≡ Number (pos 0) }
-    ensures { IfOk result (λ reads. reads ≡ sum_by (probe_reads (rows_in tables.now) (rule_in accesses.now id)) keys.now) }
+    requires { zero.now ≡ Number (pos 0) }
+    ensures { IfOk result (λ reads. reads ≡ sum_by (probe_reads (rows_in tables.now) (access_in accesses.now id)) keys.now) }
 {
     let mut reads: u128 = 0;
     for key in keys {
-        reads += u128::from(reads_of_probe(alloc, tables, rule, key.as_slice(), zero)?);
+        reads += u128::from(reads_of_probe(alloc, tables, accesses, id, key.as_slice(), zero)?);
     }
     Ok(reads)
 }
@@ -226,29 +210,28 @@ fn reads_of_step(
     found: &[Row],
 ) -> Result<u128, NoMemory>
     requires { length set.now < 65536 }
-    ensures { IfOk result (λ reads. reads ≡ step_reads (rows_in tables.now) normal.now (rule_in accesses.now) step.now set.now found.now) }
+    ensures { IfOk result (λ reads. reads ≡ step_reads (rows_in tables.now) normal.now accesses.now step.now set.now found.now) }
 {
     let zero = Value::Int(0);
-    let rule = rule_for(alloc, accesses, step.access)?;
+    let key = key_for(alloc, accesses, step.access)?;
     let classes = classes_held(alloc, set)?;
     let keys = keys_in(
         alloc,
         normal,
         accesses,
         step,
-        rule.key.as_slice(),
+        key.as_slice(),
         set,
         classes.as_slice(),
         found,
         &zero,
     )?;
-    let distinct = distinct_rows(keys)?;
+    let distinct = distinct_rows(keys);
     let reads = reads_of_keys(
         alloc,
         tables,
         accesses,
         step.access,
-        &rule,
         distinct.as_slice(),
         &zero,
     )?;
@@ -280,37 +263,24 @@ fn reads_after(
     tables: &[List<Row>],
     normal: &Normal,
     accesses: &[Access],
-    start: &[bool],
-    starts: &List<Bindings>,
+    guide: &Option<List<Row>>,
     done: &[DStep],
     steps: &[DStep],
 ) -> Result<Option<u128>, NoMemory>
-    requires { length start.now < 65536 }
-    ensures { IfOk result (λ reads. MatchOption reads (2 ^ 128 ≤ further_reads (rows_in tables.now) normal.now (rule_in accesses.now) start.now starts.now done.now steps.now)
-        (λ n. n ≡ further_reads (rows_in tables.now) normal.now (rule_in accesses.now) start.now starts.now done.now steps.now)) }
+    ensures { IfOk result (λ reads. MatchOption reads (2 ^ 128 ≤ reads_from (rows_in tables.now) normal.now accesses.now guide.now done.now steps.now)
+        (λ n. n ≡ reads_from (rows_in tables.now) normal.now accesses.now guide.now done.now steps.now)) }
 {
     match steps {
         [] => Ok(Some(0)),
         [first, rest @ ..] => {
-            let set = bound_after(alloc, normal, accesses, start, done)?;
-            let found = valuations(alloc, tables, normal, accesses, start, starts, done)?;
-            let here = reads_of_step(
-                alloc,
-                tables,
-                normal,
-                accesses,
-                first,
-                set.as_slice(),
-                found.as_slice(),
-            )?;
+            let here = reads_of_next(alloc, tables, normal, accesses, guide, done, first)?;
             let more = one_more(alloc, done, first)?;
             let later = reads_after(
                 alloc,
                 tables,
                 normal,
                 accesses,
-                start,
-                starts,
+                guide,
                 more.as_slice(),
                 rest,
             )?;
@@ -319,19 +289,44 @@ fn reads_after(
     }
 }
 
+fn reads_of_next(
+    alloc: Global,
+    tables: &[List<Row>],
+    normal: &Normal,
+    accesses: &[Access],
+    guide: &Option<List<Row>>,
+    done: &[DStep],
+    step: &DStep,
+) -> Result<u128, NoMemory>
+    ensures { IfOk result (λ reads. reads ≡ reads_at (rows_in tables.now) normal.now accesses.now guide.now done.now step.now) }
+{
+    let _count = normal.count;
+    let start = start_classes(alloc, normal, is_guided(guide))?;
+    let set = bound_after(alloc, normal, accesses, start.as_slice(), done)?;
+    let found = valuations(alloc, tables, normal, accesses, guide, done)?;
+    reads_of_step(
+        alloc,
+        tables,
+        normal,
+        accesses,
+        step,
+        set.as_slice(),
+        found.as_slice(),
+    )
+}
+
 /// The reads of the steps over tables; nothing where that passes 2^128 - 1.
+#[tactic(auto, using(evaluation_facts::proofs::ReadFacts::reads_by_step))]
 pub fn reads_of(
     alloc: Global,
     tables: &[List<Row>],
     normal: &Normal,
     accesses: &[Access],
-    start: &[bool],
-    starts: &List<Bindings>,
+    guide: &Option<List<Row>>,
     steps: &[DStep],
 ) -> Result<Option<u128>, NoMemory>
-    requires { length start.now < 65536 }
-    ensures { IfOk result (λ reads. MatchOption reads (2 ^ 128 ≤ all_reads (rows_in tables.now) normal.now (rule_in accesses.now) start.now starts.now steps.now)
-        (λ n. n ≡ all_reads (rows_in tables.now) normal.now (rule_in accesses.now) start.now starts.now steps.now)) }
+    ensures { IfOk result (λ reads. MatchOption reads (2 ^ 128 ≤ all_reads (rows_in tables.now) normal.now accesses.now guide.now steps.now)
+        (λ n. n ≡ all_reads (rows_in tables.now) normal.now accesses.now guide.now steps.now)) }
 {
-    reads_after(alloc, tables, normal, accesses, start, starts, &[], steps)
+    reads_after(alloc, tables, normal, accesses, guide, &[], steps)
 }

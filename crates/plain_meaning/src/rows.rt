@@ -1,21 +1,18 @@
 // Rows, tables and sets in order.
-ghost use Rattle.std.specs.Prelude.{◌≡◌, pos, IfOk, slice_index_or};
+ghost use Rattle.std.specs.Prelude.{◌≡◌, pos, slice_index_or};
 ghost use Rattle.beas_core.specs.declared.value.Value.TheVariants.{Int as Number};
 ghost use Rattle.beas_core.specs.Order.{row_cmp};
 ghost use Rattle.beas_core.specs.Sets.{distinct};
 ghost use Rattle.beas_core.specs.Groups.{value_at};
 ghost use Rattle.plain_meaning.specs.Tables.{rows_in};
 
-use beas_core::{ColumnId, List, NoMemory, Row, TableId, Value};
+use beas_core::{ColumnId, List, Row, TableId, Value, sort_distinct};
 
 /// The rows as a set in order.
-pub fn distinct_rows(rows: List<Row>) -> Result<List<Row>, NoMemory>
-    ensures { IfOk result (λ set. set ≡ distinct row_cmp rows) }
+pub fn distinct_rows(rows: List<Row>) -> List<Row>
+    ensures { result ≡ distinct row_cmp rows }
 {
-    let mut set = rows.into_vec();
-    set.sort()?;
-    set.dedup();
-    Ok(List::from_vec(set))
+    List::from_vec(sort_distinct(rows.into_vec()))
 }
 
 /// The rows of a table.

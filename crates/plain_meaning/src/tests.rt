@@ -2,7 +2,7 @@
 use crate::{full_of, full_of_block, reads_of};
 use beas_core::{
     Access, AccessId, Atom, Block, ColumnId, Comparison, DStep, Duplicate, List, Name, Normal,
-    NotCovered, Operand, Place, Query, Row, Sign, TableId, Text, Value, copy_row,
+    NotCovered, Operand, Place, Query, QueryNode, Row, Sign, TableId, Value, copy_row,
 };
 use plain_cover::{announced, constant_classes, covered_set, derivation, reason};
 use std::alloc::Global;
@@ -368,6 +368,13 @@ fn long(number: i64) -> Result<u32, Fail> {
     }
 }
 
+fn name_of_access(alloc: Global) -> Result<Name, Fail> {
+    match Name::of(alloc, "a")? {
+        Some(name) => Ok(name),
+        None => Err("no name".into()),
+    }
+}
+
 fn access_on(
     alloc: Global,
     id: u32,
@@ -381,7 +388,7 @@ fn access_on(
     };
     Ok(Access {
         id: AccessId(id),
-        name: Name::from_text(Text::new(alloc)),
+        name: name_of_access(alloc)?,
         table: TableId(table),
         key,
         fetched,
@@ -541,23 +548,6 @@ fn reason_of(
     Ok(why)
 }
 
-fn reads_by(
-    alloc: Global,
-    tables: &[List<Row>],
-    normal: &Normal,
-    rules: &[Access],
-    start: &[bool],
-    steps: &[DStep],
-) -> Result<Option<u128>, Fail> {
-    if start.len() > 100 {
-        return Err("too many".into());
-    }
-    let mut starts = List::new(alloc);
-    starts.push(normal.constants.copy(alloc)?)?;
-    let reads = reads_of(alloc, tables, normal, rules, start, &starts, steps)?;
-    Ok(reads)
-}
-
 fn show_answer(
     alloc: Global,
     shown: &mut String,
@@ -576,11 +566,10 @@ fn show_plan(
     case: &Case,
     normal: &Normal,
     rules: &[Access],
-    start: &[bool],
     steps: &[DStep],
 ) -> Result<(), Fail> {
     let tables = tables(alloc, case.tables)?;
-    let reads = reads_by(alloc, tables.as_slice(), normal, rules, start, steps)?;
+    let reads = reads_of(alloc, tables.as_slice(), normal, rules, &None, steps)?;
     show_steps(shown, steps)?;
     show_number(shown, "bound", announced(rules, 1, steps))?;
     show_number(shown, "reads", reads)?;
@@ -615,15 +604,7 @@ fn shown(alloc: Global, case: &Case) -> Result<String, Fail> {
     let mut shown = String::new(alloc);
     match steps_for(alloc, &normal, rules, start)? {
         None => show_reason(&mut shown, &reason_of(alloc, &normal, rules, start)?)?,
-        Some(steps) => show_plan(
-            alloc,
-            &mut shown,
-            case,
-            &normal,
-            rules,
-            start,
-            steps.as_slice(),
-        )?,
+        Some(steps) => show_plan(alloc, &mut shown, case, &normal, rules, steps.as_slice())?,
     }
     Ok(shown)
 }
@@ -639,7 +620,12 @@ fn second_of(alloc: Global, a: i64) -> Result<Box<Query>, Fail> {
         comparisons: List::new(alloc),
         output: places(alloc, "0 1")?,
     };
-    Ok(Box::new(alloc, Query::Block(block))?)
+    Ok(Box::new(
+        alloc,
+        Query {
+            node: QueryNode::Block(block),
+        },
+    )?)
 }
 
 // Those of 1 but not of 2, and those of 2.
@@ -647,8 +633,15 @@ fn in_either(alloc: Global) -> Result<Query, Fail> {
     let first = second_of(alloc, 1)?;
     let second = second_of(alloc, 2)?;
     let third = second_of(alloc, 2)?;
-    let except = Box::new(alloc, Query::Except(first, second))?;
-    Ok(Query::Union(except, third))
+    let except = Box::new(
+        alloc,
+        Query {
+            node: QueryNode::Except(first, second),
+        },
+    )?;
+    Ok(Query {
+        node: QueryNode::Union(except, third),
+    })
 }
 
 fn shown_answer(alloc: Global, query: &Query, text: &str) -> Result<String, Fail> {

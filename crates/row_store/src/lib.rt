@@ -1,13 +1,15 @@
 //! The rows of one table, of which each that is handed out counts as one read.
 #![tactic(auto)]
 
-ghost use Rattle.std.specs.Prelude.{◌≡◌, ◌+◌, ◌<◌, ◌≤◌, ◌↔◌, ◌++◌, ◌∷◌, [], length, slice_index_or, IfErr, IsErrOf, OnOk, OnErr};
+ghost use Rattle.std.specs.Prelude.{◌≡◌, ◌+◌, ◌<◌, ◌≤◌, ◌↔◌, ◌++◌, ◌∷◌, [], length, take, slice_index_or, IfErr, IsErrOf, OnOk, OnErr};
+ghost use Rattle.std.specs.List.{SwappedAt, remove as list_remove, swap as list_swap};
 ghost use Rattle.beas_core.specs.declared.refusal.Counted.TheVariants.{Rows as OfRows};
 ghost use Rattle.beas_core.specs.declared.errors.Fail.TheVariants.{NoMemory as Want};
 
-use beas_core::{Counted, Fail, Refusal, Row, Steps};
+use beas_core::{Counted, Fail, List, Refusal, Row, Steps};
 use std::alloc::Global;
 use std::marker::Model;
+use std::mem;
 use std::sync::ledger::Ledger;
 
 /// The rows of a table, in the order in which they came. There are fewer than 2 to the 32.
@@ -25,6 +27,15 @@ impl Model for Rows {
     ghost view = { λ s. s.rows.items };
 
     ghost invariant = { λ s. length s.rows.items < 2 ^ 32 };
+}
+
+fn too_many(limit: u32) -> Fail
+    ensures { result ≡ Fail.Refused (Refusal.TooMany OfRows limit) }
+{
+    Fail::Refused(Refusal::TooMany {
+        what: Counted::Rows,
+        limit: u64::from(limit),
+    })
 }
 
 impl Rows {
@@ -63,13 +74,57 @@ impl Rows {
         ensures err { OnErr result (self.new ≡ self.old) }
     {
         if self.len() >= limit {
-            return Err(Fail::Refused(Refusal::TooMany {
-                what: Counted::Rows,
-                limit: u64::from(limit),
-            }));
+            return Err(too_many(limit));
         }
         self.rows.push(row)?;
         Ok(())
+    }
+
+    /// Moves all of `rows` to the end, in order. They are refused as too many where there would be more than
+    /// `limit` rows, and after any error both lists are as they were.
+    pub fn append(&mut self, alloc: Global, rows: &mut List<Row>, limit: u32) -> Result<(), Fail>
+        ensures too_many { IsErrOf result (Fail.Refused (Refusal.TooMany OfRows limit)) ↔ (limit < length self.old + length rows.old) }
+        ensures memory { length self.old + length rows.old ≤ limit → IfErr result (λ why. why ≡ Want) }
+        ensures ok { OnOk result (self.new ≡ self.old ++ rows.old) }
+        ensures moved { OnOk result (rows.new ≡ []) }
+        ensures err { OnErr result (self.new ≡ self.old) }
+        ensures stay { OnErr result (rows.new ≡ rows.old) }
+    {
+        let len = self.len();
+        if len > limit || rows.len() > (limit - len) as usize {
+            return Err(too_many(limit));
+        }
+        let mut moved = mem::replace(rows, List::new(alloc)).into_vec();
+        let outcome = self.rows.append(&mut moved);
+        *rows = List::from_vec(moved);
+        outcome?;
+        Ok(())
+    }
+
+    /// Takes the row with this index out; those after it close up. It takes no memory and counts no read.
+    pub fn remove(&mut self, i: u32)
+        requires { i < length self.old }
+        ensures { self.new ≡ list_remove self.old i }
+    {
+        self.rows.remove(i as usize);
+    }
+
+    /// Puts two rows in each other's place. It takes no memory and counts no read.
+    pub fn swap(&mut self, i: u32, j: u32)
+        requires first { i < length self.old }
+        requires second { j < length self.old }
+        ensures swapped { self.new ≡ list_swap self.old i j }
+        ensures by_index { SwappedAt self.old self.new i j }
+    {
+        self.rows.swap(i as usize, j as usize);
+    }
+
+    /// Keeps the first `len` rows. It takes no memory and counts no read.
+    pub fn truncate(&mut self, len: u32)
+        requires { len ≤ length self.old }
+        ensures { self.new ≡ take len self.old }
+    {
+        self.rows.truncate(len as usize);
     }
 }
 
@@ -101,15 +156,53 @@ mod tests {
         for number in [10_i64, 20, 30] {
             let mut row = List::new(alloc);
             row.push(Value::Int(number))?;
-            let refused = match rows.push(row, 2) {
-                Ok(()) => false,
-                Err(Fail::Refused(_)) => true,
-                Err(why) => return Err(Failed::from(why)),
-            };
-            assert_eq!(rt; refused, number == 30);
+            assert_eq!(rt; taken(rows.push(row, 2))?, number < 30);
         }
         assert_eq!(rt; rows.len(), 2);
-        assert_eq!(rt; read_second::<Brand>(&rows, Blank::new(1)), 20);
+        assert_eq!(rt; second(&rows), 20);
+        Ok(())
+    }
+
+    fn second(rows: &Rows) -> i64
+        requires { 1 < length rows.now }
+    {
+        read_second::<Brand>(rows, Blank::new(1))
+    }
+
+    fn taken(outcome: Result<(), Fail>) -> Result<bool, Failed> {
+        match outcome {
+            Ok(()) => Ok(true),
+            Err(Fail::Refused(_)) => Ok(false),
+            Err(why) => Err(Failed::from(why)),
+        }
+    }
+
+    fn numbered(alloc: Global, number: i64) -> Result<Row, Failed> {
+        let mut row = List::new(alloc);
+        row.push(Value::Int(number))?;
+        Ok(row)
+    }
+
+    #[test]
+    fn moves_swaps_and_drops_rows(rt: HostRuntime) -> Result<(), Failed> {
+        let alloc = rt.alloc();
+        let mut rows = Rows::new(alloc);
+        let mut more = List::new(alloc);
+        for number in [10_i64, 20, 30, 40] {
+            more.push(numbered(alloc, number)?)?;
+        }
+        assert!(rt; !taken(rows.append(alloc, &mut more, 3))?);
+        assert_eq!(rt; more.len(), 4);
+        assert!(rt; taken(rows.append(alloc, &mut more, 4))?);
+        assert!(rt; more.is_empty());
+        assert_eq!(rt; rows.len(), 4);
+        rows.swap(1, 3);
+        assert_eq!(rt; rows.len(), 4);
+        rows.remove(0);
+        assert_eq!(rt; rows.len(), 3);
+        rows.truncate(2);
+        assert_eq!(rt; rows.len(), 2);
+        assert_eq!(rt; second(&rows), 30);
         Ok(())
     }
 }

@@ -3,4 +3,4 @@ use Rattle.std.specs.List.{filter}
 use Rattle.plain_cover.proofs.coverage.uses_on.Given as goal
 
 abbrev pub invariant-loop-access : goal.invariant-loop-access
-invariant-loop-access l = l.found ≡ map (λ rule. (l.atom, rule)) (filter (λ rule. rule.table.0 == l.table.0) (take l.access-index l.accesses))
+invariant-loop-access l = l.found ≡ map (λ access. record { atom = l.atom; access = access }) (filter (λ access. access.table.0 == l.table.0) (take l.access-index l.accesses))

@@ -4,4 +4,4 @@ use Rattle.std.specs.List.{filter}
 use Rattle.plain_cover.proofs.derive.serving_uses.Given as goal
 
 abbrev pub invariant-loop-candidate : goal.invariant-loop-candidate
-invariant-loop-candidate l = l.ready ≡ filter (λ u. (u.0 == l.atom) && serves l.normal l.set u) (take l.candidate-index l.found)
+invariant-loop-candidate l = l.ready ≡ filter (λ u. (u.atom == l.atom) && serves l.normal l.set u) (take l.candidate-index l.found)

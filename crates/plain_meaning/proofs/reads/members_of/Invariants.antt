@@ -4,4 +4,4 @@ use Rattle.std.specs.List.{filter}
 use Rattle.plain_meaning.proofs.reads.members_of.Given as goal
 
 abbrev pub invariant-loop-row : goal.invariant-loop-row
-invariant-loop-row l = l.members ≡ map (project l.columns) (filter (λ row. same_row (project l.rule.key row) l.key) (take l.row-index l.rows))
+invariant-loop-row l = l.members ≡ map (project l.columns) (filter (λ row. same_row (project l.key_columns row) l.key) (take l.row-index l.rows))

@@ -1,5 +1,0 @@
-use Rattle.beas_cases.proofs.tests.a_script_of_the_greatest_length.Given as goal
-
--- the ledger that the counter is of
-abbrev pub ghosts-run_bytes : goal.ghosts-run_bytes
-ghosts-run_bytes g a = record { name = a.blank.name; parts = a.blank.parts }

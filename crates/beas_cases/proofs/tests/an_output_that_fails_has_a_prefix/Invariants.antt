@@ -1,5 +1,0 @@
-use Rattle.beas_cases.proofs.tests.an_output_that_fails_has_a_prefix.Given as goal
-
--- the ledger that the counter is of
-abbrev pub ghosts-run_bytes : goal.ghosts-run_bytes
-ghosts-run_bytes g a = record { name = a.blank.name; parts = a.blank.parts }

@@ -1,5 +1,0 @@
-use Rattle.beas_laws.proofs.Derives.{derivation_sound}
-use Rattle.beas_laws.proofs.law_derivation_sound.Goals as goal
-
-pub returns : goal.returns
-returns c = λ steps h. derivation_sound c.args.normal.now c.args.accesses.now c.requires c.args.start.now steps h

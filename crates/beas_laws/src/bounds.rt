@@ -1,0 +1,50 @@
+// Laws on what is announced: it bounds the valuations and the reads.
+ghost use Rattle.std.specs.Prelude.{◌≤◌, All, IsTrue, is_some};
+ghost use Rattle.beas_core.specs.Coverage.{ClassesInRange, ConstantsInRange, start_classes};
+ghost use Rattle.beas_core.specs.Derivations.{is_live, steps_are_sound};
+ghost use Rattle.beas_core.specs.Fits.{Fits, StepsHold};
+ghost use Rattle.beas_core.specs.Reads.{own_reads_of_all};
+ghost use Rattle.evaluation_facts.specs.Fronts.{FrontsAreBounded};
+ghost use Rattle.evaluation_facts.specs.Guides.{BlockStart, StartFits};
+ghost use Rattle.beas_laws.specs.Held.{PlanHolds, StepHolds};
+
+use beas_core::{AccessPort, DStep, Derivation, List, Normal, Prepared};
+
+/// Where the constraints hold, the valuations after each front of the steps are at most its last size; and the reads
+/// of each front, with what the next step may read, are at most the announced number, as are those of all steps.
+pub fn law_block_bound<P: AccessPort>(port: &P, normal: &Normal, steps: &List<DStep>)
+    requires classes { ClassesInRange normal.now }
+    requires constants { ConstantsInRange normal.now }
+    requires holds { StepsHold (P.rows port.now) (P.accesses port.now) steps.now }
+    ensures { (start : BlockStart) → StartFits normal.now start
+        → IsTrue (steps_are_sound normal.now (P.accesses port.now) (start_classes normal.now (is_some start.guide)) steps.now)
+        → FrontsAreBounded (P.rows port.now) normal.now (P.accesses port.now) start steps.now }
+{}
+
+// Asks for the constraint of each step, and so learns that it holds.
+fn ask_for_steps<P: AccessPort>(port: &P, steps: &[DStep])
+    requires { All (λ s. IsTrue (is_live (P.accesses port.now) s.access)) steps.now }
+    ensures { All (StepHolds (P.rows port.now) (P.accesses port.now)) steps.now }
+{
+    for step in steps {
+        let _access = port.access(step.access);
+    }
+}
+
+fn ask_for_all<P: AccessPort>(port: &P, derivations: &[Derivation])
+    requires { All (λ plan. All (λ s. IsTrue (is_live (P.accesses port.now) s.access)) plan.steps) derivations.now }
+    ensures { All (PlanHolds (P.rows port.now) (P.accesses port.now)) derivations.now }
+{
+    for derivation in derivations {
+        ask_for_steps(port, derivation.steps.as_slice());
+    }
+}
+
+/// A prepared query that fits takes at most as many reads as its bound says.
+pub fn law_bound<P: AccessPort>(port: &P, prepared: &Prepared)
+    requires { Fits (P.accesses port.now) (P.rows port.now) prepared.now }
+    ensures { own_reads_of_all (P.rows port.now) prepared.now.normals (P.accesses port.now) prepared.now.derivations
+        ≤ prepared.now.bound }
+{
+    ask_for_all(port, prepared.derivations.as_slice());
+}

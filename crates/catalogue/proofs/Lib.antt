@@ -1,0 +1,5 @@
+pub mod IdFacts
+pub mod Keeping
+pub mod ListFacts
+pub mod MayMake
+pub mod RepeatFacts

@@ -1,0 +1,4 @@
+pub mod Database
+pub mod Kept
+pub mod Refusing
+pub mod Schema

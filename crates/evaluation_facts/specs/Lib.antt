@@ -1,0 +1,6 @@
+pub mod Covered
+pub mod Extensions
+pub mod Fronts
+pub mod Guides
+pub mod Numbering
+pub mod StepReads

@@ -1,0 +1,6 @@
+use Rattle.std.proofs.Common.{◌≡◌}
+use Rattle.std.specs.List.{range_with_len}
+use Rattle.normal_form.proofs.labels.own_labels.Given as goal
+
+abbrev pub invariant-loop-place : goal.invariant-loop-place
+invariant-loop-place l = l.labels.items ≡ range_with_len 0 l.place
