@@ -1,9 +1,9 @@
 -- A text that grows lexeme by lexeme is the text of all of them.
-use Rattle.std.proofs.Common.{◌≡◌, ℕ, ◌+◌, ◌<◌, ◌≤◌, Bool, true, List, [], ◌∷◌, ◌++◌, length, get_or, drop, refl, sym, ap, ◌∙◌, append_assoc, arith}
+use Rattle.std.proofs.Common.{◌≡◌, ℕ, ◌+◌, ◌<◌, ◌≤◌, true, List, [], ◌∷◌, ◌++◌, length, get_or, drop, refl, sym, ap, ◌∙◌, append_assoc}
 use Rattle.std.specs.List.{flat_map}
 use Rattle.std.proofs.lemmas.List.{append-nil, at_drop_more, drop_all, nil_from_length}
 use Rattle.std.proofs.lemmas.List.Concat.{flat_map-cons}
-use Rattle.sql_tree.specs.Canonical.{Lexeme, spelling, holds_left, holds_right, gap, written, parted}
+use Rattle.sql_tree.specs.Canonical.{Lexeme, written, parted}
 use Rattle.sql_tree.specs.Writing.{Written, put, put_all}
 
 pub put_all_append : (w : Written) (xs ys : List Lexeme) → put_all w (xs ++ ys) ≡ put_all (put_all w xs) ys

@@ -1,7 +1,7 @@
 -- The canonical text of a statement.
 --     lexemes_of statement     its words, names, numbers, texts and marks, in order
 --     printed statement        the same as text, with a space between two where one belongs
-use Rattle.std.specs.Prelude.{ℕ, ◌==◌, ◌||◌, if◌then◌else◌, Bool, true, false, List, [], ◌∷◌, ◌++◌, codes, bytes_eq, Option, Some, None}
+use Rattle.std.specs.Prelude.{ℕ, ◌||◌, if◌then◌else◌, Bool, true, false, List, [], ◌∷◌, ◌++◌, codes, bytes_eq, Option, Some, None}
 use Rattle.std.specs.List.{flat_map}
 use Rattle.beas_core.specs.declared.schema.ColType.{ColType}
 use Rattle.beas_core.specs.declared.schema.ColType.TheVariants.{Integer, Words as Texts}

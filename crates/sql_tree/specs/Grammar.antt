@@ -1,7 +1,6 @@
 -- The grammar: which tokens spell which tree.
-use Rattle.std.specs.Prelude.{◌≡◌, ℕ, ◌&&◌, ◌==◌, not, if◌then◌else◌, Bool, true, false, List, [], ◌∷◌, ◌++◌, codes, bytes_eq, Option, Some, None}
+use Rattle.std.specs.Prelude.{◌≡◌, ℕ, ◌&&◌, ◌==◌, not, if◌then◌else◌, Bool, true, false, List, [], ◌∷◌, ◌++◌, codes, bytes_eq, Some, None}
 use Rattle.std.specs.List.{flat_map}
-use Rattle.beas_core.specs.declared.schema.AccessSpec.{AccessSpec}
 use Rattle.beas_core.specs.declared.schema.ColType.TheVariants.{Integer, Words as Texts}
 use Rattle.beas_core.specs.declared.schema.Column.{Column}
 use Rattle.beas_core.specs.declared.query.Sign.{Sign}

@@ -1,7 +1,7 @@
 -- Tokens without their places, as the grammar knows them.
 --     symbols tokens     what each token is, and its text
 --     depth symbols      how deep the tokens are nested
-use Rattle.std.specs.Prelude.{ℕ, ◌+◌, ◌-◌, ◌&&◌, ◌||◌, if◌then◌else◌, Bool, true, false, nat_le, max, List, [], ◌∷◌, map, codes, bytes_eq}
+use Rattle.std.specs.Prelude.{ℕ, ◌+◌, ◌-◌, ◌&&◌, ◌||◌, if◌then◌else◌, Bool, false, nat_le, max, List, [], ◌∷◌, map, codes, bytes_eq}
 use Rattle.sql_text.specs.declared.token.Token.{Token}
 use Rattle.sql_text.specs.declared.token.TokenKind.{TokenKind}
 use Rattle.sql_text.specs.declared.token.TokenKind.TheVariants.{Word, Number, Quoted, Mark, Bad}

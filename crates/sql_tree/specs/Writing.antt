@@ -1,6 +1,6 @@
 -- A text that grows lexeme by lexeme.
-use Rattle.std.specs.Prelude.{ℕ, ◌||◌, Bool, true, List, [], ◌∷◌, ◌++◌, bytes_eq, codes}
-use Rattle.sql_tree.specs.Canonical.{Lexeme, keyword, sign, spelling, holds_left, holds_right, gap}
+use Rattle.std.specs.Prelude.{ℕ, ◌||◌, Bool, List, [], ◌∷◌, ◌++◌}
+use Rattle.sql_tree.specs.Canonical.{Lexeme, spelling, holds_left, holds_right, gap}
 
 -- the text so far, and whether no space stands before what comes next
 pub record Written : Type 0 where

@@ -1,6 +1,6 @@
-use Rattle.std.proofs.Common.{◌≡◌, ◌∙◌, sym, ap}
+use Rattle.std.proofs.Common.{◌∙◌}
 use Rattle.sql_tree.specs.Canonical.{lexemes_of}
-use Rattle.sql_tree.proofs.Written.{put_all_text, from_start}
+use Rattle.sql_tree.proofs.Written.{from_start}
 use Rattle.sql_tree.proofs.printing.print.Goals as goal
 
 pub returns : goal.returns

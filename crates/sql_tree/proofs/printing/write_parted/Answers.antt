@@ -1,4 +1,4 @@
-use Rattle.std.proofs.Common.{◌≡◌, ◌∙◌, sym, refl}
+use Rattle.std.proofs.Common.{◌∙◌, sym, refl}
 use Rattle.sql_tree.specs.Between.{lexeme_between}
 use Rattle.sql_tree.proofs.Written.{one_more, parts_done, parted_first, parted_nil}
 use Rattle.sql_tree.proofs.printing.write_parted.Goals as goal

@@ -1,0 +1,4 @@
+pub mod FieldFacts
+pub mod HeaderFacts
+pub mod RecordFacts
+pub mod RowFacts

@@ -1,0 +1,90 @@
+use Rattle.std.proofs.Common.{◌≡◌, ◌≤◌, ◌+◌, ◌∷◌, Bool, true, false, Option, Some, None, OnOk, IfOk, IfErr, MatchOption, Result, Ok, Err, List, length, sym, ◌∙◌, subst, arith}
+use Rattle.std.specs.Bool.{MatchBool}
+use Rattle.beas_core.specs.declared.errors.Fail.{Fail}
+use Rattle.beas_core.specs.declared.value.Value.{Value}
+use Rattle.beas_core.specs.declared.refusal.Refusal.{Refusal}
+use Rattle.csv.specs.Records.{fields_of}
+use Rattle.csv_load.specs.CsvRows.{is_header, records_of}
+use Rattle.csv_load.specs.Layouts.{IsLayout}
+use Rattle.csv_load.specs.Reading.{FailsAs, weight}
+use Rattle.csv_load.proofs.RowFacts.{no_header, other_header, fault_is, rows_are, room}
+use Rattle.csv_load.proofs.rows.rows_of.Goals as goal
+
+at_false : (b : Bool) (P Q : Type 0) → b ≡ false → MatchBool b P Q → Q
+at_false true P Q e h = cc
+at_false false P Q e h = h
+
+at_true : (b : Bool) (P Q : Type 0) → b ≡ true → MatchBool b P Q → P
+at_true true P Q e h = h
+at_true false P Q e h = cc
+
+at_some : {X : Type 0} (o : Option X) (x : X) (P : Type 0) (Q : X → Type 0) → o ≡ Some x → MatchOption o P Q → Q x
+at_some None x P Q e h = cc
+at_some {X} (Some y) x P Q e h = let same : y ≡ x = cc in subst Q same h
+
+at_none : {X : Type 0} (o : Option X) (P : Type 0) (Q : X → Type 0) → o ≡ None → MatchOption o P Q → P
+at_none None P Q e h = h
+at_none (Some y) P Q e h = cc
+
+-- one fault for another, and one list of rows
+as_good : (r : Result (List (List Value)) Fail) (a b : Option Refusal) → b ≡ a → OnOk r (a ≡ None) → OnOk r (b ≡ None)
+as_good (Ok rows) a b e h = e ∙ h
+as_good (Err why) a b e h = h
+
+as_rows : (r : Result (List (List Value)) Fail) (a b : List (List Value)) → b ≡ a → IfOk r (λ rows. rows ≡ a) → IfOk r (λ rows. rows ≡ b)
+as_rows r a b e h = subst (λ x. IfOk r (λ rows. rows ≡ x)) (sym e) h
+
+as_refused : (r : Result (List (List Value)) Fail) (a b : Option Refusal) → b ≡ a → IfErr r (λ why. FailsAs a why) → IfErr r (λ why. FailsAs b why)
+as_refused r a b e h = subst (λ x. IfErr r (λ why. FailsAs x why)) (sym e) h
+
+pub returns-then-not-branch-clause-refused : goal.returns-then-not-branch-clause-refused
+returns-then-not-branch-clause-refused c =
+    no_header c.args.limits.now.text c.args.columns.now c.args.bytes.now
+    (sym c.of-records.ensures.all ∙ at_false c.in_ok-read.field-0 _ _ c.if-not-branch.true c.in_ok-read.ensures.ok)
+
+pub returns-in-None-clause-refused : goal.returns-in-None-clause-refused
+returns-in-None-clause-refused c =
+    let all : records_of c.args.bytes.now ≡ fields_of c.read.new.fields ∷ c.read.new.self =
+    sym c.of-records.ensures.all ∙ at_true c.in_ok-read.field-0 _ _ c.if-not-branch.false c.in_ok-read.ensures.ok in
+    let n : is_header c.args.columns.now (fields_of c.read.new.fields) ≡ false =
+    subst (λ columns. is_header columns (fields_of c.read.new.fields) ≡ false) c.as_slice.ensures
+    (at_none c.in_ok-layout.field-0 _ _ c.in-None.is c.in_ok-layout.ensures) in
+    other_header c.args.limits.now.text c.args.columns.now c.args.bytes.now (fields_of c.read.new.fields) c.read.new.self all n
+
+pub rows_left-requires-clause-room : goal.rows_left-requires-clause-room
+rows_left-requires-clause-room c =
+    let all : records_of c.args.bytes.now ≡ fields_of c.read.new.fields ∷ c.read.new.self =
+    sym c.of-records.ensures.all ∙ at_true c.in_ok-read.field-0 _ _ c.if-not-branch.false c.in_ok-read.ensures.ok in
+    let l : IsLayout c.args.columns.now (fields_of c.read.new.fields) c.in-Some.layout =
+    subst (λ columns. IsLayout columns (fields_of c.read.new.fields) c.in-Some.layout) c.as_slice.ensures
+    (at_some c.in_ok-layout.field-0 c.in-Some.layout _ _ c.in-Some.is c.in_ok-layout.ensures) in
+    let w : weight (fields_of c.read.new.fields ∷ c.read.new.self) ≤ length c.args.bytes.now + 1 =
+    subst (λ records. weight records ≤ length c.args.bytes.now + 1) (at_true c.in_ok-read.field-0 _ _ c.if-not-branch.false c.in_ok-read.ensures.ok) c.of-records.ensures.few in
+    omega (arith, c.requires, room c.args.limits.now.text c.args.columns.now c.args.bytes.now (fields_of c.read.new.fields) c.read.new.self all c.in-Some.layout l w)
+
+pub returns-clause-good : goal.returns-clause-good
+returns-clause-good c =
+    let all : records_of c.args.bytes.now ≡ fields_of c.read.new.fields ∷ c.read.new.self =
+    sym c.of-records.ensures.all ∙ at_true c.in_ok-read.field-0 _ _ c.if-not-branch.false c.in_ok-read.ensures.ok in
+    let l : IsLayout c.args.columns.now (fields_of c.read.new.fields) c.in-Some.layout =
+    subst (λ columns. IsLayout columns (fields_of c.read.new.fields) c.in-Some.layout) c.as_slice.ensures
+    (at_some c.in_ok-layout.field-0 c.in-Some.layout _ _ c.in-Some.is c.in_ok-layout.ensures) in
+    as_good c.rows_left.result _ _ (fault_is c.args.limits.now.text c.args.columns.now c.args.bytes.now (fields_of c.read.new.fields) c.read.new.self all c.in-Some.layout l) c.rows_left.ensures.good
+
+pub returns-clause-rows : goal.returns-clause-rows
+returns-clause-rows c =
+    let all : records_of c.args.bytes.now ≡ fields_of c.read.new.fields ∷ c.read.new.self =
+    sym c.of-records.ensures.all ∙ at_true c.in_ok-read.field-0 _ _ c.if-not-branch.false c.in_ok-read.ensures.ok in
+    let l : IsLayout c.args.columns.now (fields_of c.read.new.fields) c.in-Some.layout =
+    subst (λ columns. IsLayout columns (fields_of c.read.new.fields) c.in-Some.layout) c.as_slice.ensures
+    (at_some c.in_ok-layout.field-0 c.in-Some.layout _ _ c.in-Some.is c.in_ok-layout.ensures) in
+    as_rows c.rows_left.result _ _ (rows_are c.args.limits.now.text c.args.columns.now c.args.bytes.now (fields_of c.read.new.fields) c.read.new.self all c.in-Some.layout l) c.rows_left.ensures.rows
+
+pub returns-clause-refused : goal.returns-clause-refused
+returns-clause-refused c =
+    let all : records_of c.args.bytes.now ≡ fields_of c.read.new.fields ∷ c.read.new.self =
+    sym c.of-records.ensures.all ∙ at_true c.in_ok-read.field-0 _ _ c.if-not-branch.false c.in_ok-read.ensures.ok in
+    let l : IsLayout c.args.columns.now (fields_of c.read.new.fields) c.in-Some.layout =
+    subst (λ columns. IsLayout columns (fields_of c.read.new.fields) c.in-Some.layout) c.as_slice.ensures
+    (at_some c.in_ok-layout.field-0 c.in-Some.layout _ _ c.in-Some.is c.in_ok-layout.ensures) in
+    as_refused c.rows_left.result _ _ (fault_is c.args.limits.now.text c.args.columns.now c.args.bytes.now (fields_of c.read.new.fields) c.read.new.self all c.in-Some.layout l) c.rows_left.ensures.refused

@@ -1,0 +1,27 @@
+-- How the code keeps a header: the columns in the file's order, and for each column of the table its place.
+--     slots_of columns header              each column's place in a record and its kind
+--     row_of_slots longest slots fields    the row of a record
+--     IsLayout columns header layout       the header fits, and the layout is its
+use Rattle.std.specs.Prelude.{◌≡◌, ℕ, true, List, map, slice_get, Option}
+use Rattle.std.specs.List.{filter_map}
+use Rattle.std.specs.Option.{option_and_then, option_map}
+use Rattle.beas_core.specs.declared.value.Value.{Value}
+use Rattle.beas_core.specs.declared.schema.Column.{Column}
+use Rattle.csv_load.specs.declared.header.Layout.{Layout}
+use Rattle.csv_load.specs.declared.header.Slot.{Slot}
+use Rattle.csv_load.specs.Fields.{cell}
+use Rattle.csv_load.specs.CsvRows.{Record, in_file_order, is_header, place_of}
+
+abbrev pub slot_of : Record → Column → Option Slot
+slot_of header column = option_map (λ place. record { place = place; kind = column.kind }) (place_of header column)
+
+abbrev pub slots_of : List Column → Record → List Slot
+slots_of columns header = filter_map (slot_of header) columns
+
+abbrev pub row_of_slots : ℕ → List Slot → Record → List Value
+row_of_slots longest slots fields = filter_map (λ slot. option_and_then (cell longest slot.kind) (slice_get fields slot.place)) slots
+
+pub record IsLayout (columns : List Column) (header : Record) (layout : Layout) : Type 0 where
+  pub fits : is_header columns header ≡ true
+  pub in_file : map (λ column. column.now) layout.in_file.items ≡ in_file_order columns header
+  pub slots : layout.slots.items ≡ slots_of columns header

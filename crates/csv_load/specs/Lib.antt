@@ -1,0 +1,4 @@
+pub mod CsvRows
+pub mod Fields
+pub mod Layouts
+pub mod Reading

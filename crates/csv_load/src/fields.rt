@@ -1,0 +1,90 @@
+// One field of a record.
+ghost use Rattle.std.specs.Prelude.{◌≡◌, IfOk, option_map, slice_get};
+ghost use Rattle.std.specs.Option.{is_some};
+ghost use Rattle.csv.specs.Records.{fields_of};
+ghost use Rattle.csv_load.specs.Fields.{names, integer_in, text_in, short_text_in, cell};
+
+use beas_core::{ColType, Column, NoMemory, Text, Value};
+use csv::ByteRecord;
+use std::alloc::Global;
+use std::str;
+
+/// The field at a place of a record.
+pub fn field_at(fields: &ByteRecord, place: usize) -> Option<&[u8]>
+    ensures { option_map (λ field. field.now) result ≡ slice_get (fields_of fields.now) place }
+{
+    fields.get(place)
+}
+
+/// Whether a header's field is a column's name, in any case of its letters.
+pub fn is_name(field: &[u8], column: &Column) -> bool
+    ensures { result ≡ names field.now column.now }
+{
+    field.eq_ignore_ascii_case(column.name.as_str().as_bytes())
+}
+
+// The number of an optional sign and digits.
+fn number_of(text: &str) -> Option<i64>
+    ensures { result ≡ integer_in text.now }
+{
+    let number = text.parse::<i64>();
+    number.ok()
+}
+
+// The bytes as a text, where they are one.
+fn text_in(bytes: &[u8]) -> Option<&str>
+    ensures { option_map (λ text. text.now) result ≡ text_in bytes.now }
+{
+    match str::from_utf8(bytes) {
+        Ok(text) => Some(text),
+        Err(_) => None,
+    }
+}
+
+fn integer_of(field: &[u8]) -> Option<i64>
+    ensures { result ≡ integer_in field.now }
+{
+    match text_in(field) {
+        Some(text) => number_of(text),
+        None => None,
+    }
+}
+
+// The field as a text of at most so many bytes, where it is one.
+fn short_text_in(field: &[u8], longest: u32) -> Option<&str>
+    ensures { option_map (λ text. text.now) result ≡ short_text_in longest field.now }
+{
+    if field.len() <= longest as usize {
+        text_in(field)
+    } else {
+        None
+    }
+}
+
+/// Whether the field has a value in a column of this kind.
+pub fn has_value(field: &[u8], kind: ColType, longest: u32) -> bool
+    ensures { result ≡ is_some (cell longest kind field.now) }
+{
+    match kind {
+        ColType::Integer => integer_of(field).is_some(),
+        ColType::Words => short_text_in(field, longest).is_some(),
+    }
+}
+
+/// The field's value in a column of this kind, where it has one.
+pub fn value_of(
+    alloc: Global,
+    field: &[u8],
+    kind: ColType,
+    longest: u32,
+) -> Result<Option<Value>, NoMemory>
+    ensures { IfOk result (λ value. value ≡ cell longest kind field.now) }
+{
+    match kind {
+        ColType::Integer => Ok(integer_of(field).map(Value::Int)),
+        ColType::Words => match short_text_in(field, longest) {
+            Some(text) => Ok(Some(Value::Str(Text::from_str(alloc, text)?))),
+            None => Ok(None),
+        },
+    }
+}
