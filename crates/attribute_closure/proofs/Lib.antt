@@ -1,6 +1,6 @@
-pub mod Closing
-pub mod Counting
+mod Closing
+mod Counting
 pub mod Listed
-pub mod Searches
+mod Searches
 pub mod Sets
-pub mod Waiting
+mod Waiting

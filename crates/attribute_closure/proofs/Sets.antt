@@ -30,7 +30,7 @@ holds_more set f xs i d so l h =
     ap (λ k. holds_classes set (map f (take k xs))) (add-one i) ∙ ap (λ ys. holds_classes set (map f ys)) (take-suc xs i d l) ∙ ap (holds_classes set) (map-append f (take i xs) (get_or xs i d ∷ []))
     ∙ holds_push set (map f (take i xs)) (f (get_or xs i d)) so h
 
-set_past : (xs : ClassSet) (i : ℕ) → length xs ≤ i → slice_set xs i true ≡ xs
+pub set_past : (xs : ClassSet) (i : ℕ) → length xs ≤ i → slice_set xs i true ≡ xs
 set_past [] i l = refl
 set_past (x ∷ xs) zero l = absurd (omega (arith, l))
 set_past (x ∷ xs) (suc i) l = ap (λ ys. x ∷ ys) (set_past xs i (omega arith))

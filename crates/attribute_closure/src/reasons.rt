@@ -118,8 +118,27 @@ fn unserved_atom(block: &Normal, accesses: &[Access], set: &[bool]) -> Option<u1
 }
 
 /// Why a set of classes doesn't cover a block: the first needed column whose class isn't in the set, by atom and then
-/// column; where there is none, the first atom that no constraint serves. Nothing where the set covers the block.
+/// column; where there is none, the first atom that no constraint serves. Nothing where the set covers the block. It
+/// takes no memory.
 #[tactic(auto, unfolding(beas_core::specs::Coverage::reason))]
+pub fn why_not(block: &Normal, accesses: &[Access], set: &[bool]) -> Option<NotCovered>
+    requires atoms { length block.now.atoms ≤ 65536 }
+    requires needed { length block.now.needed ≤ 65536 }
+    ensures { result ≡ reason_of block.now accesses.now set.now }
+{
+    if let Some(place) = open_place(block, set) {
+        return Some(NotCovered::ColumnOpen {
+            atom: place.atom,
+            column: place.column,
+        });
+    }
+    match unserved_atom(block, accesses, set) {
+        Some(atom) => Some(NotCovered::AtomUnindexed { atom }),
+        None => None,
+    }
+}
+
+/// Why a set of classes doesn't cover a block, as `why_not` says.
 pub fn reason(
     _alloc: Global,
     block: &Normal,
@@ -130,14 +149,5 @@ pub fn reason(
     requires needed { length block.now.needed ≤ 65536 }
     ensures { IfOk result (λ why. why ≡ reason_of block.now accesses.now covered.now) }
 {
-    if let Some(place) = open_place(block, covered.as_slice()) {
-        return Ok(Some(NotCovered::ColumnOpen {
-            atom: place.atom,
-            column: place.column,
-        }));
-    }
-    match unserved_atom(block, accesses.as_slice(), covered.as_slice()) {
-        Some(atom) => Ok(Some(NotCovered::AtomUnindexed { atom })),
-        None => Ok(None),
-    }
+    Ok(why_not(block, accesses.as_slice(), covered.as_slice()))
 }
