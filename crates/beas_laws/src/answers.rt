@@ -24,7 +24,10 @@ pub fn law_step<P: AccessPort>(port: &P, normal: &Normal, steps: &List<DStep>)
 /// The outputs of the last valuations of a sound derivation are the full answer.
 pub fn law_answer<P: AccessPort>(port: &P, block: &Block, steps: &List<DStep>)
     requires block { BlockIsWellFormed block.now }
-    requires sound { IsSound (normal_of block.now) (P.accesses port.now) (start_classes (normal_of block.now) false) steps.now }
-    requires accesses { All (λ s. AccessIsWellFormed (width_of block.now.atoms s.atom) (access_in (P.accesses port.now) s.access)) steps.now }
-    ensures { own_answers (P.rows port.now) (normal_of block.now) (P.accesses port.now) steps.now ≡ full_of_block (P.rows port.now) block.now }
+    requires sound { IsSound (normal_of block.now) (P.accesses port.now) (start_classes (normal_of block.now) false)
+        steps.now }
+    requires accesses { All (λ s. AccessIsWellFormed (width_of block.now.atoms s.atom)
+        (access_in (P.accesses port.now) s.access)) steps.now }
+    ensures { own_answers (P.rows port.now) (normal_of block.now) (P.accesses port.now) steps.now
+        ≡ full_of_block (P.rows port.now) block.now }
 {}

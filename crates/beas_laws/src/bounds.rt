@@ -17,7 +17,8 @@ pub fn law_block_bound<P: AccessPort>(port: &P, normal: &Normal, steps: &List<DS
     requires constants { ConstantsInRange normal.now }
     requires holds { StepsHold (P.rows port.now) (P.accesses port.now) steps.now }
     ensures { (start : BlockStart) → StartFits normal.now start
-        → IsTrue (steps_are_sound normal.now (P.accesses port.now) (start_classes normal.now (is_some start.guide)) steps.now)
+        → IsTrue (steps_are_sound normal.now (P.accesses port.now) (start_classes normal.now (is_some start.guide))
+        steps.now)
         → FrontsAreBounded (P.rows port.now) normal.now (P.accesses port.now) start steps.now }
 {}
 

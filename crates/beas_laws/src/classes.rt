@@ -12,7 +12,8 @@ use beas_core::Block;
 /// they are numbered in order of their first place, and each number below the count is the class of some place.
 pub fn law_classes(block: &Block)
     requires { BlockIsWellFormed block.now }
-    ensures computed { (p q : Position) → IsTrue (is_joined block.now.equalities p q) ↔ Linked block.now.equalities p q }
+    ensures computed { (p q : Position)
+        → IsTrue (is_joined block.now.equalities p q) ↔ Linked block.now.equalities p q }
     ensures numbered { (p q : Position) → IsPlace block.now.atoms p → IsPlace block.now.atoms q
         → (class_of block.now p ≡ class_of block.now q) ↔ Linked block.now.equalities p q }
     ensures first { (class : ℕ) → class < (normal_of block.now).count → FirstPlace block.now class }

@@ -26,16 +26,16 @@ the_rule relation rule e = subst (λ o. access_in (accesses_of o) rule.id ≡ ru
 rows_seen : (relation : Relation) (rule : Access) → relation.rule ≡ Some rule → rule.table.0 ≡ 0 → rows_at (kept_of relation) (access_in (accesses_of relation.rule) rule.id).table ≡ relation.rows
 rows_seen relation rule e t = rw (the_rule relation rule e, t) refl
 
-pub answered : (relation : Relation) (rule : Access) (items : List (List ℕ)) (query : Query) (bound found : ℕ) (rows : List (List Value))
-    → relation.rule ≡ Some rule → rule.table.0 ≡ 0 → is_served (Some rule) query ≡ true → bound ≡ rule.bound
+pub answered : (relation : Relation) (rule : Access) (items : List (List ℕ)) (query : Query) (bound found : ℕ) (plan : List ℕ) (rows : List (List Value))
+    → relation.rule ≡ Some rule → rule.table.0 ≡ 0 → is_served (Some rule) query ≡ true → bound ≡ rule.bound → plan ≡ []
     → rows ≡ full_answer (rows_at (kept_of relation) (access_in (accesses_of relation.rule) rule.id).table) query
     → found ≡ reads (rows_at (kept_of relation) (access_in (accesses_of relation.rule) rule.id).table) (access_in (accesses_of relation.rule) rule.id) query
-    → Answered bound items rows found ≡ (served_answer relation items query).report
-answered relation rule items query bound found rows e t s b r n =
+    → Answered bound plan items rows found ≡ (served_answer relation items query).report
+answered relation rule items query bound found plan rows e t s b p r n =
     let seen = rows_seen relation rule e t in
     let r' = rw seen at r in
     let n' = rw (seen, the_rule relation rule e) at n in
-    rw (served_some relation rule items query e s) (rw (b, r', n') refl)
+    rw (served_some relation rule items query e s) (rw (b, p, r', n') refl)
 
 pub counted : (relation : Relation) (rule : Access) (items : List (List ℕ)) (query : Query) (before after : ℕ)
     → relation.rule ≡ Some rule → rule.table.0 ≡ 0 → is_served (Some rule) query ≡ true

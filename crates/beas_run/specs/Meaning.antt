@@ -136,7 +136,7 @@ abbrev pub answer : Relation → Option Access → List (List ℕ) → Query →
 answer relation None items query = not_covered relation None
 answer relation (Some rule) items query = record {
   state = Some relation;
-  report = Answered rule.bound items (full_answer relation.rows query) (reads relation.rows rule query);
+  report = Answered rule.bound [] items (full_answer relation.rows query) (reads relation.rows rule query);
   cost = reads relation.rows rule query;
 }
 

@@ -28,7 +28,7 @@ is_refusal _ = false
 
 -- the reads of a covered query are at most the number that its report announces; no other report announces one
 abbrev pub IsWithin : Report → Type 0
-IsWithin (Answered bound header rows reads) = reads ≤ bound
+IsWithin (Answered bound plan header rows reads) = reads ≤ bound
 IsWithin _ = Unit {0}
 
 -- the pieces of a script that hold a token

@@ -5,7 +5,7 @@ ghost use Rattle.beas_run.specs.Meaning.{query_of, select, not_covered, served_a
 use crate::form::Condition;
 use crate::names::{column_numbers, tests_of};
 use crate::table::Table;
-use beas_core::{ColumnId, Duplicate, List, Name, NoMemory, Refusal, Steps};
+use beas_core::{ColumnId, Duplicate, List, Name, NoMemory, Refusal, Steps, Text};
 use report::Report;
 use single_table::{Query, fetch, is_served, open_column};
 use std::alloc::Global;
@@ -81,8 +81,10 @@ fn answer<L: Ledger>(
     match table.rule() {
         Some(rule) if is_served(Some(rule), query) => {
             let found = fetch(alloc, table.store(), rule.id, query, steps)?;
+            let plan = Text::new(alloc);
             Ok(Report::Answered {
                 bound: u128::from(rule.bound),
+                plan,
                 header: items,
                 rows: found.rows,
                 reads: u128::from(found.reads),

@@ -43,7 +43,8 @@ get_or-map f [] k d e l = absurd (omega (arith, l))
 get_or-map f (x ∷ xs) zero d e l = refl
 get_or-map f (x ∷ xs) (suc k) d e l = get_or-map f xs k d e (omega arith)
 
-get_or-enumerated : {A B : Type 0} (f : ℕ × A → B) (n k : ℕ) (xs : List A) (d : B) (e : A) → k < length xs → get_or (map f (enumerate_from n xs)) k d ≡ f (n + k, get_or xs k e)
+get_or-enumerated : {A B : Type 0} (f : ℕ × A → B) (n k : ℕ) (xs : List A) (d : B) (e : A) → k < length xs
+    → get_or (map f (enumerate_from n xs)) k d ≡ f (n + k, get_or xs k e)
 get_or-enumerated f n k [] d e l = absurd (omega (arith, l))
 get_or-enumerated f n zero (x ∷ xs) d e l = let z : n ≡ n + 0 = omega arith in ap (λ m. f (m, x)) z
 get_or-enumerated f n (suc k) (x ∷ xs) d e l =
@@ -70,7 +71,8 @@ has_column_has columns c h =
 
 -- choices of rows, by atom
 module _ (rows : TableRows) where
-  row_in_choice : (atoms : List Atom) (choice : List Row) → Has (choices rows atoms) choice → (k : ℕ) → k < length atoms → Has (rows (get_or atoms k none).table) (get_or choice k [])
+  row_in_choice : (atoms : List Atom) (choice : List Row) → Has (choices rows atoms) choice → (k : ℕ) → k < length atoms
+      → Has (rows (get_or atoms k none).table) (get_or choice k [])
   row_in_choice [] choice h k l = absurd (omega (arith, l))
   row_in_choice (a ∷ atoms) choice h k l =
       let f = Has-from_flat_map (λ row. map (λ others. row ∷ others) (choices rows atoms)) (rows a.table) choice h in
@@ -83,18 +85,22 @@ module _ (rows : TableRows) where
       by zero b row others g later = g
       by (suc j) b row others g later = later j (omega arith)
 
-  choice_of : (P : ℕ → Row → Type 0) (atoms : List Atom) (n : ℕ) → ((k : ℕ) → k < length atoms → (row : Row) × (Has (rows (get_or atoms k none).table) row) × P (n + k) row)
+  choice_of : (P : ℕ → Row → Type 0) (atoms : List Atom) (n : ℕ)
+      → ((k : ℕ) → k < length atoms → (row : Row) × (Has (rows (get_or atoms k none).table) row) × P (n + k) row)
       → (choice : List Row) × (Has (choices rows atoms) choice) × ((k : ℕ) → k < length atoms → P (n + k) (get_or choice k []))
   choice_of P [] n f = ([], inl refl, λ k l. absurd (omega (arith, l)))
   choice_of P (a ∷ atoms) n f =
       let first = f 0 (omega arith) in
-      let rest = choice_of P atoms (n + 1) (λ k l. let r = f (suc k) (omega arith) in let e : n + suc k ≡ n + 1 + k = omega arith in (r.0, r.1, subst (λ m. P m r.0) e r.2)) in (
+      let rest = choice_of P atoms (n + 1)
+      (λ k l. let r = f (suc k) (omega arith) in let e : n + suc k ≡ n + 1 + k = omega arith in (r.0, r.1, subst (λ m. P m r.0) e r.2)) in (
         first.0 ∷ rest.0,
-        Has-flat_map (λ row. map (λ others. row ∷ others) (choices rows atoms)) (rows a.table) first.0 (first.0 ∷ rest.0) first.1 (Has-map (λ others. first.0 ∷ others) (choices rows atoms) rest.0 rest.1),
+        Has-flat_map (λ row. map (λ others. row ∷ others) (choices rows atoms)) (rows a.table) first.0 (first.0 ∷ rest.0) first.1
+            (Has-map (λ others. first.0 ∷ others) (choices rows atoms) rest.0 rest.1),
         λ k l. by k l first.0 rest.0 first.2 rest.2,
       )
     where
-      by : (j : ℕ) → j < length (a ∷ atoms) → (row : Row) (others : List Row) → P (n + 0) row → ((i : ℕ) → i < length atoms → P (n + 1 + i) (get_or others i [])) → P (n + j) (get_or (row ∷ others) j [])
+      by : (j : ℕ) → j < length (a ∷ atoms) → (row : Row) (others : List Row) → P (n + 0) row
+          → ((i : ℕ) → i < length atoms → P (n + 1 + i) (get_or others i [])) → P (n + j) (get_or (row ∷ others) j [])
       by zero b row others g later = g
       by (suc j) b row others g later = let e : n + 1 + j ≡ n + suc j = omega arith in subst (λ m. P m (get_or others j [])) e (later j (omega arith))
 
@@ -113,11 +119,13 @@ module _ (block : Block) where
   used_equality e h = (lift e.0 (inl refl), lift e.1 (inr (inl refl)))
     where
       lift : (p : Place) → Has (e.0 ∷ e.1 ∷ []) p → Has (used_places block) p
-      lift p g = Has-append_left (from_equalities ++ from_constants ++ from_comparisons) block.output p (Has-append_left (from_equalities ++ from_constants) from_comparisons p
+      lift p g = Has-append_left (from_equalities ++ from_constants ++ from_comparisons) block.output p
+          (Has-append_left (from_equalities ++ from_constants) from_comparisons p
           (Has-append_left from_equalities from_constants p (Has-flat_map (λ d. d.0 ∷ d.1 ∷ []) block.equalities e p h g)))
 
   used_constant : (c : Place × Value) → Has block.constants c → Has (used_places block) c.0
-  used_constant c h = Has-append_left (from_equalities ++ from_constants ++ from_comparisons) block.output c.0 (Has-append_left (from_equalities ++ from_constants) from_comparisons c.0
+  used_constant c h = Has-append_left (from_equalities ++ from_constants ++ from_comparisons) block.output c.0
+      (Has-append_left (from_equalities ++ from_constants) from_comparisons c.0
       (Has-append_right from_equalities from_constants c.0 (Has-map (λ d. d.0) block.constants c h)))
 
   used_comparison : (c : Comparison) → Has block.comparisons c → (p : Place) → Has (c.left ∷ operand_places c.right) p → Has (used_places block) p
@@ -130,12 +138,15 @@ module _ (block : Block) where
   place_class_is : (p : Place) → IsPlace block.atoms p → place_class (normal_of block) p ≡ class_of block p
   unfolding normal_of
   place_class_is p h =
-      let row = get_or-enumerated (λ a. map (λ c. class_of block (record { atom = a.0; column = record { 0 = c } })) (range_with_len 0 a.1.width)) 0 p.atom block.atoms [] none h.atom in
+      let row = get_or-enumerated (λ a. map (λ c. class_of block (record { atom = a.0; column = record { 0 = c } })) (range_with_len 0 a.1.width)) 0 p.atom
+      block.atoms [] none h.atom in
       let w = width_at block.atoms p.atom none h.atom in
       let l = subst (λ n. p.column.0 < n) w h.column in
       ap (λ cs. get_or cs p.column.0 0) row
-      ∙ ap (λ k. get_or (map (λ c. class_of block (record { atom = k; column = record { 0 = c } })) (range_with_len 0 (get_or block.atoms p.atom none).width)) p.column.0 0) (zero-add p.atom)
-      ∙ get_or-map-range_with_len (λ c. class_of block (record { atom = p.atom; column = record { 0 = c } })) 0 (get_or block.atoms p.atom none).width p.column.0 p.column.0 0 l (zero-add p.column.0)
+      ∙ ap (λ k. get_or (map (λ c. class_of block (record { atom = k; column = record { 0 = c } })) (range_with_len 0 (get_or block.atoms p.atom none).width))
+      p.column.0 0) (zero-add p.atom)
+      ∙ get_or-map-range_with_len (λ c. class_of block (record { atom = p.atom; column = record { 0 = c } })) 0
+      (get_or block.atoms p.atom none).width p.column.0 p.column.0 0 l (zero-add p.column.0)
 
   -- a used place's column is needed on its atom
   needed_column : (p : Place) → IsPlace block.atoms p → Has (used_places block) p → Has (needed_of (normal_of block) p.atom) p.column
@@ -144,10 +155,14 @@ module _ (block : Block) where
       let list = get_or-enumerated (λ a. needed_columns block a.0 a.1.width) 0 p.atom block.atoms [] none h.atom in
       let w = width_at block.atoms p.atom none h.atom in
       let l = subst (λ n. p.column.0 < n) w h.column in
-      let here = Has-map (λ c. record { 0 = c }) (filter (λ c. list_any (same_place (record { atom = p.atom; column = record { 0 = c } })) (used_places block)) (range_with_len 0 (get_or block.atoms p.atom none).width)) p.column.0
-      (Has-filter (λ c. list_any (same_place (record { atom = p.atom; column = record { 0 = c } })) (used_places block)) (range_with_len 0 (get_or block.atoms p.atom none).width) p.column.0
+      let here = Has-map (λ c. record { 0 = c })
+      (filter (λ c. list_any (same_place (record { atom = p.atom; column = record { 0 = c } })) (used_places block))
+      (range_with_len 0 (get_or block.atoms p.atom none).width)) p.column.0
+      (Has-filter (λ c. list_any (same_place (record { atom = p.atom; column = record { 0 = c } })) (used_places block))
+      (range_with_len 0 (get_or block.atoms p.atom none).width) p.column.0
       (Has-range (get_or block.atoms p.atom none).width 0 p.column.0 (omega arith) (omega (arith, l)))
-      (any_by (same_place p) (used_places block) p used (and_both (p.atom == p.atom) (p.column.0 == p.column.0) (same_number p.atom p.atom refl) (same_number p.column.0 p.column.0 refl)))) in
+      (any_by (same_place p) (used_places block) p used (and_both (p.atom == p.atom) (p.column.0 == p.column.0) (same_number p.atom p.atom refl)
+      (same_number p.column.0 p.column.0 refl)))) in
       subst (λ cs. Has cs p.column) (sym (list ∙ ap (λ k. needed_columns block k (get_or block.atoms p.atom none).width) (zero-add p.atom))) here
 
   needed_place : (p : Place) → IsPlace block.atoms p → Has (used_places block) p → Has (needed_places (normal_of block)) p
@@ -173,18 +188,22 @@ module _ (rows : TableRows) (normal : Normal) (accesses : List Access) (ranges :
       let later = ways_rows steps (with_row_for rows normal accesses found s) w h in
       let f = Has-from_flat_map (λ u. map (λ row. u ++ bindings_of normal accesses s row) (rows (table_of normal s.atom))) found later.0 later.1 in
       let m = Has-from_map (λ row. f.0 ++ bindings_of normal accesses s row) (rows (table_of normal s.atom)) later.0 f.2 in
-      let front : (b : Binding) → Has f.0 b → Has w b = λ b k. later.2 b (subst (λ u. Has u b) (sym m.2) (Has-append_left f.0 (bindings_of normal accesses s m.0) b k)) in
-      let back : (b : Binding) → Has (bindings_of normal accesses s m.0) b → Has w b = λ b k. later.2 b (subst (λ u. Has u b) (sym m.2) (Has-append_right f.0 (bindings_of normal accesses s m.0) b k)) in
+      let front : (b : Binding) → Has f.0 b
+      → Has w b = λ b k. later.2 b (subst (λ u. Has u b) (sym m.2) (Has-append_left f.0 (bindings_of normal accesses s m.0) b k)) in
+      let back : (b : Binding) → Has (bindings_of normal accesses s m.0) b
+      → Has w b = λ b k. later.2 b (subst (λ u. Has u b) (sym m.2) (Has-append_right f.0 (bindings_of normal accesses s m.0) b k)) in
       (f.0, f.1, front, λ t k. elim k [ inl e ↦ subst (λ u. RowFor u w) (sym e) (m.0, m.1, back) | inr g ↦ later.3 t g ])
 
   -- the way that a row for each atom makes
   way_of : (pick : ℕ → Row) (steps : List DStep) (found : List Bindings) (start : Bindings) → Has found start
       → ((s : DStep) → Has steps s → Has (rows (table_of normal s.atom)) (pick s.atom))
-      → (w : Bindings) × (Has (ways rows normal accesses found steps) w) × ((b : Binding) → Has w b → Has start b ⊎ ((s : DStep) × (Has steps s) × (Has (bindings_of normal accesses s (pick s.atom)) b)))
+      → (w : Bindings) × (Has (ways rows normal accesses found steps) w) × ((b : Binding) → Has w b
+      → Has start b ⊎ ((s : DStep) × (Has steps s) × (Has (bindings_of normal accesses s (pick s.atom)) b)))
   way_of pick [] found start h f = (start, h, λ b m. inl m)
   way_of pick (s ∷ steps) found start h f =
       let more = start ++ bindings_of normal accesses s (pick s.atom) in
-      let member = Has-flat_map (λ u. map (λ row. u ++ bindings_of normal accesses s row) (rows (table_of normal s.atom))) found start more h (Has-map (λ row. start ++ bindings_of normal accesses s row) (rows (table_of normal s.atom)) (pick s.atom) (f s (inl refl))) in
+      let member = Has-flat_map (λ u. map (λ row. u ++ bindings_of normal accesses s row) (rows (table_of normal s.atom))) found start more h
+      (Has-map (λ row. start ++ bindings_of normal accesses s row) (rows (table_of normal s.atom)) (pick s.atom) (f s (inl refl))) in
       let later = way_of pick steps (with_row_for rows normal accesses found s) more member (λ t k. f t (inr k)) in (
         later.0,
         later.1,
@@ -210,7 +229,8 @@ module _ (rows : TableRows) (block : Block) (shape : BlockIsWellFormed block) (a
   parts = sound_parts (normal_of block) accesses (constant_classes (normal_of block)) steps sound.sound
 
   equality_place : (e : Place × Place) → Has block.equalities e → IsPlace block.atoms e.0 × IsPlace block.atoms e.1
-  equality_place e h = All-contains (λ d. IsPlace block.atoms d.0 × IsPlace block.atoms d.1) block.equalities e shape.equalities (Contains-from_has block.equalities e h)
+  equality_place e h = All-contains (λ d. IsPlace block.atoms d.0 × IsPlace block.atoms d.1) block.equalities e shape.equalities
+      (Contains-from_has block.equalities e h)
 
   constant_place : (c : Place × Value) → Has block.constants c → IsPlace block.atoms c.0
   constant_place c h = All-contains (λ d. IsPlace block.atoms d.0) block.constants c shape.constants (Contains-from_has block.constants c h)
@@ -234,7 +254,8 @@ module _ (rows : TableRows) (block : Block) (shape : BlockIsWellFormed block) (a
 
   way_binds : (w : Bindings) → Has all_ways w → Binds bound w
   way_binds = front_binds rows (normal_of block) accesses None (classes_in_range block shape) (constants_in_range block shape) tt steps []
-      (subst (λ all. steps_are_sound (normal_of block) accesses (constant_classes (normal_of block)) all ≡ true) (sym (append-nil steps)) (steps_from (normal_of block) accesses (constant_classes (normal_of block)) steps parts.each))
+      (subst (λ all. steps_are_sound (normal_of block) accesses (constant_classes (normal_of block)) all ≡ true) (sym (append-nil steps))
+      (steps_from (normal_of block) accesses (constant_classes (normal_of block)) steps parts.each))
 
   table_is : (k : ℕ) → k < length block.atoms → table_of normal k ≡ (get_or block.atoms k none).table
   unfolding normal_of
@@ -245,7 +266,8 @@ module _ (rows : TableRows) (block : Block) (shape : BlockIsWellFormed block) (a
     agree : agrees w ≡ true
     agree = and_left (agrees w) (list_all (comparison_is_met normal bound w) normal.comparisons) consistent
 
-    way_parts : (start : Bindings) × (Has (starts normal None) start) × ((b : Binding) → Has start b → Has w b) × ((s : DStep) → Has steps s → RowFor rows normal accesses (classes_in_range block shape) s w)
+    way_parts : (start : Bindings) × (Has (starts normal None) start) × ((b : Binding) → Has start b → Has w b) × ((s : DStep) → Has steps s
+        → RowFor rows normal accesses (classes_in_range block shape) s w)
     way_parts = ways_rows rows normal accesses (classes_in_range block shape) steps (starts normal None) w way
 
     abbrev GivesValues : ℕ → Row → Type 0
@@ -254,7 +276,8 @@ module _ (rows : TableRows) (block : Block) (shape : BlockIsWellFormed block) (a
     row_for_atom : (k : ℕ) → k < length block.atoms → (row : Row) × (Has (rows (get_or block.atoms k none).table) row) × GivesValues (0 + k) row
     unfolding normal_of
     row_for_atom k l =
-        let served = all_has (is_served_by normal accesses steps) (atoms_of normal) k parts.served (Has-range (length block.atoms) 0 k (omega arith) (omega (arith, l))) in
+        let served = all_has (is_served_by normal accesses steps) (atoms_of normal) k parts.served
+        (Has-range (length block.atoms) 0 k (omega arith) (omega (arith, l))) in
         let s = any_has (λ t. (t.atom == k) && holds_needed normal (use_of accesses t)) steps served in
         let here = eqb-true s.0.atom k (and_left (s.0.atom == k) (holds_needed normal (use_of accesses s.0)) s.2) in
         let whole = and_right (s.0.atom == k) (holds_needed normal (use_of accesses s.0)) s.2 in
@@ -265,9 +288,12 @@ module _ (rows : TableRows) (block : Block) (shape : BlockIsWellFormed block) (a
           λ p at h used. (
               let at_step : p.atom ≡ s.0.atom = at ∙ zero-add k ∙ sym here in
               let needed = subst (λ n. Has (needed_of normal n) p.column) at_step (needed_column block p h used) in
-              let member = has_column_has (member_columns (access_in accesses s.0.access)) p.column (all_has (has_column (member_columns (access_in accesses s.0.access))) (needed_of normal s.0.atom) p.column whole needed) in
-              let binding = r.2 (class_at normal s.0.atom p.column, value_at r.0 p.column) (Has-map (λ c. (class_at normal s.0.atom c, value_at r.0 c)) (member_columns (access_in accesses s.0.access)) p.column member) in
-              agreed w (class_at normal s.0.atom p.column, value_at r.0 p.column) agree binding ∙ ap (λ n. value_of w (class_at normal n p.column)) (sym at_step)),
+              let member = has_column_has (member_columns (access_in accesses s.0.access)) p.column
+              (all_has (has_column (member_columns (access_in accesses s.0.access))) (needed_of normal s.0.atom) p.column whole needed) in
+              let binding = r.2 (class_at normal s.0.atom p.column, value_at r.0 p.column)
+              (Has-map (λ c. (class_at normal s.0.atom c, value_at r.0 c)) (member_columns (access_in accesses s.0.access)) p.column member) in
+              agreed w (class_at normal s.0.atom p.column, value_at r.0 p.column) agree binding
+              ∙ ap (λ n. value_of w (class_at normal n p.column)) (sym at_step)),
         )
 
     choice_made : (choice : List Row) × (Has (choices rows block.atoms) choice) × ((k : ℕ) → k < length block.atoms → GivesValues (0 + k) (get_or choice k []))
@@ -281,14 +307,16 @@ module _ (rows : TableRows) (block : Block) (shape : BlockIsWellFormed block) (a
     operand_value_is (At p) h used = value_chosen p h (used p (inl refl))
     operand_value_is (Fixed v) h used = refl
 
-    operand_bound_is : (o : Operand) → OperandIsPlace block.atoms o → ((p : Place) → Has (operand_places o) p → Has (used_places block) p) → operand_is_bound normal bound o ≡ true
+    operand_bound_is : (o : Operand) → OperandIsPlace block.atoms o → ((p : Place) → Has (operand_places o) p → Has (used_places block) p)
+        → operand_is_bound normal bound o ≡ true
     operand_bound_is (At p) h used = bound_place p h (used p (inl refl))
     operand_bound_is (Fixed v) h used = refl
 
     choice_meets : meets block choice_made.0 ≡ true
     unfolding normal_of
     choice_meets = and_both
-        (list_all (λ e. same_value (choice_value choice_made.0 e.0) (choice_value choice_made.0 e.1)) block.equalities && list_all (λ c. same_value (choice_value choice_made.0 c.0) c.1) block.constants)
+        (list_all (λ e. same_value (choice_value choice_made.0 e.0) (choice_value choice_made.0 e.1)) block.equalities && list_all
+        (λ c. same_value (choice_value choice_made.0 c.0) c.1) block.constants)
         (list_all (comparison_holds (choice_value choice_made.0)) block.comparisons)
         (and_both
         (list_all (λ e. same_value (choice_value choice_made.0 e.0) (choice_value choice_made.0 e.1)) block.equalities)
@@ -298,20 +326,25 @@ module _ (rows : TableRows) (block : Block) (shape : BlockIsWellFormed block) (a
         let used = used_equality block e h in
         let linked = equated e.0 e.1 (Contains-from_has block.equalities e h) in
         let classes = place_class_is block e.0 places.0 ∙ class_from_linked block e.0 e.1 linked ∙ sym (place_class_is block e.1 places.1) in
-        same_value_to (choice_value choice_made.0 e.0) (choice_value choice_made.0 e.1) (value_chosen e.0 places.0 used.0 ∙ ap (value_of w) classes ∙ sym (value_chosen e.1 places.1 used.1))))
+        same_value_to (choice_value choice_made.0 e.0) (choice_value choice_made.0 e.1) (value_chosen e.0 places.0 used.0 ∙ ap (value_of w) classes
+        ∙ sym (value_chosen e.1 places.1 used.1))))
         (all_by (λ c. same_value (choice_value choice_made.0 c.0) c.1) block.constants (λ c h.
         let place = constant_place c h in
         let start_is : way_parts.0 ≡ normal.constants = elim way_parts.1 [ inl e ↦ e | inr n ↦ absurd n ] in
         let given = Has-map (λ d. (class_of block d.0, d.1)) block.constants c h in
         let binding = way_parts.2 (class_of block c.0, c.1) (subst (λ u. Has u (class_of block c.0, c.1)) (sym start_is) given) in
-        same_value_to (choice_value choice_made.0 c.0) c.1 (value_chosen c.0 place (used_constant block c h) ∙ ap (value_of w) (place_class_is block c.0 place) ∙ sym (agreed w (class_of block c.0, c.1) agree binding)))))
+        same_value_to (choice_value choice_made.0 c.0) c.1 (value_chosen c.0 place (used_constant block c h)
+        ∙ ap (value_of w) (place_class_is block c.0 place) ∙ sym (agreed w (class_of block c.0, c.1) agree binding)))))
         (all_by (comparison_holds (choice_value choice_made.0)) block.comparisons (λ c h.
         let form = comparison_shape c h in
         let used_left = used_comparison block c h c.left (inl refl) in
         let used_right : (p : Place) → Has (operand_places c.right) p → Has (used_places block) p = λ p m. used_comparison block c h p (inr m) in
-        let met = all_has (comparison_is_met normal bound w) normal.comparisons c (and_right (agrees w) (list_all (comparison_is_met normal bound w) normal.comparisons) consistent) h in
-        let is_bound = and_both (has bound (place_class normal c.left)) (operand_is_bound normal bound c.right) (bound_place c.left form.left used_left) (operand_bound_is c.right form.right used_right) in
-        let alike = compared_alike (choice_value choice_made.0) (λ p. value_of w (place_class normal p)) c (value_chosen c.left form.left used_left) (operand_value_is c.right form.right used_right) in
+        let met = all_has (comparison_is_met normal bound w) normal.comparisons c
+        (and_right (agrees w) (list_all (comparison_is_met normal bound w) normal.comparisons) consistent) h in
+        let is_bound = and_both (has bound (place_class normal c.left)) (operand_is_bound normal bound c.right) (bound_place c.left form.left used_left)
+        (operand_bound_is c.right form.right used_right) in
+        let alike = compared_alike (choice_value choice_made.0) (λ p. value_of w (place_class normal p)) c (value_chosen c.left form.left used_left)
+        (operand_value_is c.right form.right used_right) in
         alike ∙ elim (or_cases (not (comparison_is_bound normal bound c)) (comparison_holds (λ p. value_of w (place_class normal p)) c) met) [
           | inl n ↦ (let f = from_not (comparison_is_bound normal bound c) n in cc)
           | inr k ↦ k
@@ -319,7 +352,8 @@ module _ (rows : TableRows) (block : Block) (shape : BlockIsWellFormed block) (a
 
     output_is : output_row normal bound (map (value_of w) (classes_in bound)) ≡ map (choice_value choice_made.0) block.output
     unfolding normal_of
-    output_is = map_same (λ p. value_of (as_bindings bound (map (value_of w) (classes_in bound))) (place_class normal p)) (choice_value choice_made.0) block.output (λ p h.
+    output_is = map_same (λ p. value_of (as_bindings bound (map (value_of w) (classes_in bound))) (place_class normal p))
+        (choice_value choice_made.0) block.output (λ p h.
         let place = output_place p h in
         let used = used_output block p h in
         value_in_valuation bound w (place_class normal p) (bound_place p place used) ∙ sym (value_chosen p place used))
@@ -327,24 +361,31 @@ module _ (rows : TableRows) (block : Block) (shape : BlockIsWellFormed block) (a
   -- a choice that meets all conditions makes a consistent way
   module _ (choice : List Row) (member : Has (choices rows block.atoms) choice) (met : meets block choice ≡ true) where
     equal_met : list_all (λ e. same_value (choice_value choice e.0) (choice_value choice e.1)) block.equalities ≡ true
-    equal_met = and_left (list_all (λ e. same_value (choice_value choice e.0) (choice_value choice e.1)) block.equalities) (list_all (λ c. same_value (choice_value choice c.0) c.1) block.constants)
-        (and_left (list_all (λ e. same_value (choice_value choice e.0) (choice_value choice e.1)) block.equalities && list_all (λ c. same_value (choice_value choice c.0) c.1) block.constants) (list_all (comparison_holds (choice_value choice)) block.comparisons) met)
+    equal_met = and_left (list_all (λ e. same_value (choice_value choice e.0) (choice_value choice e.1)) block.equalities)
+        (list_all (λ c. same_value (choice_value choice c.0) c.1) block.constants)
+        (and_left (list_all (λ e. same_value (choice_value choice e.0) (choice_value choice e.1)) block.equalities && list_all
+        (λ c. same_value (choice_value choice c.0) c.1) block.constants) (list_all (comparison_holds (choice_value choice)) block.comparisons) met)
 
     constants_met : list_all (λ c. same_value (choice_value choice c.0) c.1) block.constants ≡ true
-    constants_met = and_right (list_all (λ e. same_value (choice_value choice e.0) (choice_value choice e.1)) block.equalities) (list_all (λ c. same_value (choice_value choice c.0) c.1) block.constants)
-        (and_left (list_all (λ e. same_value (choice_value choice e.0) (choice_value choice e.1)) block.equalities && list_all (λ c. same_value (choice_value choice c.0) c.1) block.constants) (list_all (comparison_holds (choice_value choice)) block.comparisons) met)
+    constants_met = and_right (list_all (λ e. same_value (choice_value choice e.0) (choice_value choice e.1)) block.equalities)
+        (list_all (λ c. same_value (choice_value choice c.0) c.1) block.constants)
+        (and_left (list_all (λ e. same_value (choice_value choice e.0) (choice_value choice e.1)) block.equalities && list_all
+        (λ c. same_value (choice_value choice c.0) c.1) block.constants) (list_all (comparison_holds (choice_value choice)) block.comparisons) met)
 
     comparisons_met : list_all (comparison_holds (choice_value choice)) block.comparisons ≡ true
-    comparisons_met = and_right (list_all (λ e. same_value (choice_value choice e.0) (choice_value choice e.1)) block.equalities && list_all (λ c. same_value (choice_value choice c.0) c.1) block.constants) (list_all (comparison_holds (choice_value choice)) block.comparisons) met
+    comparisons_met = and_right (list_all (λ e. same_value (choice_value choice e.0) (choice_value choice e.1)) block.equalities && list_all
+        (λ c. same_value (choice_value choice c.0) c.1) block.constants) (list_all (comparison_holds (choice_value choice)) block.comparisons) met
 
     linked_alike : (p q : Place) → Linked block.equalities p q → choice_value choice p ≡ choice_value choice q
     linked_alike p q (itself r) = refl
     linked_alike p q (equated r s h) = same_from (choice_value choice r) (choice_value choice s)
-        (all_has (λ e. same_value (choice_value choice e.0) (choice_value choice e.1)) block.equalities (r, s) equal_met (Has-from_contains block.equalities (r, s) h))
+        (all_has (λ e. same_value (choice_value choice e.0) (choice_value choice e.1)) block.equalities (r, s) equal_met
+        (Has-from_contains block.equalities (r, s) h))
     linked_alike p q (turned r s h) = sym (linked_alike r s h)
     linked_alike p q (chained r s t h g) = linked_alike r s h ∙ linked_alike s t g
 
-    class_alike : (p q : Place) → IsPlace block.atoms p → IsPlace block.atoms q → class_of block p ≡ class_of block q → choice_value choice p ≡ choice_value choice q
+    class_alike : (p q : Place) → IsPlace block.atoms p → IsPlace block.atoms q → class_of block p ≡ class_of block q
+        → choice_value choice p ≡ choice_value choice q
     class_alike p q a b e = linked_alike p q (linked_from_class block p q (has_place block.atoms p a) (has_place block.atoms q b) e)
 
     -- a binding that a place of the choice gives
@@ -353,18 +394,25 @@ module _ (rows : TableRows) (block : Block) (shape : BlockIsWellFormed block) (a
 
     step_atom : (s : DStep) → Has steps s → s.atom < length block.atoms
     unfolding normal_of
-    step_atom s h = ltb-true s.atom (length block.atoms) (and_left (nat_lt s.atom (length block.atoms)) ((table_of normal s.atom).0 == (access_in accesses s.access).table.0) (all_has (is_on_table normal accesses) steps s parts.each.tables h))
+    step_atom s h = ltb-true s.atom (length block.atoms)
+        (and_left (nat_lt s.atom (length block.atoms)) ((table_of normal s.atom).0 == (access_in accesses s.access).table.0)
+        (all_has (is_on_table normal accesses) steps s parts.each.tables h))
 
-    made_way : (w : Bindings) × (Has all_ways w) × ((b : Binding) → Has w b → Has normal.constants b ⊎ ((s : DStep) × (Has steps s) × (Has (bindings_of normal accesses s (get_or choice s.atom [])) b)))
+    made_way : (w : Bindings) × (Has all_ways w) × ((b : Binding) → Has w b
+        → Has normal.constants b ⊎ ((s : DStep) × (Has steps s) × (Has (bindings_of normal accesses s (get_or choice s.atom [])) b)))
     made_way = way_of rows normal accesses (classes_in_range block shape) (λ k. get_or choice k []) steps (starts normal None) normal.constants (inl refl)
-        (λ s h. subst (λ t. Has (rows t) (get_or choice s.atom [])) (sym (table_is s.atom (step_atom s h))) (row_in_choice rows block.atoms choice member s.atom (step_atom s h)))
+        (λ s h. subst (λ t. Has (rows t) (get_or choice s.atom [])) (sym (table_is s.atom (step_atom s h)))
+        (row_in_choice rows block.atoms choice member s.atom (step_atom s h)))
 
-    column_place : (s : DStep) → Has steps s → (c : ColumnId) → Has (member_columns (access_in accesses s.access)) c → IsPlace block.atoms (record { atom = s.atom; column = c })
+    column_place : (s : DStep) → Has steps s → (c : ColumnId) → Has (member_columns (access_in accesses s.access)) c
+        → IsPlace block.atoms (record { atom = s.atom; column = c })
     column_place s h c m = record {
       atom = step_atom s h;
       column = elim (Has-append_cases (access_in accesses s.access).key (access_in accesses s.access).fetched c m) [
-        | inl k ↦ All-contains (λ d. d.0 < width_of block.atoms s.atom) (access_in accesses s.access).key c (formed s h).key_columns (Contains-from_has (access_in accesses s.access).key c k)
-        | inr k ↦ All-contains (λ d. d.0 < width_of block.atoms s.atom) (access_in accesses s.access).fetched c (formed s h).fetched_columns (Contains-from_has (access_in accesses s.access).fetched c k)
+        | inl k ↦ All-contains (λ d. d.0 < width_of block.atoms s.atom) (access_in accesses s.access).key c (formed s h).key_columns
+            (Contains-from_has (access_in accesses s.access).key c k)
+        | inr k ↦ All-contains (λ d. d.0 < width_of block.atoms s.atom) (access_in accesses s.access).fetched c (formed s h).fetched_columns
+            (Contains-from_has (access_in accesses s.access).fetched c k)
       ];
     }
 
@@ -373,7 +421,8 @@ module _ (rows : TableRows) (block : Block) (shape : BlockIsWellFormed block) (a
     from_place b h = elim (made_way.2 b h) [
       | inl k ↦ (
           let m = Has-from_map (λ d. (class_of block d.0, d.1)) block.constants b k in
-          let same = same_from (choice_value choice m.0.0) m.0.1 (all_has (λ c. same_value (choice_value choice c.0) c.1) block.constants m.0 constants_met m.1) in
+          let same = same_from (choice_value choice m.0.0) m.0.1
+          (all_has (λ c. same_value (choice_value choice c.0) c.1) block.constants m.0 constants_met m.1) in
           (m.0.0, constant_place m.0 m.1, ap (λ d. d.0) (sym m.2), ap (λ d. d.1) m.2 ∙ sym same))
       | inr k ↦ (
           let s = k.0 in
@@ -383,13 +432,15 @@ module _ (rows : TableRows) (block : Block) (shape : BlockIsWellFormed block) (a
           (place, shaped, sym (place_class_is block place shaped) ∙ ap (λ d. d.0) (sym m.2), ap (λ d. d.1) m.2))
     ]
 
-    value_at_class : (p : Place) → IsPlace block.atoms p → Has (keys made_way.0) (class_of block p) → value_of made_way.0 (class_of block p) ≡ choice_value choice p
+    value_at_class : (p : Place) → IsPlace block.atoms p → Has (keys made_way.0) (class_of block p)
+        → value_of made_way.0 (class_of block p) ≡ choice_value choice p
     value_at_class p h m =
         let v = value_found made_way.0 (class_of block p) m in
         let f = from_place v.0 v.1 in
         v.3 ∙ f.3 ∙ class_alike f.0 p f.1 h (f.2 ∙ v.2)
 
-    value_at_place : (p : Place) → IsPlace block.atoms p → has bound (place_class normal p) ≡ true → value_of made_way.0 (place_class normal p) ≡ choice_value choice p
+    value_at_place : (p : Place) → IsPlace block.atoms p → has bound (place_class normal p) ≡ true
+        → value_of made_way.0 (place_class normal p) ≡ choice_value choice p
     value_at_place p h e =
         let c = place_class_is block p h in
         let m = subst (Has (keys made_way.0)) c ((way_binds made_way.0 made_way.1).0 (place_class normal p) e) in
@@ -401,7 +452,8 @@ module _ (rows : TableRows) (block : Block) (shape : BlockIsWellFormed block) (a
         let m = subst (Has (keys made_way.0)) (sym f.2) (Has-map (λ d. d.0) made_way.0 b h) in
         same_value_to b.1 (value_of made_way.0 b.0) (f.3 ∙ sym (value_at_class f.0 f.1 m) ∙ ap (value_of made_way.0) f.2))
 
-    operand_alike : (o : Operand) → OperandIsPlace block.atoms o → operand_is_bound normal bound o ≡ true → operand_value (λ p. value_of made_way.0 (place_class normal p)) o ≡ operand_value (choice_value choice) o
+    operand_alike : (o : Operand) → OperandIsPlace block.atoms o → operand_is_bound normal bound o ≡ true
+        → operand_value (λ p. value_of made_way.0 (place_class normal p)) o ≡ operand_value (choice_value choice) o
     operand_alike (At p) h e = value_at_place p h e
     operand_alike (Fixed v) h e = refl
 
@@ -412,7 +464,8 @@ module _ (rows : TableRows) (block : Block) (shape : BlockIsWellFormed block) (a
           let form = comparison_shape c h in
           let left = and_left (has bound (place_class normal c.left)) (operand_is_bound normal bound c.right) e in
           let right = and_right (has bound (place_class normal c.left)) (operand_is_bound normal bound c.right) e in
-          let alike = compared_alike (λ p. value_of made_way.0 (place_class normal p)) (choice_value choice) c (value_at_place c.left form.left left) (operand_alike c.right form.right right) in
+          let alike = compared_alike (λ p. value_of made_way.0 (place_class normal p)) (choice_value choice) c (value_at_place c.left form.left left)
+          (operand_alike c.right form.right right) in
           or_right (not (comparison_is_bound normal bound c)) (comparison_holds (λ p. value_of made_way.0 (place_class normal p)) c)
           (alike ∙ all_has (comparison_holds (choice_value choice)) block.comparisons c comparisons_met h))
     ]
@@ -424,7 +477,8 @@ module _ (rows : TableRows) (block : Block) (shape : BlockIsWellFormed block) (a
 
     output_made : output_row normal bound (map (value_of made_way.0) (classes_in bound)) ≡ map (choice_value choice) block.output
     unfolding normal_of
-    output_made = map_same (λ p. value_of (as_bindings bound (map (value_of made_way.0) (classes_in bound))) (place_class normal p)) (choice_value choice) block.output (λ p h.
+    output_made = map_same (λ p. value_of (as_bindings bound (map (value_of made_way.0) (classes_in bound))) (place_class normal p))
+        (choice_value choice) block.output (λ p h.
         let place = output_place p h in
         let held = bound_place p place (used_output block p h) in
         value_in_valuation bound made_way.0 (place_class normal p) held ∙ value_at_place p place held)
@@ -441,13 +495,15 @@ module _ (rows : TableRows) (block : Block) (shape : BlockIsWellFormed block) (a
   outputs_in_full : (row : Row) → Has outputs row → Has full_outputs row
   outputs_in_full row h =
       let m = Has-from_map (output_row normal bound) found row h in
-      let d = Has-from_distinct row_cmp_total row_cmp_tells (map (λ w. map (value_of w) (classes_in bound)) (filter (is_consistent normal bound) all_ways)) m.0 m.1 in
+      let d = Has-from_distinct row_cmp_total row_cmp_tells (map (λ w. map (value_of w) (classes_in bound)) (filter (is_consistent normal bound) all_ways))
+      m.0 m.1 in
       let v = Has-from_map (λ w. map (value_of w) (classes_in bound)) (filter (is_consistent normal bound) all_ways) m.0 d in
       let f = Has-from_filter (is_consistent normal bound) all_ways v.0 v.1 in
       let choice = choice_made v.0 f.0 f.1 in
       let e = m.2 ∙ ap (output_row normal bound) v.2 ∙ output_is v.0 f.0 f.1 in
       subst (Has full_outputs) (sym e)
-      (Has-map (λ c. map (choice_value c) block.output) (filter (meets block) (choices rows block.atoms)) choice.0 (Has-filter (meets block) (choices rows block.atoms) choice.0 choice.1 (choice_meets v.0 f.0 f.1)))
+      (Has-map (λ c. map (choice_value c) block.output) (filter (meets block) (choices rows block.atoms)) choice.0
+      (Has-filter (meets block) (choices rows block.atoms) choice.0 choice.1 (choice_meets v.0 f.0 f.1)))
 
   full_in_outputs : (row : Row) → Has full_outputs row → Has outputs row
   full_in_outputs row h =
@@ -456,7 +512,8 @@ module _ (rows : TableRows) (block : Block) (shape : BlockIsWellFormed block) (a
       let way = made_way m.0 f.0 f.1 in
       let v = map (value_of way.0) (classes_in bound) in
       let member = Has-distinct row_cmp_total row_cmp_tells (map (λ w. map (value_of w) (classes_in bound)) (filter (is_consistent normal bound) all_ways)) v
-      (Has-map (λ w. map (value_of w) (classes_in bound)) (filter (is_consistent normal bound) all_ways) way.0 (Has-filter (is_consistent normal bound) all_ways way.0 way.1 (way_consistent m.0 f.0 f.1))) in
+      (Has-map (λ w. map (value_of w) (classes_in bound)) (filter (is_consistent normal bound) all_ways) way.0
+      (Has-filter (is_consistent normal bound) all_ways way.0 way.1 (way_consistent m.0 f.0 f.1))) in
       subst (Has outputs) (output_made m.0 f.0 f.1 ∙ sym m.2) (Has-map (output_row normal bound) found v member)
 
   pub answers_are_full : answers_of rows (normal_of block) accesses None steps ≡ full_of_block rows block

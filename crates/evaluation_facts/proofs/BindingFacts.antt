@@ -32,7 +32,8 @@ pub value-append_in : (w v : Bindings) (c : ℕ) → Has (keys w) c → value_of
 value-append_in [] v c h = absurd h
 value-append_in (b ∷ w) v c h = by (b.0 == c) refl h (value-append_in w v c)
   where
-    by : (t : Bool) → (b.0 == c) ≡ t → Has (keys (b ∷ w)) c → (Has (keys w) c → value_of (w ++ v) c ≡ value_of w c) → cond t b.1 (value_of (w ++ v) c) ≡ cond t b.1 (value_of w c)
+    by : (t : Bool) → (b.0 == c) ≡ t → Has (keys (b ∷ w)) c → (Has (keys w) c → value_of (w ++ v) c ≡ value_of w c)
+        → cond t b.1 (value_of (w ++ v) c) ≡ cond t b.1 (value_of w c)
     by true e g later = refl
     by false e (inl d) later = let s = same_number b.0 c (sym d) in cc
     by false e (inr g) later = later g
@@ -115,13 +116,15 @@ range_least (suc n) a c (inl e) = omega (arith, e)
 range_least (suc n) a c (inr h) = let l = range_least n (a + 1) c h in omega arith
 
 pub Has-classes_in : (set : ClassSet) (c : ℕ) → has set c ≡ true → Has (classes_in set) c
-Has-classes_in set c h = Has-filter (has set) (range_with_len 0 (length set)) c (Has-range (length set) 0 c (omega arith) (let l = has_below set c h in omega arith)) h
+Has-classes_in set c h = Has-filter (has set) (range_with_len 0 (length set)) c
+    (Has-range (length set) 0 c (omega arith) (let l = has_below set c h in omega arith)) h
 
 pub from_classes_in : (set : ClassSet) (c : ℕ) → Has (classes_in set) c → has set c ≡ true
 from_classes_in set c h = (Has-from_filter (has set) (range_with_len 0 (length set)) c h).1
 
 -- the value that a valuation of the set's classes gives to one of them
-pub value_in_valuation : (set : ClassSet) (w : Bindings) (c : ℕ) → has set c ≡ true → value_of (as_bindings set (map (value_of w) (classes_in set))) c ≡ value_of w c
+pub value_in_valuation : (set : ClassSet) (w : Bindings) (c : ℕ) → has set c ≡ true
+    → value_of (as_bindings set (map (value_of w) (classes_in set))) c ≡ value_of w c
 value_in_valuation set w c h = value-zip (value_of w) (classes_in set) c (Has-classes_in set c h)
 
 -- with further bindings their classes are bound too

@@ -35,14 +35,16 @@ abbrev Third : List (Place × Place) → Place × Place → Place → Place → 
 Third es e p q = (is_joined es p e.1 ≡ true) × (is_joined es e.0 q ≡ true)
 
 first : (es : List (Place × Place)) (e : Place × Place) (p q : Place) → First es e p q → is_joined (e ∷ es) p q ≡ true
-first es e p q h = or_left (is_joined es p q || (is_joined es p e.0 && is_joined es e.1 q)) (is_joined es p e.1 && is_joined es e.0 q) (or_left (is_joined es p q) (is_joined es p e.0 && is_joined es e.1 q) h)
+first es e p q h = or_left (is_joined es p q || (is_joined es p e.0 && is_joined es e.1 q)) (is_joined es p e.1 && is_joined es e.0 q)
+    (or_left (is_joined es p q) (is_joined es p e.0 && is_joined es e.1 q) h)
 
 second : (es : List (Place × Place)) (e : Place × Place) (p q : Place) → Second es e p q → is_joined (e ∷ es) p q ≡ true
 second es e p q h = or_left (is_joined es p q || (is_joined es p e.0 && is_joined es e.1 q)) (is_joined es p e.1 && is_joined es e.0 q)
     (or_right (is_joined es p q) (is_joined es p e.0 && is_joined es e.1 q) (and_both (is_joined es p e.0) (is_joined es e.1 q) h.0 h.1))
 
 third : (es : List (Place × Place)) (e : Place × Place) (p q : Place) → Third es e p q → is_joined (e ∷ es) p q ≡ true
-third es e p q h = or_right (is_joined es p q || (is_joined es p e.0 && is_joined es e.1 q)) (is_joined es p e.1 && is_joined es e.0 q) (and_both (is_joined es p e.1) (is_joined es e.0 q) h.0 h.1)
+third es e p q h = or_right (is_joined es p q || (is_joined es p e.0 && is_joined es e.1 q)) (is_joined es p e.1 && is_joined es e.0 q)
+    (and_both (is_joined es p e.1) (is_joined es e.0 q) h.0 h.1)
 
 cases : (es : List (Place × Place)) (e : Place × Place) (p q : Place) → is_joined (e ∷ es) p q ≡ true → First es e p q ⊎ (Second es e p q ⊎ Third es e p q)
 cases es e p q h = elim (or_cases (is_joined es p q || (is_joined es p e.0 && is_joined es e.1 q)) (is_joined es p e.1 && is_joined es e.0 q) h) [
@@ -126,7 +128,8 @@ linked_from_is_joined (e ∷ es) p q h = by (cases es e p q h) (linked_from_is_j
     by : First es e p q ⊎ (Second es e p q ⊎ Third es e p q) → ((r s : Place) → is_joined es r s ≡ true → Linked es r s) → Linked (e ∷ es) p q
     by (inl a) later = linked_more es e p q (later p q a)
     by (inr (inl a)) later = chained p e.0 q (linked_more es e p e.0 (later p e.0 a.0)) (chained e.0 e.1 q here (linked_more es e e.1 q (later e.1 q a.1)))
-    by (inr (inr a)) later = chained p e.1 q (linked_more es e p e.1 (later p e.1 a.0)) (chained e.1 e.0 q (turned e.0 e.1 here) (linked_more es e e.0 q (later e.0 q a.1)))
+    by (inr (inr a)) later = chained p e.1 q (linked_more es e p e.1 (later p e.1 a.0))
+        (chained e.1 e.0 q (turned e.0 e.1 here) (linked_more es e e.0 q (later e.0 q a.1)))
 
 -- each place is joined with a leader
 leader_for : (es : List (Place × Place)) (ps : List Place) (p : Place) → Has ps p → (l : Place) × (Has (firsts (is_joined es) ps) l) × (is_joined es l p ≡ true)
@@ -144,7 +147,8 @@ place_below : {K : Type 0} (p : K → Bool) (xs : List K) → list_any p xs ≡ 
 place_below p [] h = cc
 place_below {K} p (x ∷ xs) h = by (p x) h (place_below p xs)
   where
-    by : (b : Bool) → (b || list_any p xs) ≡ true → (list_any p xs ≡ true → position_or_len p xs < length xs) → cond (not b) (1 + position_or_len p xs) 0 < length (x ∷ xs)
+    by : (b : Bool) → (b || list_any p xs) ≡ true → (list_any p xs ≡ true → position_or_len p xs < length xs)
+        → cond (not b) (1 + position_or_len p xs) 0 < length (x ∷ xs)
     by true g later = omega arith
     by false g later = let l = later g in omega arith
 
@@ -182,7 +186,8 @@ has_place atoms p h =
     let m = subst (λ n. Has (enumerate_from 0 atoms) (n, a)) e (has_enumerated 0 p.atom atoms none h.atom) in
     let w = width_at atoms p.atom none h.atom in
     Has-flat_map (λ b. map (λ c. record { atom = b.0; column = record { 0 = c } }) (range_with_len 0 b.1.width)) (enumerate_from 0 atoms) (p.atom, a) p m
-    (Has-map (λ c. record { atom = p.atom; column = record { 0 = c } }) (range_with_len 0 a.width) p.column.0 (Has-range a.width 0 p.column.0 (omega arith) (let l = h.column in omega arith)))
+    (Has-map (λ c. record { atom = p.atom; column = record { 0 = c } }) (range_with_len 0 a.width) p.column.0
+    (Has-range a.width 0 p.column.0 (omega arith) (let l = h.column in omega arith)))
 
 module _ (block : Block) where
   pub leads : (p : Place) → Has (places_of block.atoms) p → list_any (λ l. is_joined block.equalities l p) (leaders block) ≡ true
@@ -194,10 +199,13 @@ module _ (block : Block) where
   pub class_from_linked : (p q : Place) → Linked block.equalities p q → class_of block p ≡ class_of block q
   class_from_linked p q h =
       let j = is_joined_from_linked block.equalities p q h in
-      same_position (λ l. is_joined block.equalities l p) (λ l. is_joined block.equalities l q) (λ l. bool_same (is_joined block.equalities l p) (is_joined block.equalities l q)
-      (λ g. is_joined_chained block.equalities l p q g j) (λ g. is_joined_chained block.equalities l q p g (is_joined_turned block.equalities p q j))) (leaders block)
+      same_position (λ l. is_joined block.equalities l p) (λ l. is_joined block.equalities l q)
+      (λ l. bool_same (is_joined block.equalities l p) (is_joined block.equalities l q)
+      (λ g. is_joined_chained block.equalities l p q g j) (λ g. is_joined_chained block.equalities l q p g (is_joined_turned block.equalities p q j)))
+      (leaders block)
 
-  pub linked_from_class : (p q : Place) → Has (places_of block.atoms) p → Has (places_of block.atoms) q → class_of block p ≡ class_of block q → Linked block.equalities p q
+  pub linked_from_class : (p q : Place) → Has (places_of block.atoms) p → Has (places_of block.atoms) q → class_of block p ≡ class_of block q
+      → Linked block.equalities p q
   linked_from_class p q hp hq e =
       let a = passes_at_first (λ l. is_joined block.equalities l p) (leaders block) p (class_below p hp) in
       let b = passes_at_first (λ l. is_joined block.equalities l q) (leaders block) p (class_below q hq) in
@@ -215,24 +223,33 @@ module _ (block : Block) where
             let wide = (shape.widths 0 a (subst (λ xs. 0 < length xs) (sym e) (omega arith))).wide in
             let first_atom = ap (λ xs. get_or xs 0 a) e in
             let wide_first = subst (λ b. 1 ≤ b.width) first_atom wide in
-            let h = subst (λ xs. Has (places_of xs) (made 0 0)) (sym e) (has_place (a ∷ atoms) (made 0 0) (record { atom = omega arith; column = omega arith })) in
+            let h = subst (λ xs. Has (places_of xs) (made 0 0)) (sym e)
+            (has_place (a ∷ atoms) (made 0 0) (record { atom = omega arith; column = omega arith })) in
             let k = class_below (made 0 0) h in
             omega arith
 
     pub classes_in_range : ClassesInRange (normal_of block)
     unfolding normal_of
-    classes_in_range atom column = elim (has_get_or (map (λ a. map (λ c. class_of block (made a.0 c)) (range_with_len 0 a.1.width)) (enumerate_from 0 block.atoms)) atom []) [
-      | inr e ↦ subst (λ cs. get_or cs column.0 0 < length (leaders block)) (sym e) some_leader
-      | inl h ↦ elim (has_get_or (get_or (map (λ a. map (λ c. class_of block (made a.0 c)) (range_with_len 0 a.1.width)) (enumerate_from 0 block.atoms)) atom []) column.0 0) [
-        | inr e ↦ subst (λ n. n < length (leaders block)) (sym e) some_leader
-        | inl g ↦ (
-            let m = Has-from_map (λ a. map (λ c. class_of block (made a.0 c)) (range_with_len 0 a.1.width)) (enumerate_from 0 block.atoms) (get_or (map (λ a. map (λ c. class_of block (made a.0 c)) (range_with_len 0 a.1.width)) (enumerate_from 0 block.atoms)) atom []) h in
-            let in_row = subst (λ cs. Has cs (get_or (get_or (map (λ a. map (λ c. class_of block (made a.0 c)) (range_with_len 0 a.1.width)) (enumerate_from 0 block.atoms)) atom []) column.0 0)) m.2 g in
-            let c = Has-from_map (λ k. class_of block (made m.0.0 k)) (range_with_len 0 m.0.1.width) (get_or (get_or (map (λ a. map (λ k. class_of block (made a.0 k)) (range_with_len 0 a.1.width)) (enumerate_from 0 block.atoms)) atom []) column.0 0) in_row in
-            let member = Has-flat_map (λ b. map (λ k. made b.0 k) (range_with_len 0 b.1.width)) (enumerate_from 0 block.atoms) m.0 (made m.0.0 c.0) m.1 (Has-map (λ k. made m.0.0 k) (range_with_len 0 m.0.1.width) c.0 c.1) in
-            subst (λ n. n < length (leaders block)) (sym c.2) (class_below (made m.0.0 c.0) member))
-      ]
-    ]
+    classes_in_range atom
+        column = elim (has_get_or (map (λ a. map (λ c. class_of block (made a.0 c)) (range_with_len 0 a.1.width)) (enumerate_from 0 block.atoms)) atom []) [
+          | inr e ↦ subst (λ cs. get_or cs column.0 0 < length (leaders block)) (sym e) some_leader
+          | inl h ↦ elim (has_get_or
+              (get_or (map (λ a. map (λ c. class_of block (made a.0 c)) (range_with_len 0 a.1.width)) (enumerate_from 0 block.atoms)) atom []) column.0 0) [
+                | inr e ↦ subst (λ n. n < length (leaders block)) (sym e) some_leader
+                | inl g ↦ (
+                    let m = Has-from_map (λ a. map (λ c. class_of block (made a.0 c)) (range_with_len 0 a.1.width)) (enumerate_from 0 block.atoms)
+                    (get_or (map (λ a. map (λ c. class_of block (made a.0 c)) (range_with_len 0 a.1.width)) (enumerate_from 0 block.atoms)) atom []) h in
+                    let in_row = subst (λ cs. Has cs
+                    (get_or (get_or (map (λ a. map (λ c. class_of block (made a.0 c)) (range_with_len 0 a.1.width)) (enumerate_from 0 block.atoms)) atom [])
+                    column.0 0)) m.2 g in
+                    let c = Has-from_map (λ k. class_of block (made m.0.0 k)) (range_with_len 0 m.0.1.width)
+                    (get_or (get_or (map (λ a. map (λ k. class_of block (made a.0 k)) (range_with_len 0 a.1.width)) (enumerate_from 0 block.atoms)) atom [])
+                    column.0 0) in_row in
+                    let member = Has-flat_map (λ b. map (λ k. made b.0 k) (range_with_len 0 b.1.width)) (enumerate_from 0 block.atoms) m.0 (made m.0.0 c.0) m.1
+                    (Has-map (λ k. made m.0.0 k) (range_with_len 0 m.0.1.width) c.0 c.1) in
+                    subst (λ n. n < length (leaders block)) (sym c.2) (class_below (made m.0.0 c.0) member))
+              ]
+        ]
 
     pub constants_in_range : ConstantsInRange (normal_of block)
     unfolding normal_of

@@ -99,7 +99,8 @@ place_of_list atoms p h =
     let atom : p.atom ≡ f.0 = ap (λ q. q.atom) m.2 ∙ f.2 ∙ zero_plus f.0 in
     let below = from_range r.0.1.width 0 m.0 m.1 in
     let column : p.column.0 ≡ m.0 = ap (λ q. q.column.0) m.2 in
-    let width : width_of atoms p.atom ≡ r.0.1.width = ap (width_of atoms) atom ∙ width_at atoms f.0 none f.1 ∙ ap (λ a. a.width) (same_member atoms f.0 none f.3) in
+    let width : width_of atoms p.atom ≡ r.0.1.width = ap (width_of atoms) atom ∙ width_at atoms f.0 none f.1
+    ∙ ap (λ a. a.width) (same_member atoms f.0 none f.3) in
     record { atom = subst (λ n. n < length atoms) (sym atom) f.1; column = omega (arith, below, column, width) }
   where
     zero_plus : (n : ℕ) → 0 + n ≡ n
@@ -125,7 +126,8 @@ module _ (es : List (Place × Place)) where
       member (r ∷ qs) q (inl e) = inl e
       member (r ∷ qs) q (inr m) = inr (member qs q (Has-from_filter (λ x. not (is_joined es r x)) (firsts (is_joined es) qs) q m).0)
 
-  leader_first : (ps : List Place) → InOrder ps → (l q : Place) → Has (firsts (is_joined es) ps) l → Has ps q → is_joined es l q ≡ true → (q ≡ l) ⊎ StandsBefore l q
+  leader_first : (ps : List Place) → InOrder ps → (l q : Place) → Has (firsts (is_joined es) ps) l → Has ps q → is_joined es l q ≡ true
+      → (q ≡ l) ⊎ StandsBefore l q
   leader_first [] h l q m k j = absurd m
   leader_first (p ∷ ps) h l q (inl e) (inl d) j = inl (d ∙ sym e)
   leader_first (p ∷ ps) h l q (inl e) (inr k) j = inr (subst (λ x. StandsBefore x q) (sym e) (all_at (StandsBefore p) ps q h.0 k))
@@ -158,7 +160,8 @@ module _ (block : Block) where
   leader_in : (k : ℕ) → k < length (leaders block) → Has (leaders block) (leader k)
   leader_in k l = Has-get_or (leaders block) k none l
 
-  first_of : (k : ℕ) (q : Place) → k < length (leaders block) → Has all_places q → is_joined block.equalities (leader k) q ≡ true → (q ≡ leader k) ⊎ StandsBefore (leader k) q
+  first_of : (k : ℕ) (q : Place) → k < length (leaders block) → Has all_places q → is_joined block.equalities (leader k) q ≡ true
+      → (q ≡ leader k) ⊎ StandsBefore (leader k) q
   first_of k q l m j = leader_first block.equalities all_places (atoms_in_order 0 block.atoms) (leader k) q (leader_in k l) m j
 
   -- two leaders aren't joined

@@ -77,7 +77,8 @@ trues_within (false ∷ small) (b ∷ large) e w = let h = trues_within small la
 trues_within (true ∷ small) (true ∷ large) e w = let h = trues_within small large (omega arith) (λ c. w (suc c)) in omega arith
 trues_within (true ∷ small) (false ∷ large) e w = let h = w 0 refl in cc
 
-pub trues_more : (small large : ClassSet) → length small ≡ length large → Within small large → (c : ℕ) → has large c ≡ true → has small c ≡ false → trues small < trues large
+pub trues_more : (small large : ClassSet) → length small ≡ length large → Within small large → (c : ℕ) → has large c ≡ true → has small c ≡ false
+    → trues small < trues large
 trues_more small [] e w c h g = cc
 trues_more [] (b ∷ large) e w c h g = absurd (omega (arith, e))
 trues_more (false ∷ small) (true ∷ large) e w c h g = let k = trues_within small large (omega arith) (λ d. w (suc d)) in omega arith

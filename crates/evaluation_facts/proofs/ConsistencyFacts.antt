@@ -17,10 +17,12 @@ use Rattle.evaluation_facts.proofs.MemberTests.{and_left, and_right, and_both, o
 use Rattle.evaluation_facts.proofs.BindingFacts.{keys, value-append_in}
 
 -- a comparison of bound classes holds of two lists of bindings alike that give the classes the same values
-pub compared_alike : (f g : Place → Value) (c : Comparison) → f c.left ≡ g c.left → operand_value f c.right ≡ operand_value g c.right → comparison_holds f c ≡ comparison_holds g c
+pub compared_alike : (f g : Place → Value) (c : Comparison) → f c.left ≡ g c.left → operand_value f c.right ≡ operand_value g c.right
+    → comparison_holds f c ≡ comparison_holds g c
 compared_alike f g c l r = ap (λ v. sign_holds c.sign (value_cmp v (operand_value f c.right))) l ∙ ap (λ v. sign_holds c.sign (value_cmp (g c.left) v)) r
 
-module _ (normal : Normal) (small large : ClassSet) (within : Within small large) (w more : Bindings) (binds : (c : ℕ) → has small c ≡ true → Has (keys w) c) where
+module _ (normal : Normal) (small large : ClassSet) (within : Within small large) (w more : Bindings) (binds : (c : ℕ) → has small c ≡ true
+    → Has (keys w) c) where
   same_value_kept : (c : ℕ) → has small c ≡ true → value_of (w ++ more) c ≡ value_of w c
   same_value_kept c h = value-append_in w more c (binds c h)
 
@@ -28,7 +30,8 @@ module _ (normal : Normal) (small large : ClassSet) (within : Within small large
   operand_bound_more (At place) h = within (place_class normal place) h
   operand_bound_more (Fixed v) h = refl
 
-  operand_kept : (o : Operand) → operand_is_bound normal small o ≡ true → operand_value (λ p. value_of (w ++ more) (place_class normal p)) o ≡ operand_value (λ p. value_of w (place_class normal p)) o
+  operand_kept : (o : Operand) → operand_is_bound normal small o ≡ true → operand_value (λ p. value_of (w ++ more) (place_class normal p)) o ≡ operand_value
+      (λ p. value_of w (place_class normal p)) o
   operand_kept (At place) h = same_value_kept (place_class normal place) h
   operand_kept (Fixed v) h = refl
 
@@ -38,8 +41,10 @@ module _ (normal : Normal) (small large : ClassSet) (within : Within small large
     | inl e ↦ (
         let left = and_left (has small (place_class normal c.left)) (operand_is_bound normal small c.right) e in
         let right = and_right (has small (place_class normal c.left)) (operand_is_bound normal small c.right) e in
-        let bound = and_both (has large (place_class normal c.left)) (operand_is_bound normal large c.right) (within (place_class normal c.left) left) (operand_bound_more c.right right) in
-        let alike = compared_alike (λ p. value_of (w ++ more) (place_class normal p)) (λ p. value_of w (place_class normal p)) c (same_value_kept (place_class normal c.left) left) (operand_kept c.right right) in
+        let bound = and_both (has large (place_class normal c.left)) (operand_is_bound normal large c.right) (within (place_class normal c.left) left)
+        (operand_bound_more c.right right) in
+        let alike = compared_alike (λ p. value_of (w ++ more) (place_class normal p)) (λ p. value_of w (place_class normal p)) c
+        (same_value_kept (place_class normal c.left) left) (operand_kept c.right right) in
         or_right (not (comparison_is_bound normal small c)) (comparison_holds (λ p. value_of w (place_class normal p)) c)
         (elim (or_cases (not (comparison_is_bound normal large c)) (comparison_holds (λ p. value_of (w ++ more) (place_class normal p)) c) h) [
           | inl open_one ↦ (let f = from_not (comparison_is_bound normal large c) open_one in cc)
@@ -56,11 +61,13 @@ module _ (normal : Normal) (small large : ClassSet) (within : Within small large
       (all_by (λ b. same_value b.1 (value_of w b.0)) w (λ b m.
       ap (same_value b.1) (sym (value-append_in w more b.0 (Has-map (λ d. d.0) w b m)))
       ∙ all_has (λ d. same_value d.1 (value_of (w ++ more) d.0)) (w ++ more) b agree (Has-append_left w more b m)))
-      (all_by (comparison_is_met normal small w) normal.comparisons (λ c m. met_before c (all_has (comparison_is_met normal large (w ++ more)) normal.comparisons c met m)))
+      (all_by (comparison_is_met normal small w) normal.comparisons
+      (λ c m. met_before c (all_has (comparison_is_met normal large (w ++ more)) normal.comparisons c met m)))
 
 -- a comparison is met alike by bindings that give the bound classes the same values
 module _ (normal : Normal) (set : ClassSet) (w v : Bindings) (alike : (c : ℕ) → has set c ≡ true → value_of w c ≡ value_of v c) where
-  operand_alike : (o : Operand) → operand_is_bound normal set o ≡ true → operand_value (λ p. value_of w (place_class normal p)) o ≡ operand_value (λ p. value_of v (place_class normal p)) o
+  operand_alike : (o : Operand) → operand_is_bound normal set o ≡ true → operand_value (λ p. value_of w (place_class normal p)) o ≡ operand_value
+      (λ p. value_of v (place_class normal p)) o
   operand_alike (At place) h = alike (place_class normal place) h
   operand_alike (Fixed fixed) h = refl
 

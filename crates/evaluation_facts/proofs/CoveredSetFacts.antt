@@ -34,7 +34,8 @@ module _ (normal : Normal) (accesses : List Access) where
   adds_within : (small large : ClassSet) (c : ℕ) (u : Use) → Within small large → adds small c u ≡ true → adds large c u ≡ true
   adds_within small large c u w h =
       and_both (holds_classes large (key_classes normal u)) (list_any (λ d. d == c) (fetched_classes normal u))
-      (holds-within small large (key_classes normal u) w (and_left (holds_classes small (key_classes normal u)) (list_any (λ d. d == c) (fetched_classes normal u)) h))
+      (holds-within small large (key_classes normal u) w
+      (and_left (holds_classes small (key_classes normal u)) (list_any (λ d. d == c) (fetched_classes normal u)) h))
       (and_right (holds_classes small (key_classes normal u)) (list_any (λ d. d == c) (fetched_classes normal u)) h)
 
   grow_within : (small large : ClassSet) → Within small large → Within (grow normal accesses small) (grow normal accesses large)
@@ -43,7 +44,8 @@ module _ (normal : Normal) (accesses : List Access) where
       has-grow large c l ∙ elim (or_cases (has small c) (list_any (adds small c) (uses normal accesses)) (sym (has-grow small c l) ∙ h)) [
         | inl g ↦ or_left (has large c) (list_any (adds large c) (uses normal accesses)) (w c g)
         | inr g ↦ or_right (has large c) (list_any (adds large c) (uses normal accesses))
-            (let r = any_has (adds small c) (uses normal accesses) g in any_by (adds large c) (uses normal accesses) r.0 r.1 (adds_within small large c r.0 w r.2))
+            (let r = any_has (adds small c) (uses normal accesses) g in any_by (adds large c) (uses normal accesses) r.0 r.1
+            (adds_within small large c r.0 w r.2))
       ]
 
   -- a closed set that holds a set holds all that one turn adds to it
@@ -54,8 +56,10 @@ module _ (normal : Normal) (accesses : List Access) where
         | inl g ↦ w c g
         | inr g ↦ (
             let r = any_has (adds set c) (uses normal accesses) g in
-            let keys = holds-within set other (key_classes normal r.0) w (and_left (holds_classes set (key_classes normal r.0)) (list_any (λ d. d == c) (fetched_classes normal r.0)) r.2) in
-            let some = any_has (λ d. d == c) (fetched_classes normal r.0) (and_right (holds_classes set (key_classes normal r.0)) (list_any (λ d. d == c) (fetched_classes normal r.0)) r.2) in
+            let keys = holds-within set other (key_classes normal r.0) w
+            (and_left (holds_classes set (key_classes normal r.0)) (list_any (λ d. d == c) (fetched_classes normal r.0)) r.2) in
+            let some = any_has (λ d. d == c) (fetched_classes normal r.0)
+            (and_right (holds_classes set (key_classes normal r.0)) (list_any (λ d. d == c) (fetched_classes normal r.0)) r.2) in
             let held = all_has (has other) (fetched_classes normal r.0) some.0 (closed r.0 (Contains-from_has (uses normal accesses) r.0 r.1) keys) some.1 in
             ap (has other) (sym (eqb-true some.0 c some.2)) ∙ held)
       ]
@@ -87,13 +91,16 @@ module _ (normal : Normal) (accesses : List Access) where
     grown_least (suc n) other w closed = grow_least (grow_times n normal accesses start) other (grown_least n other w closed) closed
 
     -- after n turns either nothing more comes, or at least n classes are held
-    progress : (n : ℕ) → Within (grow normal accesses (grow_times n normal accesses start)) (grow_times n normal accesses start) ⊎ (n ≤ trues (grow_times n normal accesses start))
+    progress : (n : ℕ) → Within (grow normal accesses (grow_times n normal accesses start))
+        (grow_times n normal accesses start) ⊎ (n ≤ trues (grow_times n normal accesses start))
     progress zero = inr (omega arith)
     progress (suc n) = elim (progress n) [
       | inl still ↦ inl (grow_within (grow normal accesses (grow_times n normal accesses start)) (grow_times n normal accesses start) still)
       | inr many ↦ elim (compared (grow normal accesses (grow_times n normal accesses start)) (grow_times n normal accesses start)) [
         | inl still ↦ inl (grow_within (grow normal accesses (grow_times n normal accesses start)) (grow_times n normal accesses start) still)
-        | inr new ↦ inr (let more = trues_more (grow_times n normal accesses start) (grow normal accesses (grow_times n normal accesses start)) (length-grow_times n ∙ sym (length-grow (grow_times n normal accesses start))) (grow_keeps (grow_times n normal accesses start) (length-grow_times n)) new.0 new.1 new.2 in omega arith)
+        | inr new ↦ inr (let more = trues_more (grow_times n normal accesses start) (grow normal accesses (grow_times n normal accesses start))
+            (length-grow_times n ∙ sym (length-grow (grow_times n normal accesses start)))
+            (grow_keeps (grow_times n normal accesses start) (length-grow_times n)) new.0 new.1 new.2 in omega arith)
       ]
     ]
 
@@ -102,7 +109,8 @@ module _ (normal : Normal) (accesses : List Access) where
       | inl still ↦ still
       | inr many ↦ λ c h. (
           let e = length-grow_times normal.count in
-          all_true (grow_times normal.count normal accesses start) c (subst (λ n. n ≤ trues (grow_times normal.count normal accesses start)) (sym e) many) (subst (λ n. c < n) (sym e) (grow_below (grow_times normal.count normal accesses start) c h)))
+          all_true (grow_times normal.count normal accesses start) c (subst (λ n. n ≤ trues (grow_times normal.count normal accesses start)) (sym e) many)
+          (subst (λ n. c < n) (sym e) (grow_below (grow_times normal.count normal accesses start) c h)))
     ]
 
     pub covered_set_least : ClassesInRange normal → IsLeastClosed normal accesses start (covered_set normal accesses start)

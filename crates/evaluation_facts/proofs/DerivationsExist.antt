@@ -30,7 +30,8 @@ module _ (normal : Normal) (accesses : List Access) where
         let fetched = closed u (Contains-from_has (uses normal accesses) u h) keys_too in
         ap (has other) m.2 ∙ elim (Has-append_cases u.access.key u.access.fetched m.0 m.1) [
           | inl i ↦ all_has (has other) (key_classes normal u) (class_at normal u.atom m.0) keys_too (Has-map (class_at normal u.atom) u.access.key m.0 i)
-          | inr i ↦ all_has (has other) (fetched_classes normal u) (class_at normal u.atom m.0) fetched (Has-map (class_at normal u.atom) u.access.fetched m.0 i)
+          | inr i ↦ all_has (has other) (fetched_classes normal u) (class_at normal u.atom m.0) fetched
+              (Has-map (class_at normal u.atom) u.access.fetched m.0 i)
         ])
   ]
 
@@ -46,7 +47,8 @@ module _ (normal : Normal) (accesses : List Access) where
     reached (suc n) set steps w h = by (is_covered normal accesses set) h (reached n)
       where
         one : (u : Use) (o : Option (List DStep)) → Has (enabled_uses normal accesses set) u
-            → ((rest : List DStep) → Within (with_use normal set u) other → o ≡ Some rest → Within (bound_after normal accesses (with_use normal set u) rest) other)
+            → ((rest : List DStep) → Within (with_use normal set u) other → o ≡ Some rest
+            → Within (bound_after normal accesses (with_use normal set u) rest) other)
             → option_map (λ rest. step_of normal set u ∷ rest) o ≡ Some steps → Within (bound_after normal accesses set steps) other
         one u None m later g = cc
         one u (Some rest) m later g =
@@ -58,15 +60,19 @@ module _ (normal : Normal) (accesses : List Access) where
             (subst (λ s. Within (bound_after normal accesses s rest) other) (sym (bound_step normal accesses once set u f.0)) inside)
 
         pick : (o : Option Use) → least_bound (enabled_uses normal accesses set) ≡ o
-            → ((s : ClassSet) (rest : List DStep) → Within s other → adding_steps n normal accesses s ≡ Some rest → Within (bound_after normal accesses s rest) other)
+            → ((s : ClassSet) (rest : List DStep) → Within s other → adding_steps n normal accesses s ≡ Some rest
+            → Within (bound_after normal accesses s rest) other)
             → then_step o None (λ u. option_map (λ rest. step_of normal set u ∷ rest) (adding_steps n normal accesses (with_use normal set u))) ≡ Some steps
             → Within (bound_after normal accesses set steps) other
         pick None e later g = cc
-        pick (Some u) e later g = one u (adding_steps n normal accesses (with_use normal set u)) (least_has (enabled_uses normal accesses set) u e) (later (with_use normal set u)) g
+        pick (Some u) e later g = one u (adding_steps n normal accesses (with_use normal set u)) (least_has (enabled_uses normal accesses set) u e)
+            (later (with_use normal set u)) g
 
         by : (b : Bool)
-            → cond b (Some []) (then_step (least_bound (enabled_uses normal accesses set)) None (λ u. option_map (λ rest. step_of normal set u ∷ rest) (adding_steps n normal accesses (with_use normal set u)))) ≡ Some steps
-            → ((s : ClassSet) (rest : List DStep) → Within s other → adding_steps n normal accesses s ≡ Some rest → Within (bound_after normal accesses s rest) other)
+            → cond b (Some []) (then_step (least_bound (enabled_uses normal accesses set)) None
+            (λ u. option_map (λ rest. step_of normal set u ∷ rest) (adding_steps n normal accesses (with_use normal set u)))) ≡ Some steps
+            → ((s : ClassSet) (rest : List DStep) → Within s other → adding_steps n normal accesses s ≡ Some rest
+            → Within (bound_after normal accesses s rest) other)
             → Within (bound_after normal accesses set steps) other
         by true g later = let same : [] ≡ steps = cc in subst (λ ss. Within (bound_after normal accesses set ss) other) same w
         by false g later = pick (least_bound (enabled_uses normal accesses set)) refl later g
@@ -76,13 +82,17 @@ module _ (normal : Normal) (accesses : List Access) where
     -- a set that holds the start and that no use adds to is covered
     stuck_is_covered : (set : ClassSet) → Within start set → enabled_uses normal accesses set ≡ [] → is_covered normal accesses set ≡ true
     stuck_is_covered set w none =
-        covered_within normal accesses (covered_set normal accesses start) set ((covered_set_least normal accesses start starts ranges).least set w shut) covered
+        covered_within normal accesses (covered_set normal accesses start) set ((covered_set_least normal accesses start starts ranges).least set w shut)
+        covered
       where
         shut : IsClosed normal accesses set
         shut u m keys = elim (which (holds_classes set (fetched_classes normal u))) [
           | inl e ↦ e
-          | inr e ↦ absurd (subst (λ us. Has us u) none (Has-filter (λ v. holds_classes set (key_classes normal v) && adds_class normal set v) (uses normal accesses) u
-              (Has-from_contains (uses normal accesses) u m) (and_both (holds_classes set (key_classes normal u)) (adds_class normal set u) keys (to_not (holds_classes set (fetched_classes normal u)) e))))
+          | inr e ↦ absurd (subst (λ us. Has us u) none (Has-filter (λ v. holds_classes set (key_classes normal v) && adds_class normal set v)
+              (uses normal accesses) u
+              (Has-from_contains (uses normal accesses) u m)
+              (and_both (holds_classes set (key_classes normal u)) (adds_class normal set u) keys
+              (to_not (holds_classes set (fetched_classes normal u)) e))))
         ]
 
     full_is_covered : (set : ClassSet) → length set ≡ normal.count → normal.count ≤ trues set → is_covered normal accesses set ≡ true
@@ -95,12 +105,14 @@ module _ (normal : Normal) (accesses : List Access) where
     grows set u e h =
         let r = not_all_has (has set) (fetched_classes normal u) (from_not (holds_classes set (fetched_classes normal u)) h) in
         let m = Has-from_map (class_at normal u.atom) u.access.fetched r.0 r.1 in
-        let member = subst (Has (member_classes normal u)) (sym m.2) (Has-map (class_at normal u.atom) (member_columns u.access) m.0 (Has-append_right u.access.key u.access.fetched m.0 m.1)) in
+        let member = subst (Has (member_classes normal u)) (sym m.2)
+        (Has-map (class_at normal u.atom) (member_columns u.access) m.0 (Has-append_right u.access.key u.access.fetched m.0 m.1)) in
         let below = subst (λ n. r.0 < n) (sym e) (subst (λ k. k < normal.count) (sym m.2) (ranges u.atom m.0)) in
         trues_more set (with_use normal set u) (sym (length-with (member_classes normal u) set)) (λ c g. has-with_kept (member_classes normal u) set c g) r.0
         (has-with_new (member_classes normal u) set r.0 member below) r.2
 
-    exists : (n : ℕ) (set : ClassSet) → length set ≡ normal.count → Within start set → normal.count ≤ n + trues set → is_some (adding_steps n normal accesses set) ≡ true
+    exists : (n : ℕ) (set : ClassSet) → length set ≡ normal.count → Within start set → normal.count ≤ n + trues set
+        → is_some (adding_steps n normal accesses set) ≡ true
     exists zero set e w many = ap (λ b. is_some {T = List DStep} (cond b (Some []) None)) (full_is_covered set e (omega arith))
     exists (suc n) set e w many = by (is_covered normal accesses set) refl (exists n)
       where
@@ -113,21 +125,27 @@ module _ (normal : Normal) (accesses : List Access) where
             → is_some (then_step o None (λ u. option_map (λ rest. step_of normal set u ∷ rest) (adding_steps n normal accesses (with_use normal set u)))) ≡ true
         pick None b h later = let g = stuck_is_covered set w (least_none (enabled_uses normal accesses set) h) in cc
         pick (Some u) b h later =
-            let f = Has-from_filter (λ v. holds_classes set (key_classes normal v) && adds_class normal set v) (uses normal accesses) u (least_has (enabled_uses normal accesses set) u h) in
+            let f = Has-from_filter (λ v. holds_classes set (key_classes normal v) && adds_class normal set v) (uses normal accesses) u
+            (least_has (enabled_uses normal accesses set) u h) in
             let more = grows set u e (and_right (holds_classes set (key_classes normal u)) (adds_class normal set u) f.1) in
             mapped u (adding_steps n normal accesses (with_use normal set u))
-            (later (with_use normal set u) (length-with (member_classes normal u) set ∙ e) (λ c g. has-with_kept (member_classes normal u) set c (w c g)) (omega arith))
+            (later (with_use normal set u) (length-with (member_classes normal u) set ∙ e) (λ c g. has-with_kept (member_classes normal u) set c (w c g))
+            (omega arith))
 
         by : (b : Bool) → is_covered normal accesses set ≡ b
             → ((s : ClassSet) → length s ≡ normal.count → Within start s → normal.count ≤ n + trues s → is_some (adding_steps n normal accesses s) ≡ true)
-            → is_some (cond b (Some []) (then_step (least_bound (enabled_uses normal accesses set)) None (λ u. option_map (λ rest. step_of normal set u ∷ rest) (adding_steps n normal accesses (with_use normal set u))))) ≡ true
+            → is_some (cond b (Some [])
+            (then_step (least_bound (enabled_uses normal accesses set)) None
+            (λ u. option_map (λ rest. step_of normal set u ∷ rest) (adding_steps n normal accesses (with_use normal set u))))) ≡ true
         by true h later = refl
         by false h later = pick (least_bound (enabled_uses normal accesses set)) h refl later
 
-  pub derivation_exists : ClassesInRange normal → (start : ClassSet) → length start ≡ normal.count → is_covered normal accesses (covered_set normal accesses start) ≡ true
+  pub derivation_exists : ClassesInRange normal → (start : ClassSet) → length start ≡ normal.count
+      → is_covered normal accesses (covered_set normal accesses start) ≡ true
       → is_some (derivation normal accesses start) ≡ true
   unfolding derivation greedy_steps
-  derivation_exists ranges start starts covered = by (adding_steps normal.count normal accesses start) (exists ranges start starts covered normal.count start starts (λ c h. h) (omega arith))
+  derivation_exists ranges start starts covered = by (adding_steps normal.count normal accesses start)
+      (exists ranges start starts covered normal.count start starts (λ c h. h) (omega arith))
     where
       by : (o : Option (List DStep)) → is_some o ≡ true
           → is_some (option_map (λ steps. steps ++ serving_steps normal accesses steps (bound_after normal accesses start steps) (atoms_of normal)) o) ≡ true
@@ -146,7 +164,8 @@ module _ (normal : Normal) (accesses : List Access) where
       by (Some steps) e g =
           let least = covered_set_least normal accesses start starts ranges in
           let inside = reached once (covered_set normal accesses start) least.closed normal.count start steps least.from_start e in
-          covered_within normal accesses (bound_after normal accesses start steps) (covered_set normal accesses start) inside (added normal accesses once normal.count start steps e).1
+          covered_within normal accesses (bound_after normal accesses start steps) (covered_set normal accesses start) inside
+          (added normal accesses once normal.count start steps e).1
 
   -- a derivation is lacking exactly where there is a reason
   module _ (once : EachIdOnce accesses) (ranges : ClassesInRange normal) (start : ClassSet) (starts : length start ≡ normal.count) where

@@ -22,7 +22,8 @@ pub live_id : (accesses : List Access) (id : AccessId) → is_live accesses id �
 live_id [] id h = cc
 live_id (a ∷ accesses) id h = by (a.id.0 == id.0) refl h (live_id accesses id)
   where
-    by : (b : Bool) → (a.id.0 == id.0) ≡ b → (b || is_live accesses id) ≡ true → (is_live accesses id ≡ true → (access_in accesses id).id ≡ id) → (access_in (a ∷ accesses) id).id ≡ id
+    by : (b : Bool) → (a.id.0 == id.0) ≡ b → (b || is_live accesses id) ≡ true → (is_live accesses id ≡ true → (access_in accesses id).id ≡ id)
+        → (access_in (a ∷ accesses) id).id ≡ id
     by true e l rest = let made : ℕ → AccessId = λ n. record { 0 = n } in ap (λ c. c.id) (access_in-first a accesses id e) ∙ ap made (eqb-true a.id.0 id.0 e)
     by false e l rest = ap (λ c. c.id) (access_in-rest a accesses id e) ∙ rest l
 
@@ -51,8 +52,11 @@ module _ (normal : Normal) (few many : List Access) where
 
   module _ (once : EachIdOnce many) (within : (access : Access) → Contains few access → Contains many access) where
     still_there : (id : AccessId) → is_live few id ≡ true → Has many (access_in few id) × ((access_in few id).id ≡ id)
-    still_there id h =
-        (Has-from_contains many (access_in few id) (within (access_in few id) (Contains-from_has few (access_in few id) (access_in-member few id h))), live_id few id h)
+    still_there id h = (
+      Has-from_contains many (access_in few id) (within (access_in few id) (Contains-from_has few (access_in few id) (access_in-member few id h))),
+      live_id
+          few id h,
+    )
 
     same_access : (id : AccessId) → is_live few id ≡ true → access_in many id ≡ access_in few id
     same_access id h = let r = still_there id h in ap (access_in many) (sym r.1) ∙ found_by_id many once (access_in few id) r.0
@@ -65,21 +69,25 @@ module _ (normal : Normal) (few many : List Access) where
     pub stays_sound : (start : ClassSet) (steps : List DStep) → IsSound normal few start steps → IsSound normal many start steps
     stays_sound start steps sound =
         let p = sound_parts normal few start steps sound.sound in
-        let live : (s : DStep) → Has steps s → is_live few s.access ≡ true = λ s m. All-contains (λ t. is_live few t.access ≡ true) steps s sound.live (Contains-from_has steps s m) in
+        let live : (s : DStep) → Has steps s → is_live few s.access ≡ true = λ s m. All-contains (λ t. is_live few t.access ≡ true) steps s sound.live
+        (Contains-from_has steps s m) in
         let same : Agree steps = λ s m. same_access s.access (live s m) in
         record {
-          live = All-from_recursion (λ s. is_live many s.access ≡ true) steps (all_from (λ s. is_live many s.access ≡ true) steps (λ s m. still_live s.access (live s m)));
+          live = All-from_recursion (λ s. is_live many s.access ≡ true) steps
+              (all_from (λ s. is_live many s.access ≡ true) steps (λ s m. still_live s.access (live s m)));
           sound = sound_from normal many start steps (record {
             each = record {
               tables = all_by (is_on_table normal many) steps (λ s m. on_table s (same s m) ∙ all_has (is_on_table normal few) steps s p.each.tables m);
               keys = each_agrees (key_is_bound normal few) (key_is_bound normal many) steps start same
                   (λ set s e. ap (λ a. holds_classes set (key_classes normal (record { atom = s.atom; access = a }))) e) p.each.keys;
               adds = each_agrees (adds_rightly normal few) (adds_rightly normal many) steps start same
-                  (λ set s e. ap (λ a. cond s.adds (adds_class normal set (record { atom = s.atom; access = a })) (not (adds_class normal set (record { atom = s.atom; access = a })))) e) p.each.adds;
+                  (λ set s e. ap (λ a. cond s.adds (adds_class normal set (record { atom = s.atom; access = a }))
+                  (not (adds_class normal set (record { atom = s.atom; access = a })))) e) p.each.adds;
             };
             needed = subst (λ set. not (list_any (is_open normal set) (needed_places normal)) ≡ true) (sym (bound_agrees steps start same)) p.needed;
             served = all_by (is_served_by normal many steps) (atoms_of normal) (λ n m.
-                let r = any_has (λ s. (s.atom == n) && holds_needed normal (use_of few s)) steps (all_has (is_served_by normal few steps) (atoms_of normal) n p.served m) in
+                let r = any_has (λ s. (s.atom == n) && holds_needed normal (use_of few s)) steps
+                (all_has (is_served_by normal few steps) (atoms_of normal) n p.served m) in
                 any_by (λ s. (s.atom == n) && holds_needed normal (use_of many s)) steps r.0 r.1
                 (ap (λ a. (r.0.atom == n) && holds_needed normal (record { atom = r.0.atom; access = a })) (same r.0 r.1) ∙ r.2));
           });

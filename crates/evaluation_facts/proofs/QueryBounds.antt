@@ -31,8 +31,10 @@ plans_live accesses (n ∷ normals) (p ∷ plans) h plan (inl e) = subst (λ q. 
 plans_live accesses (n ∷ normals) (p ∷ plans) h plan (inr m) = plans_live accesses normals plans h.1 plan m
 
 module _ (rows : TableRows) (accesses : List Access) where
-  all_reads : (blocks : List Block) (plans : List Derivation) → ((b : Block) → Has blocks b → BlockIsWellFormed b) → AllZip (OwnPlanIsSound accesses) (map normal_of blocks) plans
-      → ((plan : Derivation) → Has plans plan → StepsHold rows accesses plan.steps) → own_reads_of_all rows (map normal_of blocks) accesses plans ≤ own_announced_of_all accesses plans
+  all_reads : (blocks : List Block) (plans : List Derivation) → ((b : Block) → Has blocks b → BlockIsWellFormed b)
+      → AllZip (OwnPlanIsSound accesses) (map normal_of blocks) plans
+      → ((plan : Derivation) → Has plans plan → StepsHold rows accesses plan.steps)
+      → own_reads_of_all rows (map normal_of blocks) accesses plans ≤ own_announced_of_all accesses plans
   all_reads [] [] shapes h hold = omega arith
   all_reads [] (p ∷ plans) shapes h hold = absurd h
   all_reads (b ∷ blocks) [] shapes h hold = absurd h
@@ -46,12 +48,14 @@ module _ (rows : TableRows) (accesses : List Access) where
       omega (arith, one, others)
 
   -- where the constraints of its steps hold
-  pub prepared_reads : (prepared : Prepared) → Fits accesses rows prepared → ((plan : Derivation) → Has prepared.derivations plan → StepsHold rows accesses plan.steps)
+  pub prepared_reads : (prepared : Prepared) → Fits accesses rows prepared
+      → ((plan : Derivation) → Has prepared.derivations plan → StepsHold rows accesses plan.steps)
       → own_reads_of_all rows prepared.normals accesses prepared.derivations ≤ prepared.bound
   prepared_reads prepared fits hold =
       let blocks = blocks_of prepared.query in
       let normals = fits.plan.well_formed.normals in
-      let shapes : (b : Block) → Has blocks b → BlockIsWellFormed b = λ b m. All-contains BlockIsWellFormed blocks b fits.plan.well_formed.query.blocks (Contains-from_has blocks b m) in
+      let shapes : (b : Block) → Has blocks b → BlockIsWellFormed b = λ b m. All-contains BlockIsWellFormed blocks b fits.plan.well_formed.query.blocks
+      (Contains-from_has blocks b m) in
       let plans = subst (λ ns. AllZip (OwnPlanIsSound accesses) ns prepared.derivations) normals fits.plan.plans in
       let few = all_reads blocks prepared.derivations shapes plans hold in
       subst (λ n. own_reads_of_all rows prepared.normals accesses prepared.derivations ≤ n) (sym fits.plan.bound)

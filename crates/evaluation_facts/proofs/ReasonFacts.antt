@@ -51,7 +51,8 @@ module _ (normal : Normal) (accesses : List Access) (set : ClassSet) where
   pub reason-covered : reason normal accesses set ≡ None → is_covered normal accesses set ≡ true
   unfolding reason is_covered
   reason-covered h =
-      let n = neither (λ p. ColumnOpen p.atom p.column) (λ atom. AtomUnindexed atom) (find (is_open normal set) (needed_places normal)) (find (λ atom. not (is_served normal accesses set atom)) (atoms_of normal)) h in
+      let n = neither (λ p. ColumnOpen p.atom p.column) (λ atom. AtomUnindexed atom) (find (is_open normal set) (needed_places normal))
+      (find (λ atom. not (is_served normal accesses set atom)) (atoms_of normal)) h in
       and_both (not (list_any (is_open normal set) (needed_places normal))) (list_all (is_served normal accesses set) (atoms_of normal))
       (to_not (list_any (is_open normal set) (needed_places normal)) (none_found (is_open normal set) (needed_places normal) n.0))
       (all_not (is_served normal accesses set) (atoms_of normal) (none_found (λ atom. not (is_served normal accesses set atom)) (atoms_of normal) n.1))
@@ -61,17 +62,26 @@ module _ (normal : Normal) (accesses : List Access) (set : ClassSet) where
   covered-reason h =
       let none_open = not (list_any (is_open normal set) (needed_places normal)) in
       let all_served = list_all (is_served normal accesses set) (atoms_of normal) in
-      let a = find_none (is_open normal set) (needed_places normal) (from_not (list_any (is_open normal set) (needed_places normal)) (and_left none_open all_served h)) in
-      let b = find_none (λ atom. not (is_served normal accesses set atom)) (atoms_of normal) (any_not (is_served normal accesses set) (atoms_of normal) (and_right none_open all_served h)) in
-      ap (λ o. option_or (option_map (λ p. ColumnOpen p.atom p.column) o) (option_map (λ atom. AtomUnindexed atom) (find (λ atom. not (is_served normal accesses set atom)) (atoms_of normal)))) a
+      let a = find_none (is_open normal set) (needed_places normal)
+      (from_not (list_any (is_open normal set) (needed_places normal)) (and_left none_open all_served h)) in
+      let b = find_none (λ atom. not (is_served normal accesses set atom)) (atoms_of normal)
+      (any_not (is_served normal accesses set) (atoms_of normal) (and_right none_open all_served h)) in
+      ap (λ o. option_or (option_map (λ p. ColumnOpen p.atom p.column) o)
+      (option_map (λ atom. AtomUnindexed atom) (find (λ atom. not (is_served normal accesses set atom)) (atoms_of normal)))) a
       ∙ ap (λ o. option_map (λ atom. AtomUnindexed atom) o) b
 
   pub covered_in_words : is_covered normal accesses set ≡ true → IsCovered normal accesses set
   unfolding is_covered
   covered_in_words h = record {
     columns = λ place m. twice (has set (place_class normal place))
-        (none_has (is_open normal set) (needed_places normal) place (from_not (list_any (is_open normal set) (needed_places normal)) (and_left (not (list_any (is_open normal set) (needed_places normal))) (list_all (is_served normal accesses set) (atoms_of normal)) h)) (Has-from_contains (needed_places normal) place m));
-    atoms = λ atom l. served atom (all_has (is_served normal accesses set) (atoms_of normal) atom (and_right (not (list_any (is_open normal set) (needed_places normal))) (list_all (is_served normal accesses set) (atoms_of normal)) h) (Has-range (length normal.atoms) 0 atom (omega arith) (omega arith)));
+        (none_has (is_open normal set) (needed_places normal) place
+        (from_not (list_any (is_open normal set) (needed_places normal))
+        (and_left (not (list_any (is_open normal set) (needed_places normal))) (list_all (is_served normal accesses set) (atoms_of normal)) h))
+        (Has-from_contains (needed_places normal) place m));
+    atoms = λ atom l. served atom
+        (all_has (is_served normal accesses set) (atoms_of normal) atom
+        (and_right (not (list_any (is_open normal set) (needed_places normal))) (list_all (is_served normal accesses set) (atoms_of normal)) h)
+        (Has-range (length normal.atoms) 0 atom (omega arith) (omega arith)));
   }
     where
       twice : (b : Bool) → not b ≡ false → b ≡ true
@@ -115,8 +125,10 @@ module _ (accesses : List Access) where
   all_covered n [] h = refl
   all_covered n (normal ∷ normals) h = by (own_reason normal accesses) refl h (all_covered (n + 1) normals)
     where
-      by : (o : Option NotCovered) → own_reason normal accesses ≡ o → option_or (option_map (λ why. record { block = n; why = why }) o) (first_uncovered_from (n + 1) normals accesses) ≡ None
-          → (first_uncovered_from (n + 1) normals accesses ≡ None → query_is_covered normals accesses ≡ true) → query_is_covered (normal ∷ normals) accesses ≡ true
+      by : (o : Option NotCovered) → own_reason normal accesses ≡ o
+          → option_or (option_map (λ why. record { block = n; why = why }) o) (first_uncovered_from (n + 1) normals accesses) ≡ None
+          → (first_uncovered_from (n + 1) normals accesses ≡ None → query_is_covered normals accesses ≡ true)
+          → query_is_covered (normal ∷ normals) accesses ≡ true
       by None e g later =
           and_both (own_is_covered normal accesses) (query_is_covered normals accesses) (reason-covered normal accesses (own_cover normal accesses) e) (later g)
       by (Some why) e g later = cc

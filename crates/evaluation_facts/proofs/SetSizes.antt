@@ -17,7 +17,9 @@ module _ {K : Type 0} {cmp : K → K → Ordering} (o : IsTotalOrder cmp) (tells
   fewer [] ys a b m = omega arith
   fewer (x ∷ xs) [] a b m = absurd (m x (inl refl))
   fewer (x ∷ xs) (y ∷ ys) a b m = elim (m x (inl refl)) [
-    | inl e ↦ (let h = fewer xs ys a.1 b.1 (λ z g. elim (m z (inr g)) [ inl d ↦ absurd (not_less_itself o tells x z (e ∙ sym d) (all_at (λ w. cmp x w ≡ Less) xs z a.0 g)) | inr k ↦ k ]) in omega arith)
+    | inl e ↦ (let h = fewer xs ys a.1 b.1
+        (λ z g. elim (m z (inr g)) [ inl d ↦ absurd (not_less_itself o tells x z (e ∙ sym d) (all_at (λ w. cmp x w ≡ Less) xs z a.0 g)) | inr k ↦ k ]) in
+        omega arith)
     | inr h ↦ (
         let xy = all_at (λ w. cmp y w ≡ Less) ys x b.0 h in
         let k = fewer (x ∷ xs) ys a b.1 (λ z g. elim (m z g) [

@@ -24,7 +24,8 @@ module _ (normal : Normal) (accesses : List Access) where
   bound_keeps [] set c h = h
   bound_keeps (s ∷ steps) set c h = bound_keeps steps (bound_by normal accesses set s) c (has-with_kept (member_classes normal (use_of accesses s)) set c h)
 
-  pub bound-append : (xs ys : List DStep) (set : ClassSet) → bound_after normal accesses set (xs ++ ys) ≡ bound_after normal accesses (bound_after normal accesses set xs) ys
+  pub bound-append : (xs ys : List DStep) (set : ClassSet) → bound_after normal accesses set (xs ++ ys) ≡ bound_after normal accesses
+      (bound_after normal accesses set xs) ys
   bound-append [] ys set = refl
   bound-append (x ∷ xs) ys set = bound-append xs ys (bound_by normal accesses set x)
 
@@ -32,17 +33,20 @@ module _ (normal : Normal) (accesses : List Access) where
       → each_step normal accesses p (bound_after normal accesses set xs) ys ≡ true → each_step normal accesses p set (xs ++ ys) ≡ true
   each-append p [] ys set g h = h
   each-append p (x ∷ xs) ys set g h =
-      and_both (p set x) (each_step normal accesses p (bound_by normal accesses set x) (xs ++ ys)) (and_left (p set x) (each_step normal accesses p (bound_by normal accesses set x) xs) g)
+      and_both (p set x) (each_step normal accesses p (bound_by normal accesses set x) (xs ++ ys))
+      (and_left (p set x) (each_step normal accesses p (bound_by normal accesses set x) xs) g)
       (each-append p xs ys (bound_by normal accesses set x) (and_right (p set x) (each_step normal accesses p (bound_by normal accesses set x) xs) g) h)
 
   each_weaker : (p q : ClassSet → DStep → Bool) → ((set : ClassSet) (s : DStep) → p set s ≡ true → q set s ≡ true) → (steps : List DStep) (set : ClassSet)
       → each_step normal accesses p set steps ≡ true → each_step normal accesses q set steps ≡ true
   each_weaker p q w [] set h = refl
   each_weaker p q w (s ∷ steps) set h =
-      and_both (q set s) (each_step normal accesses q (bound_by normal accesses set s) steps) (w set s (and_left (p set s) (each_step normal accesses p (bound_by normal accesses set s) steps) h))
+      and_both (q set s) (each_step normal accesses q (bound_by normal accesses set s) steps)
+      (w set s (and_left (p set s) (each_step normal accesses p (bound_by normal accesses set s) steps) h))
       (each_weaker p q w steps (bound_by normal accesses set s) (and_right (p set s) (each_step normal accesses p (bound_by normal accesses set s) steps) h))
 
-  each_all : (p : ClassSet → DStep → Bool) (q : DStep → Bool) → ((set : ClassSet) (s : DStep) → p set s ≡ true → q s ≡ true) → (steps : List DStep) (set : ClassSet)
+  each_all : (p : ClassSet → DStep → Bool) (q : DStep → Bool) → ((set : ClassSet) (s : DStep) → p set s ≡ true → q s ≡ true)
+      → (steps : List DStep) (set : ClassSet)
       → each_step normal accesses p set steps ≡ true → list_all q steps ≡ true
   each_all p q w [] set h = refl
   each_all p q w (s ∷ steps) set h =
@@ -53,7 +57,8 @@ module _ (normal : Normal) (accesses : List Access) where
   served_more [] ys atom h = cc
   served_more (x ∷ xs) ys atom h = by (which ((x.atom == atom) && holds_needed normal (use_of accesses x))) (served_more xs ys atom)
     where
-      by : (((x.atom == atom) && holds_needed normal (use_of accesses x)) ≡ true) ⊎ (((x.atom == atom) && holds_needed normal (use_of accesses x)) ≡ false) → (is_served_by normal accesses xs atom ≡ true → is_served_by normal accesses (xs ++ ys) atom ≡ true)
+      by : (((x.atom == atom) && holds_needed normal (use_of accesses x)) ≡ true) ⊎ (((x.atom == atom) && holds_needed normal (use_of accesses x)) ≡ false)
+          → (is_served_by normal accesses xs atom ≡ true → is_served_by normal accesses (xs ++ ys) atom ≡ true)
           → is_served_by normal accesses (x ∷ xs ++ ys) atom ≡ true
       by (inl e) more = or_left ((x.atom == atom) && holds_needed normal (use_of accesses x)) (is_served_by normal accesses (xs ++ ys) atom) e
       by (inr e) more = or_right ((x.atom == atom) && holds_needed normal (use_of accesses x)) (is_served_by normal accesses (xs ++ ys) atom)
@@ -61,7 +66,8 @@ module _ (normal : Normal) (accesses : List Access) where
 
   served_after : (xs ys : List DStep) (atom : ℕ) → is_served_by normal accesses ys atom ≡ true → is_served_by normal accesses (xs ++ ys) atom ≡ true
   served_after [] ys atom h = h
-  served_after (x ∷ xs) ys atom h = or_right ((x.atom == atom) && holds_needed normal (use_of accesses x)) (is_served_by normal accesses (xs ++ ys) atom) (served_after xs ys atom h)
+  served_after (x ∷ xs) ys atom h = or_right ((x.atom == atom) && holds_needed normal (use_of accesses x)) (is_served_by normal accesses (xs ++ ys) atom)
+      (served_after xs ys atom h)
 
 module _ (normal : Normal) (accesses : List Access) where
   -- all that one step must meet, given the classes that are bound before it
@@ -90,17 +96,20 @@ module _ (normal : Normal) (accesses : List Access) where
       (holds-within small large (key_classes normal u) w (and_left (holds_classes small (key_classes normal u)) (holds_needed normal u) h))
       (and_right (holds_classes small (key_classes normal u)) (holds_needed normal u) h)
 
-  pub served_within : (small large : ClassSet) (atom : ℕ) → Within small large → is_served normal accesses small atom ≡ true → is_served normal accesses large atom ≡ true
+  pub served_within : (small large : ClassSet) (atom : ℕ) → Within small large → is_served normal accesses small atom ≡ true
+      → is_served normal accesses large atom ≡ true
   served_within small large atom w h =
       let r = any_has (λ u. (u.atom == atom) && serves normal small u) (uses normal accesses) h in
       any_by (λ u. (u.atom == atom) && serves normal large u) (uses normal accesses) r.0 r.1
       (and_both (r.0.atom == atom) (serves normal large r.0) (and_left (r.0.atom == atom) (serves normal small r.0) r.2)
       (serves_within small large r.0 w (and_right (r.0.atom == atom) (serves normal small r.0) r.2)))
 
-  pub closed_places : (small large : ClassSet) → Within small large → not (list_any (is_open normal small) (needed_places normal)) ≡ true → not (list_any (is_open normal large) (needed_places normal)) ≡ true
+  pub closed_places : (small large : ClassSet) → Within small large → not (list_any (is_open normal small) (needed_places normal)) ≡ true
+      → not (list_any (is_open normal large) (needed_places normal)) ≡ true
   closed_places small large w h =
       let none = from_not (list_any (is_open normal small) (needed_places normal)) h in
-      to_not (list_any (is_open normal large) (needed_places normal)) (none_by (is_open normal large) (needed_places normal) (λ p g. shut p (none_has (is_open normal small) (needed_places normal) p none g)))
+      to_not (list_any (is_open normal large) (needed_places normal))
+      (none_by (is_open normal large) (needed_places normal) (λ p g. shut p (none_has (is_open normal small) (needed_places normal) p none g)))
     where
       shut : (p : Place) → not (has small (place_class normal p)) ≡ false → not (has large (place_class normal p)) ≡ false
       shut p e = elim (which (has small (place_class normal p))) [
@@ -113,15 +122,18 @@ module _ (normal : Normal) (accesses : List Access) where
   unfolding is_covered
   covered_within small large w h =
       and_both (not (list_any (is_open normal large) (needed_places normal))) (list_all (is_served normal accesses large) (atoms_of normal))
-      (closed_places small large w (and_left (not (list_any (is_open normal small) (needed_places normal))) (list_all (is_served normal accesses small) (atoms_of normal)) h))
+      (closed_places small large w
+      (and_left (not (list_any (is_open normal small) (needed_places normal))) (list_all (is_served normal accesses small) (atoms_of normal)) h))
       (all_by (is_served normal accesses large) (atoms_of normal) (λ a g. served_within small large a w
-      (all_has (is_served normal accesses small) (atoms_of normal) a (and_right (not (list_any (is_open normal small) (needed_places normal))) (list_all (is_served normal accesses small) (atoms_of normal)) h) g)))
+      (all_has (is_served normal accesses small) (atoms_of normal) a
+      (and_right (not (list_any (is_open normal small) (needed_places normal))) (list_all (is_served normal accesses small) (atoms_of normal)) h) g)))
 
   module _ (once : EachIdOnce accesses) where
     access_of_use : (u : Use) → Has (uses normal accesses) u → access_in accesses u.access.id ≡ u.access
     access_of_use u h = found_by_id accesses once u.access (use_facts normal accesses u h).member
 
-    good_step : (set : ClassSet) (u : Use) → Has (uses normal accesses) u → holds_classes set (key_classes normal u) ≡ true → good set (step_of normal set u) ≡ true
+    good_step : (set : ClassSet) (u : Use) → Has (uses normal accesses) u → holds_classes set (key_classes normal u) ≡ true
+        → good set (step_of normal set u) ≡ true
     good_step set u h keys =
         let facts = use_facts normal accesses u h in
         let e = access_of_use u h in
@@ -135,7 +147,8 @@ module _ (normal : Normal) (accesses : List Access) where
         (below u.atom (length normal.atoms) facts.atom)
         (same_number (table_of normal u.atom).0 (access_in accesses u.access.id).table.0 (facts.table ∙ ap (λ a. a.table.0) (sym e)))))
         (ap (λ a. holds_classes set (key_classes normal (record u { access = a }))) e ∙ keys))
-        (rightly (adds_class normal set u) (adds_class normal set (record u { access = access_in accesses u.access.id })) (ap (λ a. adds_class normal set (record u { access = a })) e))
+        (rightly (adds_class normal set u) (adds_class normal set (record u { access = access_in accesses u.access.id }))
+        (ap (λ a. adds_class normal set (record u { access = a })) e))
       where
         rightly : (a b : Bool) → b ≡ a → cond a b (not b) ≡ true
         rightly true b e = e
@@ -158,8 +171,11 @@ module _ (normal : Normal) (accesses : List Access) where
     added_one : (set : ClassSet) (u : Use) (rest : List DStep) → Has (uses normal accesses) u → holds_classes set (key_classes normal u) ≡ true
         → Added (with_use normal set u) rest → Added set (step_of normal set u ∷ rest)
     added_one set u rest h keys later =
-        let more = subst (λ s. Added s rest) (sym (bound_step set u h)) later in
-        (and_both (good set (step_of normal set u)) (each_step normal accesses good (bound_by normal accesses set (step_of normal set u)) rest) (good_step set u h keys) more.0, more.1)
+        let more = subst (λ s. Added s rest) (sym (bound_step set u h)) later in (
+          and_both (good set (step_of normal set u)) (each_step normal accesses good (bound_by normal accesses set (step_of normal set u)) rest)
+              (good_step set u h keys) more.0,
+          more.1,
+        )
 
     pub added : (n : ℕ) (set : ClassSet) (steps : List DStep) → adding_steps n normal accesses set ≡ Some steps → Added set steps
     added zero set steps h = by (is_covered normal accesses set) refl h
@@ -169,21 +185,27 @@ module _ (normal : Normal) (accesses : List Access) where
         by false e g = cc
     added (suc n) set steps h = by (is_covered normal accesses set) refl h (added n)
       where
-        one : (u : Use) (o : Option (List DStep)) → Has (enabled_uses normal accesses set) u → ((rest : List DStep) → o ≡ Some rest → Added (with_use normal set u) rest)
+        one : (u : Use) (o : Option (List DStep)) → Has (enabled_uses normal accesses set) u
+            → ((rest : List DStep) → o ≡ Some rest → Added (with_use normal set u) rest)
             → option_map (λ rest. step_of normal set u ∷ rest) o ≡ Some steps → Added set steps
         one u None m later g = cc
         one u (Some rest) m later g =
             let f = Has-from_filter (λ v. holds_classes set (key_classes normal v) && adds_class normal set v) (uses normal accesses) u m in
             let same : step_of normal set u ∷ rest ≡ steps = cc in
-            subst (Added set) same (added_one set u rest f.0 (and_left (holds_classes set (key_classes normal u)) (adds_class normal set u) f.1) (later rest refl))
+            subst (Added set) same (added_one set u rest f.0 (and_left (holds_classes set (key_classes normal u)) (adds_class normal set u) f.1)
+            (later rest refl))
 
-        pick : (o : Option Use) → least_bound (enabled_uses normal accesses set) ≡ o → ((s : ClassSet) (rest : List DStep) → adding_steps n normal accesses s ≡ Some rest → Added s rest)
-            → then_step o None (λ u. option_map (λ rest. step_of normal set u ∷ rest) (adding_steps n normal accesses (with_use normal set u))) ≡ Some steps → Added set steps
+        pick : (o : Option Use) → least_bound (enabled_uses normal accesses set) ≡ o
+            → ((s : ClassSet) (rest : List DStep) → adding_steps n normal accesses s ≡ Some rest → Added s rest)
+            → then_step o None (λ u. option_map (λ rest. step_of normal set u ∷ rest) (adding_steps n normal accesses (with_use normal set u))) ≡ Some steps
+            → Added set steps
         pick None e later g = cc
-        pick (Some u) e later g = one u (adding_steps n normal accesses (with_use normal set u)) (least_has (enabled_uses normal accesses set) u e) (later (with_use normal set u)) g
+        pick (Some u) e later g = one u (adding_steps n normal accesses (with_use normal set u)) (least_has (enabled_uses normal accesses set) u e)
+            (later (with_use normal set u)) g
 
         by : (b : Bool) → is_covered normal accesses set ≡ b
-            → cond b (Some []) (then_step (least_bound (enabled_uses normal accesses set)) None (λ u. option_map (λ rest. step_of normal set u ∷ rest) (adding_steps n normal accesses (with_use normal set u)))) ≡ Some steps
+            → cond b (Some []) (then_step (least_bound (enabled_uses normal accesses set)) None
+            (λ u. option_map (λ rest. step_of normal set u ∷ rest) (adding_steps n normal accesses (with_use normal set u)))) ≡ Some steps
             → ((s : ClassSet) (rest : List DStep) → adding_steps n normal accesses s ≡ Some rest → Added s rest) → Added set steps
         by true e g later = added_none set steps e g
         by false e g later = pick (least_bound (enabled_uses normal accesses set)) refl later g
@@ -195,24 +217,30 @@ module _ (normal : Normal) (accesses : List Access) where
         × ((a : ℕ) → Has atoms a → (is_served_by normal accesses steps a ≡ true) ⊎ (is_served_by normal accesses more a ≡ true))
 
     met_one : (steps : List DStep) (set : ClassSet) (atom : ℕ) (atoms : List ℕ) (u : Use) (rest : List DStep) → Has (uses normal accesses) u
-        → (u.atom == atom) ≡ true → serves normal set u ≡ true → Met steps (with_use normal set u) atoms rest → Met steps set (atom ∷ atoms) (step_of normal set u ∷ rest)
+        → (u.atom == atom) ≡ true → serves normal set u ≡ true → Met steps (with_use normal set u) atoms rest
+        → Met steps set (atom ∷ atoms) (step_of normal set u ∷ rest)
     met_one steps set atom atoms u rest h here served later = (
       and_both (good set (step_of normal set u)) (each_step normal accesses good (bound_by normal accesses set (step_of normal set u)) rest)
           (good_step set u h (and_left (holds_classes set (key_classes normal u)) (holds_needed normal u) served))
           (subst (λ s. each_step normal accesses good s rest ≡ true) (sym (bound_step set u h)) later.0),
       λ a m. elim m [
-        | inl e ↦ inr (or_left ((u.atom == a) && holds_needed normal (record u { access = access_in accesses u.access.id })) (is_served_by normal accesses rest a)
-            (and_both (u.atom == a) (holds_needed normal (record u { access = access_in accesses u.access.id })) (same_number u.atom a (eqb-true u.atom atom here ∙ sym e))
-            (ap (λ c. holds_needed normal (record u { access = c })) (access_of_use u h) ∙ and_right (holds_classes set (key_classes normal u)) (holds_needed normal u) served)))
+        | inl e ↦ inr (or_left ((u.atom == a) && holds_needed normal (record u { access = access_in accesses u.access.id }))
+            (is_served_by normal accesses rest a)
+            (and_both (u.atom == a) (holds_needed normal (record u { access = access_in accesses u.access.id }))
+            (same_number u.atom a (eqb-true u.atom atom here ∙ sym e))
+            (ap (λ c. holds_needed normal (record u { access = c })) (access_of_use u h)
+            ∙ and_right (holds_classes set (key_classes normal u)) (holds_needed normal u) served)))
         | inr g ↦ elim (later.1 a g) [
           | inl k ↦ inl k
-          | inr k ↦ inr (or_right ((u.atom == a) && holds_needed normal (record u { access = access_in accesses u.access.id })) (is_served_by normal accesses rest a) k)
+          | inr k ↦ inr (or_right ((u.atom == a) && holds_needed normal (record u { access = access_in accesses u.access.id }))
+              (is_served_by normal accesses rest a) k)
         ]
       ],
     )
 
     abbrev Later : List DStep → List ℕ → Type 0
-    Later steps atoms = (set : ClassSet) → ((a : ℕ) → Has atoms a → is_served normal accesses set a ≡ true) → Met steps set atoms (serving_steps normal accesses steps set atoms)
+    Later steps atoms = (set : ClassSet) → ((a : ℕ) → Has atoms a → is_served normal accesses set a ≡ true)
+        → Met steps set atoms (serving_steps normal accesses steps set atoms)
 
     serving : (steps : List DStep) (atoms : List ℕ) (set : ClassSet) → ((a : ℕ) → Has atoms a → is_served normal accesses set a ≡ true)
         → Met steps set atoms (serving_steps normal accesses steps set atoms)
@@ -220,20 +248,29 @@ module _ (normal : Normal) (accesses : List Access) where
     serving steps (atom ∷ atoms) set s = by (is_served_by normal accesses steps atom) refl (serving steps atoms)
       where
         pick : (o : Option Use) → least_bound (filter (λ u. (u.atom == atom) && serves normal set u) (uses normal accesses)) ≡ o → Later steps atoms
-            → Met steps set (atom ∷ atoms) (then_step o (serving_steps normal accesses steps set atoms) (λ u. step_of normal set u ∷ serving_steps normal accesses steps (with_use normal set u) atoms))
+            → Met steps set (atom ∷ atoms)
+            (then_step o (serving_steps normal accesses steps set atoms)
+            (λ u. step_of normal set u ∷ serving_steps normal accesses steps (with_use normal set u) atoms))
         pick None e later =
             let r = any_has (λ u. (u.atom == atom) && serves normal set u) (uses normal accesses) (s atom (inl refl)) in
             let none = least_none (filter (λ u. (u.atom == atom) && serves normal set u) (uses normal accesses)) e in
             absurd (subst (λ us. Has us r.0) none (Has-filter (λ u. (u.atom == atom) && serves normal set u) (uses normal accesses) r.0 r.1 r.2))
         pick (Some u) e later =
-            let f = Has-from_filter (λ v. (v.atom == atom) && serves normal set v) (uses normal accesses) u (least_has (filter (λ v. (v.atom == atom) && serves normal set v) (uses normal accesses)) u e) in
+            let f = Has-from_filter (λ v. (v.atom == atom) && serves normal set v) (uses normal accesses) u
+            (least_has (filter (λ v. (v.atom == atom) && serves normal set v) (uses normal accesses)) u e) in
             met_one steps set atom atoms u (serving_steps normal accesses steps (with_use normal set u) atoms) f.0
             (and_left (u.atom == atom) (serves normal set u) f.1) (and_right (u.atom == atom) (serves normal set u) f.1)
-            (later (with_use normal set u) (λ a h. served_within set (with_use normal set u) a (λ c g. has-with_kept (member_classes normal u) set c g) (s a (inr h))))
+            (later (with_use normal set u) (λ a h. served_within set (with_use normal set u) a (λ c g. has-with_kept (member_classes normal u) set c g)
+            (s a (inr h))))
 
         by : (b : Bool) → is_served_by normal accesses steps atom ≡ b → Later steps atoms
-            → Met steps set (atom ∷ atoms) (cond b (serving_steps normal accesses steps set atoms) (then_step (least_bound (filter (λ u. (u.atom == atom) && serves normal set u) (uses normal accesses))) (serving_steps normal accesses steps set atoms) (λ u. step_of normal set u ∷ serving_steps normal accesses steps (with_use normal set u) atoms)))
-        by true e later = let m = later set (λ a h. s a (inr h)) in (m.0, λ a h. elim h [ inl d ↦ inl (ap (is_served_by normal accesses steps) d ∙ e) | inr g ↦ m.1 a g ])
+            → Met steps set (atom ∷ atoms)
+            (cond b (serving_steps normal accesses steps set atoms)
+            (then_step (least_bound (filter (λ u. (u.atom == atom) && serves normal set u) (uses normal accesses)))
+            (serving_steps normal accesses steps set atoms)
+            (λ u. step_of normal set u ∷ serving_steps normal accesses steps (with_use normal set u) atoms)))
+        by true e later = let m = later set
+            (λ a h. s a (inr h)) in (m.0, λ a h. elim h [ inl d ↦ inl (ap (is_served_by normal accesses steps) d ∙ e) | inr g ↦ m.1 a g ])
         by false e later = pick (least_bound (filter (λ u. (u.atom == atom) && serves normal set u) (uses normal accesses))) refl later
 
     sound_after : (start : ClassSet) (first more : List DStep) → Added start first → Met first (bound_after normal accesses start first) (atoms_of normal) more
@@ -245,7 +282,8 @@ module _ (normal : Normal) (accesses : List Access) where
         let whole : each_step normal accesses good start all ≡ true = each-append normal accesses good first more start a.0 m.0 in
         record {
           live = All-from_recursion (λ s. is_live accesses s.access ≡ true) all (all_from (λ s. is_live accesses s.access ≡ true) all
-              (λ s k. all_has (λ t. is_live accesses t.access) all s (each_all normal accesses good (λ t. is_live accesses t.access) (λ set t g. (good_parts set t g).live) all start whole) k));
+              (λ s k. all_has (λ t. is_live accesses t.access) all s
+              (each_all normal accesses good (λ t. is_live accesses t.access) (λ set t g. (good_parts set t g).live) all start whole) k));
           sound = sound_from normal accesses start all (record {
             each = record {
               tables = each_all normal accesses good (is_on_table normal accesses) (λ set s g. (good_parts set s g).table) all start whole;

@@ -47,7 +47,8 @@ way_from normal set found v h =
     let f = Has-from_filter (is_consistent normal set) found m.0 m.1 in
     record { way = m.0; member = f.0; consistent = f.1; same = m.2 }
 
-module _ (rows : TableRows) (normal : Normal) (accesses : List Access) (s : DStep) (set : ClassSet) (counted : length set ≡ normal.count) (ranges : ClassesInRange normal)
+module _ (rows : TableRows) (normal : Normal) (accesses : List Access) (s : DStep) (set : ClassSet) (counted : length set ≡ normal.count)
+    (ranges : ClassesInRange normal)
     (found : List Bindings) (binds : (w : Bindings) → Has found w → Binds set w)
     (table : table_of normal s.atom ≡ (access_in accesses s.access).table) where
   abbrev columns : List ColumnId
@@ -110,11 +111,13 @@ module _ (rows : TableRows) (normal : Normal) (accesses : List Access) (s : DSte
       | inl e ↦
           value-append_in w (of_row row) c ((binds w way).0 c e)
           ∙ sym (value_in_valuation set w c e)
-          ∙ sym (value-append_in (as_bindings set before) (zip (member_classes normal (use_of accesses s)) tuple) c (subst (λ ks. Has ks c) (sym (keys-zip (value_of w) (classes_in set))) (Has-classes_in set c e)))
+          ∙ sym (value-append_in (as_bindings set before) (zip (member_classes normal (use_of accesses s)) tuple) c
+          (subst (λ ks. Has ks c) (sym (keys-zip (value_of w) (classes_in set))) (Has-classes_in set c e)))
       | inr e ↦
           value-append_out w (of_row row) c (λ h. let t = (binds w way).1 c h in differ c t e)
           ∙ sym (ap (λ bs. value_of bs c) zipped)
-          ∙ sym (value-append_out (as_bindings set before) (zip (member_classes normal (use_of accesses s)) tuple) c (λ h. let t = from_classes_in set c (subst (λ ks. Has ks c) (keys-zip (value_of w) (classes_in set)) h) in differ c t e))
+          ∙ sym (value-append_out (as_bindings set before) (zip (member_classes normal (use_of accesses s)) tuple) c
+          (λ h. let t = from_classes_in set c (subst (λ ks. Has ks c) (keys-zip (value_of w) (classes_in set)) h) in differ c t e))
     ]
       where
         differ : (d : ℕ) → has set d ≡ true → has set d ≡ false → ⊥
@@ -125,7 +128,8 @@ module _ (rows : TableRows) (normal : Normal) (accesses : List Access) (s : DSte
 
     -- the tuple fits exactly where the way and the row agree
     fits_if : agrees (w ++ of_row row) ≡ true → fits normal accesses s set before tuple ≡ true
-    fits_if h = all_by (λ b. same_value b.1 (value_of (bindings_with normal accesses s set before tuple) b.0)) (bindings_with normal accesses s set before tuple) (λ b m.
+    fits_if h = all_by (λ b. same_value b.1 (value_of (bindings_with normal accesses s set before tuple) b.0))
+        (bindings_with normal accesses s set before tuple) (λ b m.
         elim (Has-append_cases (as_bindings set before) (zip (member_classes normal (use_of accesses s)) tuple) b m) [
           | inl k ↦ same_value_to b.1 (value_of (bindings_with normal accesses s set before tuple) b.0) (first b k)
           | inr k ↦ same_value_to b.1 (value_of (bindings_with normal accesses s set before tuple) b.0)
@@ -144,24 +148,28 @@ module _ (rows : TableRows) (normal : Normal) (accesses : List Access) (s : DSte
       | inl k ↦ same_value_to b.1 (value_of (w ++ of_row row) b.0) (agreed w b h k ∙ sym (value-append_in w (of_row row) b.0 (Has-map (λ d. d.0) w b k)))
       | inr k ↦ same_value_to b.1 (value_of (w ++ of_row row) b.0)
           (agreed (bindings_with normal accesses s set before tuple) b g
-          (Has-append_right (as_bindings set before) (zip (member_classes normal (use_of accesses s)) tuple) b (subst (λ bs. Has bs b) (sym zipped) k)) ∙ sym (value_after b.0))
+          (Has-append_right (as_bindings set before) (zip (member_classes normal (use_of accesses s)) tuple) b (subst (λ bs. Has bs b) (sym zipped) k))
+          ∙ sym (value_after b.0))
     ])
 
     -- the comparisons speak of bound classes alone
     valuation_alike : (c : ℕ) → has more c ≡ true → value_of (as_bindings more (extended normal accesses s set before tuple)) c ≡ value_of (w ++ of_row row) c
     valuation_alike c h = ap (λ v. value_of (as_bindings more v) c) (sym after_is) ∙ value_in_valuation more (w ++ of_row row) c h
 
-    meets_if : list_all (comparison_is_met normal more (w ++ of_row row)) normal.comparisons ≡ true → meets_bound normal more (extended normal accesses s set before tuple) ≡ true
+    meets_if : list_all (comparison_is_met normal more (w ++ of_row row)) normal.comparisons ≡ true
+        → meets_bound normal more (extended normal accesses s set before tuple) ≡ true
     meets_if h = all_by (comparison_is_met normal more (as_bindings more (extended normal accesses s set before tuple))) normal.comparisons (λ c m.
         met_alike normal more (w ++ of_row row) (as_bindings more (extended normal accesses s set before tuple)) (λ d k. sym (valuation_alike d k)) c
         (all_has (comparison_is_met normal more (w ++ of_row row)) normal.comparisons c h m))
 
-    met_if : meets_bound normal more (extended normal accesses s set before tuple) ≡ true → list_all (comparison_is_met normal more (w ++ of_row row)) normal.comparisons ≡ true
+    met_if : meets_bound normal more (extended normal accesses s set before tuple) ≡ true
+        → list_all (comparison_is_met normal more (w ++ of_row row)) normal.comparisons ≡ true
     met_if h = all_by (comparison_is_met normal more (w ++ of_row row)) normal.comparisons (λ c m.
         met_alike normal more (as_bindings more (extended normal accesses s set before tuple)) (w ++ of_row row) valuation_alike c
         (all_has (comparison_is_met normal more (as_bindings more (extended normal accesses s set before tuple))) normal.comparisons c h m))
 
-  pub Has-before : (w : Bindings) (row : Row) → Has found w → is_consistent normal (bound_by normal accesses set s) (w ++ bindings_of normal accesses s row) ≡ true
+  pub Has-before : (w : Bindings) (row : Row) → Has found w
+      → is_consistent normal (bound_by normal accesses set s) (w ++ bindings_of normal accesses s row) ≡ true
       → Has (valued normal set found) (map (value_of w) (classes_in set))
   Has-before w row way consistent = Has-valued normal set found w way
       (consistent_before normal set (bound_by normal accesses set s) within w (bindings_of normal accesses s row) (binds w way).0 consistent)
@@ -170,10 +178,13 @@ module _ (rows : TableRows) (normal : Normal) (accesses : List Access) (s : DSte
     -- a consistent way gives the step its row's key
     key_is : (w : Bindings) (row : Row) → Has found w → agrees (w ++ of_row row) ≡ true
         → key_for normal accesses s set (map (value_of w) (classes_in set)) ≡ project (access_in accesses s.access).key row
-    key_is w row way agree = map_same (λ c. value_of (as_bindings set (map (value_of w) (classes_in set))) (class_at normal s.atom c)) (value_at row) (access_in accesses s.access).key (λ c h.
-        let k = all_has (has set) (key_classes normal (use_of accesses s)) (class_at normal s.atom c) keyed (Has-map (class_at normal s.atom) (access_in accesses s.access).key c h) in
+    key_is w row way agree = map_same (λ c. value_of (as_bindings set (map (value_of w) (classes_in set))) (class_at normal s.atom c)) (value_at row)
+        (access_in accesses s.access).key (λ c h.
+        let k = all_has (has set) (key_classes normal (use_of accesses s)) (class_at normal s.atom c) keyed
+        (Has-map (class_at normal s.atom) (access_in accesses s.access).key c h) in
         let member = Has-append_right w (of_row row) (class_at normal s.atom c, value_at row c)
-        (Has-map (λ d. (class_at normal s.atom d, value_at row d)) (member_columns (access_in accesses s.access)) c (Has-append_left (access_in accesses s.access).key (access_in accesses s.access).fetched c h)) in
+        (Has-map (λ d. (class_at normal s.atom d, value_at row d)) (member_columns (access_in accesses s.access)) c
+        (Has-append_left (access_in accesses s.access).key (access_in accesses s.access).fetched c h)) in
         value_in_valuation set w (class_at normal s.atom c) k
         ∙ sym (value-append_in w (of_row row) (class_at normal s.atom c) ((binds w way).0 (class_at normal s.atom c) k))
         ∙ sym (agreed (w ++ of_row row) (class_at normal s.atom c, value_at row c) agree member))
@@ -185,49 +196,62 @@ module _ (rows : TableRows) (normal : Normal) (accesses : List Access) (s : DSte
         let held = filter (λ r. same_row (project (access_in accesses s.access).key r) key) (rows (access_in accesses s.access).table) in
         Has-distinct row_cmp_total row_cmp_tells (map (project columns) held) (project columns row)
         (Has-map (project columns) held row
-        (Has-filter (λ r. same_row (project (access_in accesses s.access).key r) key) (rows (access_in accesses s.access).table) row stands (same_row_to (project (access_in accesses s.access).key row) key (sym (key_is w row way agree)))))
+        (Has-filter (λ r. same_row (project (access_in accesses s.access).key r) key) (rows (access_in accesses s.access).table) row stands
+        (same_row_to (project (access_in accesses s.access).key row) key (sym (key_is w row way agree)))))
 
-    Has-extension : (w : Bindings) (row : Row) → Has found w → Has (rows (access_in accesses s.access).table) row → is_consistent normal more (w ++ of_row row) ≡ true
+    Has-extension : (w : Bindings) (row : Row) → Has found w → Has (rows (access_in accesses s.access).table) row
+        → is_consistent normal more (w ++ of_row row) ≡ true
         → Has (flat_map (extensions_of rows normal accesses s set) (valued normal set found)) (map (value_of (w ++ of_row row)) (classes_in more))
     Has-extension w row way stands consistent =
         let v = map (value_of w) (classes_in set) in
         let agree = and_left (agrees (w ++ of_row row)) (list_all (comparison_is_met normal more (w ++ of_row row)) normal.comparisons) consistent in
         subst (Has (flat_map (extensions_of rows normal accesses s set) (valued normal set found))) (sym (after_is w row way))
-        (Has-flat_map (extensions_of rows normal accesses s set) (valued normal set found) v (extended normal accesses s set v (project columns row)) (Has-before w row way consistent)
+        (Has-flat_map (extensions_of rows normal accesses s set) (valued normal set found) v (extended normal accesses s set v (project columns row))
+        (Has-before w row way consistent)
         (Has-map (extended normal accesses s set v) (filter (fits normal accesses s set v) (group_for rows normal accesses s set v)) (project columns row)
-        (Has-filter (fits normal accesses s set v) (group_for rows normal accesses s set v) (project columns row) (Has-tuple w row way stands agree) (fits_if w row way agree))))
+        (Has-filter (fits normal accesses s set v) (group_for rows normal accesses s set v) (project columns row) (Has-tuple w row way stands agree)
+        (fits_if w row way agree))))
 
-    there : (v : Row) → Has (some_valued normal more after) v → Has (filter (meets_bound normal more) (flat_map (extensions_of rows normal accesses s set) (valued normal set found))) v
+    there : (v : Row) → Has (some_valued normal more after) v
+        → Has (filter (meets_bound normal more) (flat_map (extensions_of rows normal accesses s set) (valued normal set found))) v
     there v h =
         let m = Has-from_map (λ w. map (value_of w) (classes_in more)) (filter (is_consistent normal more) after) v h in
         let f = Has-from_filter (is_consistent normal more) after m.0 m.1 in
         let p = split m.0 f.0 in
         let consistent = subst (λ w. is_consistent normal more w ≡ true) p.same f.1 in
-        let met = and_right (agrees (p.before ++ of_row p.row)) (list_all (comparison_is_met normal more (p.before ++ of_row p.row)) normal.comparisons) consistent in
+        let met = and_right (agrees (p.before ++ of_row p.row)) (list_all (comparison_is_met normal more (p.before ++ of_row p.row)) normal.comparisons)
+        consistent in
         let e = m.2 ∙ ap (λ w. map (value_of w) (classes_in more)) p.same in
         subst (Has (filter (meets_bound normal more) (flat_map (extensions_of rows normal accesses s set) (valued normal set found)))) (sym e)
-        (Has-filter (meets_bound normal more) (flat_map (extensions_of rows normal accesses s set) (valued normal set found)) (map (value_of (p.before ++ of_row p.row)) (classes_in more))
+        (Has-filter (meets_bound normal more) (flat_map (extensions_of rows normal accesses s set) (valued normal set found))
+        (map (value_of (p.before ++ of_row p.row)) (classes_in more))
         (Has-extension p.before p.row p.way p.stands consistent)
         (subst (λ u. meets_bound normal more u ≡ true) (sym (after_is p.before p.row p.way)) (meets_if p.before p.row p.way met)))
 
   from_tuple : (v tuple : Row) → Way normal set found v → Has (group_for rows normal accesses s set v) tuple → fits normal accesses s set v tuple ≡ true
       → meets_bound normal more (extended normal accesses s set v tuple) ≡ true → Has (some_valued normal more after) (extended normal accesses s set v tuple)
   from_tuple v tuple w h fit met =
-      let held = filter (λ r. same_row (project (access_in accesses s.access).key r) (key_for normal accesses s set v)) (rows (access_in accesses s.access).table) in
+      let held = filter (λ r. same_row (project (access_in accesses s.access).key r) (key_for normal accesses s set v))
+      (rows (access_in accesses s.access).table) in
       let d = Has-from_distinct row_cmp_total row_cmp_tells (map (project columns) held) tuple h in
       let m = Has-from_map (project columns) held tuple d in
-      let f = Has-from_filter (λ r. same_row (project (access_in accesses s.access).key r) (key_for normal accesses s set v)) (rows (access_in accesses s.access).table) m.0 m.1 in
+      let f = Has-from_filter (λ r. same_row (project (access_in accesses s.access).key r) (key_for normal accesses s set v))
+      (rows (access_in accesses s.access).table) m.0 m.1 in
       let u = map (value_of w.way) (classes_in set) in
-      let e : extended normal accesses s set v tuple ≡ extended normal accesses s set u (project columns m.0) = ap (λ x. extended normal accesses s set x tuple) w.same ∙ ap (extended normal accesses s set u) m.2 in
+      let e : extended normal accesses s set v tuple ≡ extended normal accesses s set u
+      (project columns m.0) = ap (λ x. extended normal accesses s set x tuple) w.same ∙ ap (extended normal accesses s set u) m.2 in
       let fit_too = subst (λ t. fits normal accesses s set u t ≡ true) m.2 (subst (λ x. fits normal accesses s set x tuple ≡ true) w.same fit) in
       let met_too = subst (λ x. meets_bound normal more x ≡ true) e met in
-      let agree = agrees_if w.way m.0 w.member (and_left (agrees w.way) (list_all (comparison_is_met normal set w.way) normal.comparisons) w.consistent) fit_too in
-      let consistent = and_both (agrees (w.way ++ of_row m.0)) (list_all (comparison_is_met normal more (w.way ++ of_row m.0)) normal.comparisons) agree (met_if w.way m.0 w.member met_too) in
+      let agree = agrees_if w.way m.0 w.member (and_left (agrees w.way) (list_all (comparison_is_met normal set w.way) normal.comparisons) w.consistent)
+      fit_too in
+      let consistent = and_both (agrees (w.way ++ of_row m.0)) (list_all (comparison_is_met normal more (w.way ++ of_row m.0)) normal.comparisons) agree
+      (met_if w.way m.0 w.member met_too) in
       subst (Has (some_valued normal more after)) (sym (e ∙ sym (after_is w.way m.0 w.member)))
       (Has-map (λ x. map (value_of x) (classes_in more)) (filter (is_consistent normal more) after) (w.way ++ of_row m.0)
       (Has-filter (is_consistent normal more) after (w.way ++ of_row m.0) (Has-after w.way m.0 w.member f.0) consistent))
 
-  back : (v : Row) → Has (filter (meets_bound normal more) (flat_map (extensions_of rows normal accesses s set) (valued normal set found))) v → Has (some_valued normal more after) v
+  back : (v : Row) → Has (filter (meets_bound normal more) (flat_map (extensions_of rows normal accesses s set) (valued normal set found))) v
+      → Has (some_valued normal more after) v
   back v h =
       let f = Has-from_filter (meets_bound normal more) (flat_map (extensions_of rows normal accesses s set) (valued normal set found)) v h in
       let x = Has-from_flat_map (extensions_of rows normal accesses s set) (valued normal set found) v f.0 in
@@ -237,8 +261,11 @@ module _ (rows : TableRows) (normal : Normal) (accesses : List Access) (s : DSte
       (from_tuple x.0 m.0 (way_from normal set found x.0 x.1) t.0 t.1 (subst (λ u. meets_bound normal more u ≡ true) m.2 f.1))
 
   pub step_is : key_is_bound normal accesses set s ≡ true
-      → valued normal (bound_by normal accesses set s) (with_row_for rows normal accesses found s) ≡ kept normal (bound_by normal accesses set s) (extensions rows normal accesses s set (valued normal set found))
+      → valued normal (bound_by normal accesses set s) (with_row_for rows normal accesses found s) ≡ kept normal (bound_by normal accesses set s)
+      (extensions rows normal accesses s set (valued normal set found))
   step_is keyed =
-      distinct_same row_cmp_total row_cmp_tells (some_valued normal more after) (filter (meets_bound normal more) (flat_map (extensions_of rows normal accesses s set) (valued normal set found)))
+      distinct_same row_cmp_total row_cmp_tells (some_valued normal more after)
+      (filter (meets_bound normal more) (flat_map (extensions_of rows normal accesses s set) (valued normal set found)))
       (λ v. (there keyed v, back v))
-      ∙ sym (distinct-filter row_cmp_total row_cmp_tells (meets_bound normal more) (flat_map (extensions_of rows normal accesses s set) (valued normal set found)))
+      ∙ sym (distinct-filter row_cmp_total row_cmp_tells (meets_bound normal more)
+      (flat_map (extensions_of rows normal accesses s set) (valued normal set found)))

@@ -27,7 +27,8 @@ use Rattle.evaluation_facts.proofs.BindingFacts.{Binds, value-append_in, map_sam
 use Rattle.evaluation_facts.proofs.StepExtends.{some_valued, way_from, split, Has-before, step_is}
 
 -- any set of valuations has at most so many extensions
-module _ (rows : TableRows) (normal : Normal) (accesses : List Access) (s : DStep) (set : ClassSet) (holds : Holds (rows (access_in accesses s.access).table) (access_in accesses s.access)) where
+module _ (rows : TableRows) (normal : Normal) (accesses : List Access) (s : DStep) (set : ClassSet)
+    (holds : Holds (rows (access_in accesses s.access).table) (access_in accesses s.access)) where
   few_of_one : (v : Row) → length (extensions_of rows normal accesses s set v) ≤ (access_in accesses s.access).bound
   few_of_one v =
       let mapped = length-map (filter (fits normal accesses s set v) (group_for rows normal accesses s set v)) (extended normal accesses s set v) in
@@ -41,11 +42,13 @@ module _ (rows : TableRows) (normal : Normal) (accesses : List Access) (s : DSte
       let f = length-flat_map-le (extensions_of rows normal accesses s set) (access_in accesses s.access).bound few_of_one found in
       omega (arith, d, f)
 
-module _ (rows : TableRows) (normal : Normal) (accesses : List Access) (s : DStep) (set : ClassSet) (counted : length set ≡ normal.count) (ranges : ClassesInRange normal)
+module _ (rows : TableRows) (normal : Normal) (accesses : List Access) (s : DStep) (set : ClassSet) (counted : length set ≡ normal.count)
+    (ranges : ClassesInRange normal)
     (found : List Bindings) (binds : (w : Bindings) → Has found w → Binds set w)
     (table : table_of normal s.atom ≡ (access_in accesses s.access).table) (keyed : key_is_bound normal accesses set s ≡ true) where
   count_more : Holds (rows (access_in accesses s.access).table) (access_in accesses s.access)
-      → length (valued normal (bound_by normal accesses set s) (with_row_for rows normal accesses found s)) ≤ length (valued normal set found) * (access_in accesses s.access).bound
+      → length (valued normal (bound_by normal accesses set s) (with_row_for rows normal accesses found s)) ≤ length
+      (valued normal set found) * (access_in accesses s.access).bound
   count_more holds =
       let e = ap length (step_is rows normal accesses s set counted ranges found binds table keyed) in
       let fewer = length-filter_le (meets_bound normal (bound_by normal accesses set s)) (extensions rows normal accesses s set (valued normal set found)) in
@@ -62,8 +65,11 @@ module _ (rows : TableRows) (normal : Normal) (accesses : List Access) (s : DSte
     held c h =
         let m = Has-from_map (class_at normal s.atom) (member_columns (access_in accesses s.access)) c h in
         ap (has set) m.2 ∙ elim (Has-append_cases (access_in accesses s.access).key (access_in accesses s.access).fetched m.0 m.1) [
-          | inl k ↦ all_has (has set) (key_classes normal (use_of accesses s)) (class_at normal s.atom m.0) keyed (Has-map (class_at normal s.atom) (access_in accesses s.access).key m.0 k)
-          | inr k ↦ all_has (has set) (fetched_classes normal (use_of accesses s)) (class_at normal s.atom m.0) (twice (holds_classes set (fetched_classes normal (use_of accesses s))) none) (Has-map (class_at normal s.atom) (access_in accesses s.access).fetched m.0 k)
+          | inl k ↦ all_has (has set) (key_classes normal (use_of accesses s)) (class_at normal s.atom m.0) keyed
+              (Has-map (class_at normal s.atom) (access_in accesses s.access).key m.0 k)
+          | inr k ↦ all_has (has set) (fetched_classes normal (use_of accesses s)) (class_at normal s.atom m.0)
+              (twice (holds_classes set (fetched_classes normal (use_of accesses s))) none)
+              (Has-map (class_at normal s.atom) (access_in accesses s.access).fetched m.0 k)
         ]
 
     bool_same : (a b : Bool) → (a ≡ true → b ≡ true) → (b ≡ true → a ≡ true) → a ≡ b
@@ -80,38 +86,48 @@ module _ (rows : TableRows) (normal : Normal) (accesses : List Access) (s : DSte
         (range_with_len 0 (length (bound_by normal accesses set s)))
         ∙ ap (λ n. filter (has set) (range_with_len 0 n)) (length-with (member_classes normal (use_of accesses s)) set)
 
-    still_member : (v : Row) → Has (valued normal (bound_by normal accesses set s) (with_row_for rows normal accesses found s)) v → Has (valued normal set found) v
+    still_member : (v : Row) → Has (valued normal (bound_by normal accesses set s) (with_row_for rows normal accesses found s)) v
+        → Has (valued normal set found) v
     still_member v h =
         let w = way_from normal (bound_by normal accesses set s) (with_row_for rows normal accesses found s) v h in
         let p = split rows normal accesses s set counted ranges found binds table w.way w.member in
         let consistent = subst (λ u. is_consistent normal (bound_by normal accesses set s) u ≡ true) p.same w.consistent in
-        let e = w.same ∙ ap (λ u. map (value_of u) (classes_in (bound_by normal accesses set s))) p.same ∙ ap (map (value_of (p.before ++ bindings_of normal accesses s p.row))) same_classes
+        let e = w.same ∙ ap (λ u. map (value_of u) (classes_in (bound_by normal accesses set s))) p.same
+        ∙ ap (map (value_of (p.before ++ bindings_of normal accesses s p.row))) same_classes
         ∙ map_same (value_of (p.before ++ bindings_of normal accesses s p.row)) (value_of p.before) (classes_in set)
         (λ c k. value-append_in p.before (bindings_of normal accesses s p.row) c ((binds p.before p.way).0 c (from_classes_in set c k))) in
         subst (Has (valued normal set found)) (sym e) (Has-before rows normal accesses s set counted ranges found binds table p.before p.row p.way consistent)
 
     count_same : length (valued normal (bound_by normal accesses set s) (with_row_for rows normal accesses found s)) ≤ length (valued normal set found)
-    count_same = length_within row_cmp_total row_cmp_tells (valued normal (bound_by normal accesses set s) (with_row_for rows normal accesses found s)) (valued normal set found)
-        (IsInOrder-distinct row_cmp_total row_cmp_tells (some_valued normal (bound_by normal accesses set s) (with_row_for rows normal accesses found s))) still_member
+    count_same = length_within row_cmp_total row_cmp_tells (valued normal (bound_by normal accesses set s) (with_row_for rows normal accesses found s))
+        (valued normal set found)
+        (IsInOrder-distinct row_cmp_total row_cmp_tells (some_valued normal (bound_by normal accesses set s) (with_row_for rows normal accesses found s)))
+        still_member
 
-  pub step_count : (b : ℕ) → Holds (rows (access_in accesses s.access).table) (access_in accesses s.access) → adds_rightly normal accesses set s ≡ true → length (valued normal set found) ≤ b
+  pub step_count : (b : ℕ) → Holds (rows (access_in accesses s.access).table) (access_in accesses s.access) → adds_rightly normal accesses set s ≡ true
+      → length (valued normal set found) ≤ b
       → length (valued normal (bound_by normal accesses set s) (with_row_for rows normal accesses found s)) ≤ size_after accesses b s
   step_count b holds rightly few = by s.adds rightly
     where
       by : (t : Bool) → cond t (adds_class normal set (use_of accesses s)) (not (adds_class normal set (use_of accesses s))) ≡ true
-          → length (valued normal (bound_by normal accesses set s) (with_row_for rows normal accesses found s)) ≤ cond t (b * (access_in accesses s.access).bound) b
+          → length (valued normal (bound_by normal accesses set s) (with_row_for rows normal accesses found s)) ≤ cond t
+          (b * (access_in accesses s.access).bound) b
       by true r = let h = count_more holds in let g = mul-le-mul_left (access_in accesses s.access).bound few in omega (arith, h, g)
       by false r = let h = count_same (from_not (adds_class normal set (use_of accesses s)) r) in omega (arith, h, few)
 
 module _ (rows : TableRows) (normal : Normal) (accesses : List Access) (s : DStep) (set : ClassSet) where
   -- the reads of a step, by the number of valuations before it
-  pub step_reads_count : (found : List Row) → Holds (rows (access_in accesses s.access).table) (access_in accesses s.access) → 1 ≤ (access_in accesses s.access).bound
+  pub step_reads_count : (found : List Row) → Holds (rows (access_in accesses s.access).table) (access_in accesses s.access)
+      → 1 ≤ (access_in accesses s.access).bound
       → step_reads rows normal accesses s set found ≤ length found * (access_in accesses s.access).bound
   step_reads_count found holds one =
       let fewer_keys = length-distinct-le row_cmp_total row_cmp_tells (map (key_for normal accesses s set) found) in
       let mapped = length-map found (key_for normal accesses s set) in
       let keys = keys_for normal accesses s set found in
-      let each = sum_by-le (probe_reads rows (access_in accesses s.access)) (access_in accesses s.access).bound keys (λ i d l. let h = holds (get_or keys i d) in greater (length (group_of (rows (access_in accesses s.access).table) (access_in accesses s.access) (get_or keys i d))) (access_in accesses s.access).bound one h) in
+      let each = sum_by-le (probe_reads rows (access_in accesses s.access)) (access_in accesses s.access).bound keys
+      (λ i d l. let h = holds (get_or keys i d) in greater
+      (length (group_of (rows (access_in accesses s.access).table) (access_in accesses s.access) (get_or keys i d)))
+      (access_in accesses s.access).bound one h) in
       let keys_few : length (keys_for normal accesses s set found) ≤ length found = omega (arith, fewer_keys, mapped) in
       let product = mul-le-mul_left (access_in accesses s.access).bound keys_few in
       omega (arith, each, product)

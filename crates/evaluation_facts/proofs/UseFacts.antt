@@ -24,9 +24,11 @@ enumerated f d n (x ∷ xs) a (inr h) = let r = enumerated f d (n + 1) xs a h in
 -- a member of a list of constraints is the one that its id finds
 pub found_by_id : (accesses : List Access) → EachIdOnce accesses → (access : Access) → Has accesses access → access_in accesses access.id ≡ access
 found_by_id [] once access h = absurd h
-found_by_id (a ∷ accesses) once access h = by (a.id.0 == access.id.0) refl h (found_by_id accesses (rest_of_pairs (λ x y. x.id.0 ≢ y.id.0) a accesses once) access)
+found_by_id (a ∷ accesses) once access h = by (a.id.0 == access.id.0) refl h
+    (found_by_id accesses (rest_of_pairs (λ x y. x.id.0 ≢ y.id.0) a accesses once) access)
   where
-    by : (b : Bool) → (a.id.0 == access.id.0) ≡ b → Has (a ∷ accesses) access → (Has accesses access → access_in accesses access.id ≡ access) → access_in (a ∷ accesses) access.id ≡ access
+    by : (b : Bool) → (a.id.0 == access.id.0) ≡ b → Has (a ∷ accesses) access → (Has accesses access → access_in accesses access.id ≡ access)
+        → access_in (a ∷ accesses) access.id ≡ access
     by true t (inl e) later = access_in-first a accesses access.id t ∙ sym e
     by true t (inr g) later = absurd (first_of_pairs (λ x y. x.id.0 ≢ y.id.0) a accesses once access g (eqb-true a.id.0 access.id.0 t))
     by false t (inl e) later = let s = same_number a.id.0 access.id.0 (ap (λ x. x.id.0) (sym e)) in cc
@@ -36,7 +38,8 @@ pub best_has : {K : Type 0} (beats : K → K → Bool) (u : K) (us : List K) →
 best_has beats u [] = inl refl
 best_has {K} beats u (x ∷ xs) = by (beats x u) (best_has beats x xs) (best_has beats u xs)
   where
-    by : (b : Bool) → Has (x ∷ xs) (best_of beats x xs) → Has (u ∷ xs) (best_of beats u xs) → Has (u ∷ x ∷ xs) (fold (λ c y. cond (beats y c) y c) (cond b x u) xs)
+    by : (b : Bool) → Has (x ∷ xs) (best_of beats x xs) → Has (u ∷ xs) (best_of beats u xs)
+        → Has (u ∷ x ∷ xs) (fold (λ c y. cond (beats y c) y c) (cond b x u) xs)
     by true new old = inr new
     by false new (inl e) = inl e
     by false new (inr g) = inr (inr g)

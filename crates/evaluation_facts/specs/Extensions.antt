@@ -24,11 +24,13 @@ abbrev pub fits : Normal → List Access → DStep → ClassSet → Row → Row 
 fits normal accesses s set valuation tuple = agrees (bindings_with normal accesses s set valuation tuple)
 
 abbrev pub extended : Normal → List Access → DStep → ClassSet → Row → Row → Row
-extended normal accesses s set valuation tuple = map (value_of (bindings_with normal accesses s set valuation tuple)) (classes_in (bound_by normal accesses set s))
+extended normal accesses s set valuation tuple = map (value_of (bindings_with normal accesses s set valuation tuple))
+    (classes_in (bound_by normal accesses set s))
 
 -- the group of the key that a valuation gives to the step
 abbrev pub group_for : TableRows → Normal → List Access → DStep → ClassSet → Row → List Row
-group_for rows normal accesses s set valuation = group_of (rows (access_in accesses s.access).table) (access_in accesses s.access) (key_for normal accesses s set valuation)
+group_for rows normal accesses s set valuation = group_of (rows (access_in accesses s.access).table) (access_in accesses s.access)
+    (key_for normal accesses s set valuation)
 
 abbrev pub extensions_of : TableRows → Normal → List Access → DStep → ClassSet → Row → List Row
 extensions_of rows normal accesses s set valuation =

@@ -1,3 +1,3 @@
-pub mod Parts
+pub mod Records
 pub mod Reports
 pub mod Texts

@@ -1,6 +1,6 @@
 -- The texts of refusals, as bytes.
 --     literal_text value        a value as a literal: a number in decimal, a text in quotes with its quotes doubled
---     refusal_parts why         the parts of what a report says of a refusal after its number
+--     refusal_text why          what a report says of a refusal after its number
 use Rattle.std.specs.Prelude.{ℕ, Bool, true, false, List, [], ◌∷◌, ◌++◌, map, codes, decimal, Option, Some, None}
 use Rattle.std.specs.Fmt.{signed_decimal}
 use Rattle.std.specs.List.{flat_map}
@@ -16,10 +16,6 @@ abbrev pub literal_text : Value → List ℕ
 literal_text (Int number) = signed_decimal number
 literal_text (Str text) = quoted text
 
--- the parts one after another
-abbrev pub joined : List (List ℕ) → List ℕ
-joined parts = flat_map (λ part. part) parts
-
 -- items with a comma and a space between them
 abbrev pub spaced : List (List ℕ) → List ℕ
 spaced [] = []
@@ -34,17 +30,11 @@ counted_text Blocks = codes "blocks"
 counted_text Outputs = codes "outputs"
 counted_text Rows = codes "rows"
 
-abbrev pub column_parts : Option (List ℕ) → List ℕ → List (List ℕ)
-column_parts None column = codes "unknown column " ∷ column ∷ []
-column_parts (Some table) column = codes "unknown column " ∷ table ∷ codes "." ∷ column ∷ []
-
-abbrev pub number_parts : Bool → List ℕ → List (List ℕ)
-number_parts false digits = codes "number " ∷ digits ∷ codes " out of range" ∷ []
-number_parts true digits = codes "number -" ∷ digits ∷ codes " out of range" ∷ []
-
-abbrev pub reason_parts : ℕ → ℕ → Option (List ℕ) → List (List ℕ)
-reason_parts block atom None = codes "not covered: block " ∷ decimal block ∷ codes " atom " ∷ decimal atom ∷ codes " has no serving constraint" ∷ []
-reason_parts block atom (Some column) = codes "not covered: block " ∷ decimal block ∷ codes " atom " ∷ decimal atom ∷ codes " column " ∷ column ∷ []
+-- the parts one after another
+abbrev pub joined : List (List ℕ) → List ℕ
+joined [] = []
+joined (part ∷ []) = part
+joined (part ∷ next ∷ parts) = part ++ joined (next ∷ parts)
 
 -- what a report says of a refusal after its number, part by part
 abbrev pub refusal_parts : Refusal → List (List ℕ)
@@ -52,7 +42,8 @@ refusal_parts Syntax = codes "syntax" ∷ []
 refusal_parts TooDeep = codes "nesting deeper than 32" ∷ []
 refusal_parts (TableExists name) = codes "table " ∷ name ∷ codes " exists" ∷ []
 refusal_parts (UnknownTable name) = codes "unknown table " ∷ name ∷ []
-refusal_parts (UnknownColumn table column) = column_parts table column
+refusal_parts (UnknownColumn None column) = codes "unknown column " ∷ column ∷ []
+refusal_parts (UnknownColumn (Some table) column) = codes "unknown column " ∷ table ∷ codes "." ∷ column ∷ []
 refusal_parts (Ambiguous column) = codes "ambiguous column " ∷ column ∷ []
 refusal_parts (DuplicateName name) = codes "duplicate name " ∷ name ∷ []
 refusal_parts (MixedTypes block condition) = codes "type mismatch in block " ∷ decimal block ∷ codes " condition " ∷ decimal condition ∷ []
@@ -62,12 +53,14 @@ refusal_parts (BadLimit digits) = codes "limit " ∷ digits ∷ codes " not betw
 refusal_parts (AlreadyBroken needed bound) = codes "greatest group " ∷ decimal needed ∷ codes " above limit " ∷ decimal bound ∷ []
 refusal_parts (BreaksBound row access key) = codes "row " ∷ decimal row ∷ codes " breaks " ∷ access ∷ codes " at key (" ∷ spaced (map literal_text key) ∷ codes ")" ∷ []
 refusal_parts (WrongWidth row found wanted) = codes "row " ∷ decimal row ∷ codes " has " ∷ decimal found ∷ codes " values, " ∷ decimal wanted ∷ codes " wanted" ∷ []
-refusal_parts (NumberRange negative digits) = number_parts negative digits
+refusal_parts (NumberRange false digits) = codes "number " ∷ digits ∷ codes " out of range" ∷ []
+refusal_parts (NumberRange true digits) = codes "number -" ∷ digits ∷ codes " out of range" ∷ []
 refusal_parts (Unreadable file) = codes "cannot read " ∷ quoted file ∷ []
 refusal_parts (BadField nth column) = codes "record " ∷ decimal nth ∷ codes " column " ∷ column ∷ codes " bad field" ∷ []
 refusal_parts (RecordWidth nth found wanted) = codes "record " ∷ decimal nth ∷ codes " has " ∷ decimal found ∷ codes " fields, " ∷ decimal wanted ∷ codes " wanted" ∷ []
 refusal_parts HeaderMismatch = codes "header mismatch" ∷ []
-refusal_parts (NotCovered block atom column) = reason_parts block atom column
+refusal_parts (NotCovered block atom None) = codes "not covered: block " ∷ decimal block ∷ codes " atom " ∷ decimal atom ∷ codes " has no serving constraint" ∷ []
+refusal_parts (NotCovered block atom (Some column)) = codes "not covered: block " ∷ decimal block ∷ codes " atom " ∷ decimal atom ∷ codes " column " ∷ column ∷ []
 refusal_parts TooLarge = codes "bound past 128 bits" ∷ []
 refusal_parts (OverBudget bound budget) = codes "bound " ∷ decimal bound ∷ codes " above budget " ∷ decimal budget ∷ []
 refusal_parts (TooMany what limit) = codes "too many " ∷ counted_text what ∷ codes ", limit " ∷ decimal limit ∷ []
@@ -75,3 +68,6 @@ refusal_parts NeedsDistinct = codes "DISTINCT wanted" ∷ []
 refusal_parts (FileTooLong limit) = codes "file longer than " ∷ decimal limit ∷ codes " bytes" ∷ []
 refusal_parts (UnknownAccess name) = codes "unknown constraint " ∷ name ∷ []
 refusal_parts (TextTooLong limit) = codes "text longer than " ∷ decimal limit ∷ codes " bytes" ∷ []
+
+abbrev pub refusal_text : Refusal → List ℕ
+refusal_text why = joined (refusal_parts why)

@@ -1,11 +1,11 @@
 //! The texts of reports: what is written for each statement.
 #![tactic(auto)]
 
-mod joined;
-mod parts;
+mod decimal;
+mod literals;
+mod records;
 mod refusals;
 mod reports;
-#[cfg(test)]
-mod tests;
+mod texts;
 
 pub use reports::{Report, text};

@@ -1,32 +1,42 @@
 // The report of a statement, and its lines.
-ghost use Rattle.std.specs.Prelude.{◌≡◌, ◌++◌, [], ◌∷◌, IfOk, OnOk, codes, decimal, map};
+ghost use Rattle.std.specs.Prelude.{◌≡◌, IfOk};
 ghost use Rattle.std.specs.List.{flat_map};
-ghost use Rattle.beas_core.specs.Refusals.{number_of};
-ghost use Rattle.report.specs.declared.reports.Report.TheVariants.{Answered};
-ghost use Rattle.report.specs.Parts.{part_text};
-ghost use Rattle.report.specs.Texts.{refusal_parts};
-ghost use Rattle.report.specs.Reports.{line, record_line, field_text, report_text};
+ghost use Rattle.report.specs.Reports.{bound_text, counts_text, pair_line, report_text};
 
-use crate::joined::push_parts;
-use crate::parts::Part::{self, Number, Words};
-use crate::parts::{push_number, push_signed};
-use crate::refusals::push_refusal;
-use beas_core::{List, Name, NoMemory, Refusal, Row, Text, Value};
+use crate::decimal::Decimal;
+use crate::records::with_records;
+use crate::refusals::refusal_text;
+use crate::texts::text;
+use beas_core::{List, Name, NoMemory, Refusal, Row, Text};
 use std::alloc::Global;
 
 /// What is reported of a statement.
 #[derive(Debug, Drop)]
 pub enum Report {
-    /// A table or a constraint was created.
+    /// A table or an access constraint was created, or a constraint was dropped.
     Done,
-    /// Rows were added.
+    /// So many rows were added or removed.
     Changed {
         rows: u32,
     },
-    /// A query's answer: the number announced before anything was read, the columns' names, the rows in
-    /// value order, and how many tuples were read.
+    /// The size of the greatest group.
+    Greatest {
+        most: u32,
+    },
+    /// Pairs of columns, each with the size of its greatest group.
+    Pairs {
+        found: List<(Name, Name, u32)>,
+    },
+    /// What is announced of a query that isn't run: the greatest number of reads, and the plan lines.
+    Explained {
+        bound: u128,
+        plan: Text,
+    },
+    /// A query's answer: the number announced before anything was read, the plan lines if they are wanted,
+    /// the columns' names, the rows in value order, and how many tuples were read.
     Answered {
         bound: u128,
+        plan: Text,
         header: List<Name>,
         rows: List<Row>,
         reads: u128,
@@ -38,150 +48,77 @@ pub enum Report {
 }
 
 /// The lines of the report of the statement with this number.
+#[tactic(auto, unfolding(crate::specs::Reports::report_text))]
 pub fn text(alloc: Global, number: u32, report: &Report) -> Result<Text, NoMemory>
     ensures { IfOk result (λ text. text ≡ report_text number report.now) }
 {
-    let mut text = Text::new(alloc);
-    push_report(&mut text, number, report)?;
-    Ok(text)
-}
-
-fn push_report(text: &mut Text, number: u32, report: &Report) -> Result<(), NoMemory>
-    ensures ok { OnOk result (text.new ≡ text.old ++ report_text number report.now) }
-{
+    let k = Decimal(number);
     match report {
-        Report::Done => push_done(text, number),
-        Report::Changed { rows } => push_changed(text, number, *rows),
+        Report::Done => text!(in alloc; "{k} ok\n"),
+        Report::Changed { rows } => text!(in alloc; "{k} ok {} rows\n", Decimal(*rows)),
+        Report::Greatest { most } => text!(in alloc; "{k} max {}\n", Decimal(*most)),
+        Report::Pairs { found } => {
+            let pairs = pairs_text(alloc, number, found)?;
+            text!(in alloc; "{}{k} ok {} pairs\n", pairs.as_str(), Decimal(found.len()))
+        }
+        Report::Explained { bound, plan } => {
+            let head = bound_text(alloc, number, *bound, plan)?;
+            text!(in alloc; "{}{k} ok\n", head.as_str())
+        }
         Report::Answered {
             bound,
+            plan,
             header,
             rows,
             reads,
-        } => push_answer(text, number, *bound, header, rows, *reads),
-        Report::Refused { why } => push_refused(text, number, why),
+        } => {
+            let head = bound_text(alloc, number, *bound, plan)?;
+            let mut text = with_records(alloc, head.as_str(), header, rows)?;
+            let end = counts_text(alloc, number, rows.len(), *reads)?;
+            text.push_str(end.as_str())?;
+            Ok(text)
+        }
+        Report::Refused { why } => {
+            let said = refusal_text(alloc, why)?;
+            text!(in alloc; "{k} refused {} {}\n", Decimal(why.number()), said.as_str())
+        }
     }
 }
 
-fn push_answer<'a>(
-    text: &mut Text,
+fn pairs_text(alloc: Global, number: u32, found: &List<(Name, Name, u32)>) -> Result<Text, NoMemory>
+    ensures { IfOk result (λ text. text ≡ flat_map (pair_line number) found.now) }
+{
+    let mut text = Text::new(alloc);
+    for (first, second, most) in found.as_slice() {
+        let line = pair_text(alloc, number, first, second, *most)?;
+        text.push_str(line.as_str())?;
+    }
+    Ok(text)
+}
+
+fn pair_text(
+    alloc: Global,
     number: u32,
-    bound: u128,
-    header: &'a List<Name>,
-    rows: &'a List<Row>,
-    reads: u128,
-) -> Result<(), NoMemory>
-    ensures ok { OnOk result (text.new ≡ text.old ++ report_text number (Answered bound header.now rows.now reads)) }
+    first: &Name,
+    second: &Name,
+    most: u32,
+) -> Result<Text, NoMemory>
+    ensures { IfOk result (λ text. text ≡ pair_line number (first.now, second.now, most)) }
 {
-    push_bound(text, number, bound)?;
-    push_header(text, header.as_slice())?;
-    push_rows(text, rows.as_slice())?;
-    push_counts(text, number, rows.len(), reads)
+    let k = Decimal(number);
+    text!(in alloc; "{k} pair {} {} {}\n", first.as_str(), second.as_str(), Decimal(most))
 }
 
-fn push_line(text: &mut Text, number: u32, parts: &[Part]) -> Result<(), NoMemory>
-    ensures ok { OnOk result (text.new ≡ text.old
-        ++ decimal number ++ codes " " ++ flat_map part_text parts.now ++ codes "\n") }
+fn bound_text(alloc: Global, number: u32, bound: u128, plan: &Text) -> Result<Text, NoMemory>
+    ensures { IfOk result (λ text. text ≡ bound_text number bound plan.now) }
 {
-    push_number(text, u128::from(number))?;
-    text.push_str(" ")?;
-    push_parts(text, parts)?;
-    text.push_str("\n")
+    let k = Decimal(number);
+    text!(in alloc; "{k} bound {}\n{}", Decimal(bound), plan.as_str())
 }
 
-fn push_done(text: &mut Text, number: u32) -> Result<(), NoMemory>
-    ensures ok { OnOk result (text.new ≡ text.old ++ line number (codes "ok" ∷ [])) }
+fn counts_text(alloc: Global, number: u32, rows: usize, reads: u128) -> Result<Text, NoMemory>
+    ensures { IfOk result (λ text. text ≡ counts_text number rows reads) }
 {
-    push_line(text, number, &[Words("ok")])
-}
-
-fn push_changed(text: &mut Text, number: u32, rows: u32) -> Result<(), NoMemory>
-    ensures ok { OnOk result (text.new ≡ text.old
-        ++ line number (codes "ok " ∷ decimal rows ∷ codes " rows" ∷ [])) }
-{
-    push_line(
-        text,
-        number,
-        &[Words("ok "), Number(u128::from(rows)), Words(" rows")],
-    )
-}
-
-fn push_bound(text: &mut Text, number: u32, bound: u128) -> Result<(), NoMemory>
-    ensures ok { OnOk result (text.new ≡ text.old ++ line number (codes "bound " ∷ decimal bound ∷ [])) }
-{
-    push_line(text, number, &[Words("bound "), Number(bound)])
-}
-
-fn push_counts(text: &mut Text, number: u32, rows: usize, reads: u128) -> Result<(), NoMemory>
-    ensures ok { OnOk result (text.new ≡ text.old
-        ++ line number (codes "ok " ∷ decimal rows ∷ codes " rows " ∷ decimal reads ∷ codes " reads" ∷ [])) }
-{
-    push_line(
-        text,
-        number,
-        &[
-            Words("ok "),
-            Number(rows as u128),
-            Words(" rows "),
-            Number(reads),
-            Words(" reads"),
-        ],
-    )
-}
-
-fn push_refused(text: &mut Text, number: u32, why: &Refusal) -> Result<(), NoMemory>
-    ensures ok { OnOk result (text.new ≡ text.old
-        ++ line number (codes "refused " ∷ decimal (number_of why.now) ∷ codes " " ∷ refusal_parts why.now)) }
-{
-    push_number(text, u128::from(number))?;
-    text.push_str(" refused ")?;
-    push_number(text, u128::from(why.number()))?;
-    text.push_str(" ")?;
-    push_refusal(text, why)?;
-    text.push_str("\n")
-}
-
-fn push_header(text: &mut Text, header: &[Name]) -> Result<(), NoMemory>
-    ensures ok { OnOk result (text.new ≡ text.old ++ record_line header.now) }
-{
-    let [first, rest @ ..] = header else {
-        return text.push_str("\n");
-    };
-    text.push_str(first.as_str())?;
-    for name in rest {
-        text.push_str(",")?;
-        text.push_str(name.as_str())?;
-    }
-    text.push_str("\n")
-}
-
-fn push_rows(text: &mut Text, rows: &[Row]) -> Result<(), NoMemory>
-    ensures ok { OnOk result (text.new ≡ text.old ++ flat_map (λ row. record_line (map field_text row)) rows.now) }
-{
-    for row in rows {
-        push_row(text, row.as_slice())?;
-    }
-    Ok(())
-}
-
-fn push_row(text: &mut Text, row: &[Value]) -> Result<(), NoMemory>
-    ensures ok { OnOk result (text.new ≡ text.old ++ record_line (map field_text row.now)) }
-{
-    let [first, rest @ ..] = row else {
-        return text.push_str("\n");
-    };
-    push_field(text, first)?;
-    for value in rest {
-        text.push_str(",")?;
-        push_field(text, value)?;
-    }
-    text.push_str("\n")
-}
-
-fn push_field(text: &mut Text, value: &Value) -> Result<(), NoMemory>
-    ensures ok { OnOk result (text.new ≡ text.old ++ field_text value.now) }
-{
-    match value {
-        Value::Int(number) => push_signed(text, *number),
-        Value::Str(words) => text.push_str(words.as_str()),
-    }
+    let k = Decimal(number);
+    text!(in alloc; "{k} ok {} rows {} reads\n", Decimal(rows), Decimal(reads))
 }

@@ -1,0 +1,6 @@
+mod Closing
+mod Counting
+pub mod Listed
+mod Searches
+pub mod Sets
+mod Waiting

@@ -1,0 +1,14 @@
+//! The classes that a block's constraints cover, and why a set of classes doesn't cover it.
+#![tactic(auto)]
+
+mod classes;
+mod closure;
+mod keys;
+mod reasons;
+mod uses;
+
+pub use classes::{class_at, constant_classes, has_class, holds_columns};
+pub use closure::{close, close_from};
+pub use keys::Keys;
+pub use reasons::{holds_needed, reason, serves, why_not};
+pub use uses::{UseAt, uses_of};

@@ -1,0 +1,3 @@
+pub mod GreatestFacts
+pub mod PairFacts
+pub mod RunFacts

@@ -1,0 +1,69 @@
+// Rows and refusals in words.
+use beas_core::{Column, Fail, Limits, List, NoMemory, Refusal, Row, Value};
+use csv_load::rows_of;
+use std::alloc::Global;
+
+/// The greatest length of a text that is written whole.
+const SHORT: usize = 40;
+
+// A number, or a text in quotes, of which a long one is given by its length.
+fn value_text(alloc: Global, value: &Value) -> Result<String, NoMemory> {
+    match value {
+        Value::Int(number) => Ok(format!(in alloc; "{number}")?),
+        Value::Str(text) => {
+            let text = text.as_str();
+            if text.len() > SHORT {
+                Ok(format!(in alloc; "<{} bytes>", text.len())?)
+            } else {
+                Ok(format!(in alloc; "{text:?}")?)
+            }
+        }
+    }
+}
+
+// Adds a row, its values in parentheses.
+fn add_row(alloc: Global, said: &mut String, row: &Row) -> Result<(), NoMemory> {
+    said.push_str(" (")?;
+    for (i, value) in row.as_slice().iter().enumerate() {
+        if i > 0 {
+            said.push_str(", ")?;
+        }
+        said.push_str(value_text(alloc, value)?.as_str())?;
+    }
+    said.push_str(")")?;
+    Ok(())
+}
+
+fn rows_text(alloc: Global, rows: &List<Row>) -> Result<String, NoMemory> {
+    let mut said = format!(in alloc; "{} rows", rows.len())?;
+    for row in rows.as_slice() {
+        add_row(alloc, &mut said, row)?;
+    }
+    Ok(said)
+}
+
+fn refusal_text(alloc: Global, why: &Refusal) -> Result<String, NoMemory> {
+    let number = why.number();
+    match why {
+        Refusal::RecordWidth { nth, found, wanted } => Ok(format!(in alloc;
+            "refused {number} record {nth} has {found} fields, {wanted} wanted"
+        )?),
+        Refusal::BadField { nth, column } => {
+            let column = column.as_str();
+            Ok(format!(in alloc; "refused {number} record {nth} column {column}")?)
+        }
+        _ => Ok(format!(in alloc; "refused {number}")?),
+    }
+}
+
+/// The rows of a file, or why it is refused.
+pub fn answer(alloc: Global, bytes: &[u8], columns: &List<Column>) -> Result<String, NoMemory> {
+    if bytes.len() > 1_000_000 {
+        return Ok(format!(in alloc; "too long")?);
+    }
+    match rows_of(alloc, bytes, columns, &Limits::standard()) {
+        Ok(rows) => rows_text(alloc, &rows),
+        Err(Fail::Refused(why)) => refusal_text(alloc, &why),
+        Err(Fail::NoMemory) => Err(NoMemory),
+    }
+}

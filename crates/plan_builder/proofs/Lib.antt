@@ -1,0 +1,3 @@
+pub mod ChoiceFacts
+pub mod SetFacts
+pub mod Turns

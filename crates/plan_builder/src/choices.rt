@@ -1,0 +1,72 @@
+// The best of the uses that may come next.
+ghost use Rattle.std.specs.Prelude.{◌≡◌, ◌&&◌, ◌==◌, filter, map, nat_lt, option_map, true};
+ghost use Rattle.beas_core.specs.Coverage.{holds_classes, key_classes, serves as serves_atom};
+ghost use Rattle.beas_core.specs.Derivations.{adds_class, least_bound};
+ghost use Rattle.attribute_closure.specs.Uses.{seen};
+ghost use Rattle.plan_builder.specs.Choices.{is_better, may_add, may_serve};
+
+use crate::sets::adds;
+use attribute_closure::{UseAt, holds_columns, serves};
+use beas_core::Normal;
+
+fn beats(found: &UseAt<'_>, best: &Option<UseAt<'_>>) -> bool
+    ensures { result ≡ is_better (seen found.now) (option_map seen best.now) }
+{
+    match best {
+        None => true,
+        Some(other) => found.access.bound < other.access.bound,
+    }
+}
+
+fn adds_now(block: &Normal, set: &[bool], found: &UseAt<'_>) -> bool
+    ensures { result ≡ may_add block.now set.now (seen found.now) }
+{
+    let held = holds_columns(block, set, found.atom, found.access.key.as_slice());
+    let more = adds(block, set, found);
+    held & more
+}
+
+fn serves_now(block: &Normal, set: &[bool], atom: u16, found: &UseAt<'_>) -> bool
+    ensures { result ≡ may_serve block.now set.now atom (seen found.now) }
+{
+    if found.atom == atom {
+        serves(block, set, found)
+    } else {
+        false
+    }
+}
+
+/// The use of least bound whose key the set holds and that adds a class, the first of those where several have it.
+pub fn best_adding<'a>(block: &Normal, uses: &[UseAt<'a>], set: &[bool]) -> Option<UseAt<'a>>
+    ensures { option_map seen result ≡ least_bound (filter (may_add block.now set.now) (map seen uses.now)) }
+{
+    let mut best: Option<UseAt<'a>> = None;
+    for found in uses {
+        let may = adds_now(block, set, found);
+        let better = beats(found, &best);
+        if may & better {
+            best = Some(*found);
+        }
+    }
+    best
+}
+
+/// The use of least bound that serves an atom, the first of those where several have it.
+pub fn best_serving<'a>(
+    block: &Normal,
+    uses: &[UseAt<'a>],
+    set: &[bool],
+    atom: u16,
+) -> Option<UseAt<'a>>
+    ensures { option_map seen result ≡ least_bound (filter (may_serve block.now set.now atom) (map seen uses.now)) }
+{
+    let mut best: Option<UseAt<'a>> = None;
+    for found in uses {
+        let may = serves_now(block, set, atom, found);
+        let better = beats(found, &best);
+        if may & better {
+            best = Some(*found);
+        }
+    }
+    best
+}

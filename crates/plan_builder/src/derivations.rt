@@ -1,0 +1,179 @@
+// Derivations: steps that add classes while the block isn't covered, then steps that serve its atoms.
+ghost use Rattle.std.specs.Prelude.{◌≡◌, ◌≤◌, ◌<◌, ◌++◌, ◌∷◌, [], IfOk, OnOk, MatchBool, MatchResult, None, Some, length, map, take};
+ghost use Rattle.std.specs.List.{list_any};
+ghost use Rattle.beas_core.specs.Coverage.{ClassesInRange, atoms_of, constant_classes as classes_of_constants, holds_needed as needed_are_held, is_covered, own_reason, uses as uses_in};
+ghost use Rattle.beas_core.specs.Derivations.{adding_steps, greedy_steps, own_derivation, serving_steps, step_of, use_of, with_use};
+ghost use Rattle.beas_core.specs.Shapes.{EachIdOnce};
+ghost use Rattle.attribute_closure.specs.Uses.{seen};
+ghost use Rattle.plan_builder.specs.Plans.{HasCome, served_among};
+
+use crate::choices::{best_adding, best_serving};
+use crate::sets::{add_use, adds};
+use attribute_closure::{UseAt, close, constant_classes, holds_needed, uses_of, why_not};
+use beas_core::{Access, DStep, Derivation, List, NoMemory, Normal, NotCovered};
+use std::alloc::Global;
+
+/// The steps so far, and the classes that are bound after them.
+#[derive(Drop)]
+pub struct Plan {
+    pub steps: List<DStep>,
+    pub set: Vec<bool>,
+}
+
+fn take_step(plan: &mut Plan, block: &Normal, found: UseAt<'_>) -> Result<(), NoMemory>
+    ensures steps { OnOk result (plan.new.steps ≡ plan.old.steps ++ step_of block.now plan.old.set.items (seen found.entry) ∷ []) }
+    ensures set { OnOk result (plan.new.set.items ≡ with_use block.now plan.old.set.items (seen found.entry)) }
+{
+    let adds = adds(block, &plan.set, &found);
+    plan.steps.push(DStep {
+        atom: found.atom,
+        access: found.access.id,
+        adds,
+    })?;
+    add_use(block, &found, &mut plan.set);
+    Ok(())
+}
+
+fn is_covered_by(block: &Normal, accesses: &[Access], set: &[bool]) -> bool
+    requires atoms { length block.now.atoms ≤ 65536 }
+    requires needed { length block.now.needed ≤ 65536 }
+    ensures { result ≡ is_covered block.now accesses.now set.now }
+{
+    match why_not(block, accesses, set) {
+        None => true,
+        Some(_why) => false,
+    }
+}
+
+// Adds steps until the set covers the block, and notes their uses. False where no use is left that adds a class.
+fn add_steps<'a>(
+    plan: &mut Plan,
+    taken: &mut List<UseAt<'a>>,
+    block: &Normal,
+    accesses: &[Access],
+    uses: &[UseAt<'a>],
+) -> Result<bool, NoMemory>
+    requires atoms { length block.now.atoms ≤ 65536 }
+    requires needed { length block.now.needed ≤ 65536 }
+    requires ids { EachIdOnce accesses.now }
+    requires uses { map seen uses.now ≡ uses_in block.now accesses.now }
+    requires steps { plan.old.steps ≡ [] }
+    requires taken { taken.old ≡ [] }
+    ensures { IfOk result (λ whole. MatchBool whole
+        (HasCome block.now accesses.now plan.old.set.items plan.new taken.new × (adding_steps block.now.count block.now accesses.now plan.old.set.items ≡ Some plan.new.steps))
+        (adding_steps block.now.count block.now accesses.now plan.old.set.items ≡ None)) }
+{
+    for _turn in 0..block.count {
+        if is_covered_by(block, accesses, &plan.set) {
+            return Ok(true);
+        }
+        match best_adding(block, uses, &plan.set) {
+            None => return Ok(false),
+            Some(found) => {
+                take_step(plan, block, found)?;
+                taken.push(found)?;
+            }
+        }
+    }
+    Ok(is_covered_by(block, accesses, &plan.set))
+}
+
+fn is_served_among(block: &Normal, taken: &[UseAt<'_>], atom: u16) -> bool
+    ensures { result ≡ served_among block.now atom (map seen taken.now) }
+{
+    for found in taken {
+        if found.atom == atom {
+            if holds_needed(block, found) {
+                return true;
+            }
+        }
+    }
+    false
+}
+
+// Adds for each atom in order that none of the steps serves the best use that serves it.
+fn serve_atoms(
+    plan: &mut Plan,
+    block: &Normal,
+    accesses: &[Access],
+    uses: &[UseAt<'_>],
+    taken: &[UseAt<'_>],
+) -> Result<(), NoMemory>
+    requires atoms { length block.now.atoms < 65536 }
+    requires uses { map seen uses.now ≡ uses_in block.now accesses.now }
+    requires taken { map (use_of accesses.now) plan.old.steps ≡ map seen taken.now }
+    ensures { OnOk result (plan.new.steps
+        ≡ plan.old.steps ++ serving_steps block.now accesses.now plan.old.steps plan.old.set.items (atoms_of block.now)) }
+{
+    for atom in 0..block.atoms.len() as u16 {
+        if !is_served_among(block, taken, atom) {
+            if let Some(found) = best_serving(block, uses, &plan.set, atom) {
+                take_step(plan, block, found)?;
+            }
+        }
+    }
+    Ok(())
+}
+
+/// The steps of a derivation from a start set of classes: those that add classes, and then those that serve atoms.
+/// Nothing where the constraints don't cover the block from there.
+pub fn greedy(
+    alloc: Global,
+    accesses: &List<Access>,
+    block: &Normal,
+    start: &[bool],
+) -> Result<Option<List<DStep>>, NoMemory>
+    requires atoms { length block.now.atoms < 65536 }
+    requires needed { length block.now.needed ≤ 65536 }
+    requires ids { EachIdOnce accesses.now }
+    ensures { IfOk result (λ steps. steps ≡ greedy_steps block.now accesses.now start.now) }
+{
+    let uses = uses_of(alloc, block, accesses.as_slice())?;
+    let mut taken = List::new(alloc);
+    let mut plan = Plan {
+        steps: List::new(alloc),
+        set: Vec::from_slice(alloc, start)?,
+    };
+    if !add_steps(
+        &mut plan,
+        &mut taken,
+        block,
+        accesses.as_slice(),
+        uses.as_slice(),
+    )? {
+        return Ok(None);
+    }
+    serve_atoms(
+        &mut plan,
+        block,
+        accesses.as_slice(),
+        uses.as_slice(),
+        taken.as_slice(),
+    )?;
+    Ok(Some(plan.steps))
+}
+
+/// The derivation of a block by itself, or why its constraints don't cover it.
+pub fn derive(
+    alloc: Global,
+    accesses: &List<Access>,
+    block: &Normal,
+) -> Result<Result<Derivation, NotCovered>, NoMemory>
+    requires ranges { ClassesInRange block.now }
+    requires atoms { length block.now.atoms < 65536 }
+    requires needed { length block.now.needed ≤ 65536 }
+    requires ids { EachIdOnce accesses.now }
+    ensures { IfOk result (λ found. MatchResult found
+        (λ derivation. own_derivation block.now accesses.now ≡ Some derivation.steps)
+        (λ why. (own_derivation block.now accesses.now ≡ None) × (own_reason block.now accesses.now ≡ Some why))) }
+{
+    let start = constant_classes(alloc, block)?;
+    if let Some(steps) = greedy(alloc, accesses, block, start.as_slice())? {
+        return Ok(Ok(Derivation { steps }));
+    }
+    let covered = close(alloc, block, accesses)?;
+    match why_not(block, accesses.as_slice(), covered.as_slice()) {
+        Some(why) => Ok(Err(why)),
+        None => unreachable!(),
+    }
+}

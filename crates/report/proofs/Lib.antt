@@ -1,0 +1,2 @@
+pub mod RecordsAreText
+pub mod WriterFacts
