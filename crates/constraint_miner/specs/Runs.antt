@@ -1,4 +1,5 @@
--- Rows in the order of their tuples, gone through one by one: the rows of a group stand together, and so do equal tuples.
+-- Rows in the order of their tuples, gone through one by one: the rows of a group stand together, and so do equal
+-- tuples.
 --     tuple_cmp key fetched a b                        two rows by their tuples
 --     size_with key fetched before row size            how many distinct tuples the row's group has up to it, where the
 --                                                      row before it has so many in its own
@@ -24,4 +25,5 @@ size_with key fetched (Some before) row size =
 abbrev pub greatest_from : List ColumnId → List ColumnId → Option (List Value) → ℕ → ℕ → List (List Value) → ℕ
 greatest_from key fetched before size most [] = most
 greatest_from key fetched before size most (row ∷ rows) =
-    greatest_from key fetched (Some row) (size_with key fetched before row size) (max most (size_with key fetched before row size)) rows
+    let here = size_with key fetched before row size in
+    greatest_from key fetched (Some row) here (max most here) rows

@@ -38,7 +38,8 @@ fn size_with<T: Tuple>(
     size: u32,
 ) -> u32
     requires few { size + 1 < 2 ^ 32 }
-    ensures value { result ≡ size_with key.now fetched.now (option_map (λ before. T.values before.now) before.entry) (T.values tuple.now) size }
+    ensures value { result
+        ≡ size_with key.now fetched.now (option_map (λ b. T.values b.now) before.entry) (T.values tuple.now) size }
     ensures most { result ≤ size + 1 }
 {
     match before {

@@ -33,7 +33,8 @@ fn project_rows<'a>(
     second: ColumnId,
     tuples: &mut Vec<CellPair<'a>>,
 ) -> Result<(), NoMemory>
-    ensures { OnOk result (map pair_row tuples.new.items ≡ map (λ row. project (first ∷ second ∷ []) row.now) rows.now) }
+    ensures { OnOk result
+        (map pair_row tuples.new.items ≡ map (λ row. project (first ∷ second ∷ []) row.now) rows.now) }
 {
     tuples.clear();
     for row in rows {
@@ -78,7 +79,8 @@ fn add_pairs<'a>(
     found: &mut Vec<Pair>,
 ) -> Result<(), NoMemory>
     requires { length rows.now < 2 ^ 32 }
-    ensures { OnOk result (found.new.items ≡ found.old.items ++ filter_map (pair_in (map (λ row. row.now) rows.now) limit first) columns.now) }
+    ensures { OnOk result (found.new.items
+        ≡ found.old.items ++ filter_map (pair_in (map (λ row. row.now) rows.now) limit first) columns.now) }
 {
     for second in columns {
         if let Some(pair) = pair_of(rows, first, *second, limit, tuples)? {
@@ -96,7 +98,8 @@ fn pairs_of(
     limit: u32,
 ) -> Result<Vec<Pair>, NoMemory>
     requires { length rows.now < 2 ^ 32 }
-    ensures { IfOk result (λ found. found.items ≡ flat_map (λ first. filter_map (pair_in (map (λ row. row.now) rows.now) limit first) columns.now) columns.now) }
+    ensures { IfOk result (λ found. found.items
+        ≡ flat_map (λ first. filter_map (pair_in (map (λ row. row.now) rows.now) limit first) columns.now) columns.now) }
 {
     let mut tuples = Vec::with_capacity(alloc, rows.len())?;
     let mut found = Vec::new(alloc);

@@ -36,7 +36,8 @@ place_of header column = the_only (map (λ p. p.0) (filter (λ p. names p.1 colu
 
 abbrev pub is_header : List Column → Record → Bool
 is_header columns header =
-    list_all (λ field. is_some (column_of columns field)) header && list_all (λ column. is_some (place_of header column)) columns
+    list_all (λ field. is_some (column_of columns field)) header
+    && list_all (λ column. is_some (place_of header column)) columns
 
 -- the columns in the file's order
 abbrev pub in_file_order : List Column → Record → List Column
@@ -55,10 +56,13 @@ abbrev pub first_some : {X Y : Type 0} → (X → Option Y) → List X → Optio
 first_some f [] = None
 first_some f (x ∷ xs) = option_map_or Some (f x) (first_some f xs)
 
+abbrev pub is_bad : ℕ → Column → List ℕ → Bool
+is_bad longest column field = not (is_some (cell longest column.kind field))
+
 -- the first column whose field has no value of its kind
 abbrev pub bad_column : ℕ → List Column → Record → Option Column
 bad_column longest columns fields =
-    option_map (λ p. p.0) (find (λ p. not (is_some (cell longest p.0.kind p.1))) (zip columns fields))
+    option_map (λ p. p.0) (find (λ p. is_bad longest p.0 p.1) (zip columns fields))
 
 abbrev pub fault_in : ℕ → List Column → ℕ → Record → Option Refusal
 fault_in longest columns nth fields =

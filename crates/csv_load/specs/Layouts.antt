@@ -3,6 +3,7 @@
 --     row_of_slots longest slots fields    the row of a record
 --     IsLayout columns header layout       the header fits, and the layout is its
 use Rattle.std.specs.Prelude.{◌≡◌, ℕ, true, List, map, slice_get, Option}
+use Rattle.std.proofs.Common.{Bor}
 use Rattle.std.specs.List.{filter_map}
 use Rattle.std.specs.Option.{option_and_then, option_map}
 use Rattle.beas_core.specs.declared.value.Value.{Value}
@@ -12,16 +13,23 @@ use Rattle.csv_load.specs.declared.header.Slot.{Slot}
 use Rattle.csv_load.specs.Fields.{cell}
 use Rattle.csv_load.specs.CsvRows.{Record, in_file_order, is_header, place_of}
 
+-- columns behind references
+abbrev pub the_columns : List (Bor Column) → List Column
+the_columns columns = map (λ column. column.now) columns
+
 abbrev pub slot_of : Record → Column → Option Slot
 slot_of header column = option_map (λ place. record { place = place; kind = column.kind }) (place_of header column)
 
 abbrev pub slots_of : List Column → Record → List Slot
 slots_of columns header = filter_map (slot_of header) columns
 
+abbrev pub value_at : ℕ → Record → Slot → Option Value
+value_at longest fields slot = option_and_then (cell longest slot.kind) (slice_get fields slot.place)
+
 abbrev pub row_of_slots : ℕ → List Slot → Record → List Value
-row_of_slots longest slots fields = filter_map (λ slot. option_and_then (cell longest slot.kind) (slice_get fields slot.place)) slots
+row_of_slots longest slots fields = filter_map (value_at longest fields) slots
 
 pub record IsLayout (columns : List Column) (header : Record) (layout : Layout) : Type 0 where
   pub fits : is_header columns header ≡ true
-  pub in_file : map (λ column. column.now) layout.in_file.items ≡ in_file_order columns header
+  pub in_file : the_columns layout.in_file.items ≡ in_file_order columns header
   pub slots : layout.slots.items ≡ slots_of columns header

@@ -72,7 +72,8 @@ fn place_of(header: &ByteRecord, column: &Column) -> Option<usize>
 
 // The one column that the field at a place names.
 fn column_at<'a>(columns: &'a [Column], header: &ByteRecord, place: usize) -> Option<&'a Column>
-    ensures { option_map (λ column. column.now) result ≡ option_and_then (column_of columns.now) (slice_get (fields_of header.now) place) }
+    ensures { option_map (λ column. column.now) result
+        ≡ option_and_then (column_of columns.now) (slice_get (fields_of header.now) place) }
 {
     match field_at(header, place) {
         Some(field) => column_of(columns, field),

@@ -44,7 +44,8 @@ impl<'a> Records<'a> {
     ///
     /// A slice always gives its bytes, so that an error says that memory ran out. No record comes after it.
     pub fn read(&mut self, fields: &mut ByteRecord) -> Result<bool, NoMemory>
-        ensures ok { IfOk result (λ found. MatchBool found (self.old ≡ fields_of fields.new ∷ self.new) (self.old ≡ [])) }
+        ensures ok { IfOk result
+            (λ found. MatchBool found (self.old ≡ fields_of fields.new ∷ self.new) (self.old ≡ [])) }
         ensures err { OnErr result (self.new ≡ []) }
     {
         let found = match self.reader.read_byte_record(fields) {

@@ -3,8 +3,8 @@ ghost use Rattle.std.specs.Prelude.{◌≡◌, ◌≤◌, ◌<◌, ◌+◌, ◌^
 ghost use Rattle.std.specs.Option.{is_some, option_and_then, option_map_or};
 ghost use Rattle.csv.specs.Records.{fields_of};
 ghost use Rattle.csv_load.specs.Fields.{cell};
-ghost use Rattle.csv_load.specs.CsvRows.{bad_column, fault_in, fault_under, fault_of, rows_in};
-ghost use Rattle.csv_load.specs.Layouts.{row_of_slots};
+ghost use Rattle.csv_load.specs.CsvRows.{is_bad, bad_column, fault_in, fault_under, fault_of, rows_in};
+ghost use Rattle.csv_load.specs.Layouts.{row_of_slots, the_columns, value_at as value_in_slot};
 ghost use Rattle.csv_load.specs.Reading.{FailsAs, weight};
 
 use crate::fields::{field_at, has_value, value_of};
@@ -16,7 +16,7 @@ use std::alloc::Global;
 
 // Whether the field at a place has no value in the column.
 fn is_bad_at(column: &Column, fields: &ByteRecord, place: usize, longest: u32) -> bool
-    ensures { result ≡ option_map_or (λ field. not (is_some (cell longest column.now.kind field))) (slice_get (fields_of fields.now) place) false }
+    ensures { result ≡ option_map_or (is_bad longest column.now) (slice_get (fields_of fields.now) place) false }
 {
     match field_at(fields, place) {
         Some(field) => !has_value(field, column.kind, longest),
@@ -26,7 +26,8 @@ fn is_bad_at(column: &Column, fields: &ByteRecord, place: usize, longest: u32) -
 
 // The first column whose field has no value of its kind.
 fn bad_column<'a>(columns: &[&'a Column], fields: &ByteRecord, longest: u32) -> Option<&'a Column>
-    ensures { option_map (λ column. column.now) result ≡ bad_column longest (map (λ column. column.now) columns.now) (fields_of fields.now) }
+    ensures { option_map (λ column. column.now) result
+        ≡ bad_column longest (the_columns columns.now) (fields_of fields.now) }
 {
     for (place, column) in columns.iter().enumerate() {
         if is_bad_at(column, fields, place, longest) {
@@ -43,7 +44,7 @@ fn value_at(
     fields: &ByteRecord,
     longest: u32,
 ) -> Result<Option<Value>, NoMemory>
-    ensures { IfOk result (λ value. value ≡ option_and_then (cell longest slot.now.kind) (slice_get (fields_of fields.now) slot.now.place)) }
+    ensures { IfOk result (λ value. value ≡ value_in_slot longest (fields_of fields.now) slot.now) }
 {
     match field_at(fields, slot.place) {
         Some(field) => value_of(alloc, field, slot.kind, longest),
@@ -78,9 +79,11 @@ fn row_of(
 ) -> Result<Row, Fail>
     requires few_columns { length layout.now.in_file.items < 2 ^ 32 }
     requires few_fields { length (fields_of fields.now) < 2 ^ 32 }
-    ensures good { OnOk result (fault_in longest (map (λ column. column.now) layout.now.in_file.items) nth (fields_of fields.now) ≡ None) }
+    ensures good { OnOk result
+        (fault_in longest (the_columns layout.now.in_file.items) nth (fields_of fields.now) ≡ None) }
     ensures rows { IfOk result (λ row. row ≡ row_of_slots longest layout.now.slots.items (fields_of fields.now)) }
-    ensures refused { IfErr result (λ why. FailsAs (fault_in longest (map (λ column. column.now) layout.now.in_file.items) nth (fields_of fields.now)) why) }
+    ensures refused { IfErr result
+        (λ why. FailsAs (fault_in longest (the_columns layout.now.in_file.items) nth (fields_of fields.now)) why) }
 {
     let found = fields.len();
     let wanted = layout.in_file.len();
@@ -107,9 +110,10 @@ fn rows_left(
 ) -> Result<List<Row>, Fail>
     requires few { weight records.old < 2 ^ 32 }
     requires room { length layout.now.in_file.items + weight records.old ≤ 2 ^ 32 }
-    ensures good { OnOk result (fault_under longest (map (λ column. column.now) layout.now.in_file.items) records.old ≡ None) }
+    ensures good { OnOk result (fault_under longest (the_columns layout.now.in_file.items) records.old ≡ None) }
     ensures rows { IfOk result (λ rows. rows ≡ map (row_of_slots longest layout.now.slots.items) records.old) }
-    ensures refused { IfErr result (λ why. FailsAs (fault_under longest (map (λ column. column.now) layout.now.in_file.items) records.old) why) }
+    ensures refused { IfErr result
+        (λ why. FailsAs (fault_under longest (the_columns layout.now.in_file.items) records.old) why) }
 {
     let mut rows = Vec::new(alloc);
     let mut fields = ByteRecord::new(alloc);
