@@ -28,7 +28,8 @@ lacking_none : (set : ClassSet) (ks : List ℕ) → holds_classes set ks ≡ tru
 lacking_none set [] h = refl
 lacking_none set (k ∷ ks) h = by (has set k) refl h (lacking_none set ks)
   where
-    by : (b : Bool) → has set k ≡ b → (b && holds_classes set ks) ≡ true → (holds_classes set ks ≡ true → lacking set ks ≡ 0) → bit (not (has set k)) + lacking set ks ≡ 0
+    by : (b : Bool) → has set k ≡ b → (b && holds_classes set ks) ≡ true → (holds_classes set ks ≡ true → lacking set ks ≡ 0)
+        → bit (not (has set k)) + lacking set ks ≡ 0
     by true e g rest = let a = ap (λ b. bit (not b)) e in let r = rest g in omega arith
     by false e g rest = cc
 
@@ -36,7 +37,8 @@ ready_at : (xs : List ℕ) (w : ℕ) → among xs w ≡ true → (k : ℕ) × (k
 ready_at [] w h = cc
 ready_at (x ∷ xs) w h = by (x == w) refl h (ready_at xs w)
   where
-    by : (b : Bool) → (x == w) ≡ b → (b || among xs w) ≡ true → (among xs w ≡ true → (k : ℕ) × (k < length xs) × (number_at xs k ≡ w)) → (k : ℕ) × (k < length (x ∷ xs)) × (number_at (x ∷ xs) k ≡ w)
+    by : (b : Bool) → (x == w) ≡ b → (b || among xs w) ≡ true → (among xs w ≡ true → (k : ℕ) × (k < length xs) × (number_at xs k ≡ w))
+        → (k : ℕ) × (k < length (x ∷ xs)) × (number_at (x ∷ xs) k ≡ w)
     by true e g rest = (0, omega arith, eqb-true x w e)
     by false e g rest = let r = rest g in (suc r.0, omega (arith, r.1), r.2)
 
@@ -49,7 +51,8 @@ here (x ∷ xs) (suc k) l = by (x == number_at xs k) (here xs k (omega arith))
     by true h = refl
     by false h = h
 
-module _ (normal : Normal) (us : List Use) (set : ClassSet) (m : List ℕ) (waiting : List (List ℕ)) (r : List ℕ) (so : AreCounted normal us set m waiting r) where
+module _ (normal : Normal) (us : List Use) (set : ClassSet) (m : List ℕ) (waiting : List (List ℕ)) (r : List ℕ)
+    (so : AreCounted normal us set m waiting r) where
   -- the key of a ready use is held, and a use whose key is held is ready
   pub ready_held : (k : ℕ) → k < length r → (number_at r k < length us) × (holds_classes set (key_classes normal (use_at us (number_at r k))) ≡ true)
   ready_held k l =
@@ -93,7 +96,8 @@ module _ (normal : Normal) (accesses : List Access) (start : ClassSet) (ranges :
   pub closing_none : (r : List ℕ) → Closing normal (uses normal accesses) accesses start 0 start r
   closing_none r = record { from_start = λ c h. h; least = λ other w closed. w; done = λ k l. absurd (omega (arith, l)) }
 
-  module _ (us : List Use) (same : us ≡ uses normal accesses) (n : ℕ) (set : ClassSet) (m : List ℕ) (waiting : List (List ℕ)) (r : List ℕ) (so : AreCounted normal us set m waiting r) (far : Closing normal us accesses start n set r) where
+  module _ (us : List Use) (same : us ≡ uses normal accesses) (n : ℕ) (set : ClassSet) (m : List ℕ) (waiting : List (List ℕ)) (r : List ℕ)
+      (so : AreCounted normal us set m waiting r) (far : Closing normal us accesses start n set r) where
     -- one use more
     pub closing_more : (r2 : List ℕ) (u : Use) → u ≡ use_at us (number_at r n) → n < length r → GoesOn r r2
         → Closing normal us accesses start (n + 1) (with_classes set (fetched_classes normal u)) r2
@@ -105,7 +109,8 @@ module _ (normal : Normal) (accesses : List Access) (start : ClassSet) (ranges :
           from_start = λ c h. kept set (fetched_classes normal u) c (far.from_start c h);
           least = λ other w closed c h. elim (has-with_cases (fetched_classes normal u) set c h) [
             | inl g ↦ far.least other w closed c g
-            | inr g ↦ all_has (has other) (fetched_classes normal u) c (closed u member (holds-within set other (key_classes normal u) (far.least other w closed) keys)) g
+            | inr g ↦ all_has (has other) (fetched_classes normal u) c (closed u member (holds-within set other (key_classes normal u)
+                (far.least other w closed) keys)) g
           ];
           done = λ k b. by k b (k == n) refl;
         }
@@ -113,7 +118,8 @@ module _ (normal : Normal) (accesses : List Access) (start : ClassSet) (ranges :
         stays : (k : ℕ) → k < length r → number_at r2 k ≡ number_at r k
         stays k b = sym (get_or-take (length r) r2 k 0 b) ∙ ap (λ xs. number_at xs k) on
 
-        by : (k : ℕ) → k < n + 1 → (b : Bool) → (k == n) ≡ b → holds_classes (with_classes set (fetched_classes normal u)) (fetched_classes normal (use_at us (number_at r2 k))) ≡ true
+        by : (k : ℕ) → k < n + 1 → (b : Bool) → (k == n) ≡ b
+            → holds_classes (with_classes set (fetched_classes normal u)) (fetched_classes normal (use_at us (number_at r2 k))) ≡ true
         by k b true e =
             let at = eqb-true k n e in
             let v = ap (use_at us) (stays k (omega arith) ∙ ap (number_at r) at) ∙ sym is in
@@ -122,7 +128,8 @@ module _ (normal : Normal) (accesses : List Access) (start : ClassSet) (ranges :
         by k b false e =
             let at : k < n = below k b e in
             subst (λ w. holds_classes (with_classes set (fetched_classes normal u)) (fetched_classes normal (use_at us w)) ≡ true) (sym (stays k (omega arith)))
-            (holds-within set (with_classes set (fetched_classes normal u)) (fetched_classes normal (use_at us (number_at r k))) (kept set (fetched_classes normal u)) (far.done k at))
+            (holds-within set (with_classes set (fetched_classes normal u)) (fetched_classes normal (use_at us (number_at r k))) (kept set
+            (fetched_classes normal u)) (far.done k at))
           where
             below : (a : ℕ) → a < n + 1 → (a == n) ≡ false → a < n
             below a o f = let g = eqb-false a n f in omega arith
@@ -145,7 +152,8 @@ module _ (normal : Normal) (accesses : List Access) (start : ClassSet) (ranges :
         same_set [] [] e f g = refl
         same_set [] (y ∷ b) e f g = absurd (omega (arith, e))
         same_set (x ∷ a) [] e f g = absurd (omega (arith, e))
-        same_set (x ∷ a) (y ∷ b) e f g = ap (λ z. z ∷ a) (bit x y (f 0) (g 0)) ∙ ap (λ zs. y ∷ zs) (same_set a b (omega arith) (λ c. f (suc c)) (λ c. g (suc c)))
+        same_set (x ∷ a) (y ∷ b) e f g = ap (λ z. z ∷ a) (bit x y (f 0) (g 0))
+            ∙ ap (λ zs. y ∷ zs) (same_set a b (omega arith) (λ c. f (suc c)) (λ c. g (suc c)))
           where
             bit : (p q : Bool) → (p ≡ true → q ≡ true) → (q ≡ true → p ≡ true) → p ≡ q
             bit true q h i = sym (h refl)
@@ -153,16 +161,20 @@ module _ (normal : Normal) (accesses : List Access) (start : ClassSet) (ranges :
             bit false false h i = refl
 
 -- the same, as the code has it
-pub closing_start : (normal : Normal) (us : List Use) (accesses : List Access) (start set : ClassSet) (r : List ℕ) → set ≡ start → Closing normal us accesses start 0 set r
+pub closing_start : (normal : Normal) (us : List Use) (accesses : List Access) (start set : ClassSet) (r : List ℕ) → set ≡ start
+    → Closing normal us accesses start 0 set r
 closing_start normal us accesses start set r e = record {
   from_start = λ c h. ap (λ s. has s c) e ∙ h;
   least = λ other w closed c h. w c (sym (ap (λ s. has s c) e) ∙ h);
   done = λ k l. absurd (omega (arith, l));
 }
 
-pub closing_step : (normal : Normal) (accesses : List Access) (start : ClassSet) → ClassesInRange normal → (us : List Use) → us ≡ uses normal accesses → (n : ℕ) (set : ClassSet) (m : List ℕ) (waiting : List (List ℕ)) (r : List ℕ)
-    → AreCounted normal us set m waiting r → Closing normal us accesses start n set r → (r2 : List ℕ) (u : Use) → u ≡ use_at us (number_at r n) → n < length r → GoesOn r r2
-    → (us2 : List Use) → us2 ≡ us → (set2 : ClassSet) (fetched : List ColumnId) → fetched ≡ u.access.fetched → set2 ≡ with_classes set (map (class_at normal u.atom) fetched)
+pub closing_step : (normal : Normal) (accesses : List Access) (start : ClassSet) → ClassesInRange normal → (us : List Use) → us ≡ uses normal accesses
+    → (n : ℕ) (set : ClassSet) (m : List ℕ) (waiting : List (List ℕ)) (r : List ℕ)
+    → AreCounted normal us set m waiting r → Closing normal us accesses start n set r → (r2 : List ℕ) (u : Use) → u ≡ use_at us (number_at r n)
+    → n < length r → GoesOn r r2
+    → (us2 : List Use) → us2 ≡ us → (set2 : ClassSet) (fetched : List ColumnId) → fetched ≡ u.access.fetched
+    → set2 ≡ with_classes set (map (class_at normal u.atom) fetched)
     → Closing normal us2 accesses start (n + 1) set2 r2
 closing_step normal accesses start ranges us same n set m waiting r so far r2 u is l on us2 eu set2 fetched ef es =
     subst (λ vs. Closing normal vs accesses start (n + 1) set2 r2) (sym eu)

@@ -123,12 +123,14 @@ module _ (taken m0 m r0 r : List ℕ) (x : ℕ) (so : CountedDown taken m0 m r0 
     goes_on = goes_on_push r0 r x so.goes_on (goes_on_length r0 r so.goes_on);
   }
     where
-      by : (w : ℕ) → w < length m0 → (b : Bool) → (x == w) ≡ b → among (r ++ x ∷ []) w ≡ (among r0 w || (among (taken ++ x ∷ []) w && (number_at (set m x (number_at m x - 1)) w == 0)))
+      by : (w : ℕ) → w < length m0 → (b : Bool) → (x == w) ≡ b
+          → among (r ++ x ∷ []) w ≡ (among r0 w || (among (taken ++ x ∷ []) w && (number_at (set m x (number_at m x - 1)) w == 0)))
       by w l true e =
           let same = eqb-true x w e in
           let v = ap (number_at (set m x (number_at m x - 1))) (sym same) ∙ get_or-set_same m x (number_at m x - 1) 0 inside_now ∙ zero_now in
           among_push r x w ∙ ap (λ b. among r w || b) e ∙ true_right (among r w)
-          ∙ sym (ap (λ b. among r0 w || (b && (number_at (set m x (number_at m x - 1)) w == 0))) (among_push taken x w ∙ ap (λ b. among taken w || b) e ∙ true_right (among taken w))
+          ∙ sym (ap (λ b. among r0 w || (b && (number_at (set m x (number_at m x - 1)) w == 0))) (among_push taken x w ∙ ap (λ b. among taken w || b) e
+          ∙ true_right (among taken w))
           ∙ ap (λ b. among r0 w || b) (eq-eqb (number_at (set m x (number_at m x - 1)) w) 0 v) ∙ true_right (among r0 w))
         where
           true_right : (b : Bool) → (b || true) ≡ true
@@ -137,7 +139,8 @@ module _ (taken m0 m r0 r : List ℕ) (x : ℕ) (so : CountedDown taken m0 m r0 
       by w l false e =
           let v = get_or-set_other m x w (number_at m x - 1) 0 (λ h. eqb-false x w e (sym h)) in
           among_push r x w ∙ ap (λ b. among r w || b) e ∙ false_right (among r w) ∙ so.ready_is w l
-          ∙ sym (ap (λ b. among r0 w || (b && (number_at (set m x (number_at m x - 1)) w == 0))) (among_push taken x w ∙ ap (λ b. among taken w || b) e ∙ false_right (among taken w))
+          ∙ sym (ap (λ b. among r0 w || (b && (number_at (set m x (number_at m x - 1)) w == 0))) (among_push taken x w ∙ ap (λ b. among taken w || b) e
+          ∙ false_right (among taken w))
           ∙ ap (λ n. among r0 w || (among taken w && (n == 0))) v)
         where
           false_right : (b : Bool) → (b || false) ≡ b
@@ -166,19 +169,23 @@ module _ (taken m0 m r0 r : List ℕ) (x : ℕ) (so : CountedDown taken m0 m r0 
       and_false true = refl
       and_false false = refl
 
-      by : (w : ℕ) → w < length m0 → (b : Bool) → (x == w) ≡ b → among r w ≡ (among r0 w || (among (taken ++ x ∷ []) w && (number_at (set m x (number_at m x - 1)) w == 0)))
+      by : (w : ℕ) → w < length m0 → (b : Bool) → (x == w) ≡ b
+          → among r w ≡ (among r0 w || (among (taken ++ x ∷ []) w && (number_at (set m x (number_at m x - 1)) w == 0)))
       by w l true e =
           let same = eqb-true x w e in
           let v = ap (number_at (set m x (number_at m x - 1))) (sym same) ∙ get_or-set_same m x (number_at m x - 1) 0 inside_now in
           let p = ap (number_at m) same in
           let before : number_at m w ≢ 0 = λ h. (let q : number_at m x ≡ 0 = p ∙ h in omega arith) in
-          so.ready_is w l ∙ ap (λ b. among r0 w || (among taken w && b)) (not_same (number_at m w) 0 before) ∙ ap (λ b. among r0 w || b) (and_false (among taken w))
-          ∙ sym (ap (λ n. among r0 w || (among (taken ++ x ∷ []) w && (n == 0))) v ∙ ap (λ b. among r0 w || (among (taken ++ x ∷ []) w && b)) (not_same (number_at m x - 1) 0 some_now)
+          so.ready_is w l ∙ ap (λ b. among r0 w || (among taken w && b)) (not_same (number_at m w) 0 before)
+          ∙ ap (λ b. among r0 w || b) (and_false (among taken w))
+          ∙ sym (ap (λ n. among r0 w || (among (taken ++ x ∷ []) w && (n == 0))) v
+          ∙ ap (λ b. among r0 w || (among (taken ++ x ∷ []) w && b)) (not_same (number_at m x - 1) 0 some_now)
           ∙ ap (λ b. among r0 w || b) (and_false (among (taken ++ x ∷ []) w)))
       by w l false e =
           let v = get_or-set_other m x w (number_at m x - 1) 0 (λ h. eqb-false x w e (sym h)) in
           so.ready_is w l
-          ∙ sym (ap (λ b. among r0 w || (b && (number_at (set m x (number_at m x - 1)) w == 0))) (among_push taken x w ∙ ap (λ b. among taken w || b) e ∙ false_right (among taken w))
+          ∙ sym (ap (λ b. among r0 w || (b && (number_at (set m x (number_at m x - 1)) w == 0))) (among_push taken x w ∙ ap (λ b. among taken w || b) e
+          ∙ false_right (among taken w))
           ∙ ap (λ n. among r0 w || (among taken w && (n == 0))) v)
 
 times_front : (numbers : List ℕ) (i : ℕ) → i < length numbers → times (number_at numbers i) (take i numbers) + 1 ≤ times (number_at numbers i) numbers
@@ -208,11 +215,13 @@ has_set_same (b ∷ set) (suc c) l = has_set_same set c (omega arith)
 has_set_other : (set : ClassSet) (c d : ℕ) → d ≢ c → has (slice_set set c true) d ≡ has set d
 has_set_other set c d h = get_or-set_other set c d true false h
 
-pub lacking_without : (set : ClassSet) (c : ℕ) (ks : List ℕ) → c < length set → has set c ≡ false → lacking set ks ≡ lacking (slice_set set c true) ks + times c ks
+pub lacking_without : (set : ClassSet) (c : ℕ) (ks : List ℕ) → c < length set → has set c ≡ false
+    → lacking set ks ≡ lacking (slice_set set c true) ks + times c ks
 lacking_without set c [] l h = omega arith
 lacking_without set c (k ∷ ks) l h = by (k == c) refl (lacking_without set c ks l h)
   where
-    by : (b : Bool) → (k == c) ≡ b → lacking set ks ≡ lacking (slice_set set c true) ks + times c ks → lacking set (k ∷ ks) ≡ lacking (slice_set set c true) (k ∷ ks) + times c (k ∷ ks)
+    by : (b : Bool) → (k == c) ≡ b → lacking set ks ≡ lacking (slice_set set c true) ks + times c ks
+        → lacking set (k ∷ ks) ≡ lacking (slice_set set c true) (k ∷ ks) + times c (k ∷ ks)
     by true e g =
         let same = eqb-true k c e in
         let a = ap (λ b. bit (not b)) (ap (has set) same ∙ h) in
@@ -232,7 +241,8 @@ among_times (x ∷ xs) w l = by (x == w) refl (among_times xs w)
     by true e g = ap (λ b. b || among xs w) e
     by false e g = let f = ap (λ b. bit b) e in ap (λ b. b || among xs w) e ∙ g (omega arith)
 
-module _ (normal : Normal) (us : List Use) (set : ClassSet) (m : List ℕ) (waiting : List (List ℕ)) (r : List ℕ) (so : AreCounted normal us set m waiting r) (c : ℕ) (below : c < normal.count) (out : has set c ≡ false) where
+module _ (normal : Normal) (us : List Use) (set : ClassSet) (m : List ℕ) (waiting : List (List ℕ)) (r : List ℕ)
+    (so : AreCounted normal us set m waiting r) (c : ℕ) (below : c < normal.count) (out : has set c ≡ false) where
   inside_set : c < length set
   inside_set = omega (arith, so.classes)
 
@@ -263,7 +273,8 @@ module _ (normal : Normal) (us : List Use) (set : ClassSet) (m : List ℕ) (wait
     inside = so.inside;
     ready_is = λ w l.
         let k : w < length m = omega (arith, so.counts) in
-        down.ready_is w k ∙ ap (λ b. b || (among (list_at waiting c) w && (number_at m2 w == 0))) (so.ready_is w l) ∙ by w k (number_at m w == 0) (number_at m2 w == 0) refl refl;
+        down.ready_is w k ∙ ap (λ b. b || (among (list_at waiting c) w && (number_at m2 w == 0))) (so.ready_is w l)
+        ∙ by w k (number_at m w == 0) (number_at m2 w == 0) refl refl;
     ready_inside = subst (λ n. All (λ w. w < n) r2) so.counts (down.ready_inside (subst (λ n. All (λ w. w < n) r) (sym so.counts) so.ready_inside));
     together = down.together ∙ so.together;
   }
@@ -291,7 +302,8 @@ written new old n e = take-append-le n new (drop (length new) old) (omega arith)
 
 -- one number more, as a loop takes them
 pub down_ready : (numbers m0 m r0 r r2 : List ℕ) (i : ℕ) → CountedDown (take i numbers) m0 m r0 r → i < length numbers → All (λ w. w < length m0) numbers
-    → ((w : ℕ) → w < length m0 → times w numbers ≤ number_at m0 w) → number_at (set m (number_at numbers i) (number_at m (number_at numbers i) - 1)) (number_at numbers i) ≡ 0 → r2 ≡ r ++ number_at numbers i ∷ []
+    → ((w : ℕ) → w < length m0 → times w numbers ≤ number_at m0 w)
+    → number_at (set m (number_at numbers i) (number_at m (number_at numbers i) - 1)) (number_at numbers i) ≡ 0 → r2 ≡ r ++ number_at numbers i ∷ []
     → CountedDown (take (i + 1) numbers) m0 (set m (number_at numbers i) (number_at m (number_at numbers i) - 1)) r0 r2
 down_ready numbers m0 m r0 r r2 i so l inside enough zero_set e =
     let b = inside i 0 l in
@@ -302,11 +314,13 @@ down_ready numbers m0 m r0 r r2 i so l inside enough zero_set e =
     (counted_ready (take i numbers) m0 m r0 r (number_at numbers i) so (inside i 0 l) (some_there numbers m0 m r0 r i so l inside enough) zero_now))
 
 pub down_on : (numbers m0 m r0 r : List ℕ) (i : ℕ) → CountedDown (take i numbers) m0 m r0 r → i < length numbers → All (λ w. w < length m0) numbers
-    → ((w : ℕ) → w < length m0 → times w numbers ≤ number_at m0 w) → number_at (set m (number_at numbers i) (number_at m (number_at numbers i) - 1)) (number_at numbers i) ≢ 0
+    → ((w : ℕ) → w < length m0 → times w numbers ≤ number_at m0 w)
+    → number_at (set m (number_at numbers i) (number_at m (number_at numbers i) - 1)) (number_at numbers i) ≢ 0
     → CountedDown (take (i + 1) numbers) m0 (set m (number_at numbers i) (number_at m (number_at numbers i) - 1)) r0 r
 down_on numbers m0 m r0 r i so l inside enough some_set =
     let b = inside i 0 l in
-    let some_now : number_at m (number_at numbers i) - 1 ≢ 0 = λ h. some_set (get_or-set_same m (number_at numbers i) (number_at m (number_at numbers i) - 1) 0 (omega (arith, so.counts)) ∙ h) in
+    let some_now : number_at m (number_at numbers i) - 1 ≢ 0 = λ h. some_set (get_or-set_same m (number_at numbers i) (number_at m
+    (number_at numbers i) - 1) 0 (omega (arith, so.counts)) ∙ h) in
     let more = ap (λ k. take k numbers) (add-one i) ∙ take-suc numbers i 0 l in
     subst (λ ns. CountedDown ns m0 (set m (number_at numbers i) (number_at m (number_at numbers i) - 1)) r0 r) (sym more)
     (counted_on (take i numbers) m0 m r0 r (number_at numbers i) so (inside i 0 l) (some_there numbers m0 m r0 r i so l inside enough) some_now)

@@ -24,10 +24,12 @@ module _ {A : Type 0} (p : A → Bool) (xs : List A) (i : ℕ) (d : A) (l : i < 
   one_more = ap (λ k. take k xs) (add-one i) ∙ take-suc xs i d l
 
   pub any_on : list_any p (take i xs) ≡ false → p (get_or xs i d) ≡ false → list_any p (take (i + 1) xs) ≡ false
-  any_on h g = ap (list_any p) one_more ∙ list_any-append p (take i xs) (get_or xs i d ∷ []) ∙ ap (λ b. b || list_any p (get_or xs i d ∷ [])) h ∙ ap (λ b. b || false) g
+  any_on h g = ap (list_any p) one_more ∙ list_any-append p (take i xs) (get_or xs i d ∷ []) ∙ ap (λ b. b || list_any p (get_or xs i d ∷ [])) h
+      ∙ ap (λ b. b || false) g
 
   pub all_on : list_all p (take i xs) ≡ true → p (get_or xs i d) ≡ true → list_all p (take (i + 1) xs) ≡ true
-  all_on h g = ap (list_all p) one_more ∙ list_all-append p (take i xs) (get_or xs i d ∷ []) ∙ ap (λ b. b && list_all p (get_or xs i d ∷ [])) h ∙ ap (λ b. b && true) g
+  all_on h g = ap (list_all p) one_more ∙ list_all-append p (take i xs) (get_or xs i d ∷ []) ∙ ap (λ b. b && list_all p (get_or xs i d ∷ [])) h
+      ∙ ap (λ b. b && true) g
 
 pub any_there : {A : Type 0} (p : A → Bool) (xs : List A) (i : ℕ) (d : A) → i < length xs → p (get_or xs i d) ≡ true → list_any p xs ≡ true
 any_there p [] i d l h = absurd (omega (arith, l))
@@ -47,21 +49,26 @@ not_all_there p (x ∷ xs) (suc i) d l h = ap (λ b. p x && b) (not_all_there p 
     and_false true = refl
     and_false false = refl
 
-pub any_more : (columns : List ColumnId) (column : ColumnId) (i : ℕ) (d : ColumnId) → has_column (take i columns) column ≡ false → i < length columns → ((get_or columns i d).0 == column.0) ≡ false
+pub any_more : (columns : List ColumnId) (column : ColumnId) (i : ℕ) (d : ColumnId) → has_column (take i columns) column ≡ false → i < length columns
+    → ((get_or columns i d).0 == column.0) ≡ false
     → has_column (take (i + 1) columns) column ≡ false
 any_more columns column i d h l g = any_on (λ c. c.0 == column.0) columns i d l h g
 
-pub any_here : (columns : List ColumnId) (column : ColumnId) (i : ℕ) (d : ColumnId) → i < length columns → ((get_or columns i d).0 == column.0) ≡ true → has_column columns column ≡ true
+pub any_here : (columns : List ColumnId) (column : ColumnId) (i : ℕ) (d : ColumnId) → i < length columns → ((get_or columns i d).0 == column.0) ≡ true
+    → has_column columns column ≡ true
 any_here columns column i d l h = any_there (λ c. c.0 == column.0) columns i d l h
 
-pub stands_either : (key fetched : List ColumnId) (column : ColumnId) → has_column (key ++ fetched) column ≡ (has_column key column || has_column fetched column)
+pub stands_either : (key fetched : List ColumnId) (column : ColumnId)
+    → has_column (key ++ fetched) column ≡ (has_column key column || has_column fetched column)
 stands_either key fetched column = list_any-append (λ c. c.0 == column.0) key fetched
 
-pub all_more : (columns needed : List ColumnId) (i : ℕ) (d : ColumnId) → list_all (has_column columns) (take i needed) ≡ true → i < length needed → has_column columns (get_or needed i d) ≡ true
+pub all_more : (columns needed : List ColumnId) (i : ℕ) (d : ColumnId) → list_all (has_column columns) (take i needed) ≡ true → i < length needed
+    → has_column columns (get_or needed i d) ≡ true
     → list_all (has_column columns) (take (i + 1) needed) ≡ true
 all_more columns needed i d h l g = all_on (has_column columns) needed i d l h g
 
-pub all_broken : (columns needed : List ColumnId) (i : ℕ) (d : ColumnId) → i < length needed → has_column columns (get_or needed i d) ≡ false → list_all (has_column columns) needed ≡ false
+pub all_broken : (columns needed : List ColumnId) (i : ℕ) (d : ColumnId) → i < length needed → has_column columns (get_or needed i d) ≡ false
+    → list_all (has_column columns) needed ≡ false
 all_broken columns needed i d l g = not_all_there (has_column columns) needed i d l g
 
 abbrev pub place_of : ℕ → ColumnId → Place
@@ -87,7 +94,8 @@ module _ {A B : Type 0} (p : B → Bool) (g : A → List B) (xs : List A) (i : �
 
   pub find_flat_more : find p (g (get_or xs i d)) ≡ None → find p (flat_map g (take (i + 1) xs)) ≡ None
   find_flat_more h =
-      ap (λ k. find p (flat_map g (take k xs))) (add-one i) ∙ ap (λ ys. find p (flat_map g ys)) (take-suc xs i d l) ∙ ap (find p) (flat_append (take i xs) (get_or xs i d ∷ []))
+      ap (λ k. find p (flat_map g (take k xs))) (add-one i) ∙ ap (λ ys. find p (flat_map g ys)) (take-suc xs i d l)
+      ∙ ap (find p) (flat_append (take i xs) (get_or xs i d ∷ []))
       ∙ find_on p (flat_map g (take i xs)) (g (get_or xs i d) ++ []) so ∙ ap (find p) (append-nil (g (get_or xs i d))) ∙ h
 
   pub find_flat_there : (y : B) → find p (g (get_or xs i d)) ≡ Some y → find p (flat_map g xs) ≡ Some y
@@ -99,7 +107,8 @@ module _ {A B : Type 0} (p : B → Bool) (g : A → List B) (xs : List A) (i : �
 module _ {A B : Type 0} (p : B → Bool) (f : A → B) (xs : List A) (i : ℕ) (d : A) (l : i < length xs) (so : find p (map f (take i xs)) ≡ None) where
   pub find_map_more : p (f (get_or xs i d)) ≡ false → find p (map f (take (i + 1) xs)) ≡ None
   find_map_more h =
-      ap (λ k. find p (map f (take k xs))) (add-one i) ∙ ap (λ ys. find p (map f ys)) (take-suc xs i d l) ∙ ap (find p) (map-append f (take i xs) (get_or xs i d ∷ []))
+      ap (λ k. find p (map f (take k xs))) (add-one i) ∙ ap (λ ys. find p (map f ys)) (take-suc xs i d l)
+      ∙ ap (find p) (map-append f (take i xs) (get_or xs i d ∷ []))
       ∙ find_on p (map f (take i xs)) (f (get_or xs i d) ∷ []) so ∙ ap (λ b. cond b (Some (f (get_or xs i d))) None) h
 
   pub find_map_there : p (f (get_or xs i d)) ≡ true → find p (map f xs) ≡ Some (f (get_or xs i d))
@@ -121,11 +130,13 @@ find_range_more p n so h = ap (find p) (range_more n) ∙ find_on p (range_with_
 pub find_range_there : (p : ℕ → Bool) (m n : ℕ) → n < m → find p (range_with_len 0 n) ≡ None → p n ≡ true → find p (range_with_len 0 m) ≡ Some n
 find_range_there p m n l so h =
     let e : n + suc (m - suc n) ≡ m = omega arith in
-    ap (λ k. find p (range_with_len 0 k)) (sym e) ∙ ap (find p) (range_append 0 n (suc (m - suc n))) ∙ find_on p (range_with_len 0 n) (range_with_len (0 + n) (suc (m - suc n))) so
+    ap (λ k. find p (range_with_len 0 k)) (sym e) ∙ ap (find p) (range_append 0 n (suc (m - suc n)))
+    ∙ find_on p (range_with_len 0 n) (range_with_len (0 + n) (suc (m - suc n))) so
     ∙ ap (λ k. find p (k ∷ range_with_len (k + 1) (m - suc n))) (zero-add n) ∙ some_here p n (range_with_len (n + 1) (m - suc n)) h
   where
     range_append : (a k j : ℕ) → range_with_len a (k + j) ≡ range_with_len a k ++ range_with_len (a + k) j
-    range_append a zero j = let e : zero + j ≡ j = omega arith in let f : a + zero ≡ a = omega arith in ap (range_with_len a) e ∙ ap (λ b. range_with_len b j) (sym f)
+    range_append a zero j = let e : zero + j ≡ j = omega arith in let f : a + zero ≡ a = omega arith in ap (range_with_len a) e
+        ∙ ap (λ b. range_with_len b j) (sym f)
     range_append a (suc k) j =
         let e : suc k + j ≡ suc (k + j) = omega arith in
         let f : a + 1 + k ≡ a + suc k = omega arith in
@@ -143,13 +154,16 @@ module _ (normal : Normal) (accesses : List Access) (set : ClassSet) (atom : ℕ
   on_other n [] h = refl
   on_other n (c ∷ cs) h = ap (λ b. (b && serves normal set (use_of_access n c)) || list_any at_atom (map (use_of_access n) cs)) h ∙ on_other n cs h
 
-  on_atom : (table : ℕ) (cs : List Access) → list_any at_atom (map (use_of_access atom) (filter (λ access. access.table.0 == table) cs)) ≡ list_any (by_table table) cs
+  on_atom : (table : ℕ) (cs : List Access) → list_any at_atom (map (use_of_access atom) (filter (λ access. access.table.0 == table) cs))
+      ≡ list_any (by_table table) cs
   on_atom table [] = refl
   on_atom table (c ∷ cs) = by (c.table.0 == table) (on_atom table cs)
     where
       by : (b : Bool) → list_any at_atom (map (use_of_access atom) (filter (λ access. access.table.0 == table) cs)) ≡ list_any (by_table table) cs
-          → list_any at_atom (map (use_of_access atom) (cond b (c ∷ filter (λ access. access.table.0 == table) cs) (filter (λ access. access.table.0 == table) cs))) ≡ ((b && serves normal set (use_of_access atom c)) || list_any (by_table table) cs)
-      by true h = ap (λ b. (b && serves normal set (use_of_access atom c)) || list_any at_atom (map (use_of_access atom) (filter (λ access. access.table.0 == table) cs))) (eq-eqb atom atom refl)
+          → list_any at_atom (map (use_of_access atom) (cond b (c ∷ filter (λ access. access.table.0 == table) cs) (filter
+          (λ access. access.table.0 == table) cs))) ≡ ((b && serves normal set (use_of_access atom c)) || list_any (by_table table) cs)
+      by true h = ap (λ b. (b && serves normal set (use_of_access atom c)) || list_any at_atom (map (use_of_access atom) (filter
+          (λ access. access.table.0 == table) cs))) (eq-eqb atom atom refl)
           ∙ ap (λ b. serves normal set (use_of_access atom c) || b) h
       by false h = h
 
@@ -157,18 +171,21 @@ module _ (normal : Normal) (accesses : List Access) (set : ClassSet) (atom : ℕ
   after_it n [] l = refl
   after_it n (a ∷ atoms) l =
       list_any-append at_atom (uses_on accesses (numbered n a)) (flat_map (uses_on accesses) (enumerate_from (n + 1) atoms))
-      ∙ ap (λ b. b || list_any at_atom (flat_map (uses_on accesses) (enumerate_from (n + 1) atoms))) (on_other n (filter (λ access. access.table.0 == a.table.0) accesses) (apart n atom l))
+      ∙ ap (λ b. b || list_any at_atom (flat_map (uses_on accesses) (enumerate_from (n + 1) atoms))) (on_other n (filter
+      (λ access. access.table.0 == a.table.0) accesses) (apart n atom l))
       ∙ after_it (n + 1) atoms (omega arith)
     where
       apart : (x y : ℕ) → y < x → (x == y) ≡ false
       apart x y h = grind (arith, nat_tests)
 
-  served_from : (n : ℕ) (atoms : List Atom) (k : ℕ) (d : Atom) → k < length atoms → n + k ≡ atom → list_any at_atom (flat_map (uses_on accesses) (enumerate_from n atoms)) ≡ list_any (by_table (get_or atoms k d).table.0) accesses
+  served_from : (n : ℕ) (atoms : List Atom) (k : ℕ) (d : Atom) → k < length atoms → n + k ≡ atom
+      → list_any at_atom (flat_map (uses_on accesses) (enumerate_from n atoms)) ≡ list_any (by_table (get_or atoms k d).table.0) accesses
   served_from n [] k d l e = absurd (omega (arith, l))
   served_from n (a ∷ atoms) zero d l e =
       let same : n ≡ atom = omega arith in
       list_any-append at_atom (uses_on accesses (numbered n a)) (flat_map (uses_on accesses) (enumerate_from (n + 1) atoms))
-      ∙ ap (λ b. list_any at_atom (uses_on accesses (numbered n a)) || b) (after_it (n + 1) atoms (omega arith)) ∙ or_false (list_any at_atom (uses_on accesses (numbered n a)))
+      ∙ ap (λ b. list_any at_atom (uses_on accesses (numbered n a)) || b) (after_it (n + 1) atoms (omega arith))
+      ∙ or_false (list_any at_atom (uses_on accesses (numbered n a)))
       ∙ ap (λ m. list_any at_atom (map (use_of_access m) (filter (λ access. access.table.0 == a.table.0) accesses))) same ∙ on_atom a.table.0 accesses
     where
       or_false : (b : Bool) → (b || false) ≡ b
@@ -176,26 +193,32 @@ module _ (normal : Normal) (accesses : List Access) (set : ClassSet) (atom : ℕ
       or_false false = refl
   served_from n (a ∷ atoms) (suc k) d l e =
       list_any-append at_atom (uses_on accesses (numbered n a)) (flat_map (uses_on accesses) (enumerate_from (n + 1) atoms))
-      ∙ ap (λ b. b || list_any at_atom (flat_map (uses_on accesses) (enumerate_from (n + 1) atoms))) (on_other n (filter (λ access. access.table.0 == a.table.0) accesses) (before n atom (omega arith)))
+      ∙ ap (λ b. b || list_any at_atom (flat_map (uses_on accesses) (enumerate_from (n + 1) atoms))) (on_other n (filter
+      (λ access. access.table.0 == a.table.0) accesses) (before n atom (omega arith)))
       ∙ served_from (n + 1) atoms k d (omega arith) (omega arith)
     where
       before : (x y : ℕ) → x < y → (x == y) ≡ false
       before x y h = grind (arith, nat_tests)
 
-  pub served_by_table : (d : Atom) → atom < length normal.atoms → list_any (by_table (get_or normal.atoms atom d).table.0) accesses ≡ is_served normal accesses set atom
+  pub served_by_table : (d : Atom) → atom < length normal.atoms
+      → list_any (by_table (get_or normal.atoms atom d).table.0) accesses ≡ is_served normal accesses set atom
   served_by_table d l = sym (served_from 0 normal.atoms atom d l (zero-add atom))
 
-  pub served_there : (d : Atom) → atom < length normal.atoms → (i : ℕ) (item : Access) → i < length accesses → item ≡ get_or accesses i item → (table : ℕ) → table ≡ (get_or normal.atoms atom d).table.0
+  pub served_there : (d : Atom) → atom < length normal.atoms → (i : ℕ) (item : Access) → i < length accesses → item ≡ get_or accesses i item
+      → (table : ℕ) → table ≡ (get_or normal.atoms atom d).table.0
       → item.table.0 ≡ table → serves normal set (use_of_access atom item) ≡ true → true ≡ is_served normal accesses set atom
   served_there d l i item below is table te same sv =
       sym (any_there (by_table (get_or normal.atoms atom d).table.0) accesses i item below
-      (ap (by_table (get_or normal.atoms atom d).table.0) (sym is) ∙ ap (λ b. b && serves normal set (use_of_access atom item)) (eq-eqb item.table.0 (get_or normal.atoms atom d).table.0 (same ∙ te)) ∙ sv))
+      (ap (by_table (get_or normal.atoms atom d).table.0) (sym is)
+      ∙ ap (λ b. b && serves normal set (use_of_access atom item)) (eq-eqb item.table.0 (get_or normal.atoms atom d).table.0 (same ∙ te)) ∙ sv))
       ∙ served_by_table d l
 
   pub served_nowhere : (d : Atom) → atom < length normal.atoms → (i : ℕ) → length accesses ≤ i → (table : ℕ) → table ≡ (get_or normal.atoms atom d).table.0
-      → list_any (λ access. (access.table.0 == table) && serves normal set (use_of_access atom access)) (take i accesses) ≡ false → false ≡ is_served normal accesses set atom
+      → list_any (λ access. (access.table.0 == table) && serves normal set (use_of_access atom access)) (take i accesses) ≡ false
+      → false ≡ is_served normal accesses set atom
   served_nowhere d l i all table te h =
-      sym (ap (list_any (by_table (get_or normal.atoms atom d).table.0)) (sym (take_all i accesses all)) ∙ ap (λ t. list_any (by_table t) (take i accesses)) (sym te) ∙ h)
+      sym (ap (list_any (by_table (get_or normal.atoms atom d).table.0)) (sym (take_all i accesses all))
+      ∙ ap (λ t. list_any (by_table t) (take i accesses)) (sym te) ∙ h)
       ∙ served_by_table d l
 
 -- the first open place, list by list
@@ -203,7 +226,9 @@ module _ (normal : Normal) (set : ClassSet) (items : List (List ColumnId)) (same
   abbrev opens : Place → Bool
   opens = is_open normal set
 
-  module _ (item : List ColumnId) (l : i < length items) (at : item ≡ get_or items i item) (so : find opens (flat_map places_on (take i (enumerate_from 0 normal.needed))) ≡ None) (slice : List ColumnId) (is : slice ≡ item) where
+  module _ (item : List ColumnId) (l : i < length items) (at : item
+      ≡ get_or items i item) (so : find opens (flat_map places_on (take i (enumerate_from 0 normal.needed)))
+      ≡ None) (slice : List ColumnId) (is : slice ≡ item) where
     below : i < length normal.needed
     below = subst (λ xs. i < length xs) same l
 
@@ -220,10 +245,13 @@ module _ (normal : Normal) (set : ClassSet) (items : List (List ColumnId)) (same
     pub needed_more : find opens (map (place_of i) slice) ≡ None → find opens (flat_map places_on (take (i + 1) (enumerate_from 0 normal.needed))) ≡ None
     needed_more h = find_flat_more opens places_on (enumerate_from 0 normal.needed) i (paired i item) below_all so (ap (find opens) places_here ∙ h)
 
-    pub needed_there : (column : ColumnId) → find opens (map (place_of i) slice) ≡ Some (place_of i column) → find opens (needed_places normal) ≡ Some (place_of i column)
-    needed_there column h = find_flat_there opens places_on (enumerate_from 0 normal.needed) i (paired i item) below_all so (place_of i column) (ap (find opens) places_here ∙ h)
+    pub needed_there : (column : ColumnId) → find opens (map (place_of i) slice) ≡ Some (place_of i column)
+        → find opens (needed_places normal) ≡ Some (place_of i column)
+    needed_there column h = find_flat_there opens places_on (enumerate_from 0 normal.needed) i (paired i item) below_all so (place_of i column) (ap
+        (find opens) places_here ∙ h)
 
-  pub needed_end : length items ≤ i → find opens (flat_map places_on (take i (enumerate_from 0 normal.needed))) ≡ None → find opens (needed_places normal) ≡ None
+  pub needed_end : length items ≤ i → find opens (flat_map places_on (take i (enumerate_from 0 normal.needed))) ≡ None
+      → find opens (needed_places normal) ≡ None
   needed_end l so =
       let len : length (enumerate_from 0 normal.needed) ≤ i = subst (λ n. n ≤ i) (ap length same ∙ sym (length-enumerate_from 0 normal.needed)) l in
       ap (λ xs. find opens (flat_map places_on xs)) (sym (take_all i (enumerate_from 0 normal.needed) len)) ∙ so

@@ -7,7 +7,8 @@ use Rattle.beas_core.specs.declared.value.Value.{Value}
 use Rattle.beas_core.specs.Types.{ClassSet}
 use Rattle.beas_core.specs.Coverage.{has, with_classes, holds_classes, Within}
 
-pub holds_broken : {A : Type 0} (set : ClassSet) (f : A → ℕ) (xs : List A) (i : ℕ) (d : A) → i < length xs → has set (f (get_or xs i d)) ≡ false → holds_classes set (map f xs) ≡ false
+pub holds_broken : {A : Type 0} (set : ClassSet) (f : A → ℕ) (xs : List A) (i : ℕ) (d : A) → i < length xs → has set (f (get_or xs i d)) ≡ false
+    → holds_classes set (map f xs) ≡ false
 holds_broken set f [] i d l h = absurd (omega (arith, l))
 holds_broken set f (x ∷ xs) zero d l h = ap (λ b. b && holds_classes set (map f xs)) h
 holds_broken set f (x ∷ xs) (suc i) d l h = ap (λ b. has set (f x) && b) (holds_broken set f xs i d (omega arith) h) ∙ and_false (has set (f x))
@@ -20,14 +21,17 @@ holds_push : (set : ClassSet) (cs : List ℕ) (c : ℕ) → holds_classes set cs
 holds_push set [] c h g = ap (λ b. b && true) g
 holds_push set (k ∷ cs) c h g = by (has set k) h (λ r. holds_push set cs c r g)
   where
-    by : (b : Bool) → (b && holds_classes set cs) ≡ true → (holds_classes set cs ≡ true → holds_classes set (cs ++ c ∷ []) ≡ true) → (b && holds_classes set (cs ++ c ∷ [])) ≡ true
+    by : (b : Bool) → (b && holds_classes set cs) ≡ true → (holds_classes set cs ≡ true → holds_classes set (cs ++ c ∷ []) ≡ true)
+        → (b && holds_classes set (cs ++ c ∷ [])) ≡ true
     by true e rest = rest e
     by false e rest = cc
 
-pub holds_more : {A : Type 0} (set : ClassSet) (f : A → ℕ) (xs : List A) (i : ℕ) (d : A) → holds_classes set (map f (take i xs)) ≡ true → i < length xs → has set (f (get_or xs i d)) ≡ true
+pub holds_more : {A : Type 0} (set : ClassSet) (f : A → ℕ) (xs : List A) (i : ℕ) (d : A) → holds_classes set (map f (take i xs)) ≡ true → i < length xs
+    → has set (f (get_or xs i d)) ≡ true
     → holds_classes set (map f (take (i + 1) xs)) ≡ true
 holds_more set f xs i d so l h =
-    ap (λ k. holds_classes set (map f (take k xs))) (add-one i) ∙ ap (λ ys. holds_classes set (map f ys)) (take-suc xs i d l) ∙ ap (holds_classes set) (map-append f (take i xs) (get_or xs i d ∷ []))
+    ap (λ k. holds_classes set (map f (take k xs))) (add-one i) ∙ ap (λ ys. holds_classes set (map f ys)) (take-suc xs i d l)
+    ∙ ap (holds_classes set) (map-append f (take i xs) (get_or xs i d ∷ []))
     ∙ holds_push set (map f (take i xs)) (f (get_or xs i d)) so h
 
 pub set_past : (xs : ClassSet) (i : ℕ) → length xs ≤ i → slice_set xs i true ≡ xs
@@ -42,9 +46,11 @@ with_push set (d ∷ cs) c = with_push (slice_set set d true) cs c
 pub constants_more : (set : ClassSet) (cs : List (ℕ × Value)) (i : ℕ) (d : ℕ × Value) → i < length cs
     → slice_set (with_classes set (map (λ c. c.0) (take i cs))) (get_or cs i d).0 true ≡ with_classes set (map (λ c. c.0) (take (i + 1) cs))
 constants_more set cs i d l = sym (with_push set (map (λ c. c.0) (take i cs)) (get_or cs i d).0)
-    ∙ ap (with_classes set) (sym (ap (λ k. map (λ c. c.0) (take k cs)) (add-one i) ∙ ap (map (λ c. c.0)) (take-suc cs i d l) ∙ map-append (λ c. c.0) (take i cs) (get_or cs i d ∷ [])))
+    ∙ ap (with_classes set) (sym (ap (λ k. map (λ c. c.0) (take k cs)) (add-one i) ∙ ap (map (λ c. c.0)) (take-suc cs i d l)
+    ∙ map-append (λ c. c.0) (take i cs) (get_or cs i d ∷ [])))
 
-pub constants_past : (set : ClassSet) (cs : List (ℕ × Value)) (i : ℕ) (d : ℕ × Value) → i < length cs → length (with_classes set (map (λ c. c.0) (take i cs))) ≤ (get_or cs i d).0
+pub constants_past : (set : ClassSet) (cs : List (ℕ × Value)) (i : ℕ) (d : ℕ × Value) → i < length cs
+    → length (with_classes set (map (λ c. c.0) (take i cs))) ≤ (get_or cs i d).0
     → with_classes set (map (λ c. c.0) (take (i + 1) cs)) ≡ with_classes set (map (λ c. c.0) (take i cs))
 constants_past set cs i d l past = sym (constants_more set cs i d l) ∙ set_past (with_classes set (map (λ c. c.0) (take i cs))) (get_or cs i d).0 past
 
@@ -66,7 +72,8 @@ pub front_none : (more : ClassSet) → front_of 0 more ≡ replicate (length mor
 front_none more = let e : length more - 0 ≡ length more = omega arith in ap (λ n. replicate n false) e
 
 pub front_all : (more : ClassSet) → front_of (length more) more ≡ more
-front_all more = ap (λ xs. xs ++ replicate (length more - length more) false) (take-length more) ∙ (let e : length more - length more ≡ 0 = omega arith in ap (λ n. more ++ replicate n false) e ∙ nothing more)
+front_all more = ap (λ xs. xs ++ replicate (length more - length more) false) (take-length more)
+    ∙ (let e : length more - length more ≡ 0 = omega arith in ap (λ n. more ++ replicate n false) e ∙ nothing more)
   where
     nothing : (xs : ClassSet) → xs ++ [] ≡ xs
     nothing [] = refl

@@ -26,7 +26,8 @@ waits_none count number waiting = record {
     by n true = omega arith
     by n false = omega arith
 
-pub waits_more : (count number : ℕ) (classes : List ℕ) (old new : List (List ℕ)) (d : ℕ) → WaitsFor count number classes old new → count ≤ length new → d < count
+pub waits_more : (count number : ℕ) (classes : List ℕ) (old new : List (List ℕ)) (d : ℕ) → WaitsFor count number classes old new → count ≤ length new
+    → d < count
     → WaitsFor count number (classes ++ d ∷ []) old (set new d (list_at new d ++ number ∷ []))
 waits_more count number classes old new d so full below = record {
   lists = length-set new d (list_at new d ++ number ∷ []) ∙ so.lists;
@@ -34,12 +35,15 @@ waits_more count number classes old new d so full below = record {
   inside = λ n c o l h. inside n c o (d == c) refl (so.inside n c o l h);
 }
   where
-    inside : (n c : ℕ) → number < n → (b : Bool) → (d == c) ≡ b → All (λ w. w < n) (list_at new c) → All (λ w. w < n) (list_at (set new d (list_at new d ++ number ∷ [])) c)
+    inside : (n c : ℕ) → number < n → (b : Bool) → (d == c) ≡ b → All (λ w. w < n) (list_at new c)
+        → All (λ w. w < n) (list_at (set new d (list_at new d ++ number ∷ [])) c)
     inside n c o true e h =
         let same = eqb-true d c e in
-        subst (λ xs. All (λ w. w < n) xs) (sym (ap (list_at (set new d (list_at new d ++ number ∷ []))) (sym same) ∙ get_or-set_same new d (list_at new d ++ number ∷ []) [] (omega arith)))
+        subst (λ xs. All (λ w. w < n) xs) (sym (ap (list_at (set new d (list_at new d ++ number ∷ []))) (sym same)
+        ∙ get_or-set_same new d (list_at new d ++ number ∷ []) [] (omega arith)))
         (All-push (λ w. w < n) (list_at new d) number (subst (λ k. All (λ w. w < n) (list_at new k)) (sym same) h) o)
-    inside n c o false e h = subst (λ xs. All (λ w. w < n) xs) (sym (get_or-set_other new d c (list_at new d ++ number ∷ []) [] (λ g. eqb-false d c e (sym g)))) h
+    inside n c o false e h = subst (λ xs. All (λ w. w < n) xs) (sym (get_or-set_other new d c (list_at new d ++ number ∷ []) [] (λ g. eqb-false d c e
+        (sym g)))) h
 
     bit_cond : (b : Bool) → bit b ≡ cond b 1 0
     bit_cond true = refl
@@ -49,10 +53,12 @@ waits_more count number classes old new d so full below = record {
     if_plus true m n = refl
     if_plus false m n = refl
 
-    by : (c w : ℕ) → c < count → (b : Bool) → (d == c) ≡ b → times w (list_at (set new d (list_at new d ++ number ∷ [])) c) ≡ times w (list_at old c) + cond (number == w) (times c (classes ++ d ∷ [])) 0
+    by : (c w : ℕ) → c < count → (b : Bool) → (d == c) ≡ b
+        → times w (list_at (set new d (list_at new d ++ number ∷ [])) c) ≡ times w (list_at old c) + cond (number == w) (times c (classes ++ d ∷ [])) 0
     by c w l true e =
         let same = eqb-true d c e in
-        let v = ap (λ xs. times w xs) (ap (list_at (set new d (list_at new d ++ number ∷ []))) (sym same) ∙ get_or-set_same new d (list_at new d ++ number ∷ []) [] (omega arith)) in
+        let v = ap (λ xs. times w xs) (ap (list_at (set new d (list_at new d ++ number ∷ []))) (sym same)
+        ∙ get_or-set_same new d (list_at new d ++ number ∷ []) [] (omega arith)) in
         let p = times_push w (list_at new d) number in
         let q = ap (λ k. times w (list_at new k)) same in
         let r = so.waits c w l in
@@ -73,8 +79,11 @@ get_or_default [] i d e l = absurd (omega (arith, l))
 get_or_default (x ∷ xs) zero d e l = refl
 get_or_default (x ∷ xs) (suc i) d e l = get_or_default xs i d e (omega arith)
 
-pub waits_on : {A : Type 0} (count number : ℕ) (f : A → ℕ) (columns : List A) (old new : List (List ℕ)) (i : ℕ) (d : A) (c : ℕ) (list e : List ℕ) (items : List A) → WaitsFor count number (map f (take i columns)) old new → length old ≡ count
-    → items ≡ columns → i < length items → c ≡ f (get_or items i d) → c < count → list ≡ get_or new c e ++ number ∷ [] → WaitsFor count number (map f (take (i + 1) columns)) old (set new c list)
+pub waits_on : {A : Type 0} (count number : ℕ) (f : A
+    → ℕ) (columns : List A) (old new : List (List ℕ)) (i : ℕ) (d : A) (c : ℕ) (list e : List ℕ) (items : List A)
+    → WaitsFor count number (map f (take i columns)) old new → length old ≡ count
+    → items ≡ columns → i < length items → c ≡ f (get_or items i d) → c < count → list ≡ get_or new c e ++ number ∷ []
+    → WaitsFor count number (map f (take (i + 1) columns)) old (set new c list)
 waits_on count number f columns old new i d c list e items so full same len is_item below el =
     let is = is_item ∙ ap (λ xs. f (get_or xs i d)) same in
     let l = subst (λ xs. i < length xs) same len in
@@ -82,7 +91,8 @@ waits_on count number f columns old new i d c list e items so full same len is_i
     let there = get_or_default new c e [] (omega arith) in
     let more = ap (λ k. map f (take k columns)) (add-one i) ∙ ap (map f) (take-suc columns i d l) ∙ map-append f (take i columns) (get_or columns i d ∷ []) in
     subst (λ ks. WaitsFor count number ks old (set new c list)) (sym (more ∙ ap (λ k. map f (take i columns) ++ k ∷ []) (sym is)))
-    (subst (λ xs. WaitsFor count number (map f (take i columns) ++ c ∷ []) old (set new c xs)) (sym (el ∙ ap (λ xs. xs ++ number ∷ []) there)) (waits_more count number (map f (take i columns)) old new c so (omega arith) below))
+    (subst (λ xs. WaitsFor count number (map f (take i columns) ++ c ∷ []) old (set new c xs)) (sym (el
+    ∙ ap (λ xs. xs ++ number ∷ []) there)) (waits_more count number (map f (take i columns)) old new c so (omega arith) below))
 
 -- no use yet
 pub none_counted : (normal : Normal) → AreCounted normal [] (replicate normal.count false) [] (replicate normal.count []) []
@@ -141,23 +151,28 @@ number_last (k ∷ m) n = number_last m n
 wider : (xs : List ℕ) (n : ℕ) → All (λ w. w < n) xs → All (λ w. w < n + 1) xs
 wider xs n h = λ k d l. (let g = h k d l in omega arith)
 
-module _ (normal : Normal) (us : List Use) (m : List ℕ) (waiting waiting2 : List (List ℕ)) (r : List ℕ) (u : Use) (so : AreCounted normal us (replicate normal.count false) m waiting r)
+module _ (normal : Normal) (us : List Use) (m : List ℕ) (waiting waiting2 : List (List ℕ)) (r : List ℕ) (u : Use) (so : AreCounted normal us
+    (replicate normal.count false) m waiting r)
     (waits : WaitsFor normal.count (length us) (key_classes normal u) waiting waiting2) where
   len : length (us ++ u ∷ []) ≡ length us + 1
   len = length-append us (u ∷ [])
 
-  lacks_more : (w : ℕ) → w < length (us ++ u ∷ []) → number_at (m ++ length (key_classes normal u) ∷ []) w ≡ lacking (replicate normal.count false) (key_classes normal (use_at (us ++ u ∷ []) w))
+  lacks_more : (w : ℕ) → w < length (us ++ u ∷ [])
+      → number_at (m ++ length (key_classes normal u) ∷ []) w ≡ lacking (replicate normal.count false) (key_classes normal (use_at (us ++ u ∷ []) w))
   lacks_more w l = by (w == length us) refl
     where
-      by : (b : Bool) → (w == length us) ≡ b → number_at (m ++ length (key_classes normal u) ∷ []) w ≡ lacking (replicate normal.count false) (key_classes normal (use_at (us ++ u ∷ []) w))
+      by : (b : Bool) → (w == length us) ≡ b → number_at (m ++ length (key_classes normal u) ∷ []) w
+          ≡ lacking (replicate normal.count false) (key_classes normal (use_at (us ++ u ∷ []) w))
       by true e =
           let same = eqb-true w (length us) e in
           ap (number_at (m ++ length (key_classes normal u) ∷ [])) (same ∙ sym so.counts) ∙ number_last m (length (key_classes normal u))
-          ∙ sym (ap (λ v. lacking (replicate normal.count false) (key_classes normal v)) (ap (use_at (us ++ u ∷ [])) same ∙ use_last us u) ∙ nothing_held normal.count (key_classes normal u))
+          ∙ sym (ap (λ v. lacking (replicate normal.count false) (key_classes normal v)) (ap (use_at (us ++ u ∷ [])) same ∙ use_last us u)
+          ∙ nothing_held normal.count (key_classes normal u))
       by false e =
           let apart = eqb-false w (length us) e in
           let below : w < length us = omega (arith, len) in
-          number_before m (length (key_classes normal u)) w (omega (arith, so.counts)) ∙ so.lacks w below ∙ sym (ap (λ v. lacking (replicate normal.count false) (key_classes normal v)) (use_before us u w below))
+          number_before m (length (key_classes normal u)) w (omega (arith, so.counts)) ∙ so.lacks w below
+          ∙ sym (ap (λ v. lacking (replicate normal.count false) (key_classes normal v)) (use_before us u w below))
 
   waits_all : (c w : ℕ) → c < normal.count → w < length (us ++ u ∷ []) → times w (list_at waiting2 c) ≡ times c (key_classes normal (use_at (us ++ u ∷ []) w))
   waits_all c w b l = by (length us == w) refl
@@ -180,12 +195,14 @@ module _ (normal : Normal) (us : List Use) (m : List ℕ) (waiting waiting2 : Li
           omega arith
 
   inside_all : (c : ℕ) → c < normal.count → All (λ w. w < length (us ++ u ∷ [])) (list_at waiting2 c)
-  inside_all c b = subst (λ n. All (λ w. w < n) (list_at waiting2 c)) (sym len) (waits.inside (length us + 1) c (omega arith) b (wider (list_at waiting c) (length us) (so.inside c b)))
+  inside_all c b = subst (λ n. All (λ w. w < n) (list_at waiting2 c)) (sym len) (waits.inside (length us + 1) c (omega arith) b (wider
+      (list_at waiting c) (length us) (so.inside c b)))
 
   left_more : some_left (m ++ length (key_classes normal u) ∷ []) ≡ some_left m + bit (not (length (key_classes normal u) == 0))
   left_more = let h = count_append (λ x. not (x == 0)) m (length (key_classes normal u) ∷ []) in omega arith
 
-  pub taken_ready : length (key_classes normal u) ≡ 0 → AreCounted normal (us ++ u ∷ []) (replicate normal.count false) (m ++ length (key_classes normal u) ∷ []) waiting2 (r ++ length us ∷ [])
+  pub taken_ready : length (key_classes normal u) ≡ 0
+      → AreCounted normal (us ++ u ∷ []) (replicate normal.count false) (m ++ length (key_classes normal u) ∷ []) waiting2 (r ++ length us ∷ [])
   taken_ready none = record {
     classes = so.classes;
     lists = waits.lists ∙ so.lists;
@@ -194,7 +211,8 @@ module _ (normal : Normal) (us : List Use) (m : List ℕ) (waiting waiting2 : Li
     waits = waits_all;
     inside = inside_all;
     ready_is = λ w l. among_push r (length us) w ∙ by w l (length us == w) refl;
-    ready_inside = subst (λ n. All (λ w. w < n) (r ++ length us ∷ [])) (sym len) (All-push (λ w. w < length us + 1) r (length us) (wider r (length us) so.ready_inside) (omega arith));
+    ready_inside = subst (λ n. All (λ w. w < n) (r ++ length us ∷ [])) (sym len) (All-push (λ w. w < length us + 1) r (length us) (wider r
+        (length us) so.ready_inside) (omega arith));
     together =
         let h = so.together in
         let g = length-append r (length us ∷ []) in
@@ -211,17 +229,21 @@ module _ (normal : Normal) (us : List Use) (m : List ℕ) (waiting waiting2 : Li
       or_false true = refl
       or_false false = refl
 
-      by : (w : ℕ) → w < length (us ++ u ∷ []) → (t : Bool) → (length us == w) ≡ t → (among r w || (length us == w)) ≡ (number_at (m ++ length (key_classes normal u) ∷ []) w == 0)
+      by : (w : ℕ) → w < length (us ++ u ∷ []) → (t : Bool) → (length us == w) ≡ t
+          → (among r w || (length us == w)) ≡ (number_at (m ++ length (key_classes normal u) ∷ []) w == 0)
       by w l true e =
           let same = eqb-true (length us) w e in
           ap (λ b. among r w || b) e ∙ or_true (among r w)
-          ∙ sym (ap (λ n. n == 0) (ap (number_at (m ++ length (key_classes normal u) ∷ [])) (sym same ∙ sym so.counts) ∙ number_last m (length (key_classes normal u))) ∙ eq-eqb (length (key_classes normal u)) 0 none)
+          ∙ sym (ap (λ n. n == 0) (ap (number_at (m ++ length (key_classes normal u) ∷ [])) (sym same ∙ sym so.counts)
+          ∙ number_last m (length (key_classes normal u))) ∙ eq-eqb (length (key_classes normal u)) 0 none)
       by w l false e =
           let apart = eqb-false (length us) w e in
           let below : w < length us = omega (arith, len) in
-          ap (λ b. among r w || b) e ∙ or_false (among r w) ∙ so.ready_is w below ∙ sym (ap (λ n. n == 0) (number_before m (length (key_classes normal u)) w (omega (arith, so.counts))))
+          ap (λ b. among r w || b) e ∙ or_false (among r w) ∙ so.ready_is w below
+          ∙ sym (ap (λ n. n == 0) (number_before m (length (key_classes normal u)) w (omega (arith, so.counts))))
 
-  pub taken_on : length (key_classes normal u) ≢ 0 → AreCounted normal (us ++ u ∷ []) (replicate normal.count false) (m ++ length (key_classes normal u) ∷ []) waiting2 r
+  pub taken_on : length (key_classes normal u) ≢ 0
+      → AreCounted normal (us ++ u ∷ []) (replicate normal.count false) (m ++ length (key_classes normal u) ∷ []) waiting2 r
   taken_on some = record {
     classes = so.classes;
     lists = waits.lists ∙ so.lists;
@@ -245,15 +267,18 @@ module _ (normal : Normal) (us : List Use) (m : List ℕ) (waiting waiting2 : Li
       by w l true e =
           let same = eqb-true (length us) w e in
           (not_inside r (length us) w so.ready_inside (omega arith)).1
-          ∙ sym (ap (λ n. n == 0) (ap (number_at (m ++ length (key_classes normal u) ∷ [])) (sym same ∙ sym so.counts) ∙ number_last m (length (key_classes normal u))) ∙ not_none (length (key_classes normal u)) some)
+          ∙ sym (ap (λ n. n == 0) (ap (number_at (m ++ length (key_classes normal u) ∷ [])) (sym same ∙ sym so.counts)
+          ∙ number_last m (length (key_classes normal u))) ∙ not_none (length (key_classes normal u)) some)
       by w l false e =
           let apart = eqb-false (length us) w e in
           let below : w < length us = omega (arith, len) in
           so.ready_is w below ∙ sym (ap (λ n. n == 0) (number_before m (length (key_classes normal u)) w (omega (arith, so.counts))))
 
 -- what one class more comes to, as the code reads it
-module _ (normal : Normal) (us : List Use) (set : ClassSet) (m : List ℕ) (waiting : List (List ℕ)) (r : List ℕ) (so : AreCounted normal us set m waiting r) (c : ℕ) (below : c < normal.count)
-    (bit : Bool) (read : bit ≡ get_or set c bit) (out : bit ≡ false) (numbers item m2 : List ℕ) (is : numbers ≡ item) (at : item ≡ get_or waiting c item) (same : m2 ≡ m) where
+module _ (normal : Normal) (us : List Use) (set : ClassSet) (m : List ℕ) (waiting : List (List ℕ)) (r : List ℕ)
+    (so : AreCounted normal us set m waiting r) (c : ℕ) (below : c < normal.count)
+    (bit : Bool) (read : bit ≡ get_or set c bit) (out : bit ≡ false) (numbers item m2 : List ℕ) (is : numbers ≡ item) (at : item
+    ≡ get_or waiting c item) (same : m2 ≡ m) where
   held_not : has set c ≡ false
   held_not = get_or_default set c false bit (omega (arith, so.classes)) ∙ sym read ∙ out
 
@@ -261,7 +286,8 @@ module _ (normal : Normal) (us : List Use) (set : ClassSet) (m : List ℕ) (wait
   listed = is ∙ at ∙ get_or_default waiting c item [] (omega (arith, so.lists))
 
   pub add_inside : All (λ w. w < length m2) numbers
-  add_inside = subst (λ xs. All (λ w. w < length xs) numbers) (sym same) (subst (λ xs. All (λ w. w < length m) xs) (sym listed) (inside_waiting normal us set m waiting r so c below held_not))
+  add_inside = subst (λ xs. All (λ w. w < length xs) numbers) (sym same) (subst (λ xs. All (λ w. w < length m) xs) (sym listed)
+      (inside_waiting normal us set m waiting r so c below held_not))
 
   pub add_enough : (w : ℕ) → w < length m2 → times w numbers ≤ number_at m2 w
   add_enough w l =
@@ -270,20 +296,26 @@ module _ (normal : Normal) (us : List Use) (set : ClassSet) (m : List ℕ) (wait
       let g = ap (λ xs. number_at xs w) same in
       omega arith
 
-  pub add_counted : (m3 r2 : List ℕ) (n : ℕ) → CountedDown numbers m2 m3 r r2 → n ≡ length m → AreCounted normal us (slice_set set c true) (take n (m3 ++ drop (length m3) m)) waiting r2
+  pub add_counted : (m3 r2 : List ℕ) (n : ℕ) → CountedDown numbers m2 m3 r r2 → n ≡ length m
+      → AreCounted normal us (slice_set set c true) (take n (m3 ++ drop (length m3) m)) waiting r2
   add_counted m3 r2 n down full =
       let len : length m3 ≡ n = down.counts ∙ ap length same ∙ sym full in
       subst (λ xs. AreCounted normal us (slice_set set c true) xs waiting r2) (sym (written m3 m n len))
-      (added normal us set m waiting r so c below held_not m3 r2 (subst (λ xs. CountedDown xs m m3 r r2) listed (subst (λ xs. CountedDown numbers xs m3 r r2) same down)))
+      (added normal us set m waiting r so c below held_not m3 r2 (subst (λ xs. CountedDown xs m m3 r r2) listed (subst
+      (λ xs. CountedDown numbers xs m3 r r2) same down)))
 
-pub none_given : (normal : Normal) (m : List ℕ) (waiting : List (List ℕ)) (r : List ℕ) → m ≡ [] → waiting ≡ replicate normal.count [] → r ≡ [] → AreCounted normal [] (replicate normal.count false) m waiting r
+pub none_given : (normal : Normal) (m : List ℕ) (waiting : List (List ℕ)) (r : List ℕ) → m ≡ [] → waiting ≡ replicate normal.count [] → r ≡ []
+    → AreCounted normal [] (replicate normal.count false) m waiting r
 none_given normal m waiting r em ew er =
     subst (λ xs. AreCounted normal [] (replicate normal.count false) xs waiting r) (sym em)
-    (subst (λ xs. AreCounted normal [] (replicate normal.count false) [] xs r) (sym ew) (subst (AreCounted normal [] (replicate normal.count false) [] (replicate normal.count [])) (sym er) (none_counted normal)))
+    (subst (λ xs. AreCounted normal [] (replicate normal.count false) [] xs r) (sym ew) (subst (AreCounted normal [] (replicate normal.count false) []
+    (replicate normal.count [])) (sym er) (none_counted normal)))
 
 -- one use more, as the code takes it up
-module _ (normal : Normal) (us : List Use) (m : List ℕ) (waiting waiting2 : List (List ℕ)) (r : List ℕ) (i n : ℕ) (u : Use) (l : i < length us) (is : u ≡ use_at us i)
-    (so : AreCounted normal (take i us) (replicate normal.count false) m waiting r) (waits : WaitsFor normal.count i (key_classes normal u) waiting waiting2) (size : n ≡ length u.access.key) where
+module _ (normal : Normal) (us : List Use) (m : List ℕ) (waiting waiting2 : List (List ℕ)) (r : List ℕ) (i n : ℕ) (u : Use) (l : i < length us) (is : u
+    ≡ use_at us i)
+    (so : AreCounted normal (take i us) (replicate normal.count false) m waiting r) (waits : WaitsFor normal.count i
+    (key_classes normal u) waiting waiting2) (size : n ≡ length u.access.key) where
   one_more : take (i + 1) us ≡ take i us ++ u ∷ []
   one_more = ap (λ k. take k us) (add-one i) ∙ take-suc us i no_use l ∙ ap (λ v. take i us ++ v ∷ []) (sym is)
 
@@ -300,11 +332,13 @@ module _ (normal : Normal) (us : List Use) (m : List ℕ) (waiting waiting2 : Li
       length_mapped f [] = refl
       length_mapped f (x ∷ xs) = ap suc (length_mapped f xs)
 
-  pub taken_up_ready : (m2 r2 : List ℕ) → m2 ≡ m ++ n ∷ [] → r2 ≡ r ++ i ∷ [] → n ≡ 0 → AreCounted normal (take (i + 1) us) (replicate normal.count false) m2 waiting2 r2
+  pub taken_up_ready : (m2 r2 : List ℕ) → m2 ≡ m ++ n ∷ [] → r2 ≡ r ++ i ∷ [] → n ≡ 0
+      → AreCounted normal (take (i + 1) us) (replicate normal.count false) m2 waiting2 r2
   taken_up_ready m2 r2 em er none =
       subst (λ vs. AreCounted normal vs (replicate normal.count false) m2 waiting2 r2) (sym one_more)
       (subst (λ xs. AreCounted normal (take i us ++ u ∷ []) (replicate normal.count false) xs waiting2 r2) (sym (em ∙ ap (λ k. m ++ k ∷ []) keys))
-      (subst (AreCounted normal (take i us ++ u ∷ []) (replicate normal.count false) (m ++ length (key_classes normal u) ∷ []) waiting2) (sym (er ∙ ap (λ k. r ++ k ∷ []) (sym front)))
+      (subst (AreCounted normal (take i us ++ u ∷ []) (replicate normal.count false) (m ++ length (key_classes normal u) ∷ []) waiting2) (sym (er
+      ∙ ap (λ k. r ++ k ∷ []) (sym front)))
       (taken_ready normal (take i us) m waiting waiting2 r u so waits_here (sym keys ∙ none))))
 
   pub taken_up_on : (m2 : List ℕ) → m2 ≡ m ++ n ∷ [] → n ≢ 0 → AreCounted normal (take (i + 1) us) (replicate normal.count false) m2 waiting2 r
@@ -325,7 +359,9 @@ seen_at us i u l e = ap seen e ∙ by us i l
     by (v ∷ vs) zero m = refl
     by (v ∷ vs) (suc k) m = by vs k (omega arith)
 
-pub found_at : (list us : List UseAt) (ready r : List ℕ) (n : ℕ) (x : UseAt) → us ≡ list → r ≡ ready → x ≡ get_or us (get_or r n 0) x → number_at ready n < length (map seen list)
+pub found_at : (list us : List UseAt) (ready r : List ℕ) (n : ℕ) (x : UseAt) → us ≡ list → r ≡ ready → x ≡ get_or us (get_or r n 0) x
+    → number_at ready n < length (map seen list)
     → seen x ≡ use_at (map seen list) (number_at ready n)
 found_at list us ready r n x eu er is l =
-    seen_at list (number_at ready n) x (omega (arith, length_seen list)) (is ∙ ap (λ xs. get_or xs (get_or r n 0) x) eu ∙ ap (λ ks. get_or list (get_or ks n 0) x) er)
+    seen_at list (number_at ready n) x (omega (arith, length_seen list)) (is ∙ ap (λ xs. get_or xs (get_or r n 0) x) eu
+    ∙ ap (λ ks. get_or list (get_or ks n 0) x) er)

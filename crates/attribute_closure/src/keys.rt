@@ -51,7 +51,8 @@ fn wait(
 ) -> Result<(), NoMemory>
     requires ranges { ClassesInRange block.now }
     requires lists { length waiting.old ≡ block.now.count }
-    ensures { OnOk result (WaitsFor block.now.count number (key_classes block.now (seen found.entry)) waiting.old waiting.new) }
+    ensures { OnOk result
+        (WaitsFor block.now.count number (key_classes block.now (seen found.entry)) waiting.old waiting.new) }
 {
     for column in found.access.key.as_slice() {
         let class = usize::from(class_at(block, found.atom, *column));
@@ -73,7 +74,8 @@ fn take_up(
     requires missing { missing.old.items ≡ [] }
     requires waiting { waiting.old ≡ replicate block.now.count [] }
     requires ready { ready.old ≡ [] }
-    ensures { OnOk result (AreCounted block.now (map seen uses.now) (replicate block.now.count false) missing.new.items waiting.new ready.new) }
+    ensures { OnOk result
+        (AreCounted block.now (map seen uses.now) (replicate block.now.count false) missing.new.items waiting.new ready.new) }
 {
     for (number, found) in uses.iter().enumerate() {
         let columns = found.access.key.len();
@@ -156,7 +158,8 @@ impl<'a> Keys<'a> {
         requires ranges { ClassesInRange block.now }
         requires counted { KeysAreCounted block.now self.old }
         ensures counted { OnOk result (KeysAreCounted block.now self.new) }
-        ensures set { OnOk result (self.new.set.items ≡ with_classes self.old.set.items (map (class_of_column block.now atom) columns.now)) }
+        ensures set { OnOk result (self.new.set.items
+            ≡ with_classes self.old.set.items (map (class_of_column block.now atom) columns.now)) }
         ensures uses { self.new.uses ≡ self.old.uses }
         ensures goes_on { OnOk result (GoesOn self.old.ready self.new.ready) }
     {

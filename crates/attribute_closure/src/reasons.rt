@@ -62,7 +62,8 @@ fn is_open_at(block: &Normal, set: &[bool], place: Place) -> bool
 }
 
 fn open_column(block: &Normal, set: &[bool], atom: u16, columns: &[ColumnId]) -> Option<ColumnId>
-    ensures { option_map (λ c. record { atom = atom; column = c }) result ≡ find (is_open block.now set.now) (map (λ c. record { atom = atom; column = c }) columns.now) }
+    ensures { option_map (λ c. record { atom = atom; column = c }) result
+        ≡ find (is_open block.now set.now) (map (λ c. record { atom = atom; column = c }) columns.now) }
 {
     for column in columns {
         let place = Place {

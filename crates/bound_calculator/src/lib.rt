@@ -15,7 +15,10 @@ use beas_core::{Access, Derivation, List, Refusal, Sizes};
 // The sizes with one more step: nothing where the reads pass 2^128 - 1.
 fn with_step(sizes: Sizes, adds: bool, bound: u32) -> Option<Sizes>
     ensures { MatchOption result (2 ^ 128 ≤ sizes.reads + sizes.last * bound)
-        (λ next. next ≡ record { reads = sizes.reads + sizes.last * bound; last = if adds then sizes.last * bound else sizes.last }) }
+        (λ next. next ≡ record {
+          reads = sizes.reads + sizes.last * bound;
+          last = if adds then sizes.last * bound else sizes.last;
+        }) }
 {
     let cost = sizes.last.checked_mul(u128::from(bound))?;
     let reads = sizes.reads.checked_add(cost)?;

@@ -23,6 +23,7 @@ length_mapped f (x ∷ xs) = ap suc (length_mapped f xs)
 pub few_needed : (normal : Normal) (block : Block) → BlockIsWellFormed block → normal ≡ normal_of block → length normal.needed ≤ 16
 unfolding normal_of
 few_needed normal block shape e =
-    let a = ap (λ n. length n.needed) e ∙ length_mapped (λ b. needed_columns block b.0 b.1.width) (enumerate_from 0 block.atoms) ∙ length-enumerate_from 0 block.atoms in
+    let a = ap (λ n. length n.needed) e ∙ length_mapped (λ b. needed_columns block b.0 b.1.width) (enumerate_from 0 block.atoms)
+    ∙ length-enumerate_from 0 block.atoms in
     let f = shape.few_atoms in
     omega arith

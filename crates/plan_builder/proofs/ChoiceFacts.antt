@@ -31,17 +31,22 @@ module _ (p : Use → Bool) (us : List UseAt) (i : ℕ) (u : UseAt) (l : i < len
       ap (λ k. filter p (map seen (take k us))) (add-one i) ∙ ap (λ vs. filter p (map seen vs)) (take-suc us i u l ∙ ap (λ v. take i us ++ v ∷ []) (sym is))
       ∙ ap (filter p) (map-append seen (take i us) (u ∷ [])) ∙ filter-append p (map seen (take i us)) (seen u ∷ [])
 
-  best_more : (best : Option Use) → best ≡ least_bound (filter p (map seen (take i us))) → p (seen u) ≡ true → least_bound (filter p (map seen (take (i + 1) us))) ≡ cond (is_better (seen u) best) (Some (seen u)) best
+  best_more : (best : Option Use) → best ≡ least_bound (filter p (map seen (take i us))) → p (seen u) ≡ true
+      → least_bound (filter p (map seen (take (i + 1) us))) ≡ cond (is_better (seen u) best) (Some (seen u)) best
   best_more best so may =
-      ap least_bound (one_more ∙ ap (λ b. filter p (map seen (take i us)) ++ cond b (seen u ∷ []) []) may) ∙ least_push (filter p (map seen (take i us))) (seen u)
+      ap least_bound (one_more ∙ ap (λ b. filter p (map seen (take i us)) ++ cond b (seen u ∷ []) []) may)
+      ∙ least_push (filter p (map seen (take i us))) (seen u)
       ∙ ap (λ o. cond (is_better (seen u) o) (Some (seen u)) o) (sym so)
 
-  pub best_taken : (best : Option Use) (may better : Bool) → best ≡ least_bound (filter p (map seen (take i us))) → may ≡ p (seen u) → better ≡ is_better (seen u) best → (may && better) ≡ true
+  pub best_taken : (best : Option Use) (may better : Bool) → best ≡ least_bound (filter p (map seen (take i us))) → may ≡ p (seen u)
+      → better ≡ is_better (seen u) best → (may && better) ≡ true
       → Some (seen u) ≡ least_bound (filter p (map seen (take (i + 1) us)))
   best_taken best true better so m b h = sym (best_more best so (sym m) ∙ ap (λ c. cond c (Some (seen u)) best) (sym b ∙ h))
   best_taken best false better so m b h = cc
 
-  pub best_left : (best : Option Use) (may better : Bool) → best ≡ least_bound (filter p (map seen (take i us))) → may ≡ p (seen u) → better ≡ is_better (seen u) best → (may && better) ≡ false
+  pub best_left : (best : Option Use) (may better : Bool) → best ≡ least_bound (filter p (map seen (take i us))) → may ≡ p (seen u)
+      → better ≡ is_better (seen u) best → (may && better) ≡ false
       → best ≡ least_bound (filter p (map seen (take (i + 1) us)))
   best_left best true better so m b h = sym (best_more best so (sym m) ∙ ap (λ c. cond c (Some (seen u)) best) (sym b ∙ h))
-  best_left best false better so m b h = so ∙ sym (ap least_bound (one_more ∙ ap (λ c. filter p (map seen (take i us)) ++ cond c (seen u ∷ []) []) (sym m) ∙ append-nil (filter p (map seen (take i us)))))
+  best_left best false better so m b h = so ∙ sym (ap least_bound (one_more
+      ∙ ap (λ c. filter p (map seen (take i us)) ++ cond c (seen u ∷ []) []) (sym m) ∙ append-nil (filter p (map seen (take i us)))))

@@ -26,32 +26,38 @@ use Rattle.plan_builder.specs.Plans.{served_among}
 module _ (normal : Normal) (accesses : List Access) (set : ClassSet) where
   adding_done : (n : ℕ) → is_covered normal accesses set ≡ true → adding_steps n normal accesses set ≡ Some []
   adding_done zero e = ap (λ b. cond b (Some []) None) e
-  adding_done (suc n) e = ap (λ b. cond b (Some []) (then_step (least_bound (enabled_uses normal accesses set)) None (λ u. option_map (λ steps. step_of normal set u ∷ steps) (adding_steps n normal accesses (with_use normal set u))))) e
+  adding_done (suc n) e = ap (λ b. cond b (Some []) (then_step (least_bound (enabled_uses normal accesses set)) None (λ u. option_map
+      (λ steps. step_of normal set u ∷ steps) (adding_steps n normal accesses (with_use normal set u))))) e
 
   adding_out : is_covered normal accesses set ≡ false → adding_steps 0 normal accesses set ≡ None
   adding_out e = ap (λ b. cond b (Some []) None) e
 
-  adding_stuck : (n : ℕ) → is_covered normal accesses set ≡ false → least_bound (enabled_uses normal accesses set) ≡ None → adding_steps n normal accesses set ≡ None
+  adding_stuck : (n : ℕ) → is_covered normal accesses set ≡ false → least_bound (enabled_uses normal accesses set) ≡ None
+      → adding_steps n normal accesses set ≡ None
   adding_stuck zero e h = ap (λ b. cond b (Some []) None) e
   adding_stuck (suc n) e h =
-      ap (λ b. cond b (Some []) (then_step (least_bound (enabled_uses normal accesses set)) None (λ u. option_map (λ steps. step_of normal set u ∷ steps) (adding_steps n normal accesses (with_use normal set u))))) e
+      ap (λ b. cond b (Some []) (then_step (least_bound (enabled_uses normal accesses set)) None (λ u. option_map
+      (λ steps. step_of normal set u ∷ steps) (adding_steps n normal accesses (with_use normal set u))))) e
       ∙ ap (λ o. then_step o None (λ u. option_map (λ steps. step_of normal set u ∷ steps) (adding_steps n normal accesses (with_use normal set u)))) h
 
   adding_more : (m : ℕ) (u : Use) → is_covered normal accesses set ≡ false → least_bound (enabled_uses normal accesses set) ≡ Some u
       → adding_steps (suc m) normal accesses set ≡ option_map (λ steps. step_of normal set u ∷ steps) (adding_steps m normal accesses (with_use normal set u))
   adding_more m u e h =
-      ap (λ b. cond b (Some []) (then_step (least_bound (enabled_uses normal accesses set)) None (λ v. option_map (λ steps. step_of normal set v ∷ steps) (adding_steps m normal accesses (with_use normal set v))))) e
+      ap (λ b. cond b (Some []) (then_step (least_bound (enabled_uses normal accesses set)) None (λ v. option_map
+      (λ steps. step_of normal set v ∷ steps) (adding_steps m normal accesses (with_use normal set v))))) e
       ∙ ap (λ o. then_step o None (λ v. option_map (λ steps. step_of normal set v ∷ steps) (adding_steps m normal accesses (with_use normal set v)))) h
 
 -- a set that a reason speaks against doesn't cover
-pub not_covered : (normal : Normal) (accesses : List Access) (set : ClassSet) (why : NotCovered) → reason normal accesses set ≡ Some why → is_covered normal accesses set ≡ false
+pub not_covered : (normal : Normal) (accesses : List Access) (set : ClassSet) (why : NotCovered) → reason normal accesses set ≡ Some why
+    → is_covered normal accesses set ≡ false
 not_covered normal accesses set why h = by (is_covered normal accesses set) refl
   where
     by : (b : Bool) → is_covered normal accesses set ≡ b → b ≡ false
     by true e = let g = covered-reason normal accesses set e in cc
     by false e = refl
 
-prefixed : (xs : List DStep) (x : DStep) (o : Option (List DStep)) → option_map (λ more. xs ++ more) (option_map (λ more. x ∷ more) o) ≡ option_map (λ more. (xs ++ x ∷ []) ++ more) o
+prefixed : (xs : List DStep) (x : DStep) (o : Option (List DStep))
+    → option_map (λ more. xs ++ more) (option_map (λ more. x ∷ more) o) ≡ option_map (λ more. (xs ++ x ∷ []) ++ more) o
 prefixed xs x None = refl
 prefixed xs x (Some ys) = ap Some (sym (append_assoc xs (x ∷ []) ys))
 
@@ -66,10 +72,12 @@ module _ (normal : Normal) (accesses : List Access) (start set : ClassSet) (step
   pub left_out : is_covered normal accesses set ≡ false → n ≤ i → adding_steps n normal accesses start ≡ None
   left_out h all =
       let z : n - i ≡ 0 = omega arith in
-      left ∙ ap (λ k. option_map (λ more. steps ++ more) (adding_steps k normal accesses set)) z ∙ ap (option_map (λ more. steps ++ more)) (adding_out normal accesses set h)
+      left ∙ ap (λ k. option_map (λ more. steps ++ more) (adding_steps k normal accesses set)) z
+      ∙ ap (option_map (λ more. steps ++ more)) (adding_out normal accesses set h)
 
   pub left_more : (u : Use) → is_covered normal accesses set ≡ false → least_bound (enabled_uses normal accesses set) ≡ Some u → i < n
-      → adding_steps n normal accesses start ≡ option_map (λ more. (steps ++ step_of normal set u ∷ []) ++ more) (adding_steps (n - (i + 1)) normal accesses (with_use normal set u))
+      → adding_steps n normal accesses start ≡ option_map (λ more. (steps ++ step_of normal set u ∷ []) ++ more) (adding_steps (n -
+      (i + 1)) normal accesses (with_use normal set u))
   left_more u h g l =
       let k : n - i ≡ suc (n - (i + 1)) = omega arith in
       left ∙ ap (λ m. option_map (λ more. steps ++ more) (adding_steps m normal accesses set)) k
@@ -77,8 +85,10 @@ module _ (normal : Normal) (accesses : List Access) (start set : ClassSet) (step
       ∙ prefixed steps (step_of normal set u) (adding_steps (n - (i + 1)) normal accesses (with_use normal set u))
 
 -- one more step of a plan
-module _ (normal : Normal) (accesses : List Access) (once : EachIdOnce accesses) (start set : ClassSet) (steps : List DStep) (us : List Use) (u : Use) (member : Has (uses normal accesses) u) where
-  pub bound_more : set ≡ bound_after normal accesses start steps → with_use normal set u ≡ bound_after normal accesses start (steps ++ step_of normal set u ∷ [])
+module _ (normal : Normal) (accesses : List Access) (once : EachIdOnce accesses) (start set : ClassSet) (steps : List DStep) (us : List Use) (u : Use)
+    (member : Has (uses normal accesses) u) where
+  pub bound_more : set ≡ bound_after normal accesses start steps
+      → with_use normal set u ≡ bound_after normal accesses start (steps ++ step_of normal set u ∷ [])
   bound_more e =
       sym (bound_step normal accesses once set u member) ∙ ap (λ s. bound_by normal accesses s (step_of normal set u)) e
       ∙ sym (bound-append normal accesses steps (step_of normal set u ∷ []) start)
@@ -92,7 +102,8 @@ module _ (normal : Normal) (accesses : List Access) (once : EachIdOnce accesses)
       used atom access = record { atom = atom; access = access }
 
 -- whether an atom is served, by the steps or by their uses
-pub served_same : (normal : Normal) (accesses : List Access) (steps : List DStep) (us : List Use) (atom : ℕ) → map (use_of accesses) steps ≡ us → is_served_by normal accesses steps atom ≡ served_among normal atom us
+pub served_same : (normal : Normal) (accesses : List Access) (steps : List DStep) (us : List Use) (atom : ℕ) → map (use_of accesses) steps ≡ us
+    → is_served_by normal accesses steps atom ≡ served_among normal atom us
 served_same normal accesses steps us atom e = by steps ∙ ap (served_among normal atom) e
   where
     by : (ss : List DStep) → is_served_by normal accesses ss atom ≡ served_among normal atom (map (use_of accesses) ss)
@@ -105,7 +116,8 @@ module _ (normal : Normal) (accesses : List Access) (first steps : List DStep) (
   next_atom : drop i (atoms_of normal) ≡ i ∷ drop (i + 1) (atoms_of normal)
   next_atom =
       drop-cons (atoms_of normal) i 0 (subst (λ n. i < n) (sym (length-range_with_len 0 (length normal.atoms))) below)
-      ∙ ap (λ k. k ∷ drop (suc i) (atoms_of normal)) (get_or-range_with_len 0 (length normal.atoms) i 0 below ∙ zero_plus i) ∙ ap (λ k. i ∷ drop k (atoms_of normal)) (sym (add-one i))
+      ∙ ap (λ k. k ∷ drop (suc i) (atoms_of normal)) (get_or-range_with_len 0 (length normal.atoms) i 0 below ∙ zero_plus i)
+      ∙ ap (λ k. i ∷ drop k (atoms_of normal)) (sym (add-one i))
     where
       zero_plus : (n : ℕ) → 0 + n ≡ n
       zero_plus n = omega arith
@@ -117,15 +129,21 @@ module _ (normal : Normal) (accesses : List Access) (first steps : List DStep) (
   rest s = serving_steps normal accesses first s (drop (i + 1) (atoms_of normal))
 
   pub serve_served : is_served_by normal accesses first i ≡ true → whole ≡ steps ++ rest set
-  serve_served h = turn ∙ ap (λ b. steps ++ cond b (rest set) (then_step (least_bound (filter (λ u. (u.atom == i) && serves normal set u) (uses normal accesses))) (rest set) (λ u. step_of normal set u ∷ rest (with_use normal set u)))) h
+  serve_served h = turn ∙ ap (λ b. steps ++ cond b (rest set) (then_step (least_bound (filter (λ u. (u.atom == i) && serves normal set u)
+      (uses normal accesses))) (rest set) (λ u. step_of normal set u ∷ rest (with_use normal set u)))) h
 
-  not_served : is_served_by normal accesses first i ≡ false → whole ≡ steps ++ then_step (least_bound (filter (λ u. (u.atom == i) && serves normal set u) (uses normal accesses))) (rest set) (λ u. step_of normal set u ∷ rest (with_use normal set u))
-  not_served h = turn ∙ ap (λ b. steps ++ cond b (rest set) (then_step (least_bound (filter (λ u. (u.atom == i) && serves normal set u) (uses normal accesses))) (rest set) (λ u. step_of normal set u ∷ rest (with_use normal set u)))) h
+  not_served : is_served_by normal accesses first i ≡ false
+      → whole ≡ steps ++ then_step (least_bound (filter (λ u. (u.atom == i) && serves normal set u) (uses normal accesses))) (rest set)
+      (λ u. step_of normal set u ∷ rest (with_use normal set u))
+  not_served h = turn ∙ ap (λ b. steps ++ cond b (rest set) (then_step (least_bound (filter (λ u. (u.atom == i) && serves normal set u)
+      (uses normal accesses))) (rest set) (λ u. step_of normal set u ∷ rest (with_use normal set u)))) h
 
-  pub serve_none : is_served_by normal accesses first i ≡ false → least_bound (filter (λ u. (u.atom == i) && serves normal set u) (uses normal accesses)) ≡ None → whole ≡ steps ++ rest set
+  pub serve_none : is_served_by normal accesses first i ≡ false
+      → least_bound (filter (λ u. (u.atom == i) && serves normal set u) (uses normal accesses)) ≡ None → whole ≡ steps ++ rest set
   serve_none h g = not_served h ∙ ap (λ o. steps ++ then_step o (rest set) (λ u. step_of normal set u ∷ rest (with_use normal set u))) g
 
-  pub serve_some : (u : Use) → is_served_by normal accesses first i ≡ false → least_bound (filter (λ u. (u.atom == i) && serves normal set u) (uses normal accesses)) ≡ Some u
+  pub serve_some : (u : Use) → is_served_by normal accesses first i ≡ false
+      → least_bound (filter (λ u. (u.atom == i) && serves normal set u) (uses normal accesses)) ≡ Some u
       → whole ≡ (steps ++ step_of normal set u ∷ []) ++ rest (with_use normal set u)
   serve_some u h g = not_served h ∙ ap (λ o. steps ++ then_step o (rest set) (λ v. step_of normal set v ∷ rest (with_use normal set v))) g
       ∙ sym (append_assoc steps (step_of normal set u ∷ []) (rest (with_use normal set u)))
@@ -133,23 +151,29 @@ module _ (normal : Normal) (accesses : List Access) (first steps : List DStep) (
 pub serve_end : (normal : Normal) (accesses : List Access) (first steps : List DStep) (set : ClassSet) (i : ℕ) → length normal.atoms ≤ i
     → steps ++ serving_steps normal accesses first set (drop i (atoms_of normal)) ≡ steps
 serve_end normal accesses first steps set i l =
-    ap (λ atoms. steps ++ serving_steps normal accesses first set atoms) (drop_all i (atoms_of normal) (subst (λ n. n ≤ i) (sym (length-range_with_len 0 (length normal.atoms))) l)) ∙ append-nil steps
+    ap (λ atoms. steps ++ serving_steps normal accesses first set atoms) (drop_all i (atoms_of normal) (subst (λ n. n ≤ i) (sym (length-range_with_len 0
+    (length normal.atoms))) l)) ∙ append-nil steps
 
 -- the derivation
-pub greedy_some : (normal : Normal) (accesses : List Access) (start : ClassSet) (first : List DStep) → adding_steps normal.count normal accesses start ≡ Some first
+pub greedy_some : (normal : Normal) (accesses : List Access) (start : ClassSet) (first : List DStep)
+    → adding_steps normal.count normal accesses start ≡ Some first
     → greedy_steps normal accesses start ≡ Some (first ++ serving_steps normal accesses first (bound_after normal accesses start first) (atoms_of normal))
 unfolding greedy_steps
-greedy_some normal accesses start first h = ap (option_map (λ steps. steps ++ serving_steps normal accesses steps (bound_after normal accesses start steps) (atoms_of normal))) h
+greedy_some normal accesses start first h = ap (option_map (λ steps. steps ++ serving_steps normal accesses steps
+    (bound_after normal accesses start steps) (atoms_of normal))) h
 
-pub greedy_none : (normal : Normal) (accesses : List Access) (start : ClassSet) → adding_steps normal.count normal accesses start ≡ None → greedy_steps normal accesses start ≡ None
+pub greedy_none : (normal : Normal) (accesses : List Access) (start : ClassSet) → adding_steps normal.count normal accesses start ≡ None
+    → greedy_steps normal accesses start ≡ None
 unfolding greedy_steps
-greedy_none normal accesses start h = ap (option_map (λ steps. steps ++ serving_steps normal accesses steps (bound_after normal accesses start steps) (atoms_of normal))) h
+greedy_none normal accesses start h = ap (option_map (λ steps. steps ++ serving_steps normal accesses steps (bound_after normal accesses start steps)
+    (atoms_of normal))) h
 
 pub derivation_is : (normal : Normal) (accesses : List Access) (start : ClassSet) → derivation normal accesses start ≡ greedy_steps normal accesses start
 unfolding derivation
 derivation_is normal accesses start = refl
 
-pub always_why : (normal : Normal) (accesses : List Access) (start : ClassSet) → ClassesInRange normal → length start ≡ normal.count → greedy_steps normal accesses start ≡ None
+pub always_why : (normal : Normal) (accesses : List Access) (start : ClassSet) → ClassesInRange normal → length start ≡ normal.count
+    → greedy_steps normal accesses start ≡ None
     → reason normal accesses (covered_set normal accesses start) ≡ None → ⊥
 always_why normal accesses start ranges counted h g =
     let e = derivation_exists normal accesses ranges start counted (reason-covered normal accesses (covered_set normal accesses start) g) in
@@ -160,18 +184,22 @@ pub chosen_member : (p : Use → Bool) (us : List Use) (u : Use) → Some u ≡ 
 chosen_member p us u e = (Has-from_filter p us u (least_has (filter p us) u (sym e))).0
 
 -- one more step, as the code takes it
-module _ (normal : Normal) (accesses : List Access) (once : EachIdOnce accesses) (start set : ClassSet) (steps : List DStep) (taken : List UseAt) (x : UseAt) (member : Has (uses normal accesses) (seen x))
+module _ (normal : Normal) (accesses : List Access) (once : EachIdOnce accesses) (start set : ClassSet) (steps : List DStep) (taken : List UseAt)
+    (x : UseAt) (member : Has (uses normal accesses) (seen x))
     (set2 : ClassSet) (steps2 : List DStep) (es : set2 ≡ with_use normal set (seen x)) (et : steps2 ≡ steps ++ step_of normal set (seen x) ∷ []) where
   pub plan_bound : set ≡ bound_after normal accesses start steps → set2 ≡ bound_after normal accesses start steps2
   plan_bound e = es ∙ bound_more normal accesses once start set steps (map seen taken) (seen x) member e ∙ ap (bound_after normal accesses start) (sym et)
 
-  pub plan_uses : (taken2 : List UseAt) → taken2 ≡ taken ++ x ∷ [] → map (use_of accesses) steps ≡ map seen taken → map (use_of accesses) steps2 ≡ map seen taken2
+  pub plan_uses : (taken2 : List UseAt) → taken2 ≡ taken ++ x ∷ [] → map (use_of accesses) steps ≡ map seen taken
+      → map (use_of accesses) steps2 ≡ map seen taken2
   plan_uses taken2 ex e =
       ap (map (use_of accesses)) et ∙ uses_more normal accesses once start set steps (map seen taken) (seen x) member e
       ∙ sym (ap (map seen) ex ∙ map-append seen taken (x ∷ []))
 
-  pub plan_left : (n i : ℕ) → i < n → adding_steps n normal accesses start ≡ option_map (λ more. steps ++ more) (adding_steps (n - i) normal accesses set) → is_covered normal accesses set ≡ false
-      → least_bound (enabled_uses normal accesses set) ≡ Some (seen x) → adding_steps n normal accesses start ≡ option_map (λ more. steps2 ++ more) (adding_steps (n - (i + 1)) normal accesses set2)
+  pub plan_left : (n i : ℕ) → i < n → adding_steps n normal accesses start
+      ≡ option_map (λ more. steps ++ more) (adding_steps (n - i) normal accesses set) → is_covered normal accesses set ≡ false
+      → least_bound (enabled_uses normal accesses set) ≡ Some (seen x)
+      → adding_steps n normal accesses start ≡ option_map (λ more. steps2 ++ more) (adding_steps (n - (i + 1)) normal accesses set2)
   plan_left n i l left out best =
       left_more normal accesses start set steps n i (omega arith) left (seen x) out best l
       ∙ ap (λ xs. option_map (λ more. xs ++ more) (adding_steps (n - (i + 1)) normal accesses (with_use normal set (seen x)))) (sym et)
@@ -181,15 +209,18 @@ pub by_bool : {P Q : Type 0} (b c : Bool) → b ≡ c → (c ≡ true → P) →
 by_bool true c e f g = f (sym e)
 by_bool false c e f g = g (sym e)
 
-pub among_here : (normal : Normal) (atom : ℕ) (us : List UseAt) (i : ℕ) (x : UseAt) → i < length us → x ≡ get_or us i x → x.atom ≡ atom → holds_needed normal (seen x) ≡ true → true ≡ served_among normal atom (map seen us)
+pub among_here : (normal : Normal) (atom : ℕ) (us : List UseAt) (i : ℕ) (x : UseAt) → i < length us → x ≡ get_or us i x → x.atom ≡ atom
+    → holds_needed normal (seen x) ≡ true → true ≡ served_among normal atom (map seen us)
 among_here normal atom us i x l is same held = sym (by us i l is)
   where
     by : (vs : List UseAt) (k : ℕ) → k < length vs → x ≡ get_or vs k x → served_among normal atom (map seen vs) ≡ true
     by [] k m e = absurd (omega (arith, m))
     by (v ∷ vs) zero m e =
         ap (λ y. ((y.atom == atom) && holds_needed normal (seen y)) || served_among normal atom (map seen vs)) (sym e)
-        ∙ ap (λ b. (b && holds_needed normal (seen x)) || served_among normal atom (map seen vs)) (eq-eqb x.atom atom same) ∙ ap (λ b. b || served_among normal atom (map seen vs)) held
-    by (v ∷ vs) (suc k) m e = ap (λ b. ((v.atom == atom) && holds_needed normal (seen v)) || b) (by vs k (omega arith) e) ∙ or_true ((v.atom == atom) && holds_needed normal (seen v))
+        ∙ ap (λ b. (b && holds_needed normal (seen x)) || served_among normal atom (map seen vs)) (eq-eqb x.atom atom same)
+        ∙ ap (λ b. b || served_among normal atom (map seen vs)) held
+    by (v ∷ vs) (suc k) m e = ap (λ b. ((v.atom == atom) && holds_needed normal (seen v)) || b) (by vs k (omega arith) e)
+        ∙ or_true ((v.atom == atom) && holds_needed normal (seen v))
       where
         or_true : (b : Bool) → (b || true) ≡ true
         or_true true = refl
@@ -204,26 +235,33 @@ from_false P Q true h e = cc
 from_false P Q false h e = h
 
 -- one atom more, as the code serves it
-pub serve_taken : (normal : Normal) (accesses : List Access) (first steps : List DStep) (set : ClassSet) (i : ℕ) → i < length normal.atoms → (whole : List DStep)
+pub serve_taken : (normal : Normal) (accesses : List Access) (first steps : List DStep) (set : ClassSet) (i : ℕ) → i < length normal.atoms
+    → (whole : List DStep)
     → whole ≡ steps ++ serving_steps normal accesses first set (drop i (atoms_of normal)) → (u : Use) → is_served_by normal accesses first i ≡ false
     → least_bound (filter (λ v. (v.atom == i) && serves normal set v) (uses normal accesses)) ≡ Some u → (steps2 : List DStep) (set2 : ClassSet)
-    → steps2 ≡ steps ++ step_of normal set u ∷ [] → set2 ≡ with_use normal set u → whole ≡ steps2 ++ serving_steps normal accesses first set2 (drop (i + 1) (atoms_of normal))
+    → steps2 ≡ steps ++ step_of normal set u ∷ [] → set2 ≡ with_use normal set u
+    → whole ≡ steps2 ++ serving_steps normal accesses first set2 (drop (i + 1) (atoms_of normal))
 serve_taken normal accesses first steps set i below whole left u h g steps2 set2 et es =
     serve_some normal accesses first steps set i below whole left u h g
     ∙ ap (λ xs. xs ++ serving_steps normal accesses first (with_use normal set u) (drop (i + 1) (atoms_of normal))) (sym et)
     ∙ ap (λ s. steps2 ++ serving_steps normal accesses first s (drop (i + 1) (atoms_of normal))) (sym es)
 
-pub greedy_whole : (normal : Normal) (accesses a2 a4 : List Access) (start set0 set1 : ClassSet) (first result : List DStep) → a2 ≡ accesses → a4 ≡ accesses → set0 ≡ start → set1 ≡ bound_after normal a2 set0 first
-    → adding_steps normal.count normal a2 set0 ≡ Some first → result ≡ first ++ serving_steps normal a4 first set1 (atoms_of normal) → Some result ≡ greedy_steps normal accesses start
+pub greedy_whole : (normal : Normal) (accesses a2 a4 : List Access) (start set0 set1 : ClassSet) (first result : List DStep) → a2 ≡ accesses
+    → a4 ≡ accesses → set0 ≡ start → set1 ≡ bound_after normal a2 set0 first
+    → adding_steps normal.count normal a2 set0 ≡ Some first → result ≡ first ++ serving_steps normal a4 first set1 (atoms_of normal)
+    → Some result ≡ greedy_steps normal accesses start
 greedy_whole normal accesses a2 a4 start set0 set1 first result e2 e4 e0 eb ea er =
     let bound = eb ∙ ap (λ s. bound_after normal a2 s first) e0 ∙ ap (λ a. bound_after normal a start first) e2 in
     let added = ap (λ a. adding_steps normal.count normal a start) (sym e2) ∙ ap (adding_steps normal.count normal a2) (sym e0) ∙ ea in
-    ap Some (er ∙ ap (λ a. first ++ serving_steps normal a first set1 (atoms_of normal)) e4 ∙ ap (λ s. first ++ serving_steps normal accesses first s (atoms_of normal)) bound)
+    ap Some (er ∙ ap (λ a. first ++ serving_steps normal a first set1 (atoms_of normal)) e4
+    ∙ ap (λ s. first ++ serving_steps normal accesses first s (atoms_of normal)) bound)
     ∙ sym (greedy_some normal accesses start first added)
 
-pub greedy_nothing : (normal : Normal) (accesses a2 : List Access) (start set0 : ClassSet) → a2 ≡ accesses → set0 ≡ start → adding_steps normal.count normal a2 set0 ≡ None → None ≡ greedy_steps normal accesses start
+pub greedy_nothing : (normal : Normal) (accesses a2 : List Access) (start set0 : ClassSet) → a2 ≡ accesses → set0 ≡ start
+    → adding_steps normal.count normal a2 set0 ≡ None → None ≡ greedy_steps normal accesses start
 greedy_nothing normal accesses a2 start set0 e2 e0 ea =
-    sym (greedy_none normal accesses start (ap (λ a. adding_steps normal.count normal a start) (sym e2) ∙ ap (adding_steps normal.count normal a2) (sym e0) ∙ ea))
+    sym (greedy_none normal accesses start (ap (λ a. adding_steps normal.count normal a start) (sym e2)
+    ∙ ap (adding_steps normal.count normal a2) (sym e0) ∙ ea))
 
 pub not_some : {A : Type 0} (o : Option A) → ((x : A) → o ≡ Some x → ⊥) → o ≡ None
 not_some None h = refl

@@ -21,7 +21,8 @@ pub struct Plan {
 }
 
 fn take_step(plan: &mut Plan, block: &Normal, found: UseAt<'_>) -> Result<(), NoMemory>
-    ensures steps { OnOk result (plan.new.steps ≡ plan.old.steps ++ step_of block.now plan.old.set.items (seen found.entry) ∷ []) }
+    ensures steps { OnOk result (plan.new.steps
+        ≡ plan.old.steps ++ step_of block.now plan.old.set.items (seen found.entry) ∷ []) }
     ensures set { OnOk result (plan.new.set.items ≡ with_use block.now plan.old.set.items (seen found.entry)) }
 {
     let adds = adds(block, &plan.set, &found);
@@ -60,7 +61,8 @@ fn add_steps<'a>(
     requires steps { plan.old.steps ≡ [] }
     requires taken { taken.old ≡ [] }
     ensures { IfOk result (λ whole. MatchBool whole
-        (HasCome block.now accesses.now plan.old.set.items plan.new taken.new × (adding_steps block.now.count block.now accesses.now plan.old.set.items ≡ Some plan.new.steps))
+        (HasCome block.now accesses.now plan.old.set.items plan.new taken.new
+        × (adding_steps block.now.count block.now accesses.now plan.old.set.items ≡ Some plan.new.steps))
         (adding_steps block.now.count block.now accesses.now plan.old.set.items ≡ None)) }
 {
     for _turn in 0..block.count {
@@ -103,7 +105,8 @@ fn serve_atoms(
     requires uses { map seen uses.now ≡ uses_in block.now accesses.now }
     requires taken { map (use_of accesses.now) plan.old.steps ≡ map seen taken.now }
     ensures { OnOk result (plan.new.steps
-        ≡ plan.old.steps ++ serving_steps block.now accesses.now plan.old.steps plan.old.set.items (atoms_of block.now)) }
+        ≡ plan.old.steps
+        ++ serving_steps block.now accesses.now plan.old.steps plan.old.set.items (atoms_of block.now)) }
 {
     for atom in 0..block.atoms.len() as u16 {
         if !is_served_among(block, taken, atom) {

@@ -11,11 +11,14 @@ table_of atoms items i k ea ek = ap (λ xs. (get_or xs k none).table.0) ea ∙ a
 
 pub returns-then-serves : goal.returns-then-serves
 returns-then-serves c =
-    served_there c.args.block.now c.args.accesses.now c.args.set.now c.args.atom none c.requires c.loop-access.access-index c.access-item.result c.loop-access-test.true c.access-item.is
-    (get_or c.as_slice.result.now c.from.result none).table.0 (table_of c.args.block.now.atoms c.as_slice.result.now c.args.atom c.from.result c.as_slice.ensures c.from.ensures) c.if-access-table.true
+    served_there c.args.block.now c.args.accesses.now c.args.set.now c.args.atom none c.requires c.loop-access.access-index c.access-item.result
+    c.loop-access-test.true c.access-item.is
+    (get_or c.as_slice.result.now c.from.result none).table.0
+    (table_of c.args.block.now.atoms c.as_slice.result.now c.args.atom c.from.result c.as_slice.ensures c.from.ensures) c.if-access-table.true
     (sym c.serves.ensures ∙ c.if-serves.true)
 
 pub returns : goal.returns
 returns c =
     served_nowhere c.args.block.now c.args.accesses.now c.args.set.now c.args.atom none c.requires c.loop-access.access-index c.loop-access-test.false
-    (get_or c.as_slice.result.now c.from.result none).table.0 (table_of c.args.block.now.atoms c.as_slice.result.now c.args.atom c.from.result c.as_slice.ensures c.from.ensures) c.loop-access.invariant
+    (get_or c.as_slice.result.now c.from.result none).table.0
+    (table_of c.args.block.now.atoms c.as_slice.result.now c.args.atom c.from.result c.as_slice.ensures c.from.ensures) c.loop-access.invariant

@@ -5,4 +5,5 @@ use Rattle.attribute_closure.proofs.Listed.{use_of_access}
 use Rattle.attribute_closure.proofs.uses.push_uses.Given as goal
 
 abbrev pub invariant-loop-access : goal.invariant-loop-access
-invariant-loop-access l = map seen l.found ≡ map seen l.initial.found ++ map (use_of_access l.atom) (filter (λ access. access.table.0 == l.table.0) (take l.access-index l.accesses))
+invariant-loop-access l = map seen l.found
+    ≡ map seen l.initial.found ++ map (use_of_access l.atom) (filter (λ access. access.table.0 == l.table.0) (take l.access-index l.accesses))

@@ -5,7 +5,8 @@ use Rattle.attribute_closure.proofs.uses.uses_of.Goals as goal
 
 pub loop-number-preserved : goal.loop-number-preserved
 loop-number-preserved c =
-    uses_step c.args.accesses.now c.args.block.now.atoms c.as_slice-atom-items.result.now c.loop-number.number (record { table = record { 0 = 0 }; width = 0 }) _ _ _ c.as_slice-atom-items.ensures c.loop-number-test.true
+    uses_step c.args.accesses.now c.args.block.now.atoms c.as_slice-atom-items.result.now c.loop-number.number
+    (record { table = record { 0 = 0 }; width = 0 }) _ _ _ c.as_slice-atom-items.ensures c.loop-number-test.true
     c.loop-number.invariant c.in_ok-push_uses.ensures refl
 
 pub returns : goal.returns

@@ -9,9 +9,11 @@ use Rattle.plan_builder.proofs.choices.best_adding.Goals.{then-may-better, else-
 pub loop-found-preserved : goal.loop-found-preserved
 loop-found-preserved c = elim c.if-may-better.branch [
   | then-may-better w ↦ ap (option_map seen) w.best-is
-      ∙ best_taken (may_add c.args.block.now c.args.set.now) c.args.uses.now c.loop-found.found-index c.found-item.result c.loop-found-test.true c.found-item.is (option_map seen c.loop-found.best) c.adds_now-may.result c.beats-better.result
+      ∙ best_taken (may_add c.args.block.now c.args.set.now) c.args.uses.now c.loop-found.found-index c.found-item.result c.loop-found-test.true
+      c.found-item.is (option_map seen c.loop-found.best) c.adds_now-may.result c.beats-better.result
       c.loop-found.invariant c.adds_now-may.ensures c.beats-better.ensures w.if-may-better.true
   | else-may-better w ↦ ap (option_map seen) w.best-is
-      ∙ best_left (may_add c.args.block.now c.args.set.now) c.args.uses.now c.loop-found.found-index c.found-item.result c.loop-found-test.true c.found-item.is (option_map seen c.loop-found.best) c.adds_now-may.result c.beats-better.result
+      ∙ best_left (may_add c.args.block.now c.args.set.now) c.args.uses.now c.loop-found.found-index c.found-item.result c.loop-found-test.true
+      c.found-item.is (option_map seen c.loop-found.best) c.adds_now-may.result c.beats-better.result
       c.loop-found.invariant c.adds_now-may.ensures c.beats-better.ensures w.if-may-better.false
 ]

@@ -11,7 +11,8 @@ pub returns-then-is_covered_by : goal.returns-then-is_covered_by
 returns-then-is_covered_by c =
     let covered = ap (is_covered c.args.block.now c.args.accesses.now) (sym c.deref.ensures.value) ∙ sym c.is_covered_by.ensures ∙ c.if-is_covered_by.true in (
       c.loop-turn.invariant.come,
-      left_done c.args.block.now c.args.accesses.now c.args.plan.now.set.items c.loop-turn.plan.set.items c.loop-turn.plan.steps c.args.block.now.count c.loop-turn._turn (omega arith) c.loop-turn.invariant.left covered,
+      left_done c.args.block.now c.args.accesses.now c.args.plan.now.set.items c.loop-turn.plan.set.items c.loop-turn.plan.steps c.args.block.now.count
+          c.loop-turn._turn (omega arith) c.loop-turn.invariant.left covered,
     )
 
 pub returns-in-None : goal.returns-in-None
@@ -19,31 +20,42 @@ returns-in-None c =
     let covered = ap (is_covered c.args.block.now c.args.accesses.now) (sym c.deref.ensures.value) ∙ sym c.is_covered_by.ensures ∙ c.if-is_covered_by.false in
     let best = ap (λ s. least_bound (enabled_uses c.args.block.now c.args.accesses.now s)) (sym c.deref-in-loop-turn.ensures.value)
     ∙ ap (λ us. least_bound (filter (may_add c.args.block.now c.deref-in-loop-turn.result.now) us)) (sym c.requires.uses) ∙ sym c.in-None.ensures in
-    left_stuck c.args.block.now c.args.accesses.now c.args.plan.now.set.items c.loop-turn.plan.set.items c.loop-turn.plan.steps c.args.block.now.count c.loop-turn._turn (omega arith) c.loop-turn.invariant.left covered best
+    left_stuck c.args.block.now c.args.accesses.now c.args.plan.now.set.items c.loop-turn.plan.set.items c.loop-turn.plan.steps c.args.block.now.count
+    c.loop-turn._turn (omega arith) c.loop-turn.invariant.left covered best
 
 pub loop-turn-preserved : goal.loop-turn-preserved
 loop-turn-preserved c =
     let covered = ap (is_covered c.args.block.now c.args.accesses.now) (sym c.deref.ensures.value) ∙ sym c.is_covered_by.ensures ∙ c.if-is_covered_by.false in
     let chosen = c.in-Some.ensures ∙ ap (λ us. least_bound (filter (may_add c.args.block.now c.deref-in-loop-turn.result.now) us)) c.requires.uses in
     let best = ap (λ s. least_bound (enabled_uses c.args.block.now c.args.accesses.now s)) (sym c.deref-in-loop-turn.ensures.value) ∙ sym chosen in
-    let member = chosen_member (may_add c.args.block.now c.deref-in-loop-turn.result.now) (uses c.args.block.now c.args.accesses.now) (seen c.in-Some.found) chosen in
+    let member = chosen_member (may_add c.args.block.now c.deref-in-loop-turn.result.now) (uses c.args.block.now c.args.accesses.now)
+    (seen c.in-Some.found) chosen in
     record {
       come = record {
-        bound = plan_bound c.args.block.now c.args.accesses.now c.requires.ids c.args.plan.now.set.items c.loop-turn.plan.set.items c.loop-turn.plan.steps c.loop-turn.taken c.in-Some.found member
-            c.take_step.new.plan.set.items c.take_step.new.plan.steps c.in_ok-take_step-in-Some.ensures.set c.in_ok-take_step-in-Some.ensures.steps c.loop-turn.invariant.come.bound;
-        uses = plan_uses c.args.block.now c.args.accesses.now c.requires.ids c.args.plan.now.set.items c.loop-turn.plan.set.items c.loop-turn.plan.steps c.loop-turn.taken c.in-Some.found member
-            c.take_step.new.plan.set.items c.take_step.new.plan.steps c.in_ok-take_step-in-Some.ensures.set c.in_ok-take_step-in-Some.ensures.steps c.push.new.self c.in_ok-push-in-Some.ensures.ok c.loop-turn.invariant.come.uses;
+        bound = plan_bound c.args.block.now c.args.accesses.now c.requires.ids c.args.plan.now.set.items c.loop-turn.plan.set.items
+            c.loop-turn.plan.steps c.loop-turn.taken c.in-Some.found member
+            c.take_step.new.plan.set.items c.take_step.new.plan.steps c.in_ok-take_step-in-Some.ensures.set c.in_ok-take_step-in-Some.ensures.steps
+            c.loop-turn.invariant.come.bound;
+        uses = plan_uses c.args.block.now c.args.accesses.now c.requires.ids c.args.plan.now.set.items c.loop-turn.plan.set.items c.loop-turn.plan.steps
+            c.loop-turn.taken c.in-Some.found member
+            c.take_step.new.plan.set.items c.take_step.new.plan.steps c.in_ok-take_step-in-Some.ensures.set c.in_ok-take_step-in-Some.ensures.steps
+            c.push.new.self c.in_ok-push-in-Some.ensures.ok c.loop-turn.invariant.come.uses;
       };
-      left = plan_left c.args.block.now c.args.accesses.now c.requires.ids c.args.plan.now.set.items c.loop-turn.plan.set.items c.loop-turn.plan.steps c.loop-turn.taken c.in-Some.found member
-          c.take_step.new.plan.set.items c.take_step.new.plan.steps c.in_ok-take_step-in-Some.ensures.set c.in_ok-take_step-in-Some.ensures.steps c.args.block.now.count c.loop-turn._turn c.loop-turn-test.true
+      left = plan_left c.args.block.now c.args.accesses.now c.requires.ids c.args.plan.now.set.items c.loop-turn.plan.set.items c.loop-turn.plan.steps
+          c.loop-turn.taken c.in-Some.found member
+          c.take_step.new.plan.set.items c.take_step.new.plan.steps c.in_ok-take_step-in-Some.ensures.set c.in_ok-take_step-in-Some.ensures.steps
+          c.args.block.now.count c.loop-turn._turn c.loop-turn-test.true
           c.loop-turn.invariant.left covered best;
     }
 
 pub returns : goal.returns
 returns c =
-    by_bool c.is_covered_by-2.result (is_covered c.args.block.now c.args.accesses.now c.loop-turn.plan.set.items) (c.is_covered_by-2.ensures ∙ ap (is_covered c.args.block.now c.args.accesses.now) c.deref-2.ensures.value)
+    by_bool c.is_covered_by-2.result (is_covered c.args.block.now c.args.accesses.now c.loop-turn.plan.set.items) (c.is_covered_by-2.ensures
+    ∙ ap (is_covered c.args.block.now c.args.accesses.now) c.deref-2.ensures.value)
     (λ h. (
       c.loop-turn.invariant.come,
-      left_done c.args.block.now c.args.accesses.now c.args.plan.now.set.items c.loop-turn.plan.set.items c.loop-turn.plan.steps c.args.block.now.count c.loop-turn._turn c.loop-turn.auto._turn-end c.loop-turn.invariant.left h,
+      left_done c.args.block.now c.args.accesses.now c.args.plan.now.set.items c.loop-turn.plan.set.items c.loop-turn.plan.steps c.args.block.now.count
+          c.loop-turn._turn c.loop-turn.auto._turn-end c.loop-turn.invariant.left h,
     ))
-    (λ h. left_out c.args.block.now c.args.accesses.now c.args.plan.now.set.items c.loop-turn.plan.set.items c.loop-turn.plan.steps c.args.block.now.count c.loop-turn._turn c.loop-turn.auto._turn-end c.loop-turn.invariant.left h c.loop-turn-test.false)
+    (λ h. left_out c.args.block.now c.args.accesses.now c.args.plan.now.set.items c.loop-turn.plan.set.items c.loop-turn.plan.steps
+    c.args.block.now.count c.loop-turn._turn c.loop-turn.auto._turn-end c.loop-turn.invariant.left h c.loop-turn-test.false)

@@ -7,5 +7,6 @@ use Rattle.plan_builder.proofs.derivations.add_steps.Given as goal
 abbrev pub invariant-loop-turn : goal.invariant-loop-turn
 invariant-loop-turn l = record {
   come : HasCome l.block l.accesses l.initial.plan.set.items l.plan l.taken;
-  left : adding_steps l.block.count l.block l.accesses l.initial.plan.set.items ≡ option_map (λ more. l.plan.steps ++ more) (adding_steps (l.block.count - l._turn) l.block l.accesses l.plan.set.items);
+  left : adding_steps l.block.count l.block l.accesses l.initial.plan.set.items
+      ≡ option_map (λ more. l.plan.steps ++ more) (adding_steps (l.block.count - l._turn) l.block l.accesses l.plan.set.items);
 }

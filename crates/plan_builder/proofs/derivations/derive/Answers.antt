@@ -7,20 +7,25 @@ use Rattle.plan_builder.proofs.derivations.derive.Goals as goal
 
 pub returns-in-Some : goal.returns-in-Some
 returns-in-Some c =
-    derivation_is c.args.block.now c.args.accesses.now (constant_classes c.args.block.now) ∙ ap (greedy_steps c.args.block.now c.args.accesses.now) (sym (c.as_slice.ensures ∙ c.in_ok-start.ensures))
+    derivation_is c.args.block.now c.args.accesses.now (constant_classes c.args.block.now)
+    ∙ ap (greedy_steps c.args.block.now c.args.accesses.now) (sym (c.as_slice.ensures ∙ c.in_ok-start.ensures))
     ∙ sym c.in_ok-steps.ensures ∙ c.in-Some.is
 
 pub unreachable-requires : goal.unreachable-requires
 unreachable-requires c =
-    let none = ap (greedy_steps c.args.block.now c.args.accesses.now) (sym (c.as_slice.ensures ∙ c.in_ok-start.ensures)) ∙ sym c.in_ok-steps.ensures ∙ not_some c.in_ok-steps.field-0 c.in_default.not-Some in
-    let why = ap (reason c.args.block.now c.args.accesses.now) (sym (c.as_slice-3.ensures ∙ c.in_ok-covered.ensures)) ∙ ap (λ a. reason c.args.block.now a c.as_slice-3.result.now) (sym c.as_slice-2.ensures)
+    let none = ap (greedy_steps c.args.block.now c.args.accesses.now) (sym (c.as_slice.ensures ∙ c.in_ok-start.ensures)) ∙ sym c.in_ok-steps.ensures
+    ∙ not_some c.in_ok-steps.field-0 c.in_default.not-Some in
+    let why = ap (reason c.args.block.now c.args.accesses.now) (sym (c.as_slice-3.ensures ∙ c.in_ok-covered.ensures))
+    ∙ ap (λ a. reason c.args.block.now a c.as_slice-3.result.now) (sym c.as_slice-2.ensures)
     ∙ sym c.why_not.ensures ∙ c.in-None.is in
     always_why c.args.block.now c.args.accesses.now (constant_classes c.args.block.now) c.requires.ranges (start_counted c.args.block.now false) none why
 
 pub returns : goal.returns
 returns c = (
-  derivation_is c.args.block.now c.args.accesses.now (constant_classes c.args.block.now) ∙ ap (greedy_steps c.args.block.now c.args.accesses.now) (sym (c.as_slice.ensures ∙ c.in_ok-start.ensures))
+  derivation_is c.args.block.now c.args.accesses.now (constant_classes c.args.block.now)
+      ∙ ap (greedy_steps c.args.block.now c.args.accesses.now) (sym (c.as_slice.ensures ∙ c.in_ok-start.ensures))
       ∙ sym c.in_ok-steps.ensures ∙ not_some c.in_ok-steps.field-0 c.in_default.not-Some,
-  ap (reason c.args.block.now c.args.accesses.now) (sym (c.as_slice-3.ensures ∙ c.in_ok-covered.ensures)) ∙ ap (λ a. reason c.args.block.now a c.as_slice-3.result.now) (sym c.as_slice-2.ensures)
+  ap (reason c.args.block.now c.args.accesses.now) (sym (c.as_slice-3.ensures ∙ c.in_ok-covered.ensures))
+      ∙ ap (λ a. reason c.args.block.now a c.as_slice-3.result.now) (sym c.as_slice-2.ensures)
       ∙ sym c.why_not.ensures ∙ c.in-Some-why_not.is,
 )
