@@ -1,0 +1,13 @@
+mod Digits
+pub mod Numbered
+pub mod ScopeFacts
+pub mod Repeats
+pub mod TellsFacts
+pub mod LookedUpFacts
+pub mod PartFacts
+pub mod JoinedFacts
+pub mod Ranges
+pub mod BindFacts
+pub mod RowFacts
+pub mod DeleteFacts
+pub mod WellFormed

@@ -1,0 +1,12 @@
+use Rattle.std.proofs.Common.{◌≡◌, take}
+use Rattle.std.specs.List.{flat_map}
+use Rattle.binder.specs.Binding.{number_refusals, bound_row}
+use Rattle.binder.specs.Refusing.{first}
+use Rattle.binder.proofs.TellsFacts.{first_from}
+use Rattle.binder.proofs.rows.bound_row.Given as goal
+
+abbrev pub invariant-loop-literal : goal.invariant-loop-literal
+invariant-loop-literal l = record {
+  so_far : l.row ≡ bound_row (take l.literal-index l.literals);
+  in_range : first_from number_refusals l.literals l.literal-index ≡ first (flat_map number_refusals l.literals);
+}

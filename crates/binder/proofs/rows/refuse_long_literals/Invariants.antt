@@ -1,0 +1,9 @@
+use Rattle.std.proofs.Common.{◌≡◌}
+use Rattle.std.specs.List.{flat_map}
+use Rattle.binder.specs.Binding.{text_refusals}
+use Rattle.binder.specs.Refusing.{first}
+use Rattle.binder.proofs.TellsFacts.{first_from}
+use Rattle.binder.proofs.rows.refuse_long_literals.Given as goal
+
+abbrev pub invariant-loop-literal : goal.invariant-loop-literal
+invariant-loop-literal l = first_from (text_refusals l.limit) l.literals l.literal-index ≡ first (flat_map (text_refusals l.limit) l.literals)

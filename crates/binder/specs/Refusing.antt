@@ -1,0 +1,139 @@
+-- Why a query, rows or a delete are refused: for each kind of refusal its places in reading order.
+--     unknown_tables schema block       the tables of a block that there are not
+--     repeated_aliases block            the aliases that stand among those before them
+--     places kind limits shape block    the places of a kind in a block with its names looked up, which has a number;
+--                                       shape is the types of the outputs of the first block
+--     first refusals                    the first, if there is one
+--     Tells result refusals             a call that is refused by the first, where there is one, unless it is out of memory
+use Rattle.std.specs.Prelude.{ℕ, if◌then◌else◌, Bool, true, false, not, nat_lt, List, [], ◌∷◌, ◌++◌, length, map, filter, take, Option, Some, None, Result}
+use Rattle.std.specs.Option.{is_none}
+use Rattle.std.specs.List.{enumerate_from, flat_map, list_any}
+use Rattle.std.specs.Str.{bytes_eq}
+use Rattle.beas_core.specs.declared.errors.Fail.{Fail}
+use Rattle.beas_core.specs.declared.limits.Limits.{Limits}
+use Rattle.beas_core.specs.declared.refusal.Counted.TheVariants.{Blocks, Atoms, Outputs}
+use Rattle.beas_core.specs.declared.refusal.Refusal.{Refusal}
+use Rattle.beas_core.specs.declared.refusal.Refusal.TheVariants as refusal
+use Rattle.beas_core.specs.declared.schema.ColType.{ColType}
+use Rattle.beas_core.specs.declared.schema.ColType.TheVariants as type
+use Rattle.beas_core.specs.declared.value.Value.TheVariants.{Int, Str}
+use Rattle.catalogue.specs.Schema.{Schema, table_named}
+use Rattle.catalogue.specs.Refusing.{IsRefusedAs}
+use Rattle.sql_tree.specs.declared.tree.BlockTree.{BlockTree}
+use Rattle.sql_tree.specs.declared.tree.FromItem.{FromItem}
+use Rattle.binder.specs.declared.kinds.Flaw.{Flaw}
+use Rattle.binder.specs.declared.kinds.Flaw.TheVariants.{UnknownColumn, AmbiguousColumn, NumberRange, TextTooLong}
+use Rattle.binder.specs.declared.kinds.Kind.{Kind}
+use Rattle.binder.specs.declared.kinds.Kind.TheVariants as kind
+use Rattle.binder.specs.declared.meaning.Condition.{Condition}
+use Rattle.binder.specs.declared.meaning.Condition.TheVariants.{Compare, Between}
+use Rattle.binder.specs.declared.meaning.Meaning.{Meaning}
+use Rattle.binder.specs.declared.meaning.Meaning.TheVariants.{At, Fixed, Unknown, Ambiguous, OutOfRange}
+use Rattle.binder.specs.declared.meaning.LookedUp.{LookedUp}
+
+abbrev pub refused_if : Bool → Refusal → List Refusal
+refused_if failing why = if failing then why ∷ [] else []
+
+-- ---- tables and aliases
+
+unfoldable pub unknown_table : Schema → List ℕ → List Refusal
+unknown_table schema name = refused_if (is_none (table_named schema name)) (refusal.UnknownTable name)
+
+abbrev pub unknown_tables : Schema → BlockTree → List Refusal
+unknown_tables schema block = flat_map (λ item. unknown_table schema item.table) block.from_items
+
+-- the names that stand among those before them
+unfoldable pub repeated : List (List ℕ) → List (List ℕ)
+repeated names = map (λ n. n.1) (filter (λ n. list_any (λ earlier. bytes_eq earlier n.1) (take n.0 names)) (enumerate_from 0 names))
+
+abbrev pub repeated_among : List FromItem → List Refusal
+repeated_among items = map refusal.DuplicateName (repeated (map (λ item. item.alias) items))
+
+abbrev pub repeated_aliases : BlockTree → List Refusal
+repeated_aliases block = repeated_among block.from_items
+
+-- ---- refs and literals
+
+abbrev pub unknown_column : Meaning → List Refusal
+unknown_column (Unknown table column) = refusal.UnknownColumn table column ∷ []
+unknown_column _ = []
+
+abbrev pub ambiguous_column : Meaning → List Refusal
+ambiguous_column (Ambiguous column) = refusal.Ambiguous column ∷ []
+ambiguous_column _ = []
+
+abbrev pub number_range : Meaning → List Refusal
+number_range (OutOfRange negative digits) = refusal.NumberRange negative digits ∷ []
+number_range _ = []
+
+abbrev pub text_too_long : ℕ → Meaning → List Refusal
+text_too_long limit (Fixed (Str text)) = refused_if (nat_lt limit (length text)) (refusal.TextTooLong limit)
+text_too_long limit _ = []
+
+-- what is wrong with what a ref or a literal stands for, as a flaw of this kind
+unfoldable pub flaws : Flaw → ℕ → Meaning → List Refusal
+flaws UnknownColumn limit meaning = unknown_column meaning
+flaws AmbiguousColumn limit meaning = ambiguous_column meaning
+flaws NumberRange limit meaning = number_range meaning
+flaws TextTooLong limit meaning = text_too_long limit meaning
+
+-- reading order: left and right, or the value, low and high
+abbrev pub sides : Condition → List Meaning
+sides (Compare left sign right) = left ∷ right ∷ []
+sides (Between value low high) = value ∷ low ∷ high ∷ []
+
+-- reading order: the items, then the conditions
+abbrev pub meanings : LookedUp → List Meaning
+meanings block = block.items ++ flat_map sides block.conditions
+
+-- ---- types
+
+abbrev pub kind_of : Meaning → Option ColType
+kind_of (At column) = Some column.kind
+kind_of (Fixed (Int number)) = Some type.Integer
+kind_of (Fixed (Str text)) = Some type.Words
+kind_of _ = None
+
+abbrev pub same_kind : ColType → ColType → Bool
+same_kind type.Integer type.Integer = true
+same_kind type.Integer type.Words = false
+same_kind type.Words type.Integer = false
+same_kind type.Words type.Words = true
+
+-- two sides differ in type
+abbrev pub kinds_differ : Option ColType → Option ColType → Bool
+kinds_differ (Some left) (Some right) = not (same_kind left right)
+kinds_differ _ _ = false
+
+abbrev pub is_mixed : Condition → Bool
+is_mixed (Compare left sign right) = kinds_differ (kind_of left) (kind_of right)
+is_mixed (Between value low high) = if kinds_differ (kind_of value) (kind_of low) then true else kinds_differ (kind_of value) (kind_of high)
+
+abbrev pub same_kinds : List ColType → List ColType → Bool
+same_kinds [] [] = true
+same_kinds [] (k ∷ ks) = false
+same_kinds (j ∷ js) [] = false
+same_kinds (j ∷ js) (k ∷ ks) = if same_kind j k then same_kinds js ks else false
+
+-- ---- places
+
+abbrev pub mixed_types : ℕ → List Condition → List Refusal
+mixed_types number conditions = flat_map (λ c. refused_if (is_mixed c.1) (refusal.MixedTypes number c.0)) (enumerate_from 1 conditions)
+
+-- outputs are counted as they are written, so `*` is none
+unfoldable pub places : Kind → Limits → List ColType → ℕ × LookedUp → List Refusal
+places (kind.OfMeaning flaw) limits shape block = flat_map (flaws flaw limits.text) (meanings block.1)
+places kind.Types limits shape block = mixed_types block.0 block.1.conditions
+places kind.Shapes limits shape block = refused_if (not (same_kinds shape block.1.kinds)) (refusal.ShapeMismatch block.0)
+places kind.Blocks limits shape block = refused_if (nat_lt limits.blocks block.0) (refusal.TooMany Blocks limits.blocks)
+places kind.Atoms limits shape block = refused_if (nat_lt limits.atoms (length block.1.atoms)) (refusal.TooMany Atoms limits.atoms)
+places kind.Outputs limits shape block = refused_if (nat_lt limits.outputs (length block.1.items)) (refusal.TooMany Outputs limits.outputs)
+
+-- ---- the first
+
+abbrev pub first : List Refusal → Option Refusal
+first [] = None
+first (why ∷ more) = Some why
+
+abbrev pub Tells : {T : Type 0} → Result T Fail → List Refusal → Type 0
+Tells result refusals = IsRefusedAs result (first refusals)

@@ -1,0 +1,222 @@
+// Binds queries.
+ghost use Rattle.std.specs.Prelude.{◌≡◌, ◌++◌, ◌∷◌, [], ◌<◌, ◌≤◌, ◌+◌, ◌^◌, List, All, IfOk, OnOk, length, map, vec_len};
+ghost use Rattle.std.specs.List.{flat_map, enumerate_from};
+ghost use Rattle.beas_core.specs.declared.query.Block.{Block as Bound};
+ghost use Rattle.sql_tree.specs.declared.tree.BlockTree.{BlockTree as Source};
+ghost use Rattle.catalogue.specs.Schema.{SchemaIsSound};
+ghost use Rattle.beas_core.specs.Shapes.{QueryIsWellFormed};
+ghost use Rattle.binder.specs.Binding.{blocks_of, kinds, places_in_all, shape_of, looked_refusals, refusals, with_blocks, bound};
+ghost use Rattle.binder.specs.LookedUp.{looked_up, bound_block, BlockIsSmall};
+ghost use Rattle.binder.specs.Refusing.{Tells, unknown_tables, repeated_aliases, places};
+
+use crate::building::bound_block;
+use crate::kinds::{Flaw, Kind};
+use crate::looking_up::{look_up, want_tables};
+use crate::meaning::LookedUp;
+use crate::refusing::refuse_block;
+use beas_core::{Block, ColType, Fail, Limits, NoMemory, Query, QueryNode};
+use catalogue::Catalogue;
+use sql_tree::{BlockTree, SelectNode, SelectTree};
+use std::alloc::Global;
+
+/// The kinds of refusals that come after unknown tables and repeated aliases, in their order.
+const KINDS: [Kind; 9] = [
+    Kind::OfMeaning(Flaw::UnknownColumn),
+    Kind::OfMeaning(Flaw::AmbiguousColumn),
+    Kind::OfMeaning(Flaw::NumberRange),
+    Kind::OfMeaning(Flaw::TextTooLong),
+    Kind::Types,
+    Kind::Shapes,
+    Kind::Blocks,
+    Kind::Atoms,
+    Kind::Outputs,
+];
+
+/// Adds the blocks of a tree from left to right.
+fn push_blocks<'a>(tree: &'a SelectTree, blocks: &mut Vec<&'a BlockTree>) -> Result<(), NoMemory>
+    ensures { OnOk result (map (λ b. b.now) blocks.new.items ≡ map (λ b. b.now) blocks.old.items ++ blocks_of tree.now) }
+{
+    match &tree.node {
+        SelectNode::Block(block) => {
+            blocks.push(block)?;
+            Ok(())
+        }
+        SelectNode::Union(left, right) => {
+            push_blocks(left, blocks)?;
+            push_blocks(right, blocks)
+        }
+        SelectNode::Except(left, right) => {
+            push_blocks(left, blocks)?;
+            push_blocks(right, blocks)
+        }
+    }
+}
+
+fn want_all_tables(alloc: Global, catalogue: &Catalogue, blocks: &[&BlockTree]) -> Result<(), Fail>
+    ensures { Tells result (flat_map (λ b. unknown_tables catalogue.now b.now) blocks.now) }
+{
+    for block in blocks {
+        want_tables(alloc, catalogue, block.from_items.as_slice())?;
+    }
+    Ok(())
+}
+
+/// The blocks with their names looked up. They are refused where an alias stands twice in one of them.
+fn look_up_all(
+    alloc: Global,
+    catalogue: &Catalogue,
+    blocks: &[&BlockTree],
+) -> Result<Vec<LookedUp>, Fail>
+    ensures blocks { IfOk result (λ found. found.items ≡ map (λ b. looked_up catalogue.now b.now) blocks.now) }
+    ensures repeated { Tells result (flat_map (λ b. repeated_aliases b.now) blocks.now) }
+{
+    let mut found = Vec::new(alloc);
+    for block in blocks {
+        found.push(look_up(alloc, catalogue, block)?)?;
+    }
+    Ok(found)
+}
+
+/// That no block has a place of a kind.
+fn refuse_kind(
+    alloc: Global,
+    kind: Kind,
+    limits: &Limits,
+    shape: &[ColType],
+    blocks: &[LookedUp],
+) -> Result<(), Fail>
+    requires blocks { length blocks.now < 2 ^ 32 }
+    requires conditions { All (λ b. length b.conditions < 2 ^ 32) blocks.now }
+    ensures { Tells result (places_in_all limits.now shape.now blocks.now kind) }
+{
+    for (place, block) in blocks.iter().enumerate() {
+        refuse_block(alloc, kind, limits, shape, place as u32 + 1, block)?;
+    }
+    Ok(())
+}
+
+/// That no block has a place of any of these kinds.
+fn refuse_kinds(
+    alloc: Global,
+    kinds: &[Kind],
+    limits: &Limits,
+    shape: &[ColType],
+    blocks: &[LookedUp],
+) -> Result<(), Fail>
+    requires blocks { length blocks.now < 2 ^ 32 }
+    requires conditions { All (λ b. length b.conditions < 2 ^ 32) blocks.now }
+    ensures { Tells result (flat_map (places_in_all limits.now shape.now blocks.now) kinds.now) }
+{
+    for kind in kinds {
+        refuse_kind(alloc, *kind, limits, shape, blocks)?;
+    }
+    Ok(())
+}
+
+/// The types of the outputs of the first block.
+fn shape_of(blocks: &[LookedUp]) -> &[ColType]
+    ensures { result.now ≡ shape_of blocks.now }
+{
+    match blocks {
+        [first, ..] => first.kinds.as_slice(),
+        [] => &[],
+    }
+}
+
+/// That blocks with their names looked up have no place of any kind.
+#[tactic(auto, unfolding(crate::specs::Binding::looked_refusals))]
+fn refuse_all(alloc: Global, limits: &Limits, blocks: &[LookedUp]) -> Result<(), Fail>
+    requires blocks { length blocks.now < 2 ^ 32 }
+    requires conditions { All (λ b. length b.conditions < 2 ^ 32) blocks.now }
+    ensures { Tells result (looked_refusals limits.now blocks.now) }
+{
+    refuse_kinds(alloc, &KINDS, limits, shape_of(blocks), blocks)
+}
+
+fn bound_blocks(alloc: Global, blocks: &[LookedUp]) -> Result<Vec<Block>, NoMemory>
+    requires { All BlockIsSmall blocks.now }
+    ensures { IfOk result (λ bound. bound.items ≡ map bound_block blocks.now) }
+{
+    let mut bound = Vec::new(alloc);
+    for block in blocks {
+        bound.push(bound_block(alloc, block)?)?;
+    }
+    Ok(bound)
+}
+
+/// Joins the last blocks as the tree does, from the right to the left.
+fn joined(alloc: Global, tree: &SelectTree, blocks: &mut Vec<Block>) -> Result<Query, NoMemory>
+    requires { length (blocks_of tree.now) ≤ vec_len blocks.old }
+    ensures left { OnOk result (vec_len blocks.new + length (blocks_of tree.now) ≡ vec_len blocks.old) }
+    ensures query { IfOk result (λ query. (front : List Bound) (bind : Source → Bound)
+        → blocks.old.items ≡ front ++ map bind (blocks_of tree.now)
+        → (blocks.new.items ≡ front) × (query ≡ with_blocks bind tree.now)) }
+{
+    match &tree.node {
+        SelectNode::Block(_) => {
+            let Some(block) = blocks.pop() else {
+                unreachable!()
+            };
+            Ok(Query {
+                node: QueryNode::Block(block),
+            })
+        }
+        SelectNode::Union(left, right) => {
+            let right = Box::new(alloc, joined(alloc, right, blocks)?)?;
+            let left = Box::new(alloc, joined(alloc, left, blocks)?)?;
+            Ok(Query {
+                node: QueryNode::Union(left, right),
+            })
+        }
+        SelectNode::Except(left, right) => {
+            let right = Box::new(alloc, joined(alloc, right, blocks)?)?;
+            let left = Box::new(alloc, joined(alloc, left, blocks)?)?;
+            Ok(Query {
+                node: QueryNode::Except(left, right),
+            })
+        }
+    }
+}
+
+/// The blocks of a tree with their names looked up.
+fn looked_up_blocks(
+    alloc: Global,
+    catalogue: &Catalogue,
+    tree: &SelectTree,
+) -> Result<Vec<LookedUp>, Fail>
+    ensures blocks { IfOk result (λ found. found.items ≡ map (looked_up catalogue.now) (blocks_of tree.now)) }
+    ensures refused { Tells result (flat_map (unknown_tables catalogue.now) (blocks_of tree.now)
+        ++ flat_map repeated_aliases (blocks_of tree.now)) }
+{
+    let mut blocks = Vec::new(alloc);
+    push_blocks(tree, &mut blocks)?;
+    want_all_tables(alloc, catalogue, &blocks)?;
+    look_up_all(alloc, catalogue, &blocks)
+}
+
+/// What is true of each catalogue.
+pub fn is_sound(catalogue: &Catalogue)
+    ensures { SchemaIsSound catalogue.now }
+{
+    let _accesses = catalogue.accesses();
+}
+
+/// Binds a query: each name becomes the one place that it stands for.
+pub fn bind(
+    alloc: Global,
+    catalogue: &Catalogue,
+    limits: &Limits,
+    tree: &SelectTree,
+) -> Result<Query, Fail>
+    requires blocks { length (blocks_of tree.now) < 2 ^ 32 }
+    requires conditions { All (λ b. length b.conditions < 2 ^ 32) (blocks_of tree.now) }
+    ensures refused { Tells result (refusals limits.now catalogue.now tree.now) }
+    ensures query { IfOk result (λ query. query ≡ bound catalogue.now tree.now) }
+    ensures well_formed { IfOk result (λ query. All (λ b. 1 ≤ length b.from_items) (blocks_of tree.now) → QueryIsWellFormed query) }
+{
+    is_sound(catalogue);
+    let found = looked_up_blocks(alloc, catalogue, tree)?;
+    refuse_all(alloc, limits, &found)?;
+    let mut bound = bound_blocks(alloc, &found)?;
+    Ok(joined(alloc, tree, &mut bound)?)
+}

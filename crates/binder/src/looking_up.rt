@@ -1,0 +1,182 @@
+// Looks the names of blocks up.
+ghost use Rattle.std.specs.Prelude.{◌≡◌, ◌++◌, ◌≤◌, IfOk, OnOk, map, length, if◌then◌else◌, filter_map};
+ghost use Rattle.std.specs.List.{flat_map};
+ghost use Rattle.binder.specs.Binding.{blocks_of};
+ghost use Rattle.binder.specs.LookedUp.{atom_of, looked_up, output_kinds, column_of};
+ghost use Rattle.binder.specs.Meanings.{columns_named, condition, meaning, sources};
+ghost use Rattle.binder.specs.Refusing.{Tells, unknown_table, unknown_tables, repeated_aliases};
+ghost use Rattle.binder.specs.Scopes.{names_of};
+
+use crate::meaning::{BoundColumn, Condition, LookedUp, Meaning};
+use crate::scope::{Scope, columns_named, scope_of};
+use beas_core::{Atom, ColType, Duplicate, Fail, List, Name, NoMemory, Refusal, TableId};
+use catalogue::Catalogue;
+use sql_tree::{BlockTree, ColumnRef, Cond, FromItem};
+use std::alloc::Global;
+
+/// That there is a table with this name.
+#[tactic(auto, unfolding(crate::specs::Refusing::unknown_table))]
+pub fn want_table(alloc: Global, catalogue: &Catalogue, name: &Name) -> Result<(), Fail>
+    ensures { Tells result (unknown_table catalogue.now name.now) }
+{
+    match catalogue.table(name) {
+        Some(_) => Ok(()),
+        None => Err(Fail::Refused(Refusal::UnknownTable {
+            name: name.copy(alloc)?,
+        })),
+    }
+}
+
+/// That there are the tables of a block.
+pub fn want_tables(alloc: Global, catalogue: &Catalogue, items: &[FromItem]) -> Result<(), Fail>
+    ensures { Tells result (flat_map (λ item. unknown_table catalogue.now item.table) items.now) }
+{
+    for item in items {
+        want_table(alloc, catalogue, &item.table)?;
+    }
+    Ok(())
+}
+
+#[tactic(auto, unfolding(crate::specs::LookedUp::atom_of))]
+fn atom_of(catalogue: &Catalogue, item: &FromItem) -> Atom
+    ensures { result ≡ atom_of catalogue.now item.now }
+{
+    let columns = columns_named(catalogue, &item.table);
+    let table = match catalogue.table(&item.table) {
+        Some(table) => table,
+        None => TableId(0),
+    };
+    Atom {
+        table,
+        width: columns.len() as u16,
+    }
+}
+
+pub fn atoms_of(
+    alloc: Global,
+    catalogue: &Catalogue,
+    items: &[FromItem],
+) -> Result<List<Atom>, NoMemory>
+    ensures { IfOk result (λ atoms. atoms ≡ map (atom_of catalogue.now) items.now) }
+{
+    let mut atoms = List::new(alloc);
+    for item in items {
+        atoms.push(atom_of(catalogue, item))?;
+    }
+    Ok(atoms)
+}
+
+fn meanings_of(
+    alloc: Global,
+    scope: &Scope,
+    references: &[ColumnRef],
+) -> Result<List<Meaning>, NoMemory>
+    ensures { IfOk result (λ meanings. meanings ≡ map (names_of scope.now) references.now) }
+{
+    let mut meanings = List::new(alloc);
+    for reference in references {
+        meanings.push(scope.meaning(alloc, reference)?)?;
+    }
+    Ok(meanings)
+}
+
+pub fn conditions_of(
+    alloc: Global,
+    scope: &Scope,
+    conditions: &[Cond],
+) -> Result<List<Condition>, NoMemory>
+    ensures { IfOk result (λ bound. bound ≡ map (condition (names_of scope.now)) conditions.now) }
+{
+    let mut bound = List::new(alloc);
+    for condition in conditions {
+        bound.push(scope.condition(alloc, condition)?)?;
+    }
+    Ok(bound)
+}
+
+/// The column that something stands for.
+pub fn column_of(meaning: &Meaning) -> Option<BoundColumn>
+    ensures { result ≡ column_of meaning.now }
+{
+    match meaning {
+        Meaning::At(column) => Some(*column),
+        _ => None,
+    }
+}
+
+/// The types of the columns that items stand for.
+fn kinds_of(alloc: Global, items: &[Meaning]) -> Result<List<ColType>, NoMemory>
+    ensures { IfOk result (λ kinds. kinds ≡ map (λ c. c.kind) (filter_map column_of items.now)) }
+{
+    let mut kinds = List::new(alloc);
+    for item in items {
+        if let Some(column) = column_of(item) {
+            kinds.push(column.kind)?;
+        }
+    }
+    Ok(kinds)
+}
+
+fn push_kinds(
+    catalogue: &Catalogue,
+    table: &Name,
+    kinds: &mut List<ColType>,
+) -> Result<(), NoMemory>
+    ensures { OnOk result (kinds.new ≡ kinds.old ++ map (λ c. c.kind) (columns_named catalogue.now table.now)) }
+{
+    for column in columns_named(catalogue, table) {
+        kinds.push(column.kind)?;
+    }
+    Ok(())
+}
+
+/// The types of all columns of all atoms.
+fn all_kinds(
+    alloc: Global,
+    catalogue: &Catalogue,
+    items: &[FromItem],
+) -> Result<List<ColType>, NoMemory>
+    ensures { IfOk result (λ kinds. kinds
+        ≡ flat_map (λ s. map (λ c. c.kind) s.columns) (sources catalogue.now items.now)) }
+{
+    let mut kinds = List::new(alloc);
+    for item in items {
+        push_kinds(catalogue, &item.table, &mut kinds)?;
+    }
+    Ok(kinds)
+}
+
+fn output_kinds(
+    alloc: Global,
+    catalogue: &Catalogue,
+    block: &BlockTree,
+    items: &[Meaning],
+) -> Result<List<ColType>, NoMemory>
+    ensures { IfOk result (λ kinds. kinds
+        ≡ output_kinds block.now.star (sources catalogue.now block.now.from_items) items.now) }
+{
+    if block.star {
+        return all_kinds(alloc, catalogue, block.from_items.as_slice());
+    }
+    kinds_of(alloc, items)
+}
+
+/// The block with its names looked up. It is refused where an alias stands twice.
+pub fn look_up(alloc: Global, catalogue: &Catalogue, block: &BlockTree) -> Result<LookedUp, Fail>
+    ensures block { IfOk result (λ found. found ≡ looked_up catalogue.now block.now) }
+    ensures repeated { Tells result (repeated_aliases block.now) }
+{
+    let items = block.from_items.as_slice();
+    let scope = scope_of(alloc, catalogue, items)?;
+    let found = meanings_of(alloc, &scope, block.items.as_slice())?;
+    let kinds = output_kinds(alloc, catalogue, block, found.as_slice())?;
+    let conditions = conditions_of(alloc, &scope, block.conditions.as_slice())?;
+    let atoms = atoms_of(alloc, catalogue, items)?;
+    Ok(LookedUp {
+        atoms,
+        star: block.star,
+        items: found,
+        kinds,
+        conditions,
+    })
+}

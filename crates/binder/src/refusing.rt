@@ -1,0 +1,249 @@
+// Refuses blocks with their names looked up.
+ghost use Rattle.std.specs.Prelude.{◌≡◌, ◌++◌, ◌<◌, ◌+◌, ◌^◌, ℕ, List, IsTrue, length, not, nat_lt};
+ghost use Rattle.std.specs.List.{flat_map, enumerate_from};
+ghost use Rattle.binder.specs.Binding.{places_in_all};
+ghost use Rattle.binder.specs.Refusing.{Tells, refused_if, unknown_column, ambiguous_column, number_range, text_too_long, flaws, sides, kind_of, kinds_differ, is_mixed, same_kind, same_kinds, mixed_types, places};
+
+use crate::kinds::{Flaw, Kind};
+use crate::meaning::{Condition, LookedUp, Meaning};
+use crate::scope::copy_of;
+use beas_core::{ColType, Counted, Duplicate, Fail, Limits, Refusal, Text, Value};
+use std::alloc::Global;
+
+/// That something isn't so.
+fn refuse_if(failing: bool, why: Refusal) -> Result<(), Fail>
+    ensures { Tells result (refused_if failing why) }
+{
+    if failing {
+        return Err(Fail::Refused(why));
+    }
+    Ok(())
+}
+
+fn refuse_unknown(alloc: Global, meaning: &Meaning) -> Result<(), Fail>
+    ensures { Tells result (unknown_column meaning.now) }
+{
+    match meaning {
+        Meaning::Unknown { table, column } => Err(Fail::Refused(Refusal::UnknownColumn {
+            table: copy_of(alloc, table)?,
+            column: column.copy(alloc)?,
+        })),
+        _ => Ok(()),
+    }
+}
+
+fn refuse_ambiguous(alloc: Global, meaning: &Meaning) -> Result<(), Fail>
+    ensures { Tells result (ambiguous_column meaning.now) }
+{
+    match meaning {
+        Meaning::Ambiguous { column } => Err(Fail::Refused(Refusal::Ambiguous {
+            column: column.copy(alloc)?,
+        })),
+        _ => Ok(()),
+    }
+}
+
+fn refuse_number(alloc: Global, meaning: &Meaning) -> Result<(), Fail>
+    ensures { Tells result (number_range meaning.now) }
+{
+    match meaning {
+        Meaning::OutOfRange { negative, digits } => Err(Fail::Refused(Refusal::NumberRange {
+            negative: *negative,
+            digits: digits.copy(alloc)?,
+        })),
+        _ => Ok(()),
+    }
+}
+
+/// That a text has at most so many bytes.
+pub fn refuse_text(limit: u32, text: &Text) -> Result<(), Fail>
+    ensures { Tells result (refused_if (nat_lt limit (length text.now)) (Refusal.TextTooLong limit)) }
+{
+    let long = text.as_str().len() > limit as usize;
+    refuse_if(long, Refusal::TextTooLong { limit })
+}
+
+fn refuse_long(limit: u32, meaning: &Meaning) -> Result<(), Fail>
+    ensures { Tells result (text_too_long limit meaning.now) }
+{
+    match meaning {
+        Meaning::Fixed(Value::Str(text)) => refuse_text(limit, text),
+        _ => Ok(()),
+    }
+}
+
+/// That what a ref or a literal stands for has no flaw of a kind.
+#[tactic(auto, unfolding(crate::specs::Refusing::flaws))]
+pub fn refuse_meaning(alloc: Global, flaw: Flaw, limit: u32, meaning: &Meaning) -> Result<(), Fail>
+    ensures { Tells result (flaws flaw limit meaning.now) }
+{
+    match flaw {
+        Flaw::UnknownColumn => refuse_unknown(alloc, meaning),
+        Flaw::AmbiguousColumn => refuse_ambiguous(alloc, meaning),
+        Flaw::NumberRange => refuse_number(alloc, meaning),
+        Flaw::TextTooLong => refuse_long(limit, meaning),
+    }
+}
+
+fn refuse_items(alloc: Global, flaw: Flaw, limit: u32, items: &[Meaning]) -> Result<(), Fail>
+    ensures { Tells result (flat_map (flaws flaw limit) items.now) }
+{
+    for item in items {
+        refuse_meaning(alloc, flaw, limit, item)?;
+    }
+    Ok(())
+}
+
+fn refuse_sides(alloc: Global, flaw: Flaw, limit: u32, condition: &Condition) -> Result<(), Fail>
+    ensures { Tells result (flat_map (flaws flaw limit) (sides condition.now)) }
+{
+    match condition {
+        Condition::Compare { left, right, .. } => {
+            refuse_meaning(alloc, flaw, limit, left)?;
+            refuse_meaning(alloc, flaw, limit, right)
+        }
+        Condition::Between { value, low, high } => {
+            refuse_meaning(alloc, flaw, limit, value)?;
+            refuse_meaning(alloc, flaw, limit, low)?;
+            refuse_meaning(alloc, flaw, limit, high)
+        }
+    }
+}
+
+fn refuse_conditions(
+    alloc: Global,
+    flaw: Flaw,
+    limit: u32,
+    conditions: &[Condition],
+) -> Result<(), Fail>
+    ensures { Tells result (flat_map (flaws flaw limit) (flat_map sides conditions.now)) }
+{
+    for condition in conditions {
+        refuse_sides(alloc, flaw, limit, condition)?;
+    }
+    Ok(())
+}
+
+fn kind_of(meaning: &Meaning) -> Option<ColType>
+    ensures { result ≡ kind_of meaning.now }
+{
+    match meaning {
+        Meaning::At(column) => Some(column.kind),
+        Meaning::Fixed(Value::Int(_)) => Some(ColType::Integer),
+        Meaning::Fixed(Value::Str(_)) => Some(ColType::Words),
+        _ => None,
+    }
+}
+
+fn same_kind(left: ColType, right: ColType) -> bool
+    ensures { result ≡ same_kind left right }
+{
+    match (left, right) {
+        (ColType::Integer, ColType::Integer) => true,
+        (ColType::Integer, ColType::Words) => false,
+        (ColType::Words, ColType::Integer) => false,
+        (ColType::Words, ColType::Words) => true,
+    }
+}
+
+fn kinds_differ(left: &Meaning, right: &Meaning) -> bool
+    ensures { result ≡ kinds_differ (kind_of left.now) (kind_of right.now) }
+{
+    match (kind_of(left), kind_of(right)) {
+        (Some(left), Some(right)) => !same_kind(left, right),
+        _ => false,
+    }
+}
+
+fn is_mixed(condition: &Condition) -> bool
+    ensures { result ≡ is_mixed condition.now }
+{
+    match condition {
+        Condition::Compare { left, right, .. } => kinds_differ(left, right),
+        Condition::Between { value, low, high } => {
+            if kinds_differ(value, low) {
+                return true;
+            }
+            kinds_differ(value, high)
+        }
+    }
+}
+
+fn refuse_mixed(number: u32, conditions: &[Condition]) -> Result<(), Fail>
+    requires { length conditions.now < 2 ^ 32 }
+    ensures { Tells result (mixed_types number conditions.now) }
+{
+    for (place, condition) in conditions.iter().enumerate() {
+        let why = Refusal::MixedTypes {
+            block: number,
+            condition: place as u32 + 1,
+        };
+        refuse_if(is_mixed(condition), why)?;
+    }
+    Ok(())
+}
+
+fn same_kinds(left: &[ColType], right: &[ColType]) -> bool
+    ensures { result ≡ same_kinds left.now right.now }
+{
+    let mut left_rest = left;
+    let mut right_rest = right;
+    while let [first, lefts @ ..] = left_rest {
+        let [second, rights @ ..] = right_rest else {
+            return false;
+        };
+        if !same_kind(*first, *second) {
+            return false;
+        }
+        left_rest = lefts;
+        right_rest = rights;
+    }
+    right_rest.is_empty()
+}
+
+fn too_many(what: Counted, limit: u16) -> Refusal
+    ensures { result ≡ Refusal.TooMany what limit }
+{
+    Refusal::TooMany {
+        what,
+        limit: u64::from(limit),
+    }
+}
+
+/// That a block has no place of a kind.
+#[tactic(auto, unfolding(crate::specs::Refusing::places))]
+pub fn refuse_block(
+    alloc: Global,
+    kind: Kind,
+    limits: &Limits,
+    shape: &[ColType],
+    number: u32,
+    block: &LookedUp,
+) -> Result<(), Fail>
+    requires { length block.now.conditions < 2 ^ 32 }
+    ensures { Tells result (places kind limits.now shape.now (number, block.now)) }
+{
+    match kind {
+        Kind::OfMeaning(flaw) => {
+            refuse_items(alloc, flaw, limits.text, block.items.as_slice())?;
+            refuse_conditions(alloc, flaw, limits.text, block.conditions.as_slice())
+        }
+        Kind::Types => refuse_mixed(number, block.conditions.as_slice()),
+        Kind::Shapes => {
+            let differs = !same_kinds(shape, block.kinds.as_slice());
+            refuse_if(differs, Refusal::ShapeMismatch { block: number })
+        }
+        Kind::Blocks => {
+            let many = number > u32::from(limits.blocks);
+            refuse_if(many, too_many(Counted::Blocks, limits.blocks))
+        }
+        Kind::Atoms => {
+            let many = block.atoms.len() > usize::from(limits.atoms);
+            refuse_if(many, too_many(Counted::Atoms, limits.atoms))
+        }
+        Kind::Outputs => {
+            let many = block.items.len() > usize::from(limits.outputs);
+            refuse_if(many, too_many(Counted::Outputs, limits.outputs))
+        }
+    }
+}

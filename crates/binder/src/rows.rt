@@ -1,0 +1,76 @@
+// Binds the rows of an INSERT.
+ghost use Rattle.std.specs.Prelude.{◌≡◌, IfOk};
+ghost use Rattle.std.specs.List.{flat_map};
+ghost use Rattle.binder.specs.Binding.{number_refusals, text_refusals, row_refusals, bound_row, bound_rows};
+ghost use Rattle.binder.specs.Refusing.{Tells};
+
+use crate::literals::literal_value;
+use crate::refusing::refuse_text;
+use beas_core::{Fail, Limits, List, Row};
+use sql_tree::Literal;
+use std::alloc::Global;
+
+/// The values of a row's literals.
+fn bound_row(alloc: Global, literals: &[Literal]) -> Result<Row, Fail>
+    ensures row { IfOk result (λ row. row ≡ bound_row literals.now) }
+    ensures refused { Tells result (flat_map number_refusals literals.now) }
+{
+    let mut row = List::new(alloc);
+    for literal in literals {
+        row.push(literal_value(alloc, literal)?)?;
+    }
+    Ok(row)
+}
+
+fn bound_rows(alloc: Global, rows: &[List<Literal>]) -> Result<List<Row>, Fail>
+    ensures rows { IfOk result (λ bound. bound ≡ bound_rows rows.now) }
+    ensures refused { Tells result (flat_map (flat_map number_refusals) rows.now) }
+{
+    let mut bound = List::new(alloc);
+    for row in rows {
+        bound.push(bound_row(alloc, row.as_slice())?)?;
+    }
+    Ok(bound)
+}
+
+fn refuse_long_literal(limit: u32, literal: &Literal) -> Result<(), Fail>
+    ensures { Tells result (text_refusals limit literal.now) }
+{
+    match literal {
+        Literal::Number { .. } => Ok(()),
+        Literal::Words { text } => refuse_text(limit, text),
+    }
+}
+
+fn refuse_long_literals(limit: u32, literals: &[Literal]) -> Result<(), Fail>
+    ensures { Tells result (flat_map (text_refusals limit) literals.now) }
+{
+    for literal in literals {
+        refuse_long_literal(limit, literal)?;
+    }
+    Ok(())
+}
+
+fn refuse_long_rows(limit: u32, rows: &[List<Literal>]) -> Result<(), Fail>
+    ensures { Tells result (flat_map (flat_map (text_refusals limit)) rows.now) }
+{
+    for row in rows {
+        refuse_long_literals(limit, row.as_slice())?;
+    }
+    Ok(())
+}
+
+/// Binds the rows of an INSERT. Numbers that no i64 has are refused before texts that are too long.
+#[tactic(auto, unfolding(crate::specs::Binding::row_refusals))]
+pub fn bind_rows(
+    alloc: Global,
+    limits: &Limits,
+    rows: &List<List<Literal>>,
+) -> Result<List<Row>, Fail>
+    ensures refused { Tells result (row_refusals limits.now rows.now) }
+    ensures rows { IfOk result (λ bound. bound ≡ bound_rows rows.now) }
+{
+    let bound = bound_rows(alloc, rows.as_slice())?;
+    refuse_long_rows(limits.text, rows.as_slice())?;
+    Ok(bound)
+}
