@@ -1,2 +1,3 @@
+pub mod PlanFacts
 pub mod RecordsAreText
 pub mod WriterFacts

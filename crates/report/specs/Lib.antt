@@ -1,3 +1,4 @@
+pub mod Plans
 pub mod Records
 pub mod Reports
 pub mod Texts

@@ -3,9 +3,11 @@
 
 mod decimal;
 mod literals;
+mod plans;
 mod records;
 mod refusals;
 mod reports;
 mod texts;
 
+pub use plans::plan_text;
 pub use reports::{Report, text};
