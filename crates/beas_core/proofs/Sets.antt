@@ -240,7 +240,7 @@ module _ {K : Type 0} {cmp : K → K → Ordering} (o : IsTotalOrder cmp) (tells
   add_known k xs h m = same_sets (add_in_order cmp k xs) xs (IsInOrder-add k xs h) h
       (λ y. (λ g. elim (Has-added_cases k xs y g) [ inl e ↦ subst (Has xs) (sym e) m | inr i ↦ i ], λ g. Has-added_old k xs y g))
 
-  -- a new member goes behind those that are less
+  -- a new member goes after those that are less
   pub add_between : (k : K) (front rest : List K) → AllByRecursion (λ x. cmp x k ≡ Less) front → AllByRecursion (λ x. cmp k x ≡ Less) rest
       → add_in_order cmp k (front ++ rest) ≡ front ++ k ∷ rest
   add_between k [] [] a b = refl

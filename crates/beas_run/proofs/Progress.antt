@@ -11,7 +11,7 @@ use Rattle.beas_run.specs.Meaning.{Relation}
 use Rattle.beas_run.specs.Scripts.{reading_of, readings_at, outcome, out_from}
 use Rattle.sql_parser.specs.Outcome.{Reading}
 
--- the part of one report that was sent, behind all before it, is a part of all
+-- the part of one report that was sent, after all before it, is a part of all
 pub part_of_all : (tokens : List Token) (pieces : List Piece) (i : ℕ) (d : Piece) (state : Option Relation) (before now after all : List ℕ) → i < length pieces
     → now ++ out_from (i + 1) state (readings_at tokens (drop i pieces)) ≡ before ++ all
     → length before ≤ length now

@@ -64,7 +64,7 @@ pub record HasScript (script : List ℕ) (status : ℕ) (name : Option (List ℕ
   pub begun : (script ≡ []) ⊎ IsSomeAnd name (λ n. told ≡ true → content n ≡ Some script)
   pub without : IsWithout status → script ≡ []
 
--- what a run ends with over a script that could be read, while the output didn't fail: status 5 is want of memory
+-- what a run ends with over a script that could be read, while the output didn't fail: status 5 is out of memory
 pub record Completes (script : List ℕ) (status : ℕ) : Type 0 where
   pub runs : length script ≤ longest_script → IsUtf8 script → (status < 2) ⊎ (status ≡ 5)
   pub too_long : longest_script < length script → (status ≡ 6) ⊎ (status ≡ 5)

@@ -23,7 +23,7 @@ use std::sync::ledger::Ledger;
 pub enum Ending {
     /// The output failed.
     Fault,
-    /// Memory was wanting.
+    /// Out of memory.
     NoMemory,
 }
 
@@ -172,8 +172,8 @@ fn carry_out_text<O: Sink, L: Ledger>(
     carry_out_all(alloc, tokens.as_slice(), pieces.as_slice(), out, steps)
 }
 
-/// Runs a script: 0 where no report is a refusal, 1 where one is, 4 where the output failed, 5 where memory was
-/// wanting.
+/// Runs a script: 0 where no report is a refusal, 1 where one is, 4 where the output failed, 5 where memory ran
+/// out.
 #[tactic(auto, using(crate::proofs::Within::within_of))]
 pub fn run_script<O: Sink, L: Ledger>(
     alloc: Global,

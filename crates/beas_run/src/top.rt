@@ -168,7 +168,7 @@ fn run_named<F: Files, O: Sink, E: Sink, L: Ledger>(
 
 /// Runs the script that the words name, and gives the status of the program: 0 and 1 where the script was carried
 /// out whole, without a refusal and with one; 2 where the words name no script; 3 where it can't be read; 4 where
-/// `out` failed; 5 where memory was wanting; 6 where the script is longer than 16,777,216 bytes; 7 where it is not
+/// `out` failed; 5 where memory ran out; 6 where the script is longer than 16,777,216 bytes; 7 where it is not
 /// UTF-8.
 pub fn run<F: Files, O: Sink, E: Sink, L: Ledger>(
     alloc: Global,
@@ -196,7 +196,7 @@ pub fn run<F: Files, O: Sink, E: Sink, L: Ledger>(
     ensures not_text { result ≡ 7 → IsSomeAnd (script_name (map string_bytes words.now))
         (λ name. IsNoText (F.told files.old) (F.content files.old name)) }
 
-    // With a script that could be read, and an output that didn't fail, nothing else comes but want of memory.
+    // With a script that could be read, and an output that didn't fail, nothing else comes but out of memory.
     ensures complete { (name script : List ℕ) → script_name (map string_bytes words.now) ≡ Some name
         → F.told files.old ≡ true → F.content files.old name ≡ Some script
         → (Rose (F.faults files.old name) (F.faults files.new name) → ⊥)

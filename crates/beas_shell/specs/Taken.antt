@@ -1,5 +1,5 @@
 -- What was taken from a reader.
---     Took source rest before now      a part that the reader had went behind the bytes that there were
+--     Took source rest before now      a part that the reader had went after the bytes that there were
 --     TooLongFor limit source bytes    the bytes and those that the reader had are more than the limit
 use Rattle.std.specs.Prelude.{◌≡◌, ◌++◌, ◌+◌, ◌<◌, ℕ, List, Option, length, IfSome}
 use Rattle.std.specs.Io.KnownBytes.{Consumes}

@@ -17,7 +17,7 @@ use std::marker::Brand;
 use std::process::ExitCode;
 use std::sync::ledger::{Blank, Ledger};
 
-/// The status where memory was wanting for the words.
+/// The status where memory runs out for the words.
 const NO_MEMORY: u8 = 5;
 
 /// The status where the system doesn't give the words.

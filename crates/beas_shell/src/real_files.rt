@@ -55,7 +55,7 @@ impl ReadCounts {
         FilesError::Failed
     }
 
-    /// What an error means: want of memory, or a fault, which is counted.
+    /// What an error means: out of memory, or a fault, which is counted.
     fn fault(&mut self, error: &io::Error) -> FilesError
         ensures memory { error_kind error.now ≡ ErrorKind.OutOfMemory → result ≡ FilesError.NoMemory }
         ensures failed { error_kind error.now ≢ ErrorKind.OutOfMemory → result ≡ FilesError.Failed }
@@ -71,7 +71,7 @@ impl ReadCounts {
         }
     }
 
-    /// Takes one piece behind the bytes that there are, up to `limit + 1` bytes in all.
+    /// Takes one piece after the bytes that there are, up to `limit + 1` bytes in all.
     fn take_piece<S: Read>(
         &mut self,
         source: &mut S,
@@ -196,7 +196,7 @@ fn room_for_a_piece(alloc: Global) -> Result<Vec<u8>, FilesError>
     }
 }
 
-/// Adds a piece behind the bytes, which are more than the limit then or not.
+/// Adds a piece after the bytes, which are more than the limit then or not.
 fn add_piece(bytes: &mut Vec<u8>, piece: &[u8], limit: u64) -> Result<Turn, FilesError>
     ensures ok { IfOk result (λ turn. (turn ≡ Turn.More) × (bytes.new.items ≡ bytes.old.items ++ piece.now) × (length bytes.new.items ≤ limit)) }
     ensures too_long { (l : ℕ) → IsErrOf result (FilesError.TooLong l) → (l ≡ limit) × (limit < length bytes.old.items + length piece.now) }

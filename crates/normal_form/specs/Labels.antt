@@ -16,7 +16,7 @@ label_at labels place = slice_index_or labels place 0
 abbrev pub label_of : List Atom → List ℕ → Place → ℕ
 label_of atoms labels place = label_at labels (place_number atoms place)
 
--- each label is the number of a place that has it, and that isn't behind any place that has it
+-- each label is the number of a place that has it, and that isn't after any place that has it
 pub record AreFirst (labels : List ℕ) : Type 0 where
   pub least : (k : ℕ) → k < length labels → label_at labels k ≤ k
   pub own : (k : ℕ) → k < length labels → label_at labels (label_at labels k) ≡ label_at labels k

@@ -87,7 +87,7 @@ or_none : (found : Option Entry) → option_or found None ≡ found
 or_none None = refl
 or_none (Some file) = refl
 
--- a file behind all others
+-- a file after all others
 pub content_pushed : (files : List Entry) (name : List ℕ) (file : Entry) → None ≡ place_of files name → file.name ≡ name
     → content_of (files ++ file ∷ []) name ≡ Some file.bytes
 content_pushed files name file is same =

@@ -12,7 +12,7 @@ pub enum FilesError {
     Failed,
     /// The file has more than `limit` bytes.
     TooLong { limit: u64 },
-    /// Memory was wanting.
+    /// Out of memory.
     NoMemory,
 }
 

@@ -8,7 +8,7 @@ ghost use Rattle.outside.specs.Parts.{SentPart};
 pub enum SinkError {
     /// The sink failed. It took a part of the piece, or nothing.
     Failed,
-    /// Memory was wanting. The sink took nothing.
+    /// Out of memory. The sink took nothing.
     NoMemory,
 }
 

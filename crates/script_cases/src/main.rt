@@ -28,7 +28,7 @@ use std::{env, io};
 /// The most lengths at which the output of one case is let fail.
 const LENGTHS: usize = 400;
 
-/// What a run left behind.
+/// What a run left.
 #[derive(Drop)]
 struct Ending {
     status: u8,

@@ -60,7 +60,7 @@ value_in_rest c (x ∷ xs) ys (v ∷ tuple) d e l h = by (eqb x.0 c.0) l h (λ m
     by true m g rest = absurd (omega (arith, m))
     by false m g rest = rest (omega arith) g
 
--- the same, as the program reads them: of a tuple that it split behind the key
+-- the same, as the program reads them: of a tuple that it split after the key
 pub read_key : (c : ColumnId) (xs ys ks : List ColumnId) (tuple front : List Value) (n at : ℕ) (v : Value) → ks ≡ xs → n ≡ length xs → front ≡ take n tuple
     → length tuple ≡ length (xs ++ ys) → at ≡ place c ks → at < length front → v ≡ get_or front at v → v ≡ value_in (xs ++ ys) tuple c
 read_key c xs ys ks tuple front n at v ek en ef wide ea l r =

@@ -17,7 +17,7 @@ passes d x le =
       | inr ge ↦ le-ltb 32 (max d x) (omega arith) ∙ sym (le-ltb 32 x ge)
     ]
 
--- a token that isn't too deep passes the question on to those behind it
+-- a token that isn't too deep passes the question on to those after it
 pub one_deeper : (d j : ℕ) (s : Symbol) (rest : List Symbol) → d ≤ 32 → nat_lt 32 (depth_from d j (s ∷ rest)) ≡ nat_lt 32 (depth_from (depth_behind d j s) (joins_behind j s) rest)
 one_deeper d j s rest le = passes d (depth_from (depth_behind d j s) (joins_behind j s) rest) le
 

@@ -366,7 +366,7 @@ term-some : {a : List Symbol} {t : Tree} → IsTerm a t → 0 < length a
 term-some (single b) = block-some b
 term-some (nested q) = omega arith
 
--- what reading goes on with behind a tree
+-- what reading goes on with after a tree
 unfoldable pub goes_on : ℕ → Tree → List Symbol → Option (Tree × List Symbol)
 goes_on n tree rest = cond (starts UNION rest) (read_query n (BeforeUnion tree) (rest_of rest)) (cond (starts EXCEPT rest) (read_query n (BeforeExcept tree) (rest_of rest)) (Some (tree, rest)))
 

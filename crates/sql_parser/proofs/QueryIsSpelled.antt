@@ -58,7 +58,7 @@ pub data IsJoin : List Symbol → Source → Type 0 where
   inner_joined : {a b : List Symbol} {i : FromItem} {cs : List Cond} → IsItem a i → IsConditions b cs → IsJoin (INNER ∷ JOIN ∷ a ++ ON ∷ b) (i ∷ [], cs)
   crossed : {a : List Symbol} {i : FromItem} → IsItem a i → IsJoin (CROSS ∷ JOIN ∷ a) (i ∷ [], [])
 
--- behind the words of a join
+-- after the words of a join
 data IsJoined : List Symbol → Source → Type 0 where
   item_on : {a b : List Symbol} {i : FromItem} {cs : List Cond} → IsItem a i → IsConditions b cs → IsJoined (a ++ ON ∷ b) (i ∷ [], cs)
 

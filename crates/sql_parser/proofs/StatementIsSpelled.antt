@@ -49,7 +49,7 @@ pub data SpellsAny : List Symbol → Statement → Type 0 where
   lacking : {a : List Symbol} {t : Tree} → IsQuery a t → wants_distinct t ≡ true → SpellsAny a (Select t)
   lacking_explained : {a : List Symbol} {t : Tree} → IsQuery a t → wants_distinct t ≡ true → SpellsAny (EXPLAIN ∷ a) (Explain t)
 
--- what spells a statement behind its first words
+-- what spells a statement after its first words
 abbrev Behind : List Symbol → List Symbol → Statement → Type 0
 Behind words a s = SpellsAny (words ++ a) s
 

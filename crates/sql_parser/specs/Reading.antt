@@ -1,4 +1,4 @@
--- Reading from left to right: what is read from the front of the tokens, and the tokens behind it. A reader that
+-- Reading from left to right: what is read from the front of the tokens, and the tokens after it. A reader that
 -- takes a number repeats at most so often.
 use Rattle.std.specs.Prelude.{◌≡◌, ℕ, zero, suc, ◌&&◌, if◌then◌else◌, Bool, true, false, List, [], ◌∷◌, ◌++◌, length, codes, bytes_eq, Option, Some, None, Result, Ok, Err}
 use Rattle.beas_core.specs.declared.schema.ColType.{ColType}
@@ -103,7 +103,7 @@ read_commas read (suc n) tokens = do
 abbrev pub read_list : {X : Type 0} → (List Symbol → Option (X × List Symbol)) → List Symbol → Option (List X × List Symbol)
 read_list read tokens = read_commas read (length tokens) tokens
 
--- what is read, and a mark behind it
+-- what is read, and a mark after it
 unfoldable pub closed : {X : Type 0} → Option (X × List Symbol) → Option (X × List Symbol)
 closed read = do
   (x, rest) ← read
@@ -170,7 +170,7 @@ unfoldable pub read_sign : List Symbol → Option (Sign × List Symbol)
 read_sign (mark text ∷ rest) = sign_of text >>= λ sign. Some (sign, rest)
 read_sign _ = None
 
--- behind BETWEEN: the value is what was read before it
+-- after BETWEEN: the value is what was read before it
 unfoldable pub read_range : Side → List Symbol → Option (Cond × List Symbol)
 read_range (Placed value) tokens = do
   (low, rest) ← read_side tokens
@@ -207,7 +207,7 @@ read_all_conditions tokens = read_conditions (length tokens) tokens
 unfoldable pub read_where : List Symbol → Option (List Cond × List Symbol)
 read_where tokens = if starts WHERE tokens then read_all_conditions (rest_of tokens) else Some ([], tokens)
 
--- the alias of a table: its name, where no other stands behind it
+-- the alias of a table: its name, where no other stands after it
 unfoldable pub read_alias : List ℕ → List Symbol → Option (List ℕ × List Symbol)
 read_alias table tokens =
     if starts AS tokens then read_id (rest_of tokens)
@@ -219,7 +219,7 @@ read_item tokens = do
   (alias, rest) ← read_alias table rest
   Some (record { table = table; alias = alias }, rest)
 
--- behind the words of a join: its item, and the conditions behind ON
+-- after the words of a join: its item, and the conditions after ON
 unfoldable pub read_joined : List Symbol → Option (Source × List Symbol)
 read_joined tokens = do
   (item, rest) ← read_item tokens

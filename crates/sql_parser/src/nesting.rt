@@ -23,7 +23,7 @@ fn joins_two_blocks(token: &Token) -> bool
     token_is(token, TokenKind::Word, "union") || token_is(token, TokenKind::Word, "except")
 }
 
-/// The depth behind a token.
+/// The depth after a token.
 fn depth_after(depth: usize, joins: usize, token: &Token) -> usize
     requires { depth ≤ 32 }
     ensures { result ≡ depth_behind depth joins (symbol_of token.now.kind token.now.text) }

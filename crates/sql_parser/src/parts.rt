@@ -11,7 +11,7 @@ use std::alloc::Global;
 
 /// What stands in lists with commas between.
 pub trait Part: Drop {
-    /// What is read from the front of some tokens, and the tokens behind it.
+    /// What is read from the front of some tokens, and the tokens after it.
     ghost reads: { List Symbol → Option (Self × List Symbol) };
 
     fn read(reader: &mut Reader, alloc: Global) -> Result<Self, ReadError>

@@ -92,7 +92,7 @@ impl<'a> Reader<'a> {
         }
     }
 
-    /// Goes behind the next token.
+    /// Goes after the next token.
     #[tactic(auto, unfolding(crate::specs::Reading::rest_of))]
     pub fn skip(&mut self)
         ensures { self.new ≡ rest_of self.old }
@@ -102,7 +102,7 @@ impl<'a> Reader<'a> {
         }
     }
 
-    /// Goes behind a word, which must be next.
+    /// Goes after a word, which must be next.
     pub fn want_word(&mut self, text: &str) -> Result<(), ReadError>
         ensures { Passes result self.new (expect (word text.now) self.old) }
     {
@@ -113,7 +113,7 @@ impl<'a> Reader<'a> {
         Ok(())
     }
 
-    /// Goes behind a mark, which must be next.
+    /// Goes after a mark, which must be next.
     pub fn want_mark(&mut self, text: &str) -> Result<(), ReadError>
         ensures { Passes result self.new (expect (mark text.now) self.old) }
     {

@@ -41,7 +41,7 @@ option_map-twice :
 option_map-twice None a xs = refl
 option_map-twice (Some text) a xs = refl
 
--- a quote with none behind it
+-- a quote with none after it
 pub quoted_text-end :
     (bs : List ℕ) (n : ℕ) → prefix_len unquoted bs ≡ n → n < length bs → eqb (get_or bs (suc n) 0) quote ≡ false →
     quoted_text bs ≡ Some (take n bs)
@@ -62,7 +62,7 @@ quoted_text-end (a ∷ b ∷ bs) (suc m) h l k =
           (quoted_text-end (b ∷ bs) m (omega (arith, h, run_yes a (b ∷ bs) e)) (omega arith) k)
     ]
 
--- a quote with one behind it
+-- a quote with one after it
 pub quoted_text-more :
     (bs : List ℕ) (n : ℕ) → prefix_len unquoted bs ≡ n → suc n < length bs → eqb (get_or bs (suc n) 0) quote ≡ true →
     quoted_text bs ≡ option_map (λ text. take (suc n) bs ++ text) (quoted_text (drop (suc (suc n)) bs))

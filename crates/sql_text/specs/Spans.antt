@@ -1,5 +1,5 @@
 -- Where tokens stand, and how they are spelled.
---     AreInOrder from tokens end     each token stands behind the one before it, all between these places
+--     AreInOrder from tokens end     each token stands after the one before it, all between these places
 --     IsSpelled source token         the script's bytes from the token's first to its last spell its text
 use Rattle.std.specs.Prelude.{◌≡◌, ◌<◌, ◌≤◌, ℕ, List, [], ◌∷◌, map, slice_range}
 use Rattle.std.specs.Char.{to_ascii_lowercase}

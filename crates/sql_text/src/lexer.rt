@@ -33,7 +33,7 @@ struct Content {
 }
 
 /// The tokens of a script of at most 16,777,216 bytes, in order; what is no token by the lexical rules stands among
-/// them as a bad token. Fails only where memory is wanting.
+/// them as a bad token. Fails only where it runs out of memory.
 pub fn lex(alloc: Global, source: &str) -> Result<List<Token>, NoMemory>
     requires { length source.now ≤ LONGEST_SCRIPT }
     ensures tokens { IfOk result (λ tokens. tokens ≡ tokens_of source.now) }

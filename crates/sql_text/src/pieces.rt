@@ -8,7 +8,7 @@ use beas_core::{List, NoMemory};
 use std::alloc::Global;
 
 /// The places of the lists of tokens between semicolons, before the first and after the last, in order and without
-/// the empty ones. Fails only where memory is wanting.
+/// the empty ones. Fails only where it runs out of memory.
 pub fn split(alloc: Global, tokens: &List<Token>) -> Result<List<Piece>, NoMemory>
     requires { length tokens.now < 2 ^ 32 }
     ensures pieces { IfOk result (λ pieces. pieces ≡ pieces_of tokens.now) }

@@ -38,7 +38,7 @@ joins_blocks symbol = is_word (codes "union") symbol || is_word (codes "except")
 abbrev pub free_joins : ℕ
 free_joins = 1024
 
--- the depth behind a token, at a depth and behind so many words UNION and EXCEPT
+-- the depth after a token, at a depth and after so many words UNION and EXCEPT
 abbrev pub depth_behind : ℕ → ℕ → Symbol → ℕ
 depth_behind depth joins symbol =
     if is_mark (codes "(") symbol || (joins_blocks symbol && nat_le free_joins joins) then depth + 1

@@ -13,7 +13,7 @@ pub data Tree : Type 0 where
   Union : Tree → Tree → Tree
   Except : Tree → Tree → Tree
 
--- the blocks in order, each sign behind its two operands: true for UNION
+-- the blocks in order, each sign after its two operands: true for UNION
 abbrev pub postfix : Tree → List (BlockTree ⊎ Bool)
 postfix (Block b) = inl b ∷ []
 postfix (Union left right) = postfix left ++ (postfix right ++ inr true ∷ [])
