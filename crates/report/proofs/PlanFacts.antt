@@ -83,7 +83,8 @@ found_table schema id sound live =
     (All-contains (AccessIsSound schema) schema.accesses (access_in schema.accesses id) sound.accesses member).table
 
 -- what is written and then what is left is the whole, one line further on
-pub advance : (text next : List ℕ) {line item now whole pushed : List ℕ} → pushed ≡ text ++ line → line ≡ item → now ≡ item ++ next → text ++ now ≡ whole → pushed ++ next ≡ whole
+pub advance : (text next : List ℕ) {line item now whole pushed : List ℕ}
+    → pushed ≡ text ++ line → line ≡ item → now ≡ item ++ next → text ++ now ≡ whole → pushed ++ next ≡ whole
 advance text next {line} {item} p l n w = rw (p, l, append_assoc text item next, ← n) w
 
 -- the valuations after a step, and its line, from what the code works out

@@ -51,16 +51,21 @@ refusal_parts (WrongType row column) = codes "type mismatch in row " ∷ decimal
 refusal_parts (ShapeMismatch block) = codes "shape mismatch at block " ∷ decimal block ∷ []
 refusal_parts (BadLimit digits) = codes "limit " ∷ digits ∷ codes " not between 1 and 4294967295" ∷ []
 refusal_parts (AlreadyBroken needed bound) = codes "greatest group " ∷ decimal needed ∷ codes " above limit " ∷ decimal bound ∷ []
-refusal_parts (BreaksBound row access key) = codes "row " ∷ decimal row ∷ codes " breaks " ∷ access ∷ codes " at key (" ∷ spaced (map literal_text key) ∷ codes ")" ∷ []
-refusal_parts (WrongWidth row found wanted) = codes "row " ∷ decimal row ∷ codes " has " ∷ decimal found ∷ codes " values, " ∷ decimal wanted ∷ codes " wanted" ∷ []
+refusal_parts (BreaksBound row access key) =
+    codes "row " ∷ decimal row ∷ codes " breaks " ∷ access ∷ codes " at key (" ∷ spaced (map literal_text key) ∷ codes ")" ∷ []
+refusal_parts (WrongWidth row found wanted) =
+    codes "row " ∷ decimal row ∷ codes " has " ∷ decimal found ∷ codes " values, " ∷ decimal wanted ∷ codes " wanted" ∷ []
 refusal_parts (NumberRange false digits) = codes "number " ∷ digits ∷ codes " out of range" ∷ []
 refusal_parts (NumberRange true digits) = codes "number -" ∷ digits ∷ codes " out of range" ∷ []
 refusal_parts (Unreadable file) = codes "cannot read " ∷ quoted file ∷ []
 refusal_parts (BadField nth column) = codes "record " ∷ decimal nth ∷ codes " column " ∷ column ∷ codes " bad field" ∷ []
-refusal_parts (RecordWidth nth found wanted) = codes "record " ∷ decimal nth ∷ codes " has " ∷ decimal found ∷ codes " fields, " ∷ decimal wanted ∷ codes " wanted" ∷ []
+refusal_parts (RecordWidth nth found wanted) =
+    codes "record " ∷ decimal nth ∷ codes " has " ∷ decimal found ∷ codes " fields, " ∷ decimal wanted ∷ codes " wanted" ∷ []
 refusal_parts HeaderMismatch = codes "header mismatch" ∷ []
-refusal_parts (NotCovered block atom None) = codes "not covered: block " ∷ decimal block ∷ codes " atom " ∷ decimal atom ∷ codes " has no serving constraint" ∷ []
-refusal_parts (NotCovered block atom (Some column)) = codes "not covered: block " ∷ decimal block ∷ codes " atom " ∷ decimal atom ∷ codes " column " ∷ column ∷ []
+refusal_parts (NotCovered block atom None) =
+    codes "not covered: block " ∷ decimal block ∷ codes " atom " ∷ decimal atom ∷ codes " has no serving constraint" ∷ []
+refusal_parts (NotCovered block atom (Some column)) =
+    codes "not covered: block " ∷ decimal block ∷ codes " atom " ∷ decimal atom ∷ codes " column " ∷ column ∷ []
 refusal_parts TooLarge = codes "bound past 128 bits" ∷ []
 refusal_parts (OverBudget bound budget) = codes "bound " ∷ decimal bound ∷ codes " above budget " ∷ decimal budget ∷ []
 refusal_parts (TooMany what limit) = codes "too many " ∷ counted_text what ∷ codes ", limit " ∷ decimal limit ∷ []
