@@ -54,7 +54,8 @@ module _ (rows : List (List Value)) (row : List Value) (key fetched : List Colum
       omega (arith, most, old, new)
 
 -- groups are known by the rows, whatever their order
-group_same : (xs ys : List (List Value)) (key fetched : List ColumnId) (value : List Value) → SameMembers xs ys → group xs key fetched value ≡ group ys key fetched value
+group_same : (xs ys : List (List Value)) (key fetched : List ColumnId) (value : List Value) → SameMembers xs ys
+    → group xs key fetched value ≡ group ys key fetched value
 group_same xs ys key fetched value m =
     distinct_same row_cmp_total row_cmp_tells (map (project (key ++ fetched)) (filter is_in xs)) (map (project (key ++ fetched)) (filter is_in ys))
     (λ t. (moved xs ys (λ y. (m y).0) t, moved ys xs (λ y. (m y).1) t))

@@ -11,7 +11,8 @@ use Rattle.beas_core.specs.Sets.{distinct}
 use Rattle.beas_core.specs.Groups.{project, same_row, group, greatest}
 use Rattle.constraint_miner.specs.Pairs.{columns_from, pair_in}
 
-pub columns_at : (column width : ℕ) → column < width → columns_from column (width - column) ≡ record { 0 = column } ∷ columns_from (column + 1) (width - (column + 1))
+pub columns_at : (column width : ℕ) → column < width
+    → columns_from column (width - column) ≡ record { 0 = column } ∷ columns_from (column + 1) (width - (column + 1))
 columns_at column width l =
     let e : width - column ≡ suc (width - (column + 1)) = omega arith in
     ap (columns_from column) e
@@ -21,7 +22,8 @@ next_at columns i d l = drop_more columns i d l
 
 -- one column more
 module _ {P : Type 0} (f : ColumnId → Option P) (columns : List ColumnId) (i : ℕ) (d : ColumnId) (l : i < length columns) (found all : List P) where
-  pub pair_added : (pair : Option P) → pair ≡ f (get_or columns i d) → found ++ filter_map f (drop i columns) ≡ all → (found ++ option_to_list pair) ++ filter_map f (drop (i + 1) columns) ≡ all
+  pub pair_added : (pair : Option P) → pair ≡ f (get_or columns i d) → found ++ filter_map f (drop i columns) ≡ all
+      → (found ++ option_to_list pair) ++ filter_map f (drop (i + 1) columns) ≡ all
   pair_added pair e h =
       append_assoc found (option_to_list pair) (filter_map f (drop (i + 1) columns))
       ∙ ap (λ xs. found ++ xs) (by pair ∙ ap (λ o. cons_option o (filter_map f (drop (i + 1) columns))) e ∙ ap (filter_map f) (sym (next_at columns i d l)))
@@ -32,7 +34,8 @@ module _ {P : Type 0} (f : ColumnId → Option P) (columns : List ColumnId) (i :
       by (Some p) = refl
 
 module _ {P : Type 0} (f : ColumnId → List P) (columns : List ColumnId) (i : ℕ) (d : ColumnId) (l : i < length columns) (found all : List P) where
-  pub pairs_added : (pairs : List P) → pairs ≡ f (get_or columns i d) → found ++ flat_map f (drop i columns) ≡ all → (found ++ pairs) ++ flat_map f (drop (i + 1) columns) ≡ all
+  pub pairs_added : (pairs : List P) → pairs ≡ f (get_or columns i d) → found ++ flat_map f (drop i columns) ≡ all
+      → (found ++ pairs) ++ flat_map f (drop (i + 1) columns) ≡ all
   pairs_added pairs e h =
       append_assoc found pairs (flat_map f (drop (i + 1) columns))
       ∙ ap (λ xs. found ++ xs) (ap (λ xs. xs ++ flat_map f (drop (i + 1) columns)) e ∙ ap (flat_map f) (sym (next_at columns i d l)))
@@ -42,12 +45,14 @@ module _ {P : Type 0} (f : ColumnId → List P) (columns : List ColumnId) (i : �
 module _ {R : Type 0} (f g : R → List Value) (key fetched own rest : List ColumnId) (keys : (r : R) → project own (f r) ≡ project key (g r))
     (tuples : (r : R) → project (own ++ rest) (f r) ≡ project (key ++ fetched) (g r)) where
   tuples_same : (rows : List R) (value : List Value)
-      → map (project (own ++ rest)) (filter (λ row. same_row (project own row) value) (map f rows)) ≡ map (project (key ++ fetched)) (filter (λ row. same_row (project key row) value) (map g rows))
+      → map (project (own ++ rest)) (filter (λ row. same_row (project own row) value) (map f rows))
+      ≡ map (project (key ++ fetched)) (filter (λ row. same_row (project key row) value) (map g rows))
   tuples_same [] value = refl
   tuples_same (r ∷ rs) value = by (same_row (project own (f r)) value) (same_row (project key (g r)) value) (ap (λ k. same_row k value) (keys r)) (tuples_same rs value)
     where
       by : (a b : Bool) → a ≡ b
-          → map (project (own ++ rest)) (filter (λ row. same_row (project own row) value) (map f rs)) ≡ map (project (key ++ fetched)) (filter (λ row. same_row (project key row) value) (map g rs))
+          → map (project (own ++ rest)) (filter (λ row. same_row (project own row) value) (map f rs))
+          ≡ map (project (key ++ fetched)) (filter (λ row. same_row (project key row) value) (map g rs))
           → map (project (own ++ rest)) (cond a (f r ∷ filter (λ row. same_row (project own row) value) (map f rs)) (filter (λ row. same_row (project own row) value) (map f rs)))
           ≡ map (project (key ++ fetched)) (cond b (g r ∷ filter (λ row. same_row (project key row) value) (map g rs)) (filter (λ row. same_row (project key row) value) (map g rs)))
       by true true e h = let t = tuples r in cc
@@ -59,7 +64,8 @@ module _ {R : Type 0} (f g : R → List Value) (key fetched own rest : List Colu
   group_seen rows value = ap (distinct row_cmp) (tuples_same rows value)
 
   sizes_seen : (all rows : List R)
-      → map (λ row. length (group (map f all) own rest (project own row))) (map f rows) ≡ map (λ row. length (group (map g all) key fetched (project key row))) (map g rows)
+      → map (λ row. length (group (map f all) own rest (project own row))) (map f rows)
+      ≡ map (λ row. length (group (map g all) key fetched (project key row))) (map g rows)
   sizes_seen all [] = refl
   sizes_seen all (r ∷ rs) =
       let here = ap (λ v. length (group (map f all) own rest v)) (keys r) ∙ ap length (group_seen all (project key (g r))) in

@@ -67,7 +67,8 @@ module _ (key fetched : List ColumnId) where
     most_is : most ≡ greatest front key fetched
 
   -- the rows of a group, by its tuples
-  row_of_member : (front : List Row) (value t : Row) → Has (group front key fetched value) t → (row : Row) × (Has front row) × (project key row ≡ value) × (t ≡ tuple row)
+  row_of_member : (front : List Row) (value t : Row) → Has (group front key fetched value) t
+      → (row : Row) × (Has front row) × (project key row ≡ value) × (t ≡ tuple row)
   row_of_member front value t h =
       let m = Has-from_distinct row_cmp_total row_cmp_tells (map tuple (filter (λ row. same_row (project key row) value) front)) t h in
       let r = Has-from_map tuple (filter (λ row. same_row (project key row) value) front) t m in
@@ -127,10 +128,12 @@ module _ (key fetched : List ColumnId) where
           let n = at_most_chain r before row h g in
           cc
 
-  tuples_differ : (before row : Row) → project key before ≡ project key row → same_row (project fetched before) (project fetched row) ≡ false → tuple before ≡ tuple row → ⊥
+  tuples_differ : (before row : Row) → project key before ≡ project key row → same_row (project fetched before) (project fetched row) ≡ false
+      → tuple before ≡ tuple row → ⊥
   tuples_differ before row same other e =
       let whole : tuple_cmp key fetched before row ≡ Equal = ap (row_cmp (tuple before)) (sym e) ∙ tied_itself row_cmp_total (tuple before) in
-      let keys : row_cmp (project key before) (project key row) ≡ Equal = ap (row_cmp (project key before)) (sym same) ∙ tied_itself row_cmp_total (project key before) in
+      let keys : row_cmp (project key before) (project key row)
+      ≡ Equal = ap (row_cmp (project key before)) (sym same) ∙ tied_itself row_cmp_total (project key before) in
       let parts = tuples_by_parts key fetched before row ∙ ap (λ o. ordering_then o (row_cmp (project fetched before) (project fetched row))) keys in
       let rest = ap is_eq (sym parts ∙ whole) in
       cc
@@ -144,7 +147,8 @@ module _ (key fetched : List ColumnId) where
   abbrev own : List Row → Row → ℕ
   own front row = length (members (front ++ row ∷ []) row)
 
-  new_tuple : (front : List Row) (before row : Row) → Below front before → AtMost before row → (tuple before ≡ tuple row → ⊥) → own front row ≡ length (members front row) + 1
+  new_tuple : (front : List Row) (before row : Row) → Below front before → AtMost before row → (tuple before ≡ tuple row → ⊥)
+      → own front row ≡ length (members front row) + 1
   new_tuple front before row below next differ =
       ap length (group_push_own front key fetched row)
       ∙ ap (λ g. length (add_in_order row_cmp (tuple row) g)) (sym (append-nil (members front row)))
@@ -152,9 +156,11 @@ module _ (key fetched : List ColumnId) where
       ∙ length-append (members front row) (tuple row ∷ [])
     where
       less : (t : Row) → Has (members front row) t → row_cmp t (tuple row) ≡ Less
-      less t h = let r = row_of_member front (project key row) t h in ap (λ u. row_cmp u (tuple row)) r.3 ∙ tuple_less r.0 before row (below r.0 r.1) next differ
+      less t h = let r = row_of_member front (project key row) t h in ap (λ u. row_cmp u (tuple row)) r.3
+          ∙ tuple_less r.0 before row (below r.0 r.1) next differ
 
-  known_tuple : (front : List Row) (before row : Row) → Has front before → project key before ≡ project key row → tuple before ≡ tuple row → own front row ≡ length (members front row)
+  known_tuple : (front : List Row) (before row : Row) → Has front before → project key before ≡ project key row → tuple before ≡ tuple row
+      → own front row ≡ length (members front row)
   known_tuple front before row last same tuples =
       let P : List Value → Type 0 = λ k. Has (group front key fetched k) (tuple before) in
       let h = subst (Has (members front row)) tuples (subst P same (member_of_row front before last)) in
@@ -174,7 +180,8 @@ module _ (key fetched : List ColumnId) where
       by true k true e =
           let same = same_row_true (project key before) (project key row) k in
           let others = same_row_true (project fetched before) (project fetched row) e in
-          let tuples = project-append key fetched before ∙ ap (λ t. t ++ project fetched before) same ∙ ap (λ t. project key row ++ t) others ∙ sym (project-append key fetched row) in
+          let tuples = project-append key fetched before ∙ ap (λ t. t ++ project fetched before) same ∙ ap (λ t. project key row ++ t) others
+          ∙ sym (project-append key fetched row) in
           h.size_is ∙ ap (λ v. length (group front key fetched v)) same ∙ sym (known_tuple front before row h.last same tuples)
       by true k false e =
           let same = same_row_true (project key before) (project key row) k in
@@ -190,7 +197,8 @@ module _ (key fetched : List ColumnId) where
       | inr new ↦ elim new [ inl e ↦ at_most_itself r row e | inr n ↦ absurd n ]
     ];
     size_is = size_next front before row size most h next;
-    most_is = ap (λ n. max most n) (size_next front before row size most h next) ∙ ap (λ n. max n (own front row)) h.most_is ∙ sym (greatest_push front row key fetched);
+    most_is = ap (λ n. max most n) (size_next front before row size most h next) ∙ ap (λ n. max n (own front row)) h.most_is
+        ∙ sym (greatest_push front row key fetched);
   }
     where
       at_most_itself : (a b : Row) → a ≡ b → AtMost a b
@@ -229,7 +237,8 @@ module _ (key fetched : List ColumnId) where
     rises_from x [] h = tt
     rises_from x (y ∷ ys) h = (h 0 x (omega arith) (omega arith), rises_from y ys (λ k d z l. later k d l))
       where
-        later : (k : ℕ) (d : X) → k + 1 < length (y ∷ ys) → is_lt (tuple_cmp key fetched (row_of (get_or (y ∷ ys) (k + 1) d)) (row_of (get_or (y ∷ ys) k d))) ≡ false
+        later : (k : ℕ) (d : X) → k + 1 < length (y ∷ ys)
+            → is_lt (tuple_cmp key fetched (row_of (get_or (y ∷ ys) (k + 1) d)) (row_of (get_or (y ∷ ys) k d))) ≡ false
         later k d l =
             let e : suc k + 1 ≡ suc (k + 1) = omega arith in
             ap (λ n. is_lt (tuple_cmp key fetched (row_of (get_or (x ∷ y ∷ ys) n d)) (row_of (get_or (y ∷ ys) k d)))) (sym e)

@@ -49,7 +49,8 @@ parsed {E} ds most value r h = by r h (fits ds most) refl
         absurd (h (t.0, omega arith, leb-true (digits_value 10 ds) most t.2))
     by (Err why) h false e = refl
 
-below : {E : Type 0} (A B : Type 0) (n : ℕ) (value : ℤ) (r : Result ℤ E) → OkIff r (A × B × (n < 2 ^ 63)) value → OkIff r (A × B × (n ≤ 9223372036854775807)) value
+below : {E : Type 0} (A B : Type 0) (n : ℕ) (value : ℤ) (r : Result ℤ E) → OkIff r (A × B × (n < 2 ^ 63)) value
+    → OkIff r (A × B × (n ≤ 9223372036854775807)) value
 below A B n value (Ok x) h = ((h.0.0, h.0.1, omega (arith, h.0.2)), h.1)
 below A B n value (Err why) h = λ q. h (q.0, q.1, omega (arith, q.2))
 

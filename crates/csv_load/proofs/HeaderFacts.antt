@@ -40,7 +40,8 @@ pub place_twice : (p : List ℕ → Bool) (fields : List (List ℕ)) (i : ℕ) (
 place_twice p fields i all l e None n h = cc
 place_twice p fields i all l e (Some j) n h = ap (λ xs. the_only (j ∷ xs)) (sym (places_at p fields i true l e)) ∙ h
 
-pub place_passed : (p : List ℕ → Bool) (fields : List (List ℕ)) (i : ℕ) (all o : Option ℕ) → i < length fields → option_map_or p (slice_get fields i) false ≡ false
+pub place_passed : (p : List ℕ → Bool) (fields : List (List ℕ)) (i : ℕ) (all o : Option ℕ) → i < length fields
+    → option_map_or p (slice_get fields i) false ≡ false
     → the_only (option_to_list o ++ places p fields i) ≡ all → the_only (option_to_list o ++ places p fields (i + 1)) ≡ all
 place_passed p fields i all o l e h = ap (λ xs. the_only (option_to_list o ++ xs)) (sym (places_at p fields i false l e)) ∙ h
 

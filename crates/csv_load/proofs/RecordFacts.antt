@@ -51,7 +51,8 @@ takes_more n m size p l h t = record {
   rest = elim t.rest [ inl r ↦ inl (omega (arith, r.0), omega (arith, r.1)) | inr r ↦ inr (r.0, r.1, omega (arith, r.2)) ];
 }
 
-next_takes : (cfg : Config) (s : State) (fields : List (List ℕ)) (field xs : List ℕ) (p : Read) → next_record cfg s fields field xs ≡ Some p → Takes (length fields) (length xs) p
+next_takes : (cfg : Config) (s : State) (fields : List (List ℕ)) (field xs : List ℕ) (p : Read) → next_record cfg s fields field xs ≡ Some p
+    → Takes (length fields) (length xs) p
 unfolding next_record
 next_takes cfg s fields field [] p e = by (ends_at_end s) e
   where
@@ -133,7 +134,8 @@ unfolding records_of
 records_fit text = let w = weight_fits default_config (length (strip_bom text) + 1) st.StartRecord (strip_bom text) in omega (arith, strip_bom-le text)
 
 -- a read
-rest_is : (xs : List ℕ) (p : Read) → Takes 0 (length xs) p → records_from default_config (length xs) p.1 p.2 ≡ records_from default_config (length p.2 + 1) p.1 p.2
+rest_is : (xs : List ℕ) (p : Read) → Takes 0 (length xs) p
+    → records_from default_config (length xs) p.1 p.2 ≡ records_from default_config (length p.2 + 1) p.1 p.2
 rest_is xs p t = elim t.rest [
   | inl r ↦ enough default_config (length xs) (length p.2 + 1) p.1 p.2 r.0 (omega arith)
   | inr r ↦ let k = none_at_end default_config (length xs) in let j = none_at_end default_config (length p.2 + 1) in cc
@@ -178,7 +180,8 @@ rest_of r = Some r.now
 source_known : (reader : Reader (Bor (List ℕ))) → has_failed reader ≡ false → source_of rest_of reader ≡ Some (bytes_left reader)
 source_known reader h = known (source_of rest_of reader) (by (has_failed reader) h (not reader.bom_checked && (reader.at == 0) && (reader.filled == 0)))
   where
-    by : (f : Bool) → f ≡ false → (b : Bool) → IsSome (cond f None (cond b (option_map strip_bom (rest_of reader.rdr)) (buffered_of (rest_of reader.rdr) reader)))
+    by : (f : Bool) → f ≡ false → (b : Bool)
+        → IsSome (cond f None (cond b (option_map strip_bom (rest_of reader.rdr)) (buffered_of (rest_of reader.rdr) reader)))
     by true e b = cc
     by false e true = refl
     by false e false = refl
@@ -229,7 +232,8 @@ left_at_first reader text live start source =
     ∙ ap (λ xs. records_from default_config (length xs + 1) st.StartRecord xs) left
 
 -- a reader of a text fails for nothing but the text itself or memory, and is then done
-pub failure_stops : (old new : Reader (Bor (List ℕ))) (why : ErrorKind) → is_flexible old ≡ true → ExplainsRead rest_of old new false why → stops_reader why ≡ true
+pub failure_stops : (old new : Reader (Bor (List ℕ))) (why : ErrorKind) → is_flexible old ≡ true → ExplainsRead rest_of old new false why
+    → stops_reader why ≡ true
 failure_stops old new (kind.Io e) f h = refl
 failure_stops old new kind.OutOfMemory f h = refl
 failure_stops old new (kind.UnequalLengths pos expected len) f h = let n = h.0 in cc

@@ -44,7 +44,8 @@ module _ (longest : ℕ) (columns : List Column) (fields : Record) (i : ℕ) (co
   pub bad_at : (b : Bool) → option_map_or is_bad (slice_get fields i) false ≡ b → Bad b
   bad_at b h = by (slice_get fields i) refl b h
     where
-      there : (field : List ℕ) → slice_get fields i ≡ Some field → zip (drop i columns) (drop i fields) ≡ (column, field) ∷ zip (drop (i + 1) columns) (drop (i + 1) fields)
+      there : (field : List ℕ) → slice_get fields i ≡ Some field
+          → zip (drop i columns) (drop i fields) ≡ (column, field) ∷ zip (drop (i + 1) columns) (drop (i + 1) fields)
       there field e = ap (λ cs. zip cs (drop i fields)) here ∙ ap (zip (column ∷ drop (i + 1) columns)) (drop_got fields i field e)
 
       by : (o : Option (List ℕ)) → slice_get fields i ≡ o → (b : Bool) → option_map_or is_bad o false ≡ b → Bad b
@@ -62,7 +63,8 @@ module _ (longest : ℕ) (columns : List Column) (fields : Record) (i : ℕ) (co
           ∙ ap (λ t. option_map (λ (p : Column × List ℕ). p.0) (cond t (Some (column, field)) (find (λ p. not (is_some (cell longest p.0.kind p.1))) (zip (drop (i + 1) columns) (drop (i + 1) fields))))) h)
 
 -- a row by its slots
-row_by_slots : (longest : ℕ) (columns : List Column) (header fields : Record) → row_of_slots longest (slots_of columns header) fields ≡ row_in longest columns header fields
+row_by_slots : (longest : ℕ) (columns : List Column) (header fields : Record)
+    → row_of_slots longest (slots_of columns header) fields ≡ row_in longest columns header fields
 row_by_slots longest [] header fields = refl
 row_by_slots longest (c ∷ cs) header fields = by (place_of header c) (row_by_slots longest cs header fields)
   where
@@ -100,7 +102,8 @@ module _ (longest : ℕ) (columns : List Column) (text : List ℕ) (header : Rec
       ap (first_fault longest columns) all
       ∙ ap (λ b. cond b (fault_under longest (in_file_order columns header) records) (Some HeaderMismatch)) n
 
-  pub fault_is : (layout : Layout) → IsLayout columns header layout → fault_of longest columns text ≡ fault_under longest (map (λ column. column.now) layout.in_file.items) records
+  pub fault_is : (layout : Layout) → IsLayout columns header layout
+      → fault_of longest columns text ≡ fault_under longest (map (λ column. column.now) layout.in_file.items) records
   unfolding first_fault
   fault_is layout l =
       ap (first_fault longest columns) all
@@ -114,7 +117,8 @@ module _ (longest : ℕ) (columns : List Column) (text : List ℕ) (header : Rec
       ∙ sym (rows_by_slots longest columns header records)
       ∙ ap (λ slots. map (row_of_slots longest slots) records) (sym l.slots)
 
-  pub room : (layout : Layout) → IsLayout columns header layout → weight (header ∷ records) ≤ length text + 1 → length layout.in_file.items + weight records ≤ length text + 1
+  pub room : (layout : Layout) → IsLayout columns header layout → weight (header ∷ records) ≤ length text + 1
+      → length layout.in_file.items + weight records ≤ length text + 1
   room layout l w =
       let few = length-filter_map-le (column_of columns) header in
       let same = ap length l.in_file in

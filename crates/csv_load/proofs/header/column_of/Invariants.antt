@@ -8,4 +8,5 @@ use Rattle.csv_load.proofs.header.column_of.Given as goal
 -- the column that was found, and those that are left to look at
 abbrev pub invariant-loop-column : goal.invariant-loop-column
 invariant-loop-column l =
-    the_only (option_to_list (option_map (λ column. column.now) l.found) ++ filter (names l.field) (drop l.column-index l.columns)) ≡ column_of l.columns l.field
+    the_only (option_to_list (option_map (λ column. column.now) l.found) ++ filter (names l.field) (drop l.column-index l.columns))
+    ≡ column_of l.columns l.field
