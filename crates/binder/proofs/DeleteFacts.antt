@@ -21,20 +21,24 @@ one_atom : (schema : Schema) (table : List ℕ) (conditions : List Cond) → len
 unfolding looked_up
 one_atom schema table conditions = omega arith
 
-pub delete_small : (schema : Schema) (table : List ℕ) (conditions : List Cond) → SchemaIsSound schema → BlockIsSmall (looked_up schema (delete_block table conditions))
+pub delete_small : (schema : Schema) (table : List ℕ) (conditions : List Cond) → SchemaIsSound schema
+    → BlockIsSmall (looked_up schema (delete_block table conditions))
 delete_small schema table conditions sound = block_small schema (delete_block table conditions) sound (one_atom schema table conditions)
 
-pub delete_few : (schema : Schema) (table : List ℕ) (conditions : List Cond) → length conditions < 2 ^ 32 → length (looked_up schema (delete_block table conditions)).conditions < 2 ^ 32
+pub delete_few : (schema : Schema) (table : List ℕ) (conditions : List Cond) → length conditions < 2 ^ 32
+    → length (looked_up schema (delete_block table conditions)).conditions < 2 ^ 32
 unfolding looked_up
 delete_few schema table conditions few =
     subst (λ n. n < 2 ^ 32) (sym (length-map conditions (condition (meaning (sources schema (delete_block table conditions).from_items))))) few
 
-pub the_item : (lent items empty : List FromItem) (table first second : List ℕ) → lent ≡ items → items ≡ empty ++ record { table = first; alias = second } ∷ [] → empty ≡ []
+pub the_item : (lent items empty : List FromItem) (table first second : List ℕ) → lent ≡ items
+    → items ≡ empty ++ record { table = first; alias = second } ∷ [] → empty ≡ []
     → first ≡ table → second ≡ table → lent ≡ record { table = table; alias = table } ∷ []
 the_item lent items empty table first second is pushed none one two =
     let item : List ℕ → List ℕ → FromItem = λ t a. record { table = t; alias = a } in
     is ∙ pushed ∙ ap (λ xs. xs ++ item first second ∷ []) none ∙ ap (λ t. item t second ∷ []) one ∙ ap (λ a. item table a ∷ []) two
 
 -- no items have no types
-pub no_kinds : (schema : Schema) (items : List FromItem) (meanings : List Meaning) (types : List ColType) → meanings ≡ [] → types ≡ [] → types ≡ output_kinds false (sources schema items) meanings
+pub no_kinds : (schema : Schema) (items : List FromItem) (meanings : List Meaning) (types : List ColType) → meanings ≡ [] → types ≡ []
+    → types ≡ output_kinds false (sources schema items) meanings
 no_kinds schema items meanings types none no_types = no_types ∙ ap (output_kinds false (sources schema items)) (sym none)

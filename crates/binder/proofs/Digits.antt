@@ -15,7 +15,8 @@ past false n big = grind (arith, nat_tests)
 past true n big = grind (arith, nat_tests)
 
 -- what `parse` doesn't read is past an i64, too
-pub unread : {E : Type 0} (negative : Bool) (bs : List ℕ) (r : Result ℕ E) (e : E) → ParsesUnsigned 64 10 bs r → all_ascii_digits bs ≡ true → 0 < length bs → r ≡ Err e → signed negative bs ≡ None
+pub unread : {E : Type 0} (negative : Bool) (bs : List ℕ) (r : Result ℕ E) (e : E) → ParsesUnsigned 64 10 bs r → all_ascii_digits bs ≡ true → 0 < length bs
+    → r ≡ Err e → signed negative bs ≡ None
 unfolding signed
 unread negative bs r e h digits some is =
     let k = OkIff-at_err r _ _ e (parse_digits own 64 bs r h digits) is in

@@ -10,13 +10,16 @@ use Rattle.sql_tree.specs.Trees.{Tree}
 use Rattle.binder.specs.Binding.{blocks_of, with_blocks}
 
 pub joins_both : (left right : Tree) (before between after : List Block) (left_query right_query : QueryTree)
-    → ((front : List Block) (bind : BlockTree → Block) → before ≡ front ++ map bind (blocks_of right) → (between ≡ front) × (right_query ≡ with_blocks bind right))
-    → ((front : List Block) (bind : BlockTree → Block) → between ≡ front ++ map bind (blocks_of left) → (after ≡ front) × (left_query ≡ with_blocks bind left))
+    → ((front : List Block) (bind : BlockTree → Block) → before ≡ front ++ map bind (blocks_of right)
+    → (between ≡ front) × (right_query ≡ with_blocks bind right))
+    → ((front : List Block) (bind : BlockTree → Block) → between ≡ front ++ map bind (blocks_of left)
+    → (after ≡ front) × (left_query ≡ with_blocks bind left))
     → (front : List Block) (bind : BlockTree → Block) → before ≡ front ++ map bind (blocks_of left ++ blocks_of right)
     → (after ≡ front) × (left_query ≡ with_blocks bind left) × (right_query ≡ with_blocks bind right)
 joins_both left right before between after left_query right_query first second front bind is =
     let one = first (front ++ map bind (blocks_of left)) bind
-    (is ∙ ap (λ bs. front ++ bs) (map-append bind (blocks_of left) (blocks_of right)) ∙ sym (append_assoc front (map bind (blocks_of left)) (map bind (blocks_of right)))) in
+    (is ∙ ap (λ bs. front ++ bs) (map-append bind (blocks_of left) (blocks_of right))
+    ∙ sym (append_assoc front (map bind (blocks_of left)) (map bind (blocks_of right)))) in
     let two = second front bind one.0 in
     (two.0, two.1, one.1)
 

@@ -11,3 +11,4 @@ pub mod BindFacts
 pub mod RowFacts
 pub mod DeleteFacts
 pub mod WellFormed
+pub mod SpelledTrees

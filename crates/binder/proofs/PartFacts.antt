@@ -25,19 +25,24 @@ adds_none block = record {
   output = refl;
 }
 
-pub adds_both : (before between after : Block) (first second : List Part) → Adds before between first → Adds between after second → Adds before after (first ++ second)
+pub adds_both : (before between after : Block) (first second : List Part) → Adds before between first → Adds between after second
+    → Adds before after (first ++ second)
 adds_both before between after first second one two = record {
   atoms = two.atoms ∙ one.atoms;
   equalities = two.equalities ∙ ap (λ xs. xs ++ filter_map equality_of second) one.equalities
-      ∙ append_assoc before.equalities (filter_map equality_of first) (filter_map equality_of second) ∙ ap (λ xs. before.equalities ++ xs) (sym (filter_map-append equality_of first second));
+      ∙ append_assoc before.equalities (filter_map equality_of first) (filter_map equality_of second)
+      ∙ ap (λ xs. before.equalities ++ xs) (sym (filter_map-append equality_of first second));
   constants = two.constants ∙ ap (λ xs. xs ++ filter_map constant_of second) one.constants
-      ∙ append_assoc before.constants (filter_map constant_of first) (filter_map constant_of second) ∙ ap (λ xs. before.constants ++ xs) (sym (filter_map-append constant_of first second));
+      ∙ append_assoc before.constants (filter_map constant_of first) (filter_map constant_of second)
+      ∙ ap (λ xs. before.constants ++ xs) (sym (filter_map-append constant_of first second));
   comparisons = two.comparisons ∙ ap (λ xs. xs ++ filter_map comparison_of second) one.comparisons
-      ∙ append_assoc before.comparisons (filter_map comparison_of first) (filter_map comparison_of second) ∙ ap (λ xs. before.comparisons ++ xs) (sym (filter_map-append comparison_of first second));
+      ∙ append_assoc before.comparisons (filter_map comparison_of first) (filter_map comparison_of second)
+      ∙ ap (λ xs. before.comparisons ++ xs) (sym (filter_map-append comparison_of first second));
   output = two.output ∙ one.output;
 }
 
-block_is : (a b : Block) → a.atoms ≡ b.atoms → a.equalities ≡ b.equalities → a.constants ≡ b.constants → a.comparisons ≡ b.comparisons → a.output ≡ b.output → a ≡ b
+block_is : (a b : Block) → a.atoms ≡ b.atoms → a.equalities ≡ b.equalities → a.constants ≡ b.constants → a.comparisons ≡ b.comparisons
+    → a.output ≡ b.output → a ≡ b
 block_is a b atoms equalities constants comparisons output =
     λ i. record { atoms = atoms i; equalities = equalities i; constants = constants i; comparisons = comparisons i; output = output i }
 
@@ -45,13 +50,15 @@ pub bound_is : (found : LookedUp) (empty bound : Block) → empty.atoms ≡ foun
     → empty.output ≡ outputs found → Adds empty bound (flat_map parts found.conditions) → bound ≡ bound_block found
 unfolding bound_block
 bound_is found empty bound atoms no_equalities no_constants no_comparisons output adds =
-    block_is bound (bound_block found) (adds.atoms ∙ atoms) (adds.equalities ∙ ap (λ xs. xs ++ filter_map equality_of (flat_map parts found.conditions)) no_equalities)
+    block_is bound (bound_block found) (adds.atoms ∙ atoms) (adds.equalities ∙ ap (λ xs. xs ++ filter_map equality_of
+    (flat_map parts found.conditions)) no_equalities)
     (adds.constants ∙ ap (λ xs. xs ++ filter_map constant_of (flat_map parts found.conditions)) no_constants)
     (adds.comparisons ∙ ap (λ xs. xs ++ filter_map comparison_of (flat_map parts found.conditions)) no_comparisons) (adds.output ∙ output)
 
 -- ---- one element more
 
-pub columns_to_one : (items : List Meaning) (i : ℕ) (item : Meaning) (column : BoundColumn) → i < length items → item ≡ get_or items i item → column_of item ≡ Some column
+pub columns_to_one : (items : List Meaning) (i : ℕ) (item : Meaning) (column : BoundColumn) → i < length items → item ≡ get_or items i item
+    → column_of item ≡ Some column
     → filter_map column_of (take (i + 1) items) ≡ filter_map column_of (take i items) ++ column ∷ []
 columns_to_one items i item column below is has =
     ap (filter_map column_of) (take_more items i item below ∙ ap (λ x. take i items ++ x ∷ []) (sym is))
@@ -64,11 +71,14 @@ columns_to_none items i item below is none =
     ∙ filter_map-append column_of (take i items) (item ∷ []) ∙ ap (λ o. filter_map column_of (take i items) ++ cons_option o []) none
     ∙ append-nil (filter_map column_of (take i items))
 
-pub mapped_one : {Y : Type 0} (f : BoundColumn → Y) (ys : List Y) (cs ds : List BoundColumn) (c : BoundColumn) → ys ≡ map f cs → ds ≡ cs ++ c ∷ [] → ys ++ f c ∷ [] ≡ map f ds
+pub mapped_one : {Y : Type 0} (f : BoundColumn → Y) (ys : List Y) (cs ds : List BoundColumn) (c : BoundColumn) → ys ≡ map f cs → ds ≡ cs ++ c ∷ []
+    → ys ++ f c ∷ [] ≡ map f ds
 mapped_one f ys cs ds c is more = ap (λ zs. zs ++ f c ∷ []) is ∙ sym (map-append f cs (c ∷ [])) ∙ ap (map f) (sym more)
 
-pub parts_to : (before between after : Block) (conditions : List Condition) (i : ℕ) (condition : Condition) → i < length conditions → condition ≡ get_or conditions i condition
-    → Adds before between (flat_map parts (take i conditions)) → Adds between after (parts condition) → Adds before after (flat_map parts (take (i + 1) conditions))
+pub parts_to : (before between after : Block) (conditions : List Condition) (i : ℕ) (condition : Condition) → i < length conditions
+    → condition ≡ get_or conditions i condition
+    → Adds before between (flat_map parts (take i conditions)) → Adds between after (parts condition)
+    → Adds before after (flat_map parts (take (i + 1) conditions))
 parts_to before between after conditions i condition below is one two =
     subst (Adds before after)
     (sym (ap (flat_map parts) (take_more conditions i condition below ∙ ap (λ c. take i conditions ++ c ∷ []) (sym is))
@@ -84,7 +94,8 @@ places_to atoms i none below =
     ∙ ap (flat_map each) (enumerate_append 0 (take i atoms) (atom ∷ []))
     ∙ flat_map-append each (enumerate_from 0 (take i atoms)) ((0 + length (take i atoms), atom) ∷ [])
     ∙ ap (λ ps. flat_map each (enumerate_from 0 (take i atoms)) ++ ps) (append-nil (map (place_at (0 + length (take i atoms))) (range_with_len 0 atom.width)))
-    ∙ ap (λ n. flat_map each (enumerate_from 0 (take i atoms)) ++ map (place_at n) (range_with_len 0 atom.width)) (ap (λ n. 0 + n) (length-take-le i atoms (omega arith)) ∙ omega arith)
+    ∙ ap (λ n. flat_map each (enumerate_from 0 (take i atoms)) ++ map (place_at n) (range_with_len 0 atom.width)) (ap (λ n. 0 + n) (length-take-le i atoms
+    (omega arith)) ∙ omega arith)
 
 pub not_some : {X : Type 0} (o : Option X) → ((x : X) → o ≡ Some x → ⊥) → o ≡ None
 not_some None never = refl

@@ -70,7 +70,8 @@ pub each_filter : {X : Type 0} (P : X → Type 0) (test : X → Bool) (xs : List
 each_filter P test [] each = tt
 each_filter P test (x ∷ xs) each = each_if P (test x) x (filter test xs) each.0 (each_filter P test xs each.1)
 
-pub each_flat_map : {X Y : Type 0} (f : X → List Y) (P : X → Type 0) (Q : Y → Type 0) → ((x : X) → P x → Each Q (f x)) → (xs : List X) → Each P xs → Each Q (flat_map f xs)
+pub each_flat_map : {X Y : Type 0} (f : X → List Y) (P : X → Type 0) (Q : Y → Type 0) → ((x : X) → P x → Each Q (f x)) → (xs : List X) → Each P xs
+    → Each Q (flat_map f xs)
 each_flat_map f P Q so [] each = tt
 each_flat_map f P Q so (x ∷ xs) each = each_append Q (f x) (flat_map f xs) (so x each.0) (each_flat_map f P Q so xs each.1)
 
@@ -110,7 +111,8 @@ pub columns_are_places : (atoms : List Atom) (atom : ℕ) (name : List ℕ) (col
     → Each (λ c. IsPlace atoms (place_of c)) (columns_in atom name columns)
 unfolding columns_in
 columns_are_places atoms atom name columns here wide =
-    each_map (bound_column atom) (λ (c : ℕ × Column). c.0 < length columns) (λ c. IsPlace atoms (place_of c)) (λ c below. record { atom = here; column = omega arith })
+    each_map (bound_column atom) (λ (c : ℕ × Column). c.0 < length columns) (λ c. IsPlace atoms (place_of c))
+    (λ c below. record { atom = here; column = omega arith })
     (filter (λ (c : ℕ × Column). bytes_eq c.1.name name) (enumerate_from 0 columns))
     (each_filter (λ (c : ℕ × Column). c.0 < length columns) (λ (c : ℕ × Column). bytes_eq c.1.name name) (enumerate_from 0 columns)
     (each_numbered (λ (c : ℕ × Column). c.0 < length columns) columns (λ i d below. below)))
@@ -129,16 +131,19 @@ source_width schema items i d below =
     ∙ ap (λ (a : Atom). a.width) (get_or-map (atom_of schema) items i item atom below) in
     omega (arith, has, is)
 
-pub names_are_places : (schema : Schema) (items : List FromItem) (ref : ColumnRef) → Each (λ c. IsPlace (map (atom_of schema) items) (place_of c)) (named_by (sources schema items) ref)
+pub names_are_places : (schema : Schema) (items : List FromItem) (ref : ColumnRef)
+    → Each (λ c. IsPlace (map (atom_of schema) items) (place_of c)) (named_by (sources schema items) ref)
 unfolding named_by
 names_are_places schema items ref =
     let atoms : List Atom = map (atom_of schema) items in
     let count : length atoms ≡ length items = length-map items (atom_of schema) in
     let as_many : length (sources schema items) ≡ length items = length-map items _ in
-    each_flat_map (λ (a : ℕ × Source). columns_in a.0 ref.column a.1.columns) (λ (a : ℕ × Source). (a.0 < length atoms) × (length a.1.columns ≤ width_of atoms a.0)) (λ c. IsPlace atoms (place_of c))
+    each_flat_map (λ (a : ℕ × Source). columns_in a.0 ref.column a.1.columns) (λ (a : ℕ × Source). (a.0 < length atoms) ×
+    (length a.1.columns ≤ width_of atoms a.0)) (λ c. IsPlace atoms (place_of c))
     (λ a fits. columns_are_places atoms a.0 ref.column a.1.columns fits.0 fits.1)
     (filter (λ (a : ℕ × Source). may_name ref a.1) (enumerate_from 0 (sources schema items)))
-    (each_filter (λ (a : ℕ × Source). (a.0 < length atoms) × (length a.1.columns ≤ width_of atoms a.0)) (λ (a : ℕ × Source). may_name ref a.1) (enumerate_from 0 (sources schema items))
+    (each_filter (λ (a : ℕ × Source). (a.0 < length atoms) × (length a.1.columns ≤ width_of atoms a.0)) (λ (a : ℕ × Source). may_name ref a.1)
+    (enumerate_from 0 (sources schema items))
     (each_numbered (λ (a : ℕ × Source). (a.0 < length atoms) × (length a.1.columns ≤ width_of atoms a.0)) (sources schema items)
     (λ i d below. (omega arith, source_width schema items i d (omega arith)))))
 
@@ -152,7 +157,8 @@ abbrev pub ConditionFits : List Atom → Condition → Type 0
 ConditionFits atoms (Compare left sign right) = MeaningFits atoms left × MeaningFits atoms right
 ConditionFits atoms (Between value low high) = MeaningFits atoms value × MeaningFits atoms low × MeaningFits atoms high
 
-the_one_fits : (atoms : List Atom) (ref : ColumnRef) (columns : List BoundColumn) → Each (λ c. IsPlace atoms (place_of c)) columns → MeaningFits atoms (the_one ref columns)
+the_one_fits : (atoms : List Atom) (ref : ColumnRef) (columns : List BoundColumn) → Each (λ c. IsPlace atoms (place_of c)) columns
+    → MeaningFits atoms (the_one ref columns)
 the_one_fits atoms ref [] each = tt
 the_one_fits atoms ref (c ∷ []) each = each.0
 the_one_fits atoms ref (c ∷ d ∷ more) each = tt
@@ -173,6 +179,7 @@ side_fits : (schema : Schema) (items : List FromItem) (s : Side) → MeaningFits
 side_fits schema items (side.Column ref) = ref_fits schema items ref
 side_fits schema items (side.Fixed literal) = literal_fits (map (atom_of schema) items) literal
 
-pub condition_fits : (schema : Schema) (items : List FromItem) (c : Cond) → ConditionFits (map (atom_of schema) items) (condition (meaning (sources schema items)) c)
+pub condition_fits : (schema : Schema) (items : List FromItem) (c : Cond) → ConditionFits (map (atom_of schema) items) (condition (meaning
+    (sources schema items)) c)
 condition_fits schema items (written.Compare left sign right) = (side_fits schema items left, side_fits schema items right)
 condition_fits schema items (written.Between value low high) = (ref_fits schema items value, side_fits schema items low, side_fits schema items high)

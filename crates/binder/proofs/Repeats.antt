@@ -37,16 +37,19 @@ none_more names i name below is fresh so_far = record { none = up_to names i nam
 
 pub none_at_all : (names : List (List ℕ)) (n : ℕ) → NoneBelow names n → take n names ≡ names → repeated names ≡ []
 unfolding repeated
-none_at_all names n below all = ap (λ ns. map (λ (m : ℕ × List ℕ). m.1) (filter (stands_before names) (enumerate_from 0 ns))) (sym all) ∙ ap (map (λ (m : ℕ × List ℕ). m.1)) below.none
+none_at_all names n below all = ap (λ ns. map (λ (m : ℕ × List ℕ). m.1) (filter (stands_before names) (enumerate_from 0 ns))) (sym all)
+    ∙ ap (map (λ (m : ℕ × List ℕ). m.1)) below.none
 
 first_of : (names : List (List ℕ)) (front back : List (ℕ × List ℕ)) (i : ℕ) (name : List ℕ) → enumerate_from 0 names ≡ front ++ back
-    → filter (stands_before names) front ≡ (i, name) ∷ [] → first (map DuplicateName (map (λ (m : ℕ × List ℕ). m.1) (filter (stands_before names) (enumerate_from 0 names)))) ≡ Some (DuplicateName name)
+    → filter (stands_before names) front ≡ (i, name) ∷ [] → first (map DuplicateName (map (λ (m : ℕ × List ℕ). m.1) (filter (stands_before names)
+    (enumerate_from 0 names)))) ≡ Some (DuplicateName name)
 first_of names front back i name split here =
     ap (λ ns. first (map DuplicateName (map (λ (m : ℕ × List ℕ). m.1) ns)))
     (ap (filter (stands_before names)) split ∙ filter-append (stands_before names) front back ∙ ap (λ ns. ns ++ filter (stands_before names) back) here)
 
 pub first_repeated : (names : List (List ℕ)) (i : ℕ) (name : List ℕ) → i < length names → name ≡ get_or names i name
-    → list_any (λ earlier. bytes_eq earlier name) (take i names) ≡ true → NoneBelow names i → first (map DuplicateName (repeated names)) ≡ Some (DuplicateName name)
+    → list_any (λ earlier. bytes_eq earlier name) (take i names) ≡ true → NoneBelow names i
+    → first (map DuplicateName (repeated names)) ≡ Some (DuplicateName name)
 unfolding repeated
 first_repeated names i name below is seen so_far =
     first_of names (enumerate_from 0 (take (i + 1) names)) (enumerate_from (0 + length (take (i + 1) names)) (drop (i + 1) names)) i name
@@ -61,34 +64,40 @@ aliases_are schema [] name = refl
 aliases_are schema (item ∷ items) name = ap (λ b. bytes_eq item.alias name || b) (aliases_are schema items name)
 
 seen_before : (schema : Schema) (items : List FromItem) (i : ℕ) (name : List ℕ)
-    → list_any (λ s. bytes_eq s.alias name) (sources schema (take i items)) ≡ list_any (λ earlier. bytes_eq earlier name) (take i (map (λ item. item.alias) items))
+    → list_any (λ s. bytes_eq s.alias name) (sources schema (take i items)) ≡ list_any (λ earlier. bytes_eq earlier name) (take i (map
+    (λ item. item.alias) items))
 seen_before schema items i name =
     aliases_are schema (take i items) name ∙ ap (list_any (λ earlier. bytes_eq earlier name)) (sym (take-map (λ (item : FromItem). item.alias) i items))
 
 alias_below : (items : List FromItem) (i : ℕ) → i < length items → i < length (map (λ (item : FromItem). item.alias) items)
 alias_below items i below = rw (length-map items (λ (item : FromItem). item.alias)) below
 
-alias_at : (items : List FromItem) (i : ℕ) (item : FromItem) → i < length items → item ≡ get_or items i item → item.alias ≡ get_or (map (λ (item : FromItem). item.alias) items) i item.alias
+alias_at : (items : List FromItem) (i : ℕ) (item : FromItem) → i < length items → item ≡ get_or items i item
+    → item.alias ≡ get_or (map (λ (item : FromItem). item.alias) items) i item.alias
 alias_at items i item below is = ap (λ (item : FromItem). item.alias) is ∙ sym (get_or-map (λ (item : FromItem). item.alias) items i item item.alias below)
 
 pub repeated_here : (schema : Schema) (items : List FromItem) (i : ℕ) (item : FromItem) → i < length items → item ≡ get_or items i item
     → list_any (λ s. bytes_eq s.alias item.alias) (sources schema (take i items)) ≡ true → NoneBelow (map (λ item. item.alias) items) i
     → first (repeated_among items) ≡ Some (DuplicateName item.alias)
 repeated_here schema items i item below is seen so_far =
-    first_repeated (map (λ (item : FromItem). item.alias) items) i item.alias (alias_below items i below) (alias_at items i item below is) (sym (seen_before schema items i item.alias) ∙ seen) so_far
+    first_repeated (map (λ (item : FromItem). item.alias) items) i item.alias (alias_below items i below) (alias_at items i item below is) (sym
+    (seen_before schema items i item.alias) ∙ seen) so_far
 
 pub fresh_here : (schema : Schema) (items : List FromItem) (i : ℕ) (item : FromItem) → i < length items → item ≡ get_or items i item
     → list_any (λ s. bytes_eq s.alias item.alias) (sources schema (take i items)) ≡ false → NoneBelow (map (λ item. item.alias) items) i
     → NoneBelow (map (λ item. item.alias) items) (i + 1)
 fresh_here schema items i item below is fresh so_far =
-    none_more (map (λ (item : FromItem). item.alias) items) i item.alias (alias_below items i below) (alias_at items i item below is) (sym (seen_before schema items i item.alias) ∙ fresh) so_far
+    none_more (map (λ (item : FromItem). item.alias) items) i item.alias (alias_below items i below) (alias_at items i item below is) (sym
+    (seen_before schema items i item.alias) ∙ fresh) so_far
 
 pub none_repeated : (items : List FromItem) (n : ℕ) → NoneBelow (map (λ item. item.alias) items) n → length items ≤ n → first (repeated_among items) ≡ None
 none_repeated items n none all =
     ap (λ ns. first (map DuplicateName ns))
-    (none_at_all (map (λ (item : FromItem). item.alias) items) n none (take-map (λ (item : FromItem). item.alias) n items ∙ ap (map (λ (item : FromItem). item.alias)) (take_all n items all)))
+    (none_at_all (map (λ (item : FromItem). item.alias) items) n none (take-map (λ (item : FromItem). item.alias) n items
+    ∙ ap (map (λ (item : FromItem). item.alias)) (take_all n items all)))
 
-pub sources_to : (schema : Schema) (items : List FromItem) (i : ℕ) (item : FromItem) (alias : List ℕ) (columns : List Column) → i < length items → item ≡ get_or items i item
+pub sources_to : (schema : Schema) (items : List FromItem) (i : ℕ) (item : FromItem) (alias : List ℕ) (columns : List Column) → i < length items
+    → item ≡ get_or items i item
     → alias ≡ item.alias → columns ≡ columns_named schema item.table
     → sources schema (take i items) ++ record { alias = alias; columns = columns } ∷ [] ≡ sources schema (take (i + 1) items)
 sources_to schema items i item alias columns below is named has =

@@ -26,7 +26,8 @@ use Rattle.binder.proofs.Numbered.{enumerate_append, filter_all}
 abbrev pub if_named : ℕ → List ℕ → ℕ → Column → List BoundColumn
 if_named atom name place column = cond (bytes_eq column.name name) (bound_column atom (place, column) ∷ []) []
 
-named_one : (atom place : ℕ) (column : Column) (b : Bool) → map (bound_column atom) (cond b ((place, column) ∷ []) []) ≡ cond b (bound_column atom (place, column) ∷ []) []
+named_one : (atom place : ℕ) (column : Column) (b : Bool) → map (bound_column atom) (cond b ((place, column) ∷ []) []) ≡ cond b (bound_column atom
+    (place, column) ∷ []) []
 named_one atom place column true = refl
 named_one atom place column false = refl
 
@@ -38,7 +39,8 @@ columns_in_more atom name columns column =
     ap (λ cs. map (bound_column atom) (filter has cs)) (enumerate_append 0 columns (column ∷ []))
     ∙ ap (map (bound_column atom)) (filter-append has (enumerate_from 0 columns) ((0 + length columns, column) ∷ []))
     ∙ map-append (bound_column atom) (filter has (enumerate_from 0 columns)) (filter has ((0 + length columns, column) ∷ []))
-    ∙ ap (λ zs. map (bound_column atom) (filter has (enumerate_from 0 columns)) ++ zs) (named_one atom (0 + length columns) column (bytes_eq column.name name))
+    ∙ ap (λ zs. map (bound_column atom) (filter has (enumerate_from 0 columns)) ++ zs) (named_one atom (0 + length columns) column
+    (bytes_eq column.name name))
     ∙ ap (λ n. map (bound_column atom) (filter has (enumerate_from 0 columns)) ++ if_named atom name n column) (omega arith)
 
 found_in_more : (columns : List BoundColumn) (column : BoundColumn) → found_in (columns ++ column ∷ []) ≡ Some (one_more (found_in columns) column)
@@ -55,7 +57,8 @@ columns_to atom name columns i column below is =
     ∙ ap (λ n. columns_in atom name (take i columns) ++ if_named atom name n column) (length-take-le i columns (omega arith))
 
 pub columns_to_named : (atom : ℕ) (name : List ℕ) (columns : List Column) (i : ℕ) (column : Column) → i < length columns → column ≡ get_or columns i column
-    → bytes_eq column.name name ≡ true → columns_in atom name (take (i + 1) columns) ≡ columns_in atom name (take i columns) ++ bound_column atom (i, column) ∷ []
+    → bytes_eq column.name name ≡ true → columns_in atom name (take (i + 1) columns) ≡ columns_in atom name (take i columns) ++ bound_column atom
+    (i, column) ∷ []
 columns_to_named atom name columns i column below is named =
     columns_to atom name columns i column below is ∙ ap (λ b. columns_in atom name (take i columns) ++ cond b (bound_column atom (i, column) ∷ []) []) named
 
@@ -65,7 +68,8 @@ columns_to_other atom name columns i column below is other =
     columns_to atom name columns i column below is ∙ ap (λ b. columns_in atom name (take i columns) ++ cond b (bound_column atom (i, column) ∷ []) []) other
     ∙ append-nil (columns_in atom name (take i columns))
 
-pub found_more : (found : Option Found) (before : List BoundColumn) (column : BoundColumn) → found ≡ found_in before → Some (one_more found column) ≡ found_in (before ++ column ∷ [])
+pub found_more : (found : Option Found) (before : List BoundColumn) (column : BoundColumn) → found ≡ found_in before
+    → Some (one_more found column) ≡ found_in (before ++ column ∷ [])
 found_more found before column is = ap (λ f. Some (one_more f column)) is ∙ sym (found_in_more before column)
 
 -- the map that has a column more
@@ -98,13 +102,15 @@ called_more atoms source atom name is =
     ∙ ap (λ cs. flat_map each (enumerate_from 0 atoms) ++ cs) (append-nil (columns_in (0 + length atoms) name source.columns))
     ∙ ap (λ n. flat_map each (enumerate_from 0 atoms) ++ columns_in n name source.columns) (omega arith)
 
-called_if : (atom : ℕ) (source : Source) (name : List ℕ) (b : Bool) → columns_called name (cond b ((atom, source) ∷ []) []) ≡ cond b (columns_in atom name source.columns) []
+called_if : (atom : ℕ) (source : Source) (name : List ℕ) (b : Bool) → columns_called name (cond b ((atom, source) ∷ []) []) ≡ cond b
+    (columns_in atom name source.columns) []
 called_if atom source name true = append-nil (columns_in atom name source.columns)
 called_if atom source name false = refl
 
 aliased_more : (atoms : List Source) (source : Source) (atom : ℕ) (alias name : List ℕ) → length atoms ≡ atom
     → columns_called name (filter (λ a. bytes_eq a.1.alias alias) (enumerate_from 0 (atoms ++ source ∷ [])))
-    ≡ columns_called name (filter (λ a. bytes_eq a.1.alias alias) (enumerate_from 0 atoms)) ++ cond (bytes_eq source.alias alias) (columns_in atom name source.columns) []
+    ≡ columns_called name (filter (λ a. bytes_eq a.1.alias alias) (enumerate_from 0 atoms)) ++ cond (bytes_eq source.alias alias)
+    (columns_in atom name source.columns) []
 aliased_more atoms source atom alias name is =
     let each : ℕ × Source → List BoundColumn = λ a. columns_in a.0 name a.1.columns in
     let has : ℕ × Source → Bool = λ a. bytes_eq a.1.alias alias in
@@ -128,7 +134,8 @@ or_false false = refl
 
 pub scope_more : (old new : Scope) (atoms : List Source) (atom : ℕ) (alias : Bor (List ℕ)) (columns : Bor (List Column))
     → ((name : List ℕ) → found_at new.atoms name ≡ update bytes_eq (found_at old.atoms) alias.now (Some (record { atom = atom; columns = columns })) name)
-    → ((name : List ℕ) (before : List BoundColumn) → found_at old.columns name ≡ found_in before → found_at new.columns name ≡ found_in (before ++ columns_in atom name columns.now))
+    → ((name : List ℕ) (before : List BoundColumn) → found_at old.columns name ≡ found_in before
+    → found_at new.columns name ≡ found_in (before ++ columns_in atom name columns.now))
     → length atoms ≡ atom → IsScope atoms old → list_any (λ s. bytes_eq s.alias alias.now) atoms ≡ false
     → IsScope (atoms ++ record { alias = alias.now; columns = columns.now } ∷ []) new
 scope_more old new atoms atom alias columns noted added count was fresh = record {
@@ -146,20 +153,24 @@ scope_more old new atoms atom alias columns noted added count was fresh = record
     absent : (other : List ℕ) → alias.now ≡ other → found_at old.atoms other ≡ None
     absent other same = none_of (found_at old.atoms other) (was.aliases other ∙ ap (λ n. list_any (λ s. bytes_eq s.alias n) atoms) (sym same) ∙ fresh)
 
-    aliased : (other name : List ℕ) (b : Bool) → bytes_eq alias.now other ≡ b → option_map_or (λ a. columns_in a.atom name a.columns.now) (found_at new.atoms other) []
+    aliased : (other name : List ℕ) (b : Bool) → bytes_eq alias.now other ≡ b → option_map_or (λ a. columns_in a.atom name a.columns.now)
+        (found_at new.atoms other) []
         ≡ columns_called name (filter (λ a. bytes_eq a.1.alias other) (enumerate_from 0 (atoms ++ record { alias = alias.now; columns = columns.now } ∷ [])))
     aliased other name true same =
         ap (λ (o : Option AtomColumns). option_map_or (λ a. columns_in a.atom name a.columns.now) o [])
         (noted other ∙ ap (λ b. cond b (Some (record { atom = atom; columns = columns })) (found_at old.atoms other)) same)
         ∙ ap (λ cs. cs ++ columns_in atom name columns.now)
-        (ap (λ (o : Option AtomColumns). option_map_or (λ a. columns_in a.atom name a.columns.now) o []) (sym (absent other ((bytes_eq-Decides alias.now other).0 same))) ∙ was.with_alias other name)
-        ∙ ap (λ b. columns_called name (filter (λ a. bytes_eq a.1.alias other) (enumerate_from 0 atoms)) ++ cond b (columns_in atom name columns.now) []) (sym same)
+        (ap (λ (o : Option AtomColumns). option_map_or (λ a. columns_in a.atom name a.columns.now) o []) (sym (absent other
+        ((bytes_eq-Decides alias.now other).0 same))) ∙ was.with_alias other name)
+        ∙ ap (λ b. columns_called name (filter (λ a. bytes_eq a.1.alias other) (enumerate_from 0 atoms)) ++ cond b (columns_in atom name columns.now) [])
+        (sym same)
         ∙ sym (aliased_more atoms (record { alias = alias.now; columns = columns.now }) atom other name count)
     aliased other name false differs =
         ap (λ (o : Option AtomColumns). option_map_or (λ a. columns_in a.atom name a.columns.now) o [])
         (noted other ∙ ap (λ b. cond b (Some (record { atom = atom; columns = columns })) (found_at old.atoms other)) differs)
         ∙ was.with_alias other name ∙ sym (append-nil _)
-        ∙ ap (λ b. columns_called name (filter (λ a. bytes_eq a.1.alias other) (enumerate_from 0 atoms)) ++ cond b (columns_in atom name columns.now) []) (sym differs)
+        ∙ ap (λ b. columns_called name (filter (λ a. bytes_eq a.1.alias other) (enumerate_from 0 atoms)) ++ cond b (columns_in atom name columns.now) [])
+        (sym differs)
         ∙ sym (aliased_more atoms (record { alias = alias.now; columns = columns.now }) atom other name count)
 
     known : (other : List ℕ) (b : Bool) → bytes_eq alias.now other ≡ b → is_some (found_at new.atoms other)

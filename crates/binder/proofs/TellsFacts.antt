@@ -25,17 +25,20 @@ pub from_start : {X : Type 0} (f : X → List Refusal) (xs : List X) → first_f
 unfolding first_from
 from_start f xs = refl
 
-split_at : {X : Type 0} (f : X → List Refusal) (xs : List X) (i : ℕ) (x : X) → i < length xs → x ≡ get_or xs i x → first_from f xs i ≡ first (f x ++ flat_map f (drop (i + 1) xs))
+split_at : {X : Type 0} (f : X → List Refusal) (xs : List X) (i : ℕ) (x : X) → i < length xs → x ≡ get_or xs i x
+    → first_from f xs i ≡ first (f x ++ flat_map f (drop (i + 1) xs))
 unfolding first_from
 split_at f xs i x below is =
     ap (λ ys. first (flat_map f ys)) (drop_more xs i x below)
     ∙ ap (λ y. first (f y ++ flat_map f (drop (i + 1) xs))) (sym is)
 
-pub next_ok : {X : Type 0} (f : X → List Refusal) (xs : List X) (i : ℕ) (x : X) → i < length xs → x ≡ get_or xs i x → first (f x) ≡ None → first_from f xs i ≡ first_from f xs (i + 1)
+pub next_ok : {X : Type 0} (f : X → List Refusal) (xs : List X) (i : ℕ) (x : X) → i < length xs → x ≡ get_or xs i x → first (f x) ≡ None
+    → first_from f xs i ≡ first_from f xs (i + 1)
 unfolding first_from
 next_ok f xs i x below is none = split_at f xs i x below is ∙ first_none (f x) (flat_map f (drop (i + 1) xs)) none
 
-pub next_err : {X : Type 0} (f : X → List Refusal) (xs : List X) (i : ℕ) (x : X) (why : Refusal) → i < length xs → x ≡ get_or xs i x → first (f x) ≡ Some why → first_from f xs i ≡ Some why
+pub next_err : {X : Type 0} (f : X → List Refusal) (xs : List X) (i : ℕ) (x : X) (why : Refusal) → i < length xs → x ≡ get_or xs i x
+    → first (f x) ≡ Some why → first_from f xs i ≡ Some why
 next_err f xs i x why below is some = split_at f xs i x below is ∙ first_some (f x) (flat_map f (drop (i + 1) xs)) why some
 
 pub at_end : {X : Type 0} (f : X → List Refusal) (xs : List X) (i : ℕ) → length xs ≤ i → first_from f xs i ≡ None
@@ -52,7 +55,8 @@ pub err_second : (T U : Type 0) (e : Fail) (xs ys : List Refusal) → first xs �
 err_second T U NoMemory xs ys none tells = tt
 err_second T U (Refused why) xs ys none tells = first_none xs ys none ∙ tells
 
-pub err_next : (T U : Type 0) {X : Type 0} (e : Fail) (f : X → List Refusal) (xs : List X) (i : ℕ) (x : X) → first_from f xs i ≡ first (flat_map f xs) → i < length xs → x ≡ get_or xs i x
+pub err_next : (T U : Type 0) {X : Type 0} (e : Fail) (f : X → List Refusal) (xs : List X) (i : ℕ) (x : X) → first_from f xs i ≡ first (flat_map f xs)
+    → i < length xs → x ≡ get_or xs i x
     → Tells {T = T} (Err e) (f x) → Tells {T = U} (Err e) (flat_map f xs)
 err_next T U NoMemory f xs i x so_far below is tells = tt
 err_next T U (Refused why) f xs i x so_far below is tells = sym so_far ∙ next_err f xs i x why below is tells

@@ -49,7 +49,8 @@ PartFits atoms (part.Equality left right) = IsPlace atoms left × IsPlace atoms 
 PartFits atoms (part.Constant place value) = IsPlace atoms place
 PartFits atoms (part.Compared comparison) = ComparisonIsWellFormed atoms comparison
 
-column_part : (atoms : List Atom) (left : BoundColumn) (sign : Sign) (right : BoundColumn) → IsPlace atoms (place_of left) → IsPlace atoms (place_of right) → PartFits atoms (with_column left sign right)
+column_part : (atoms : List Atom) (left : BoundColumn) (sign : Sign) (right : BoundColumn) → IsPlace atoms (place_of left) → IsPlace atoms (place_of right)
+    → PartFits atoms (with_column left sign right)
 column_part atoms left Equal right one two = (one, two)
 column_part atoms left Differs right one two = record { left = one; right = two; sign = λ e. cc }
 column_part atoms left Less right one two = record { left = one; right = two; sign = λ e. cc }
@@ -57,7 +58,8 @@ column_part atoms left AtMost right one two = record { left = one; right = two; 
 column_part atoms left More right one two = record { left = one; right = two; sign = λ e. cc }
 column_part atoms left AtLeast right one two = record { left = one; right = two; sign = λ e. cc }
 
-value_part : (atoms : List Atom) (left : BoundColumn) (sign : Sign) (value : Value) → IsPlace atoms (place_of left) → PartFits atoms (with_value left sign value)
+value_part : (atoms : List Atom) (left : BoundColumn) (sign : Sign) (value : Value) → IsPlace atoms (place_of left)
+    → PartFits atoms (with_value left sign value)
 value_part atoms left Equal value one = one
 value_part atoms left Differs value one = record { left = one; right = tt; sign = λ e. cc }
 value_part atoms left Less value one = record { left = one; right = tt; sign = λ e. cc }
@@ -65,7 +67,8 @@ value_part atoms left AtMost value one = record { left = one; right = tt; sign =
 value_part atoms left More value one = record { left = one; right = tt; sign = λ e. cc }
 value_part atoms left AtLeast value one = record { left = one; right = tt; sign = λ e. cc }
 
-compared_fits : (atoms : List Atom) (left : Meaning) (sign : Sign) (right : Meaning) → MeaningFits atoms left → MeaningFits atoms right → Each (PartFits atoms) (option_to_list (compared left sign right))
+compared_fits : (atoms : List Atom) (left : Meaning) (sign : Sign) (right : Meaning) → MeaningFits atoms left → MeaningFits atoms right
+    → Each (PartFits atoms) (option_to_list (compared left sign right))
 compared_fits atoms (At left) sign (At right) one two = (column_part atoms left sign right one two, tt)
 compared_fits atoms (At left) sign (Fixed value) one two = (value_part atoms left sign value one, tt)
 compared_fits atoms (At left) sign (Unknown t c) one two = tt
@@ -86,7 +89,8 @@ parts_fit atoms (Between value low high) fits =
     each_append (PartFits atoms) (option_to_list (compared value AtLeast low)) (option_to_list (compared value AtMost high))
     (compared_fits atoms value AtLeast low fits.0 fits.1) (compared_fits atoms value AtMost high fits.0 fits.2)
 
-each_some : {X Y : Type 0} (f : X → Option Y) (P : X → Type 0) (Q : Y → Type 0) → ((x : X) (y : Y) → f x ≡ Some y → P x → Q y) → (xs : List X) → Each P xs → Each Q (filter_map f xs)
+each_some : {X Y : Type 0} (f : X → Option Y) (P : X → Type 0) (Q : Y → Type 0) → ((x : X) (y : Y) → f x ≡ Some y → P x → Q y) → (xs : List X) → Each P xs
+    → Each Q (filter_map f xs)
 each_some {X} {Y} f P Q so [] each = tt
 each_some {X} {Y} f P Q so (x ∷ xs) each = put (f x) (λ y is. so x y is each.0) (each_some f P Q so xs each.1) where
   put : (o : Option Y) → ((y : Y) → o ≡ Some y → Q y) → Each Q (filter_map f xs) → Each Q (cons_option o (filter_map f xs))
@@ -126,8 +130,10 @@ range_below a (suc n) w fits = (omega arith, range_below (a + 1) n w (omega arit
 
 all_places_fit : (atoms : List Atom) → Each (IsPlace atoms) (all_places atoms)
 all_places_fit atoms =
-    each_flat_map (λ (a : ℕ × Atom). map (place_at a.0) (range_with_len 0 a.1.width)) (λ (a : ℕ × Atom). (a.0 < length atoms) × (a.1.width ≤ width_of atoms a.0)) (IsPlace atoms)
-    (λ a fits. each_map (place_at a.0) (λ k. k < a.1.width) (IsPlace atoms) (λ k below. record { atom = fits.0; column = omega (arith, fits.1) }) (range_with_len 0 a.1.width)
+    each_flat_map (λ (a : ℕ × Atom). map (place_at a.0) (range_with_len 0 a.1.width)) (λ (a : ℕ × Atom). (a.0 < length atoms) ×
+    (a.1.width ≤ width_of atoms a.0)) (IsPlace atoms)
+    (λ a fits. each_map (place_at a.0) (λ k. k < a.1.width) (IsPlace atoms) (λ k below. record { atom = fits.0; column = omega (arith, fits.1) })
+    (range_with_len 0 a.1.width)
     (range_below 0 a.1.width a.1.width (omega arith)))
     (enumerate_from 0 atoms)
     (each_numbered (λ (a : ℕ × Atom). (a.0 < length atoms) × (a.1.width ≤ width_of atoms a.0)) atoms
@@ -149,7 +155,8 @@ table_wide (table ∷ tables) sound zero below = sound.0.some_column
 table_wide (table ∷ tables) sound (suc i) below = table_wide tables sound.1 i (omega arith)
 
 wide_named : (schema : Schema) (n : ℕ) (b : Bool) → ltb n (length schema.tables) ≡ b → Each TableIsSound schema.tables
-    → (let o : Option TableId = option_map (λ i. record { 0 = i }) (cond b (Some n) None) in is_none o ≡ false → 1 ≤ length (option_map_or (columns_at schema) o []))
+    → (let o : Option TableId = option_map (λ i. record { 0 = i }) (cond b (Some n) None) in is_none o ≡ false
+    → 1 ≤ length (option_map_or (columns_at schema) o []))
 wide_named schema n true below sound there = table_wide schema.tables sound n (grind (arith, nat_tests))
 wide_named schema n false below sound there = cc
 
@@ -160,10 +167,12 @@ known false why none = refl
 columns_wide : (schema : Schema) (name : List ℕ) → SchemaIsSound schema → first (unknown_table schema name) ≡ None → 1 ≤ length (columns_named schema name)
 unfolding columns_named unknown_table
 columns_wide schema name sound none =
-    wide_named schema (position_or_len (λ t. bytes_eq t.name name) schema.tables) (ltb (position_or_len (λ t. bytes_eq t.name name) schema.tables) (length schema.tables)) refl (tables_sound schema sound)
+    wide_named schema (position_or_len (λ t. bytes_eq t.name name) schema.tables) (ltb (position_or_len (λ t. bytes_eq t.name name) schema.tables)
+    (length schema.tables)) refl (tables_sound schema sound)
     (known (is_none (table_named schema name)) _ none)
 
-atom_fits : (schema : Schema) (item : FromItem) → SchemaIsSound schema → first (unknown_table schema item.table) ≡ None → AtomIsWellFormed (atom_of schema item)
+atom_fits : (schema : Schema) (item : FromItem) → SchemaIsSound schema → first (unknown_table schema item.table) ≡ None
+    → AtomIsWellFormed (atom_of schema item)
 unfolding atom_of
 atom_fits schema item sound none = record { wide = columns_wide schema item.table sound none; narrow = columns_few schema item.table sound }
 
@@ -175,16 +184,20 @@ unfolding looked_up bound_block
 block_fits schema block sound some none few =
     let atoms : List Atom = map (atom_of schema) block.from_items in
     let all : Each (PartFits atoms) (flat_map parts (map (condition (meaning (sources schema block.from_items))) block.conditions)) =
-    each_flat_map parts (ConditionFits atoms) (PartFits atoms) (parts_fit atoms) (map (condition (meaning (sources schema block.from_items))) block.conditions)
+    each_flat_map parts (ConditionFits atoms) (PartFits atoms) (parts_fit atoms) (map (condition (meaning
+    (sources schema block.from_items))) block.conditions)
     (each_mapped (condition (meaning (sources schema block.from_items))) (ConditionFits atoms) (condition_fits schema block.from_items) block.conditions) in
     record {
       some_atom = omega (arith, some, length-map block.from_items (atom_of schema));
       few_atoms = few;
       widths = all_of AtomIsWellFormed atoms (each_map (atom_of schema) (λ (item : FromItem). first (unknown_table schema item.table) ≡ None) AtomIsWellFormed
-          (λ item known. atom_fits schema item sound known) block.from_items (none_each (λ (item : FromItem). unknown_table schema item.table) block.from_items none));
-      equalities = all_of (λ e. IsPlace atoms e.0 × IsPlace atoms e.1) _ (each_some equality_of (PartFits atoms) (λ e. IsPlace atoms e.0 × IsPlace atoms e.1) (equality_fits atoms) _ all);
+          (λ item known. atom_fits schema item sound known) block.from_items (none_each (λ
+          (item : FromItem). unknown_table schema item.table) block.from_items none));
+      equalities = all_of (λ e. IsPlace atoms e.0 × IsPlace atoms e.1) _ (each_some equality_of (PartFits atoms)
+          (λ e. IsPlace atoms e.0 × IsPlace atoms e.1) (equality_fits atoms) _ all);
       constants = all_of (λ c. IsPlace atoms c.0) _ (each_some constant_of (PartFits atoms) (λ c. IsPlace atoms c.0) (constant_fits atoms) _ all);
-      comparisons = all_of (ComparisonIsWellFormed atoms) _ (each_some comparison_of (PartFits atoms) (ComparisonIsWellFormed atoms) (comparison_fits atoms) _ all);
+      comparisons = all_of (ComparisonIsWellFormed atoms) _ (each_some comparison_of (PartFits atoms) (ComparisonIsWellFormed atoms)
+          (comparison_fits atoms) _ all);
       output = all_of (IsPlace atoms) _ (outputs_fit (looked_up schema block)
           (each_mapped (meaning (sources schema block.from_items)) (MeaningFits atoms) (ref_fits schema block.from_items) block.items));
     }
@@ -197,7 +210,8 @@ delete_fits schema table conditions sound none =
 
 -- ---- shapes
 
-kind_length : (b : Bool) (js ks : List ColType) → (same_kinds js ks ≡ true → length js ≡ length ks) → cond b (same_kinds js ks) false ≡ true → length js + 1 ≡ length ks + 1
+kind_length : (b : Bool) (js ks : List ColType) → (same_kinds js ks ≡ true → length js ≡ length ks) → cond b (same_kinds js ks) false ≡ true
+    → length js + 1 ≡ length ks + 1
 kind_length true js ks so same = ap (λ n. n + 1) (so same)
 kind_length false js ks so same = cc
 
@@ -205,18 +219,21 @@ same_length : (js ks : List ColType) → same_kinds js ks ≡ true → length js
 same_length [] [] same = refl
 same_length [] (k ∷ ks) same = cc
 same_length (j ∷ js) [] same = cc
-same_length (j ∷ js) (k ∷ ks) same = let more : length js + 1 ≡ length ks + 1 = kind_length (same_kind j k) js ks (same_length js ks) same in omega (arith, more)
+same_length (j ∷ js) (k ∷ ks) same = let more : length js + 1 ≡ length ks + 1 = kind_length (same_kind j k) js ks (same_length js ks) same in omega
+    (arith, more)
 
 not_false : (b : Bool) → not b ≡ false → b ≡ true
 not_false true is = refl
 not_false false is = cc
 
-as_many_kinds : (limits : Limits) (shape : List ColType) (number : ℕ) (block : LookedUp) → first (places Shapes limits shape (number, block)) ≡ None → length shape ≡ length block.kinds
+as_many_kinds : (limits : Limits) (shape : List ColType) (number : ℕ) (block : LookedUp) → first (places Shapes limits shape (number, block)) ≡ None
+    → length shape ≡ length block.kinds
 unfolding places
 as_many_kinds limits shape number block none =
     same_length shape block.kinds (not_false (same_kinds shape block.kinds) (known (not (same_kinds shape block.kinds)) _ none))
 
-shapes_same : (limits : Limits) (blocks : List LookedUp) → first (looked_refusals limits blocks) ≡ None → Each (λ block. length (shape_of blocks) ≡ length block.kinds) blocks
+shapes_same : (limits : Limits) (blocks : List LookedUp) → first (looked_refusals limits blocks) ≡ None
+    → Each (λ block. length (shape_of blocks) ≡ length block.kinds) blocks
 unfolding looked_refusals
 shapes_same limits blocks none =
     let by_kind = none_each (places_in_all limits (shape_of blocks) blocks) kinds none in
@@ -231,13 +248,17 @@ unfolding atom_of
 star_length schema [] n = refl
 star_length schema (item ∷ items) n =
     length-append (map (place_at n) (range_with_len 0 (length (columns_named schema item.table)))) _
-    ∙ ap (λ k. k + length (flat_map (λ (a : ℕ × Atom). map (place_at a.0) (range_with_len 0 a.1.width)) (enumerate_from (n + 1) (map (atom_of schema) items))))
-    (length-map-range_with_len (place_at n) 0 (length (columns_named schema item.table)) ∙ sym (length-map (columns_named schema item.table) (λ (c : Column). c.kind)))
+    ∙ ap (λ k. k + length (flat_map (λ (a : ℕ × Atom). map (place_at a.0) (range_with_len 0 a.1.width)) (enumerate_from (n + 1) (map
+    (atom_of schema) items))))
+    (length-map-range_with_len (place_at n) 0 (length (columns_named schema item.table))
+    ∙ sym (length-map (columns_named schema item.table) (λ (c : Column). c.kind)))
     ∙ ap (λ k. length (map (λ (c : Column). c.kind) (columns_named schema item.table)) + k) (star_length schema items (n + 1))
-    ∙ sym (length-append (map (λ (c : Column). c.kind) (columns_named schema item.table)) (flat_map (λ (s : Source). map (λ c. c.kind) s.columns) (sources schema items)))
+    ∙ sym (length-append (map (λ (c : Column). c.kind) (columns_named schema item.table)) (flat_map (λ (s : Source). map (λ c. c.kind) s.columns)
+    (sources schema items)))
 
 output_length : (star : Bool) (schema : Schema) (items : List FromItem) (meanings : List Meaning)
-    → length (cond star (all_places (map (atom_of schema) items)) (map place_of (filter_map column_of meanings))) ≡ length (output_kinds star (sources schema items) meanings)
+    → length (cond star (all_places (map (atom_of schema) items)) (map place_of (filter_map column_of meanings))) ≡ length (output_kinds star
+    (sources schema items) meanings)
 output_length true schema items meanings = star_length schema items 0
 output_length false schema items meanings =
     length-map (filter_map column_of meanings) place_of ∙ sym (length-map (filter_map column_of meanings) (λ (c : BoundColumn). c.kind))
@@ -248,7 +269,8 @@ as_many_outputs schema block = output_length block.star schema block.from_items 
 
 -- ---- queries
 
-each_block : (schema : Schema) (trees : List BlockTree) → SchemaIsSound schema → Each (λ b. 1 ≤ length b.from_items) trees → Each (λ b. first (unknown_tables schema b) ≡ None) trees
+each_block : (schema : Schema) (trees : List BlockTree) → SchemaIsSound schema → Each (λ b. 1 ≤ length b.from_items) trees
+    → Each (λ b. first (unknown_tables schema b) ≡ None) trees
     → Each (λ block. length block.atoms ≤ 16) (map (looked_up schema) trees) → Each BlockIsWellFormed (map (λ b. bound_block (looked_up schema b)) trees)
 each_block schema [] sound some none few = tt
 each_block schema (tree ∷ trees) sound some none few = (block_fits schema tree sound some.0 none.0 few.0, each_block schema trees sound some.1 none.1 few.1)
@@ -260,22 +282,29 @@ each_shape schema (tree ∷ trees) n same = (same.0 ∙ sym (as_many_outputs sch
 
 blocks_made : (f : BlockTree → Block) (t : tree.Tree) → query.blocks_of (with_blocks f t) ≡ map f (blocks_of t)
 blocks_made f (tree.Block b) = refl
-blocks_made f (tree.Union l r) = ap (λ bs. bs ++ query.blocks_of (with_blocks f r)) (blocks_made f l) ∙ ap (λ bs. map f (blocks_of l) ++ bs) (blocks_made f r) ∙ sym (map-append f (blocks_of l) (blocks_of r))
-blocks_made f (tree.Except l r) = ap (λ bs. bs ++ query.blocks_of (with_blocks f r)) (blocks_made f l) ∙ ap (λ bs. map f (blocks_of l) ++ bs) (blocks_made f r) ∙ sym (map-append f (blocks_of l) (blocks_of r))
+blocks_made f (tree.Union l r) = ap (λ bs. bs ++ query.blocks_of (with_blocks f r)) (blocks_made f l)
+    ∙ ap (λ bs. map f (blocks_of l) ++ bs) (blocks_made f r) ∙ sym (map-append f (blocks_of l) (blocks_of r))
+blocks_made f (tree.Except l r) = ap (λ bs. bs ++ query.blocks_of (with_blocks f r)) (blocks_made f l)
+    ∙ ap (λ bs. map f (blocks_of l) ++ bs) (blocks_made f r) ∙ sym (map-append f (blocks_of l) (blocks_of r))
 
-pub query_fits : (limits : Limits) (schema : Schema) (t : tree.Tree) → SchemaIsSound schema → limits.atoms ≤ 16 → All (λ b. 1 ≤ length b.from_items) (blocks_of t)
-    → first (flat_map (unknown_tables schema) (blocks_of t)) ≡ None → first (looked_refusals limits (map (looked_up schema) (blocks_of t))) ≡ None → QueryIsWellFormed (bound schema t)
+pub query_fits : (limits : Limits) (schema : Schema) (t : tree.Tree) → SchemaIsSound schema → limits.atoms ≤ 16
+    → All (λ b. 1 ≤ length b.from_items) (blocks_of t)
+    → first (flat_map (unknown_tables schema) (blocks_of t)) ≡ None → first (looked_refusals limits (map (looked_up schema) (blocks_of t))) ≡ None
+    → QueryIsWellFormed (bound schema t)
 query_fits limits schema t sound sixteen some none no_places =
     let trees : List BlockTree = blocks_of t in
     let found : List LookedUp = map (looked_up schema) trees in
     let made : List Block = map (λ b. bound_block (looked_up schema b)) trees in
     let few : Each (λ block. length block.atoms ≤ 16) found =
-    each_weaker (λ block. length block.atoms ≤ limits.atoms) (λ block. length block.atoms ≤ 16) (λ block one. omega (arith, one)) found (few_atoms limits found no_places) in
+    each_weaker (λ block. length block.atoms ≤ limits.atoms) (λ block. length block.atoms ≤ 16) (λ block one. omega (arith, one)) found
+    (few_atoms limits found no_places) in
     let n : ℕ = length (shape_of found) in
     let shapes : Each (λ (b : Block). n ≡ length b.output) made = each_shape schema trees n (shapes_same limits found no_places) in
     record {
       blocks = subst (All BlockIsWellFormed) (sym (blocks_made (λ b. bound_block (looked_up schema b)) t))
-          (all_of BlockIsWellFormed made (each_block schema trees sound (each_of_all (λ (b : BlockTree). 1 ≤ length b.from_items) trees some) (none_each (unknown_tables schema) trees none) few));
+          (all_of BlockIsWellFormed made (each_block schema trees sound (each_of_all (λ (b : BlockTree). 1 ≤ length b.from_items) trees some) (none_each
+          (unknown_tables schema) trees none) few));
       shapes = subst (AllPairs (λ (b c : Block). length b.output ≡ length c.output)) (sym (blocks_made (λ b. bound_block (looked_up schema b)) t))
-          (λ i j d lower below. sym (all_of_each (λ (b : Block). n ≡ length b.output) made shapes i d (omega arith)) ∙ all_of_each (λ (b : Block). n ≡ length b.output) made shapes j d below);
+          (λ i j d lower below. sym (all_of_each (λ (b : Block). n ≡ length b.output) made shapes i d (omega arith))
+          ∙ all_of_each (λ (b : Block). n ≡ length b.output) made shapes j d below);
     }

@@ -75,7 +75,8 @@ abbrev pub text_refusals : ℕ → Literal → List Refusal
 text_refusals limit literal = text_too_long limit (literal_meaning literal)
 
 unfoldable pub row_refusals : Limits → List (List Literal) → List Refusal
-row_refusals limits rows = flat_map (flat_map number_refusals) rows ++ flat_map (flat_map (text_refusals limits.text)) rows
+row_refusals limits rows =
+    flat_map (flat_map number_refusals) rows ++ flat_map (flat_map (text_refusals limits.text)) rows
 
 abbrev pub value_of : Meaning → Option Value
 value_of (Fixed value) = Some value

@@ -29,7 +29,8 @@ use Rattle.binder.specs.Meanings.{Source, sources, columns_named, meaning, condi
 -- ---- names looked up
 
 unfoldable pub atom_of : Schema → FromItem → Atom
-atom_of schema item = record { table = unwrap_or (table_named schema item.table) (record { 0 = 0 }); width = length (columns_named schema item.table) }
+atom_of schema item =
+    record { table = unwrap_or (table_named schema item.table) (record { 0 = 0 }); width = length (columns_named schema item.table) }
 
 -- the column that something stands for
 abbrev pub column_of : Meaning → Option BoundColumn
@@ -68,7 +69,8 @@ turned AtLeast = AtMost
 
 abbrev pub with_column : BoundColumn → Sign → BoundColumn → Part
 with_column left Equal right = part.Equality (place_of left) (place_of right)
-with_column left sign right = part.Compared (record { left = place_of left; sign = sign; right = operand.At (place_of right) })
+with_column left sign right =
+    part.Compared (record { left = place_of left; sign = sign; right = operand.At (place_of right) })
 
 abbrev pub with_value : BoundColumn → Sign → Value → Part
 with_value left Equal value = part.Constant (place_of left) value
@@ -84,7 +86,8 @@ compared _ _ _ = None
 -- BETWEEN makes two comparisons
 abbrev pub parts : Condition → List Part
 parts (Compare left sign right) = option_to_list (compared left sign right)
-parts (Between value low high) = option_to_list (compared value AtLeast low) ++ option_to_list (compared value AtMost high)
+parts (Between value low high) =
+    option_to_list (compared value AtLeast low) ++ option_to_list (compared value AtMost high)
 
 abbrev pub equality_of : Part → Option (Place × Place)
 equality_of (part.Equality left right) = Some (left, right)

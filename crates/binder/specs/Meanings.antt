@@ -51,7 +51,8 @@ abbrev pub may_name : ColumnRef → Source → Bool
 may_name ref source = option_map_or (bytes_eq source.alias) ref.table true
 
 unfoldable pub named_by : List Source → ColumnRef → List BoundColumn
-named_by sources ref = flat_map (λ a. columns_in a.0 ref.column a.1.columns) (filter (λ a. may_name ref a.1) (enumerate_from 0 sources))
+named_by sources ref =
+    flat_map (λ a. columns_in a.0 ref.column a.1.columns) (filter (λ a. may_name ref a.1) (enumerate_from 0 sources))
 
 -- the one column, or that there is none, or that there are several
 abbrev pub the_one : ColumnRef → List BoundColumn → Meaning

@@ -4,7 +4,7 @@
 --     places kind limits shape block    the places of a kind in a block with its names looked up, which has a number;
 --                                       shape is the types of the outputs of the first block
 --     first refusals                    the first, if there is one
---     Tells result refusals             a call that is refused by the first, where there is one, unless it is out of memory
+--     Tells result refusals             a call is refused by the first, where there is one, unless it is out of memory
 use Rattle.std.specs.Prelude.{ℕ, if◌then◌else◌, Bool, true, false, not, nat_lt, List, [], ◌∷◌, ◌++◌, length, map, filter, take, Option, Some, None, Result}
 use Rattle.std.specs.Option.{is_none}
 use Rattle.std.specs.List.{enumerate_from, flat_map, list_any}
@@ -44,7 +44,8 @@ unknown_tables schema block = flat_map (λ item. unknown_table schema item.table
 
 -- the names that stand among those before them
 unfoldable pub repeated : List (List ℕ) → List (List ℕ)
-repeated names = map (λ n. n.1) (filter (λ n. list_any (λ earlier. bytes_eq earlier n.1) (take n.0 names)) (enumerate_from 0 names))
+repeated names =
+    map (λ n. n.1) (filter (λ n. list_any (λ earlier. bytes_eq earlier n.1) (take n.0 names)) (enumerate_from 0 names))
 
 abbrev pub repeated_among : List FromItem → List Refusal
 repeated_among items = map refusal.DuplicateName (repeated (map (λ item. item.alias) items))
@@ -107,7 +108,8 @@ kinds_differ _ _ = false
 
 abbrev pub is_mixed : Condition → Bool
 is_mixed (Compare left sign right) = kinds_differ (kind_of left) (kind_of right)
-is_mixed (Between value low high) = if kinds_differ (kind_of value) (kind_of low) then true else kinds_differ (kind_of value) (kind_of high)
+is_mixed (Between value low high) =
+    if kinds_differ (kind_of value) (kind_of low) then true else kinds_differ (kind_of value) (kind_of high)
 
 abbrev pub same_kinds : List ColType → List ColType → Bool
 same_kinds [] [] = true
@@ -118,16 +120,20 @@ same_kinds (j ∷ js) (k ∷ ks) = if same_kind j k then same_kinds js ks else f
 -- ---- places
 
 abbrev pub mixed_types : ℕ → List Condition → List Refusal
-mixed_types number conditions = flat_map (λ c. refused_if (is_mixed c.1) (refusal.MixedTypes number c.0)) (enumerate_from 1 conditions)
+mixed_types number conditions =
+    flat_map (λ c. refused_if (is_mixed c.1) (refusal.MixedTypes number c.0)) (enumerate_from 1 conditions)
 
 -- outputs are counted as they are written, so `*` is none
 unfoldable pub places : Kind → Limits → List ColType → ℕ × LookedUp → List Refusal
 places (kind.OfMeaning flaw) limits shape block = flat_map (flaws flaw limits.text) (meanings block.1)
 places kind.Types limits shape block = mixed_types block.0 block.1.conditions
-places kind.Shapes limits shape block = refused_if (not (same_kinds shape block.1.kinds)) (refusal.ShapeMismatch block.0)
+places kind.Shapes limits shape block =
+    refused_if (not (same_kinds shape block.1.kinds)) (refusal.ShapeMismatch block.0)
 places kind.Blocks limits shape block = refused_if (nat_lt limits.blocks block.0) (refusal.TooMany Blocks limits.blocks)
-places kind.Atoms limits shape block = refused_if (nat_lt limits.atoms (length block.1.atoms)) (refusal.TooMany Atoms limits.atoms)
-places kind.Outputs limits shape block = refused_if (nat_lt limits.outputs (length block.1.items)) (refusal.TooMany Outputs limits.outputs)
+places kind.Atoms limits shape block =
+    refused_if (nat_lt limits.atoms (length block.1.atoms)) (refusal.TooMany Atoms limits.atoms)
+places kind.Outputs limits shape block =
+    refused_if (nat_lt limits.outputs (length block.1.items)) (refusal.TooMany Outputs limits.outputs)
 
 -- ---- the first
 

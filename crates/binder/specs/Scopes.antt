@@ -33,9 +33,11 @@ abbrev pub found_at : {X S : Type 0} → HashMap (Bor (List ℕ)) X S → List �
 found_at map name = get_by (λ key. bytes_eq name key.now) map
 
 -- what a ref with or without an alias finds, where columns finds names, and atoms aliases
-abbrev pub found_among : (List ℕ → Option Found) → (List ℕ → Option AtomColumns) → Option (List ℕ) → List ℕ → Option Found
+abbrev pub found_among : (List ℕ → Option Found) → (List ℕ → Option AtomColumns) → Option (List ℕ) → List ℕ
+    → Option Found
 found_among columns atoms None name = columns name
-found_among columns atoms (Some alias) name = option_map_or (λ a. found_in (columns_in a.atom name a.columns.now)) (atoms alias) None
+found_among columns atoms (Some alias) name =
+    option_map_or (λ a. found_in (columns_in a.atom name a.columns.now)) (atoms alias) None
 
 abbrev pub found_by : Scope → ColumnRef → Option Found
 found_by scope ref =
@@ -54,6 +56,7 @@ columns_called name atoms = flat_map (λ a. columns_in a.0 name a.1.columns) ato
 
 pub record IsScope (sources : List Source) (scope : Scope) : Type 0 where
   pub plain : (name : List ℕ) → found_at scope.columns name ≡ found_in (columns_called name (enumerate_from 0 sources))
-  pub with_alias : (alias name : List ℕ) → option_map_or (λ a. columns_in a.atom name a.columns.now) (found_at scope.atoms alias) []
+  pub with_alias : (alias name : List ℕ)
+      → option_map_or (λ a. columns_in a.atom name a.columns.now) (found_at scope.atoms alias) []
       ≡ columns_called name (filter (λ a. bytes_eq a.1.alias alias) (enumerate_from 0 sources))
   pub aliases : (alias : List ℕ) → is_some (found_at scope.atoms alias) ≡ list_any (λ s. bytes_eq s.alias alias) sources

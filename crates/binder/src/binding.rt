@@ -34,7 +34,8 @@ const KINDS: [Kind; 9] = [
 
 /// Adds the blocks of a tree from left to right.
 fn push_blocks<'a>(tree: &'a SelectTree, blocks: &mut Vec<&'a BlockTree>) -> Result<(), NoMemory>
-    ensures { OnOk result (map (λ b. b.now) blocks.new.items ≡ map (λ b. b.now) blocks.old.items ++ blocks_of tree.now) }
+    ensures { OnOk result (map (λ b. b.now) blocks.new.items
+        ≡ map (λ b. b.now) blocks.old.items ++ blocks_of tree.now) }
 {
     match &tree.node {
         SelectNode::Block(block) => {
@@ -212,7 +213,8 @@ pub fn bind(
     requires conditions { All (λ b. length b.conditions < 2 ^ 32) (blocks_of tree.now) }
     ensures refused { Tells result (refusals limits.now catalogue.now tree.now) }
     ensures query { IfOk result (λ query. query ≡ bound catalogue.now tree.now) }
-    ensures well_formed { IfOk result (λ query. All (λ b. 1 ≤ length b.from_items) (blocks_of tree.now) → QueryIsWellFormed query) }
+    ensures well_formed { IfOk result (λ query.
+        All (λ b. 1 ≤ length b.from_items) (blocks_of tree.now) → QueryIsWellFormed query) }
 {
     is_sound(catalogue);
     let found = looked_up_blocks(alloc, catalogue, tree)?;

@@ -75,7 +75,8 @@ fn add_column<'a>(
     column: BoundColumn,
 ) -> Result<(), NoMemory>
     ensures { OnOk result ((q : List ℕ) → found_at found.new q
-        ≡ (if bytes_eq name.now q then Some (one_more (found_at found.old name.now) column) else found_at found.old q)) }
+        ≡ (if bytes_eq name.now q then Some (one_more (found_at found.old name.now) column)
+        else found_at found.old q)) }
 {
     let more = one_more(found.get(name).copied(), column);
     found.insert(name, more)?;
@@ -112,7 +113,8 @@ pub fn scope_of<'a>(
     catalogue: &'a Catalogue,
     items: &'a [FromItem],
 ) -> Result<Scope<'a>, Fail>
-    ensures names { IfOk result (λ scope. (ref : Ref) → names_of scope ref ≡ meaning (sources catalogue.now items.now) ref) }
+    ensures names { IfOk result (λ scope. (ref : Ref)
+        → names_of scope ref ≡ meaning (sources catalogue.now items.now) ref) }
     ensures repeated { Tells result (repeated_among items.now) }
 {
     let mut scope = Scope::new(alloc);

@@ -20,7 +20,8 @@ returns-in_ok-left-in-Union-clause-query t c = λ front bind is.
 pub returns-in_ok-left-in-Except-clause-query : goal.returns-in_ok-left-in-Except-clause-query
 returns-in_ok-left-in-Except-clause-query t c = λ front bind is.
     let whole = sym c.tree.view_is ∙ ap tree_of c.in-Except.is in
-    let both = joins_both c.in-Except.left.value c.in-Except.right.value c.args.blocks.now.items c.joined-in-Except.new.blocks.items c.joined-in-Except-2.new.blocks.items
+    let both = joins_both c.in-Except.left.value c.in-Except.right.value c.args.blocks.now.items c.joined-in-Except.new.blocks.items
+    c.joined-in-Except-2.new.blocks.items
     c.in_ok-joined-in-Except-2.field-0 c.in_ok-joined-in-Except.field-0
     (rw c.deref-in-Except.ensures at c.in_ok-joined-in-Except.ensures.query) (rw c.deref-in-Except-2.ensures at c.in_ok-joined-in-Except-2.ensures.query)
     front bind (is ∙ ap (λ tree. front ++ map bind (blocks_of tree)) whole) in (

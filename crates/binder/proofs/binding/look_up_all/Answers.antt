@@ -17,7 +17,8 @@ returns-in_err-look_up-clause-repeated c = let p = err_from_is_err_and c.from_re
 pub loop-block-preserved : goal.loop-block-preserved
 loop-block-preserved c = record {
   so_far = c.in_ok-push.ensures.items ∙ ap (λ found. found ++ c.in_ok-look_up.field-0 ∷ []) c.loop-block.invariant.so_far
-      ∙ ap (λ found. map (λ b. looked_up c.args.catalogue.now b.now) (take c.loop-block.block-index c.args.blocks.now) ++ found ∷ []) (c.in_ok-look_up.ensures.block ∙ ap (λ b. looked_up c.args.catalogue.now b.now) c.block-item.is)
+      ∙ ap (λ found. map (λ b. looked_up c.args.catalogue.now b.now) (take c.loop-block.block-index c.args.blocks.now) ++ found ∷ [])
+      (c.in_ok-look_up.ensures.block ∙ ap (λ b. looked_up c.args.catalogue.now b.now) c.block-item.is)
       ∙ sym (map_more (λ b. looked_up c.args.catalogue.now b.now) c.args.blocks.now c.loop-block.block-index c.block-item.result c.loop-block-test.true);
   once = sym (next_ok (λ b. repeated_aliases b.now) c.args.blocks.now c.loop-block.block-index c.block-item.result c.loop-block-test.true c.block-item.is
       c.in_ok-look_up.ensures.repeated)

@@ -6,4 +6,5 @@ use Rattle.binder.proofs.TellsFacts.{first_from}
 use Rattle.binder.proofs.binding.refuse_kind.Given as goal
 
 abbrev pub invariant-loop-place : goal.invariant-loop-place
-invariant-loop-place l = first_from (places l.kind l.limits l.shape) (enumerate_from 1 l.blocks) l.place ≡ first (places_in_all l.limits l.shape l.blocks l.kind)
+invariant-loop-place l = first_from (places l.kind l.limits l.shape) (enumerate_from 1 l.blocks) l.place ≡ first
+    (places_in_all l.limits l.shape l.blocks l.kind)

@@ -16,8 +16,10 @@ returns-in_err-refuse_kind c =
     let p = err_from_is_err_and c.from_residual.result c.from_residual.ensures.1 in
     let kind : Kind = get_or c.args.kinds.now c.loop-kind.kind-index (OfMeaning UnknownColumn) in
     rw (p.1, p.2)
-    (err_next (Unit {0}) (Unit {0}) _ (places_in_all c.args.limits.now c.args.shape.now c.args.blocks.now) c.args.kinds.now c.loop-kind.kind-index kind c.loop-kind.invariant
-    c.loop-kind-test.true (get_or_default c.args.kinds.now c.loop-kind.kind-index (OfMeaning UnknownColumn) kind c.loop-kind-test.true) c.in_err-refuse_kind.ensures)
+    (err_next (Unit {0}) (Unit {0}) _
+    (places_in_all c.args.limits.now c.args.shape.now c.args.blocks.now) c.args.kinds.now c.loop-kind.kind-index kind c.loop-kind.invariant
+    c.loop-kind-test.true (get_or_default c.args.kinds.now c.loop-kind.kind-index
+    (OfMeaning UnknownColumn) kind c.loop-kind-test.true) c.in_err-refuse_kind.ensures)
 
 pub loop-kind-preserved : goal.loop-kind-preserved
 loop-kind-preserved c =
@@ -27,4 +29,5 @@ loop-kind-preserved c =
     ∙ c.loop-kind.invariant
 
 pub returns : goal.returns
-returns c = sym c.loop-kind.invariant ∙ at_end (places_in_all c.args.limits.now c.args.shape.now c.args.blocks.now) c.args.kinds.now c.loop-kind.kind-index (omega arith)
+returns c = sym c.loop-kind.invariant ∙ at_end (places_in_all c.args.limits.now c.args.shape.now c.args.blocks.now) c.args.kinds.now c.loop-kind.kind-index
+    (omega arith)

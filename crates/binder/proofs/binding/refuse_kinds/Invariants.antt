@@ -6,4 +6,5 @@ use Rattle.binder.proofs.TellsFacts.{first_from}
 use Rattle.binder.proofs.binding.refuse_kinds.Given as goal
 
 abbrev pub invariant-loop-kind : goal.invariant-loop-kind
-invariant-loop-kind l = first_from (places_in_all l.limits l.shape l.blocks) l.kinds l.kind-index ≡ first (flat_map (places_in_all l.limits l.shape l.blocks) l.kinds)
+invariant-loop-kind l = first_from (places_in_all l.limits l.shape l.blocks) l.kinds l.kind-index ≡ first (flat_map
+    (places_in_all l.limits l.shape l.blocks) l.kinds)

@@ -5,4 +5,5 @@ use Rattle.binder.proofs.TellsFacts.{first_from}
 use Rattle.binder.proofs.binding.want_all_tables.Given as goal
 
 abbrev pub invariant-loop-block : goal.invariant-loop-block
-invariant-loop-block l = first_from (λ b. unknown_tables l.catalogue b.now) l.blocks l.block-index ≡ first (flat_map (λ b. unknown_tables l.catalogue b.now) l.blocks)
+invariant-loop-block l = first_from (λ b. unknown_tables l.catalogue b.now) l.blocks l.block-index ≡ first (flat_map
+    (λ b. unknown_tables l.catalogue b.now) l.blocks)

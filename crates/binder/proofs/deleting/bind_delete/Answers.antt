@@ -25,7 +25,8 @@ unfolding delete_refusals
 returns-in_err-refuse_kinds-clause-refused c =
     let p = err_from_is_err_and c.from_residual-in_err-refuse_kinds.result c.from_residual-in_err-refuse_kinds.ensures.1 in
     let is = c.in_ok-found.ensures.block ∙ ap (λ cs. looked_up c.args.catalogue.now (delete_block c.args.table.now cs)) c.as_slice.ensures in
-    rw (p.1, p.2) (err_second (Unit {0}) (Unit {0}) _ (unknown_table c.args.catalogue.now c.args.table.now) _ c.in_ok-want_table.ensures (rw is at c.in_err-refuse_kinds.ensures))
+    rw (p.1, p.2) (err_second (Unit {0}) (Unit {0}) _ (unknown_table c.args.catalogue.now c.args.table.now) _ c.in_ok-want_table.ensures
+    (rw is at c.in_err-refuse_kinds.ensures))
 
 pub bound_block-requires : goal.bound_block-requires
 bound_block-requires c =

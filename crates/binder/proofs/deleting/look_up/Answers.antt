@@ -25,7 +25,8 @@ returns-clause-block c =
     c.as_slice.ensures c.in_ok-push.ensures.ok c.new-items.ensures c.in_ok-copy.ensures c.in_ok-copy-2.ensures in
     let is_again = the_item c.as_slice-2.result.now c.push.new.self c.new-items.result c.args.table.now c.in_ok-copy.field-0 c.in_ok-copy-2.field-0
     c.as_slice-2.ensures c.in_ok-push.ensures.ok c.new-items.ensures c.in_ok-copy.ensures c.in_ok-copy-2.ensures in
-    looked_up_is c.args.catalogue.now block (names_of c.in_ok-scope.scope) (λ ref. c.in_ok-scope.ensures.names ref ∙ ap (λ items. meaning (sources c.args.catalogue.now items) ref) is)
+    looked_up_is c.args.catalogue.now block (names_of c.in_ok-scope.scope) (λ ref. c.in_ok-scope.ensures.names ref
+    ∙ ap (λ items. meaning (sources c.args.catalogue.now items) ref) is)
     c.in_ok-atoms.atoms c.new.result c.new-2.result c.in_ok-conditions.conditions
     (c.in_ok-atoms.ensures ∙ ap (map (atom_of c.args.catalogue.now)) is_again) c.new.ensures
     (no_kinds c.args.catalogue.now block.from_items c.new.result c.new-2.result c.new.ensures c.new-2.ensures) c.in_ok-conditions.ensures

@@ -5,4 +5,5 @@ use Rattle.binder.proofs.Digits.{unread}
 use Rattle.binder.proofs.literals.signed.Goals as goal
 
 pub returns-in-Err : goal.returns-in-Err
-returns-in-Err c = sym (unread c.args.negative c.args.digits.now c.parse.result _ c.parse.ensures.value.0 (sym (ap all_ascii_digits c.as_bytes.ensures.value) ∙ sym c.all_digits.ensures ∙ c.if-not-all_digits.false) (grind (arith, nat_tests)) c.in-Err.is)
+returns-in-Err c = sym (unread c.args.negative c.args.digits.now c.parse.result _ c.parse.ensures.value.0 (sym
+    (ap all_ascii_digits c.as_bytes.ensures.value) ∙ sym c.all_digits.ensures ∙ c.if-not-all_digits.false) (grind (arith, nat_tests)) c.in-Err.is)

@@ -5,4 +5,5 @@ use Rattle.binder.proofs.TellsFacts.{first_from}
 use Rattle.binder.proofs.looking_up.want_tables.Given as goal
 
 abbrev pub invariant-loop-item : goal.invariant-loop-item
-invariant-loop-item l = first_from (λ item. unknown_table l.catalogue item.table) l.items l.item-index ≡ first (flat_map (λ item. unknown_table l.catalogue item.table) l.items)
+invariant-loop-item l = first_from (λ item. unknown_table l.catalogue item.table) l.items l.item-index ≡ first (flat_map
+    (λ item. unknown_table l.catalogue item.table) l.items)

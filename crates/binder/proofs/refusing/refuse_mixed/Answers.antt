@@ -14,7 +14,8 @@ pub returns-in_err-refuse_if : goal.returns-in_err-refuse_if
 returns-in_err-refuse_if c =
     let p = err_from_is_err_and c.from_residual.result c.from_residual.ensures.1 in
     let pair : ℕ × Condition = (c.loop-place.place + 1, c.index-conditions-place.result) in
-    rw (p.1, p.2) (err_next (Unit {0}) (Unit {0}) _ (λ p. refused_if (is_mixed p.1) (MixedTypes c.args.number p.0)) (enumerate_from 1 c.args.conditions.now) c.loop-place.place pair
+    rw (p.1, p.2) (err_next (Unit {0}) (Unit {0}) _ (λ p. refused_if (is_mixed p.1) (MixedTypes c.args.number p.0))
+    (enumerate_from 1 c.args.conditions.now) c.loop-place.place pair
     c.loop-place.invariant (numbered_below c.args.conditions.now c.loop-place.place c.loop-place-test.true)
     (numbered_at c.args.conditions.now c.loop-place.place c.index-conditions-place.result c.loop-place-test.true c.index-conditions-place.is)
     (rw c.is_mixed.ensures at c.in_err-refuse_if.ensures))
@@ -29,5 +30,6 @@ loop-place-preserved c =
     ∙ c.loop-place.invariant
 
 pub returns : goal.returns
-returns c = sym c.loop-place.invariant ∙ at_end (λ p. refused_if (is_mixed p.1) (MixedTypes c.args.number p.0)) (enumerate_from 1 c.args.conditions.now) c.loop-place.place
+returns c = sym c.loop-place.invariant ∙ at_end (λ p. refused_if (is_mixed p.1) (MixedTypes c.args.number p.0))
+    (enumerate_from 1 c.args.conditions.now) c.loop-place.place
     (numbered_end c.args.conditions.now c.loop-place.place (omega arith))

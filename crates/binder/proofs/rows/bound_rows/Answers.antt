@@ -11,12 +11,17 @@ loop-row-init c = record { so_far = c.new-bound.ensures; in_range = from_start (
 
 pub returns-in_err-bound_row-clause-refused : goal.returns-in_err-bound_row-clause-refused
 returns-in_err-bound_row-clause-refused c = let p = err_from_is_err_and c.from_residual.result c.from_residual.ensures.1 in rw (p.1, p.2)
-    (err_next (Unit {0}) (Unit {0}) _ (flat_map number_refusals) c.args.rows.now c.loop-row.row-index c.row-item.result c.loop-row.invariant.in_range c.loop-row-test.true c.row-item.is (rw c.as_slice.ensures at c.in_err-bound_row.ensures.refused))
+    (err_next (Unit {0}) (Unit {0}) _
+    (flat_map number_refusals) c.args.rows.now c.loop-row.row-index c.row-item.result c.loop-row.invariant.in_range c.loop-row-test.true c.row-item.is
+    (rw c.as_slice.ensures at c.in_err-bound_row.ensures.refused))
 
 pub loop-row-preserved : goal.loop-row-preserved
 loop-row-preserved c = record {
-  so_far = c.in_ok-push.ensures.ok ∙ ap (λ bound. bound ++ c.in_ok-bound_row.field-0 ∷ []) c.loop-row.invariant.so_far ∙ ap (λ row. bound_rows (take c.loop-row.row-index c.args.rows.now) ++ row ∷ []) (c.in_ok-bound_row.ensures.row ∙ ap bound_row (c.as_slice.ensures ∙ c.row-item.is)) ∙ sym (map_more bound_row c.args.rows.now c.loop-row.row-index c.row-item.result c.loop-row-test.true);
-  in_range = sym (next_ok (flat_map number_refusals) c.args.rows.now c.loop-row.row-index c.row-item.result c.loop-row-test.true c.row-item.is (rw c.as_slice.ensures at c.in_ok-bound_row.ensures.refused)) ∙ c.loop-row.invariant.in_range;
+  so_far = c.in_ok-push.ensures.ok ∙ ap (λ bound. bound ++ c.in_ok-bound_row.field-0 ∷ []) c.loop-row.invariant.so_far
+      ∙ ap (λ row. bound_rows (take c.loop-row.row-index c.args.rows.now) ++ row ∷ []) (c.in_ok-bound_row.ensures.row ∙ ap bound_row (c.as_slice.ensures
+      ∙ c.row-item.is)) ∙ sym (map_more bound_row c.args.rows.now c.loop-row.row-index c.row-item.result c.loop-row-test.true);
+  in_range = sym (next_ok (flat_map number_refusals) c.args.rows.now c.loop-row.row-index c.row-item.result c.loop-row-test.true c.row-item.is
+      (rw c.as_slice.ensures at c.in_ok-bound_row.ensures.refused)) ∙ c.loop-row.invariant.in_range;
 }
 
 pub returns-clause-refused : goal.returns-clause-refused

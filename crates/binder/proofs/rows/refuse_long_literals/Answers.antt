@@ -9,10 +9,14 @@ loop-literal-init c = from_start (text_refusals c.args.limit) c.args.literals.no
 
 pub returns-in_err-refuse_long_literal : goal.returns-in_err-refuse_long_literal
 returns-in_err-refuse_long_literal c = let p = err_from_is_err_and c.from_residual.result c.from_residual.ensures.1 in rw (p.1, p.2)
-    (err_next (Unit {0}) (Unit {0}) _ (text_refusals c.args.limit) c.args.literals.now c.loop-literal.literal-index c.literal-item.result c.loop-literal.invariant c.loop-literal-test.true c.literal-item.is c.in_err-refuse_long_literal.ensures)
+    (err_next (Unit {0}) (Unit {0}) _
+    (text_refusals c.args.limit) c.args.literals.now c.loop-literal.literal-index c.literal-item.result c.loop-literal.invariant c.loop-literal-test.true
+    c.literal-item.is c.in_err-refuse_long_literal.ensures)
 
 pub loop-literal-preserved : goal.loop-literal-preserved
-loop-literal-preserved c = sym (next_ok (text_refusals c.args.limit) c.args.literals.now c.loop-literal.literal-index c.literal-item.result c.loop-literal-test.true c.literal-item.is c.in_ok-refuse_long_literal.ensures) ∙ c.loop-literal.invariant
+loop-literal-preserved c = sym (next_ok
+    (text_refusals c.args.limit) c.args.literals.now c.loop-literal.literal-index c.literal-item.result c.loop-literal-test.true c.literal-item.is
+    c.in_ok-refuse_long_literal.ensures) ∙ c.loop-literal.invariant
 
 pub returns : goal.returns
 returns c = sym c.loop-literal.invariant ∙ at_end (text_refusals c.args.limit) c.args.literals.now c.loop-literal.literal-index (omega arith)

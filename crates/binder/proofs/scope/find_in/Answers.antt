@@ -13,9 +13,13 @@ loop-place-init c = refl
 pub loop-place-preserved : goal.loop-place-preserved
 loop-place-preserved c = elim c.if-eq.branch [
   | then-eq w ↦ w.found-is ∙ ap Some w.one_more.ensures ∙ found_more _ _ _ c.loop-place.invariant
-      ∙ ap found_in (sym (columns_to_named c.args.atom c.args.name.now c.args.columns.now c.loop-place.place c.index-columns-place.result c.loop-place-test.true c.index-columns-place.is
+      ∙ ap found_in (sym
+      (columns_to_named c.args.atom c.args.name.now c.args.columns.now c.loop-place.place c.index-columns-place.result c.loop-place-test.true
+      c.index-columns-place.is
       (ap (λ n. bytes_eq n c.args.name.now) (sym c.as_str.ensures) ∙ sym c.eq.ensures ∙ w.if-eq.true)))
   | else-eq w ↦ w.found-is ∙ c.loop-place.invariant
-      ∙ ap found_in (sym (columns_to_other c.args.atom c.args.name.now c.args.columns.now c.loop-place.place c.index-columns-place.result c.loop-place-test.true c.index-columns-place.is
+      ∙ ap found_in (sym
+      (columns_to_other c.args.atom c.args.name.now c.args.columns.now c.loop-place.place c.index-columns-place.result c.loop-place-test.true
+      c.index-columns-place.is
       (ap (λ n. bytes_eq n c.args.name.now) (sym c.as_str.ensures) ∙ sym c.eq.ensures ∙ w.if-eq.false)))
 ]
