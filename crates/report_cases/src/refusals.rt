@@ -1,0 +1,154 @@
+// A refusal of each text.
+use crate::{Stop, name, write};
+use beas_core::{Counted, List, Name, NoMemory, Refusal, Row, Text, Value};
+use report::Report;
+use std::alloc::Global;
+
+/// The refusals that hold no text, by their place in this list.
+fn of_numbers(place: u32) -> Refusal {
+    match place {
+        0 => Refusal::Syntax,
+        1 => Refusal::TooDeep,
+        2 => Refusal::MixedTypes {
+            block: 2,
+            condition: 5,
+        },
+        3 => Refusal::ShapeMismatch { block: 2 },
+        4 => Refusal::AlreadyBroken {
+            needed: 7,
+            bound: 6,
+        },
+        5 => Refusal::WrongWidth {
+            row: 2,
+            found: 1,
+            wanted: 3,
+        },
+        6 => Refusal::RecordWidth {
+            nth: 1,
+            found: 2,
+            wanted: 3,
+        },
+        7 => Refusal::HeaderMismatch,
+        8 => Refusal::NotCovered {
+            block: 1,
+            atom: 2,
+            column: None,
+        },
+        9 => Refusal::TooLarge,
+        10 => Refusal::OverBudget {
+            bound: u128::MAX,
+            budget: 314_999,
+        },
+        11 => Refusal::NeedsDistinct,
+        12 => Refusal::FileTooLong { limit: 67_108_864 },
+        _ => Refusal::TextTooLong { limit: 65_535 },
+    }
+}
+
+/// The refusals that hold a name, by their place in this list.
+fn of_name(place: u32, name: Name) -> Refusal {
+    match place {
+        0 => Refusal::TableExists { name },
+        1 => Refusal::UnknownTable { name },
+        2 => Refusal::UnknownColumn {
+            table: None,
+            column: name,
+        },
+        3 => Refusal::Ambiguous { column: name },
+        4 => Refusal::DuplicateName { name },
+        5 => Refusal::WrongType {
+            row: 3,
+            column: name,
+        },
+        6 => Refusal::BadField {
+            nth: 11,
+            column: name,
+        },
+        7 => Refusal::NotCovered {
+            block: 1,
+            atom: 2,
+            column: Some(name),
+        },
+        _ => Refusal::UnknownAccess { name },
+    }
+}
+
+/// The refusals that hold a text as it was written, by their place in this list.
+fn of_text(place: u32, written: Text) -> Refusal {
+    match place {
+        0 => Refusal::BadLimit { digits: written },
+        1 => Refusal::NumberRange {
+            negative: false,
+            digits: written,
+        },
+        2 => Refusal::NumberRange {
+            negative: true,
+            digits: written,
+        },
+        _ => Refusal::Unreadable { file: written },
+    }
+}
+
+const WRITTEN: [&str; 4] = [
+    "007",
+    "9223372036854775808",
+    "9223372036854775809",
+    "it's\n.csv",
+];
+
+const COUNTED: [Counted; 7] = [
+    Counted::Tables,
+    Counted::Columns,
+    Counted::Constraints,
+    Counted::Atoms,
+    Counted::Blocks,
+    Counted::Outputs,
+    Counted::Rows,
+];
+
+fn key_of_two(alloc: Global) -> Result<Row, NoMemory> {
+    let mut key = List::new(alloc);
+    key.push(Value::Int(i64::MIN))?;
+    key.push(Value::Str(Text::from_str(alloc, "O'Hara, \"J\"")?))?;
+    Ok(key)
+}
+
+fn refuse(rt: &HostRuntime, why: Refusal) -> Result<(), Stop> {
+    write(rt, &Report::Refused { why })
+}
+
+fn refuse_key(rt: &HostRuntime, key: Row) -> Result<(), Stop> {
+    let access = name(rt.alloc(), "d1")?;
+    refuse(
+        rt,
+        Refusal::BreaksBound {
+            row: 4,
+            access,
+            key,
+        },
+    )
+}
+
+pub fn write_all(rt: &HostRuntime) -> Result<(), Stop> {
+    let alloc = rt.alloc();
+    for place in 0..14 {
+        refuse(rt, of_numbers(place))?;
+    }
+    for place in 0..9 {
+        refuse(rt, of_name(place, name(alloc, "n_1")?))?;
+    }
+    for place in 0..4 {
+        refuse(
+            rt,
+            of_text(place as u32, Text::from_str(alloc, WRITTEN[place])?),
+        )?;
+    }
+    for what in COUNTED {
+        refuse(rt, Refusal::TooMany { what, limit: 64 })?;
+    }
+    let table = Some(name(alloc, "t")?);
+    let column = name(alloc, "c")?;
+    refuse(rt, Refusal::UnknownColumn { table, column })?;
+    refuse_key(rt, List::new(alloc))?;
+    refuse_key(rt, key_of_two(alloc)?)
+}
