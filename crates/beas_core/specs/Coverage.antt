@@ -65,7 +65,7 @@ fetched_classes normal u = map (class_at normal u.atom) u.access.fetched
 abbrev pub holds_classes : ClassSet → List ℕ → Bool
 holds_classes set classes = list_all (has set) classes
 
--- the set, with all that one use of a constraint adds to it
+-- the set, with what every use adds whose key it holds
 abbrev pub grow : Normal → List Access → ClassSet → ClassSet
 grow normal accesses set =
     map (λ c. has set c || list_any (λ u. holds_classes set (key_classes normal u) && list_any (λ d. d == c) (fetched_classes normal u)) (uses normal accesses))
