@@ -1,3 +1,4 @@
 pub mod ChoiceFacts
+pub mod PreparationFacts
 pub mod SetFacts
 pub mod Turns

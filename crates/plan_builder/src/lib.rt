@@ -1,8 +1,10 @@
-//! Derivations of blocks: the steps by which their rows are fetched.
+//! Derivations of blocks, the steps by which their rows are fetched, and what is announced of a query.
 #![tactic(auto)]
 
 mod choices;
 mod derivations;
+mod preparation;
 mod sets;
 
 pub use derivations::{derive, greedy};
+pub use preparation::prepare;

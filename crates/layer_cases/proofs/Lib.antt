@@ -1,0 +1,3 @@
+mod Ids
+mod Lent
+mod Members
