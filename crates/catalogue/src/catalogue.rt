@@ -110,6 +110,7 @@ impl Catalogue {
         ensures within { result < length self.now.accesses }
         ensures found { (d : Constraint) → slice_index_or self.now.accesses result d ≡ access_with_id self.now.accesses id }
         ensures has_id { (access_with_id self.now.accesses id).id.0 ≡ id.0 }
+        ensures sound { SchemaIsSound self.now }
     {
         place_of_id(self.accesses.as_slice(), id)
     }

@@ -1,0 +1,98 @@
+-- Constraints over rows that come: which is broken first, and that the others hold.
+use Rattle.std.proofs.Common.{◌≡◌, ◌≢◌, ◌∙◌, ◌<◌, ◌≤◌, ◌+◌, ◌==◌, ℕ, zero, suc, Bool, true, false, not, cond, List, [], ◌∷◌, ◌++◌, map, take, drop, length, get_or, set, ap, refl, sym, subst, arith, true≢false, inl, inr, Option, Some, None, add-one}
+use Rattle.std.specs.Prelude.{filter, find, option_map, All, nat_le, IsTrue, ◌↔◌}
+use Rattle.std.proofs.Math.Seq.{drop-cons}
+use Rattle.std.proofs.Math.ListN.{drop_of_length-le}
+use Rattle.std.proofs.lemmas.Bool.{leb-true, le-leb, false_from_ne_true, cases_eq, eq-eqb}
+use Rattle.std.proofs.lemmas.List.{get_or-set_same, get_or-set_other, length-map, get_or-map, get_or_default}
+use Rattle.std.proofs.lemmas.List.Elements.{All-filter, filter_passes}
+use Rattle.beas_core.specs.declared.schema.Access.{Access}
+use Rattle.beas_core.specs.declared.schema.AccessId.{AccessId}
+use Rattle.beas_core.specs.declared.schema.TableId.{TableId}
+use Rattle.beas_core.specs.Types.{Row}
+use Rattle.beas_core.specs.Groups.{Holds, greatest}
+use Rattle.beas_core.proofs.Groups.{greatest-from_Holds, Holds-from_greatest}
+use Rattle.catalogue.specs.Schema.{access_with_id, accesses_on}
+use Rattle.catalogue.specs.Kept.{ids_on}
+use Rattle.catalogue.specs.Refusing.{holds, broken}
+use Rattle.catalogue.proofs.ListFacts.{find_none}
+use Rattle.access_index.specs.Index.{Index, IsIndexOf}
+use Rattle.update_guard.specs.Guarding.{HoldOver, IndexesOf}
+use Rattle.update_guard.specs.Indexing.{IsPlaceOn, no_access}
+use Rattle.update_guard.proofs.IndexFacts.{IsOwn, own}
+
+pub holds_where : (rows : List Row) (a : Access) → Holds rows a → holds rows a ≡ true
+holds_where rows a h = le-leb (greatest rows a.key a.fetched) a.bound (greatest-from_Holds rows a h)
+
+pub fails_where : (rows : List Row) (a : Access) → (Holds rows a → ⊥) → holds rows a ≡ false
+fails_where rows a n = false_from_ne_true (holds rows a) (λ e. n (Holds-from_greatest rows a (leb-true (greatest rows a.key a.fetched) a.bound e)))
+
+-- the search for a broken constraint, from place k on
+abbrev pub broken_from : List Access → List Row → ℕ → Option Access
+broken_from accesses rows k = find (λ a. not (holds rows a)) (drop k accesses)
+
+pub broken_step : (accesses : List Access) (rows : List Row) (k : ℕ) (a : Access) → k < length accesses → get_or accesses k a ≡ a
+    → broken_from accesses rows k ≡ cond (not (holds rows a)) (Some a) (broken_from accesses rows (k + 1))
+broken_step accesses rows k a h is =
+    ap (find (λ x. not (holds rows x))) (drop-cons accesses k a h)
+    ∙ ap (λ x. cond (not (holds rows x)) (Some x) (find (λ y. not (holds rows y)) (drop (suc k) accesses))) is
+    ∙ ap (λ j. cond (not (holds rows a)) (Some a) (broken_from accesses rows j)) (sym (add-one k))
+
+pub broken_end : (accesses : List Access) (rows : List Row) (k : ℕ) → length accesses ≤ k → broken_from accesses rows k ≡ None
+broken_end accesses rows k h = ap (find (λ a. not (holds rows a))) (drop_of_length-le accesses h)
+
+from_filtered : (Q : Access → Type 0) (p : Access → Bool) (xs : List Access) → All Q (filter p xs) → (i : ℕ) (d : Access) → i < length xs → p (get_or xs i d) ≡ true → Q (get_or xs i d)
+from_filtered Q p [] h i d l t = absurd (omega (arith, l))
+from_filtered Q p (x ∷ xs) h zero d l t = subst (λ (b : Bool). All Q (cond b (x ∷ filter p xs) (filter p xs))) t h 0 d (omega arith)
+from_filtered Q p (x ∷ xs) h (suc i) d l t = from_filtered Q p xs (rest (p x) h) i d (omega arith) t
+  where
+    rest : (b : Bool) → All Q (cond b (x ∷ filter p xs) (filter p xs)) → All Q (filter p xs)
+    rest true g = λ k e m. g (suc k) e (omega arith)
+    rest false g = g
+
+true_from : (b : Bool) → not b ≡ false → b ≡ true
+true_from true e = refl
+true_from false e = cc
+
+-- where none is broken, each holds over the rows of its table
+pub hold_after : (accesses : List Access) (rows : List (List Row)) (table : TableId) (own : List Row) → HoldOver accesses rows → table.0 < length rows
+    → broken (accesses_on accesses table) own ≡ None → HoldOver accesses (set rows table.0 own)
+hold_after accesses rows table own hold live none i d l = elim (cases_eq (get_or accesses i d).table.0 table.0) [
+  | inl s ↦
+      let P : Access → Type 0 = λ a. not (holds own a) ≡ false in
+      let not_broken : P (get_or accesses i d) = from_filtered P (λ a. a.table.0 == table.0) accesses (find_none (λ a. not (holds own a)) (accesses_on accesses table) none) i d l (eq-eqb (get_or accesses i d).table.0 table.0 s) in
+      subst (λ (rs : List Row). Holds rs (get_or accesses i d)) (sym (ap (λ t. get_or (set rows table.0 own) t []) s ∙ get_or-set_same rows table.0 own [] live))
+      (Holds-from_greatest own (get_or accesses i d) (leb-true (greatest own (get_or accesses i d).key (get_or accesses i d).fetched) (get_or accesses i d).bound (true_from (holds own (get_or accesses i d)) not_broken)))
+  | inr n ↦ subst (λ (rs : List Row). Holds rs (get_or accesses i d)) (sym (get_or-set_other rows table.0 (get_or accesses i d).table.0 own [] n)) (hold i d l)
+]
+
+answers : (rows : List Row) (a : Access) (answer : Bool) → (IsTrue answer → Holds rows a) → (Holds rows a → IsTrue answer) → holds rows a ≡ answer
+answers rows a true to from = holds_where rows a (to refl)
+answers rows a false to from = fails_where rows a (λ h. true≢false (sym (from h)))
+
+-- what the index of a table's constraint number k tells of one row more
+pub judged : (accesses : List Access) (table : TableId) (rows : List (List Row)) (row : Row) (k place : ℕ) (indexes : List Index) (index : Index) (answer : Bool)
+    → IsPlaceOn accesses table.0 k place → k < length (ids_on accesses table.0) → IndexesOf accesses rows indexes → HoldOver accesses rows → index ≡ get_or indexes place index
+    → ((rs : List Row) → IsIndexOf index rs → Holds rs index.access → (IsTrue answer ↔ Holds (rs ++ row ∷ []) index.access))
+    → broken_from (accesses_on accesses table) (get_or rows table.0 [] ++ row ∷ []) k
+    ≡ cond (not answer) (Some (get_or accesses place no_access)) (broken_from (accesses_on accesses table) (get_or rows table.0 [] ++ row ∷ []) (k + 1))
+judged accesses table rows row k place indexes index answer p h indexed hold is tells =
+    let mine = accesses_on accesses table in
+    let l : k < length mine = omega (arith, h, length-map mine (λ a. a.id)) in
+    let x = get_or accesses place no_access in
+    let o = All-filter (λ a. a.table.0 == table.0) (IsOwn accesses) accesses (own accesses p.rise) k no_access l in
+    let same : x ≡ get_or mine k no_access =
+    p.at no_access ∙ ap (access_with_id accesses) (get_or-map (λ a. a.id) mine k no_access (record { 0 = 0 }) l) ∙ o.found in
+    let on : x.table.0 ≡ table.0 = ap (λ a. a.table.0) (p.at no_access) ∙ p.is_on.on in
+    let at = indexed.each place index no_access p.within in
+    let access : index.access ≡ x = ap (λ i. i.access) is ∙ at.access_is in
+    let rs : get_or rows x.table.0 [] ≡ get_or rows table.0 [] = ap (λ t. get_or rows t []) on in
+    let own_rows = get_or rows table.0 [] in
+    let index_is : IsIndexOf index own_rows = subst (λ (r : List Row). IsIndexOf index r) rs (subst (λ (i : Index). IsIndexOf i (get_or rows x.table.0 [])) (sym is) at.index_is) in
+    let held : Holds own_rows index.access = subst (λ (a : Access). Holds own_rows a) (sym access) (subst (λ (r : List Row). Holds r x) rs (hold place no_access p.within)) in
+    let iff = tells own_rows index_is held in
+    let to : IsTrue answer → Holds (own_rows ++ row ∷ []) x = λ t. subst (λ (a : Access). Holds (own_rows ++ row ∷ []) a) access (iff.0 t) in
+    let from : Holds (own_rows ++ row ∷ []) x → IsTrue answer = λ g. iff.1 (subst (λ (a : Access). Holds (own_rows ++ row ∷ []) a) (sym access) g) in
+    broken_step mine (own_rows ++ row ∷ []) k (get_or mine k no_access) l (get_or_default mine k (get_or mine k no_access) no_access l)
+    ∙ ap (λ a. cond (not (holds (own_rows ++ row ∷ []) a)) (Some a) (broken_from mine (own_rows ++ row ∷ []) (k + 1))) (sym same)
+    ∙ ap (λ b. cond (not b) (Some x) (broken_from mine (own_rows ++ row ∷ []) (k + 1))) (answers (own_rows ++ row ∷ []) x answer to from)

@@ -1,0 +1,9 @@
+pub mod BoundFacts
+pub mod FewerRows
+pub mod GuardFacts
+pub mod IndexFacts
+pub mod InsertFacts
+pub mod PortFacts
+pub mod ScanFacts
+pub mod SweepFacts
+pub mod UpdateFacts

@@ -1,0 +1,19 @@
+use Rattle.std.proofs.Common.{◌≡◌, ◌∙◌, ap, sym, subst}
+use Rattle.catalogue.specs.Refusing.{IsRefusedAs, drop_access_refusal}
+use Rattle.update_guard.specs.Guarding.{database_of}
+use Rattle.update_guard.proofs.GuardFacts.{after_drop_access, schema_of_stored, on_ok}
+use Rattle.update_guard.proofs.guarded.Guarded.drop_access.Goals as goal
+
+pub invariant_of-self : goal.invariant_of-self
+invariant_of-self c =
+    let out = c.drop_index-outcome.ensures in
+    record {
+      kept = after_drop_access c.drop_index-outcome.result c.args.self.now.catalogue c.drop_index-outcome.new.catalogue c.args.self.now.rows c.args.self.now.indexes
+          c.into_vec-indexes.result.items c.drop_index-outcome.new.indexes.items c.from_vec.result c.args.name.now c.args.self.now.kept
+          (c.into_vec-indexes.ensures ∙ c.replace.ensures.value) c.from_vec.ensures out.ok out.index out.err out.indexes_stay;
+    }
+
+pub returns-clause-refused : goal.returns-clause-refused
+returns-clause-refused c =
+    subst (λ s. IsRefusedAs c.drop_index-outcome.result (drop_access_refusal s c.args.name.now))
+    (sym (schema_of_stored c.args.self.now.catalogue c.args.self.now.rows c.args.self.now.kept.tables)) c.drop_index-outcome.ensures.refused

@@ -1,0 +1,5 @@
+pub mod Filtering
+pub mod Guarding
+pub mod Indexing
+pub mod Making
+pub mod Stored

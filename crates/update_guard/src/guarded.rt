@@ -1,0 +1,181 @@
+// The guard and its updates.
+ghost use Rattle.std.specs.Prelude.{◌≡◌, ◌≢◌, ◌+◌, ◌<◌, ◌≤◌, ◌^◌, [], length, All, IfOk, OnOk, OnErr, Err};
+ghost use Rattle.beas_core.specs.declared.errors.Fail.TheVariants.{NoMemory as Want};
+ghost use Rattle.beas_core.specs.Shapes.{BlockIsWellFormed, width_of};
+ghost use Rattle.catalogue.specs.Schema.{columns_at};
+ghost use Rattle.catalogue.specs.Database.{schema_of, with_table, with_access, without_access, rows_at, appended, kept, kept_rows, block_table};
+ghost use Rattle.catalogue.specs.Refusing.{IsRefusedAs, add_table_refusal, create_access_refusal, drop_access_refusal, insert_refusal, admitted};
+ghost use Rattle.update_guard.specs.Guarding.{IsGuarded, create_access_reads};
+
+use crate::deleting::delete_from;
+use crate::filtering::table_of;
+use crate::inserting::insert_into;
+use crate::making::{drop_index, make_access, make_table};
+use access_index::AccessIndex;
+use beas_core::{
+    AccessId, AccessSpec, Block, Column, Fail, Limits, List, Name, Row, Steps, TableId,
+};
+use catalogue::Catalogue;
+use row_store::Rows;
+use std::alloc::Global;
+use std::mem;
+use std::sync::ledger::Ledger;
+
+/// Tables with their rows, and each live constraint with its index. Every constraint holds.
+#[derive(Debug, Drop)]
+pub struct Guarded {
+    /// The tables and the live constraints.
+    pub catalogue: Catalogue,
+    /// The rows of each table, in the order of the tables.
+    pub rows: List<Rows>,
+    /// The index of each live constraint, in the order of the constraints.
+    pub indexes: List<AccessIndex>,
+    ghost kept: { IsGuarded catalogue rows indexes },
+}
+
+impl Guarded {
+    ghost use Rattle.update_guard.specs.Stored.{stored};
+
+    /// A database without tables. It takes no memory.
+    pub fn new(alloc: Global) -> Guarded
+        ensures { stored result ≡ record { tables = []; accesses = []; created = 0 } }
+    {
+        Guarded {
+            catalogue: Catalogue::new(alloc),
+            rows: List::new(alloc),
+            indexes: List::new(alloc),
+        }
+    }
+
+    /// Makes a table without rows. After any error the database is as it was.
+    pub fn create_table(
+        &mut self,
+        alloc: Global,
+        limits: &Limits,
+        name: Name,
+        columns: List<Column>,
+    ) -> Result<TableId, Fail>
+        requires { 1 ≤ length columns }
+        ensures refused { IsRefusedAs result (add_table_refusal limits.now (schema_of (stored self.old)) name columns) }
+        ensures id { IfOk result (λ id. id.0 ≡ length (stored self.old).tables) }
+        ensures ok { OnOk result (stored self.new ≡ with_table (stored self.old) name columns) }
+        ensures err { OnErr result (stored self.new ≡ stored self.old) }
+    {
+        let mut rows = mem::replace(&mut self.rows, List::new(alloc)).into_vec();
+        let made = make_table(alloc, &mut self.catalogue, &mut rows, limits, name, columns);
+        self.rows = List::from_vec(rows);
+        made
+    }
+
+    /// Makes a constraint that holds over the rows as they are. It reads each row of the table once where
+    /// the statement is admitted, whether or not the rows break the bound. After any error the database is
+    /// as it was.
+    pub fn create_access<L: Ledger>(
+        &mut self,
+        alloc: Global,
+        limits: &Limits,
+        spec: &AccessSpec,
+        steps: &mut Steps<L>,
+    ) -> Result<AccessId, Fail>
+        requires { 1 ≤ length spec.now.fetched }
+        ensures refused { IsRefusedAs result (create_access_refusal limits.now (stored self.old) spec.now) }
+        ensures id { IfOk result (λ id. id.0 ≡ (stored self.old).created) }
+        ensures ok { OnOk result (stored self.new ≡ with_access (stored self.old) (admitted (schema_of (stored self.old)) spec.now)) }
+        ensures err { OnErr result (stored self.new ≡ stored self.old) }
+        ensures cost { result ≢ Err Want → steps.new ≡ steps.old + create_access_reads limits.now (stored self.old) spec.now }
+        ensures at_most { steps.new ≤ steps.old + create_access_reads limits.now (stored self.old) spec.now }
+        ensures no_fewer { steps.old ≤ steps.new }
+    {
+        let mut indexes = mem::replace(&mut self.indexes, List::new(alloc)).into_vec();
+        let made = make_access(
+            alloc,
+            &mut self.catalogue,
+            &self.rows,
+            &mut indexes,
+            limits,
+            spec,
+            steps,
+        );
+        self.indexes = List::from_vec(indexes);
+        made
+    }
+
+    /// Drops a constraint with its index. After any error the database is as it was.
+    pub fn drop_access(&mut self, alloc: Global, name: &Name) -> Result<(), Fail>
+        ensures refused { IsRefusedAs result (drop_access_refusal (schema_of (stored self.old)) name.now) }
+        ensures ok { OnOk result (stored self.new ≡ without_access (stored self.old) name.now) }
+        ensures err { OnErr result (stored self.new ≡ stored self.old) }
+    {
+        let mut indexes = mem::replace(&mut self.indexes, List::new(alloc)).into_vec();
+        let outcome = drop_index(alloc, &mut self.catalogue, &mut indexes, name);
+        self.indexes = List::from_vec(indexes);
+        outcome
+    }
+
+    /// Adds rows at the end of a table, all or none, and answers how many. Refused are the first row of
+    /// another width, the first value of another type, rows past the limit, and the first row with which a
+    /// constraint would not hold. It reads no row. After any error the database is as it was.
+    pub fn insert(
+        &mut self,
+        alloc: Global,
+        limits: &Limits,
+        table: TableId,
+        rows: List<Row>,
+    ) -> Result<u32, Fail>
+        requires live { table.0 < length (stored self.old).tables }
+        requires few { length rows < 2 ^ 32 }
+        requires narrow { All (λ row. length row < 2 ^ 32) rows }
+        ensures refused { IsRefusedAs result (insert_refusal limits.now (stored self.old) table rows) }
+        ensures count { IfOk result (λ count. count ≡ length rows) }
+        ensures ok { OnOk result (stored self.new ≡ appended (stored self.old) table rows) }
+        ensures err { OnErr result (stored self.new ≡ stored self.old) }
+    {
+        let count = rows.len() as u32;
+        let mut stores = mem::replace(&mut self.rows, List::new(alloc)).into_vec();
+        let mut indexes = mem::replace(&mut self.indexes, List::new(alloc)).into_vec();
+        let outcome = insert_into(
+            alloc,
+            &self.catalogue,
+            table,
+            &mut stores,
+            &mut indexes,
+            limits,
+            rows,
+        );
+        self.rows = List::from_vec(stores);
+        self.indexes = List::from_vec(indexes);
+        match outcome {
+            Ok(()) => Ok(count),
+            Err(why) => Err(why),
+        }
+    }
+
+    /// Takes the rows of a table out that meet all conditions of a block over it, and answers how many; the
+    /// others keep their order. It reads each row once and takes no memory.
+    pub fn delete<L: Ledger>(&mut self, filter: &Block, steps: &mut Steps<L>) -> u32
+        requires form { BlockIsWellFormed filter.now }
+        requires one { length filter.now.atoms ≡ 1 }
+        requires live { (block_table filter.now).0 < length (stored self.old).tables }
+        requires wide { width_of filter.now.atoms 0 ≡ length (columns_at (schema_of (stored self.old)) (block_table filter.now)) }
+        ensures kept { stored self.new ≡ kept filter.now (stored self.old) }
+        ensures count { result + length (kept_rows filter.now (rows_at (stored self.old) (block_table filter.now)))
+            ≡ length (rows_at (stored self.old) (block_table filter.now)) }
+        ensures cost { steps.new ≡ steps.old + length (rows_at (stored self.old) (block_table filter.now)) }
+    {
+        let table = table_of(filter);
+        let alloc = self.catalogue.alloc();
+        let mut stores = mem::replace(&mut self.rows, List::new(alloc)).into_vec();
+        let mut indexes = mem::replace(&mut self.indexes, List::new(alloc)).into_vec();
+        let gone = delete_from(
+            &self.catalogue,
+            table,
+            &mut stores,
+            &mut indexes,
+            filter,
+            steps,
+        );
+        self.rows = List::from_vec(stores);
+        self.indexes = List::from_vec(indexes);
+        gone
+    }
+}

@@ -1,0 +1,152 @@
+// Rows come into and go out of the indexes of their table's constraints.
+ghost use Rattle.std.specs.Prelude.{◌≡◌, ◌≢◌, ◌+◌, ◌<◌, ◌≤◌, ◌^◌, ◌++◌, ◌∷◌, ℕ, List, [], length, take, drop, All, Some, None, OnOk, OnErr, IfSome, IsTrue, option_map, vec_len, ◌==◌, slice_index_or, slice_set};
+ghost use Rattle.std.specs.List.{list_any};
+ghost use Rattle.beas_core.specs.declared.errors.Fail.TheVariants.{NoMemory as Want};
+ghost use Rattle.beas_core.specs.Types.{Row as Tuple};
+ghost use Rattle.access_index.specs.Index.{Index};
+ghost use Rattle.catalogue.specs.Schema.{accesses_on, access_with_id};
+ghost use Rattle.catalogue.specs.Kept.{ids_on};
+ghost use Rattle.catalogue.specs.Refusing.{IsRefusedAs, broken, broken_bound};
+ghost use Rattle.update_guard.specs.Guarding.{IndexesOf, HoldOver};
+ghost use Rattle.update_guard.specs.Indexing.{AreIndexed, IsPlaceOn, no_access};
+
+use access_index::AccessIndex;
+use beas_core::{AccessId, NoMemory, Row, TableId};
+use catalogue::Catalogue;
+use std::alloc::Global;
+
+/// Where a table's constraint number `k` stands among all.
+fn place_on(catalogue: &Catalogue, table: TableId, k: usize) -> usize
+    requires live { table.0 < length catalogue.now.tables }
+    requires within { k < length (ids_on catalogue.now.accesses table.0) }
+    ensures { IsPlaceOn catalogue.now.accesses table.0 k result }
+{
+    let id = id_in(catalogue.ids_on(table), k);
+    catalogue.place(id)
+}
+
+fn id_in(ids: &[AccessId], k: usize) -> AccessId
+    requires { k < length ids.now }
+    ensures { result ≡ slice_index_or ids.now k result }
+{
+    ids[k]
+}
+
+/// Takes a row out of the indexes of the first `n` constraints on a table. It takes no memory.
+pub fn remove_from(
+    catalogue: &Catalogue,
+    table: TableId,
+    n: usize,
+    indexes: &mut Vec<AccessIndex>,
+    row: &Row,
+)
+    requires live { table.0 < length catalogue.now.tables }
+    requires within { n ≤ length (ids_on catalogue.now.accesses table.0) }
+    requires count { vec_len indexes.old ≡ length catalogue.now.accesses }
+    ensures taken { (rows : List (List Tuple)) (front back : List Tuple) → table.0 < length rows
+        → AreIndexed catalogue.now.accesses rows table.0 (front ++ back) (front ++ row.now ∷ back) (take n (ids_on catalogue.now.accesses table.0)) indexes.old.items
+        → IndexesOf catalogue.now.accesses (slice_set rows table.0 (front ++ back)) indexes.new.items }
+    ensures len { vec_len indexes.new ≡ vec_len indexes.old }
+{
+    for k in 0..n {
+        let place = place_on(catalogue, table, k);
+        indexes[place].remove(row);
+    }
+}
+
+/// Takes a row out of the indexes of a table's constraints. It takes no memory.
+pub fn remove_row(catalogue: &Catalogue, table: TableId, indexes: &mut Vec<AccessIndex>, row: &Row)
+    requires live { table.0 < length catalogue.now.tables }
+    requires count { vec_len indexes.old ≡ length catalogue.now.accesses }
+    ensures taken { (rows : List (List Tuple)) (front back : List Tuple) → table.0 < length rows
+        → IndexesOf catalogue.now.accesses (slice_set rows table.0 (front ++ row.now ∷ back)) indexes.old.items
+        → IndexesOf catalogue.now.accesses (slice_set rows table.0 (front ++ back)) indexes.new.items }
+    ensures len { vec_len indexes.new ≡ vec_len indexes.old }
+{
+    remove_from(
+        catalogue,
+        table,
+        catalogue.ids_on(table).len(),
+        indexes,
+        row,
+    );
+}
+
+/// Takes rows, the last of their table, out of the indexes of its constraints, from last to first. It
+/// takes no memory.
+pub fn remove_rows(
+    catalogue: &Catalogue,
+    table: TableId,
+    indexes: &mut Vec<AccessIndex>,
+    added: &[Row],
+)
+    requires live { table.0 < length catalogue.now.tables }
+    requires count { vec_len indexes.old ≡ length catalogue.now.accesses }
+    ensures taken { (rows : List (List Tuple)) (front : List Tuple) → table.0 < length rows
+        → IndexesOf catalogue.now.accesses (slice_set rows table.0 (front ++ added.now)) indexes.old.items
+        → IndexesOf catalogue.now.accesses (slice_set rows table.0 front) indexes.new.items }
+    ensures len { vec_len indexes.new ≡ vec_len indexes.old }
+{
+    let mut left = added.len();
+    while left > 0 {
+        left -= 1;
+        remove_row(catalogue, table, indexes, &added[left]);
+    }
+}
+
+/// Puts a row into the indexes of a table's constraints, or into none.
+pub fn add_row(
+    alloc: Global,
+    catalogue: &Catalogue,
+    table: TableId,
+    indexes: &mut Vec<AccessIndex>,
+    row: &Row,
+) -> Result<(), NoMemory>
+    requires live { table.0 < length catalogue.now.tables }
+    requires count { vec_len indexes.old ≡ length catalogue.now.accesses }
+    requires room { All (λ index. index.total + 1 < 2 ^ 32) indexes.old.items }
+    ensures ok { OnOk result ((rows : List (List Tuple)) (front back : List Tuple) → table.0 < length rows
+        → IndexesOf catalogue.now.accesses (slice_set rows table.0 (front ++ back)) indexes.old.items
+        → IndexesOf catalogue.now.accesses (slice_set rows table.0 (front ++ row.now ∷ back)) indexes.new.items) }
+    ensures err { OnErr result ((rows : List (List Tuple)) (front back : List Tuple) → table.0 < length rows
+        → IndexesOf catalogue.now.accesses (slice_set rows table.0 (front ++ back)) indexes.old.items
+        → IndexesOf catalogue.now.accesses (slice_set rows table.0 (front ++ back)) indexes.new.items) }
+    ensures len { vec_len indexes.new ≡ vec_len indexes.old }
+{
+    for k in 0..catalogue.ids_on(table).len() {
+        let place = place_on(catalogue, table, k);
+        match indexes[place].add(alloc, row) {
+            Ok(()) => {}
+            Err(why) => {
+                remove_from(catalogue, table, k, indexes, row);
+                return Err(why);
+            }
+        }
+    }
+    Ok(())
+}
+
+/// Where the first constraint on a table stands that would not hold with one row more, if there is one. It
+/// takes no memory.
+pub fn first_broken(
+    catalogue: &Catalogue,
+    table: TableId,
+    indexes: &[AccessIndex],
+    row: &Row,
+) -> Option<usize>
+    requires live { table.0 < length catalogue.now.tables }
+    requires count { length indexes.now ≡ length catalogue.now.accesses }
+    ensures first { (rows : List (List Tuple)) → table.0 < length rows → IndexesOf catalogue.now.accesses rows indexes.now → HoldOver catalogue.now.accesses rows
+        → broken (accesses_on catalogue.now.accesses table) (slice_index_or rows table.0 [] ++ row.now ∷ [])
+        ≡ option_map (λ place. slice_index_or catalogue.now.accesses place no_access) result }
+    ensures within { IfSome result (λ place. place < length catalogue.now.accesses) }
+    ensures key { IfSome result (λ place. (slice_index_or catalogue.now.accesses place no_access).table.0 ≡ table.0) }
+{
+    for k in 0..catalogue.ids_on(table).len() {
+        let place = place_on(catalogue, table, k);
+        if !indexes[place].would_hold(row) {
+            return Some(place);
+        }
+    }
+    None
+}

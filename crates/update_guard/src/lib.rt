@@ -1,0 +1,13 @@
+//! The store: tables with their rows, each constraint with its index, and updates that keep every constraint.
+#![tactic(auto)]
+
+mod checking;
+mod deleting;
+mod filtering;
+mod guarded;
+mod indexing;
+mod inserting;
+mod making;
+mod port;
+
+pub use guarded::Guarded;

@@ -1,0 +1,113 @@
+// Tables and constraints are made, each with its rows or its index, or not at all.
+ghost use Rattle.std.specs.Prelude.{◌≡◌, ◌≢◌, ◌+◌, ◌<◌, ◌≤◌, ◌++◌, ◌∷◌, if◌then◌else◌, [], length, vec_len, vec_capacity, IfOk, OnOk, OnErr, Err, slice_index_or};
+ghost use Rattle.std.specs.Option.{is_none, option_or};
+ghost use Rattle.beas_core.specs.declared.errors.Fail.TheVariants.{NoMemory as Want};
+ghost use Rattle.access_index.specs.Index.{IsIndexOf, Index};
+ghost use Rattle.catalogue.specs.Schema.{schema_with_table, schema_with_access, schema_without_access};
+ghost use Rattle.catalogue.specs.Refusing.{IsRefusedAs, add_table_refusal, admit_refusal, already_broken, admitted, drop_access_refusal};
+ghost use Rattle.update_guard.specs.Making.{AddsIndex, DropsIndex};
+
+use access_index::AccessIndex;
+use beas_core::{AccessId, AccessSpec, Column, Fail, Limits, List, Name, Refusal, Steps, TableId};
+use catalogue::Catalogue;
+use row_store::Rows;
+use std::alloc::Global;
+use std::sync::ledger::Ledger;
+
+/// Adds an item at the end, in the room that is there.
+fn push_in_room<T: Drop>(items: &mut Vec<T>, item: T)
+    requires { vec_len items.old < vec_capacity items.old }
+    ensures { items.new.items ≡ items.old.items ++ item ∷ [] }
+{
+    match items.push(item) {
+        Ok(()) => {}
+        Err(_) => unreachable!(),
+    }
+}
+
+/// Makes a table, and a place for its rows.
+pub fn make_table(
+    alloc: Global,
+    catalogue: &mut Catalogue,
+    rows: &mut Vec<Rows>,
+    limits: &Limits,
+    name: Name,
+    columns: List<Column>,
+) -> Result<TableId, Fail>
+    requires { 1 ≤ length columns }
+    ensures refused { IsRefusedAs result (add_table_refusal limits.now catalogue.old name columns) }
+    ensures id { IfOk result (λ id. id.0 ≡ length catalogue.old.tables) }
+    ensures ok { OnOk result (catalogue.new ≡ schema_with_table catalogue.old name columns) }
+    ensures rows { OnOk result (rows.new.items ≡ rows.old.items ++ [] ∷ []) }
+    ensures err { OnErr result (catalogue.new ≡ catalogue.old) }
+    ensures rows_stay { OnErr result (rows.new.items ≡ rows.old.items) }
+{
+    rows.reserve(1)?;
+    let id = catalogue.add_table(alloc, limits, name, columns)?;
+    push_in_room(rows, Rows::new(alloc));
+    Ok(id)
+}
+
+/// Makes a constraint that holds over its table's rows, with its index.
+pub fn make_access<L: Ledger>(
+    alloc: Global,
+    catalogue: &mut Catalogue,
+    rows: &List<Rows>,
+    indexes: &mut Vec<AccessIndex>,
+    limits: &Limits,
+    spec: &AccessSpec,
+    steps: &mut Steps<L>,
+) -> Result<AccessId, Fail>
+    requires fetches { 1 ≤ length spec.now.fetched }
+    requires tables { length rows.now ≡ length catalogue.old.tables }
+    ensures refused { IsRefusedAs result (option_or (admit_refusal limits.now catalogue.old spec.now)
+        (already_broken (slice_index_or rows.now (admitted catalogue.old spec.now).table.0 []) (admitted catalogue.old spec.now))) }
+    ensures id { IfOk result (λ id. id.0 ≡ catalogue.old.created) }
+    ensures ok { OnOk result (catalogue.new ≡ schema_with_access catalogue.old (admitted catalogue.old spec.now)) }
+    ensures index { OnOk result (AddsIndex (slice_index_or rows.now (admitted catalogue.old spec.now).table.0 []) (admitted catalogue.old spec.now) indexes.old.items indexes.new.items) }
+    ensures err { OnErr result (catalogue.new ≡ catalogue.old) }
+    ensures indexes_stay { OnErr result (indexes.new.items ≡ indexes.old.items) }
+    ensures cost { result ≢ Err Want → steps.new ≡ steps.old
+        + (if is_none (admit_refusal limits.now catalogue.old spec.now) then length (slice_index_or rows.now (admitted catalogue.old spec.now).table.0 []) else 0) }
+    ensures at_most { steps.new ≤ steps.old
+        + (if is_none (admit_refusal limits.now catalogue.old spec.now) then length (slice_index_or rows.now (admitted catalogue.old spec.now).table.0 []) else 0) }
+    ensures no_fewer { steps.old ≤ steps.new }
+{
+    let access = catalogue.admit(alloc, limits, spec)?;
+    let bound = access.bound;
+    let table = access.table.0 as usize;
+    let index = AccessIndex::build(alloc, access, &rows.as_slice()[table], steps)?;
+    let needed = index.greatest();
+    if needed > bound {
+        return Err(Fail::Refused(Refusal::AlreadyBroken { needed, bound }));
+    }
+    indexes.reserve(1)?;
+    let id = catalogue.add_access(alloc, limits, spec)?;
+    push_in_room(indexes, index);
+    Ok(id)
+}
+
+/// Drops a constraint and its index.
+pub fn drop_index(
+    alloc: Global,
+    catalogue: &mut Catalogue,
+    indexes: &mut Vec<AccessIndex>,
+    name: &Name,
+) -> Result<(), Fail>
+    requires { vec_len indexes.old ≡ length catalogue.old.accesses }
+    ensures refused { IsRefusedAs result (drop_access_refusal catalogue.old name.now) }
+    ensures ok { OnOk result (catalogue.new ≡ schema_without_access catalogue.old name.now) }
+    ensures index { OnOk result (DropsIndex catalogue.old.accesses (schema_without_access catalogue.old name.now).accesses indexes.old.items indexes.new.items) }
+    ensures err { OnErr result (catalogue.new ≡ catalogue.old) }
+    ensures indexes_stay { OnErr result (indexes.new.items ≡ indexes.old.items) }
+{
+    let place = catalogue.place_named(name);
+    catalogue.drop_access(alloc, name)?;
+    match place {
+        Some(place) => {
+            indexes.remove(place);
+        }
+        None => unreachable!(),
+    }
+    Ok(())
+}

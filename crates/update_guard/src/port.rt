@@ -1,0 +1,32 @@
+// Plans read the store through the indexes of its constraints.
+use crate::guarded::Guarded;
+use beas_core::{Access, AccessId, AccessPort, ColumnId, Hits, Steps, Value};
+use std::sync::ledger::Ledger;
+
+impl AccessPort for Guarded {
+    ghost use Rattle.catalogue.specs.Database.{rows_at};
+    ghost use Rattle.update_guard.specs.Stored.{stored, members_of, stands_in};
+
+    ghost rows = { λ g. rows_at (stored g) };
+
+    ghost accesses = { λ g. g.catalogue.accesses };
+
+    ghost members = { members_of };
+
+    ghost stands = { stands_in };
+
+    fn access(&self, id: AccessId) -> &Access {
+        let accesses = self.catalogue.accesses().as_slice();
+        &accesses[self.catalogue.place(id)]
+    }
+
+    fn probe<L: Ledger>(&self, id: AccessId, key: &[Value], steps: &mut Steps<L>) -> Hits {
+        let place = self.catalogue.place(id);
+        self.indexes.as_slice()[place].probe(key, steps)
+    }
+
+    fn value(&self, hits: &Hits, i: u32, column: ColumnId) -> &Value {
+        let place = self.catalogue.place(hits.access());
+        self.indexes.as_slice()[place].value(hits, i, column)
+    }
+}
