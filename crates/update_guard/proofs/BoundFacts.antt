@@ -1,20 +1,20 @@
 -- Constraints over rows that come: which is broken first, and that the others hold.
-use Rattle.std.proofs.Common.{◌≡◌, ◌≢◌, ◌∙◌, ◌<◌, ◌≤◌, ◌+◌, ◌==◌, ℕ, zero, suc, Bool, true, false, not, cond, List, [], ◌∷◌, ◌++◌, map, take, drop, length, get_or, set, ap, refl, sym, subst, arith, true≢false, inl, inr, Option, Some, None, add-one}
-use Rattle.std.specs.Prelude.{filter, find, option_map, All, nat_le, IsTrue, ◌↔◌}
+use Rattle.std.proofs.Common.{◌≡◌, ◌∙◌, ◌<◌, ◌≤◌, ◌+◌, ◌==◌, ℕ, zero, suc, Bool, true, false, not, cond, List, [], ◌∷◌, ◌++◌, drop, length, get_or, set, ap, refl, sym, subst, arith, true≢false, inl, inr, Option, Some, None, add-one}
+use Rattle.std.specs.Prelude.{filter, find, All, IsTrue, ◌↔◌}
 use Rattle.std.proofs.Math.Seq.{drop-cons}
 use Rattle.std.proofs.Math.ListN.{drop_of_length-le}
-use Rattle.std.proofs.lemmas.Bool.{leb-true, le-leb, false_from_ne_true, cases_eq, eq-eqb}
+use Rattle.std.proofs.lemmas.Bool.{leb-true, le-leb, false_from_ne_true, cases_eq, eq-eqb, lt-leb}
 use Rattle.std.proofs.lemmas.List.{get_or-set_same, get_or-set_other, length-map, get_or-map, get_or_default}
-use Rattle.std.proofs.lemmas.List.Elements.{All-filter, filter_passes}
+use Rattle.std.proofs.lemmas.List.Elements.{All-filter}
 use Rattle.beas_core.specs.declared.schema.Access.{Access}
-use Rattle.beas_core.specs.declared.schema.AccessId.{AccessId}
 use Rattle.beas_core.specs.declared.schema.TableId.{TableId}
 use Rattle.beas_core.specs.Types.{Row}
 use Rattle.beas_core.specs.Groups.{Holds, greatest}
 use Rattle.beas_core.proofs.Groups.{greatest-from_Holds, Holds-from_greatest}
 use Rattle.catalogue.specs.Schema.{access_with_id, accesses_on}
 use Rattle.catalogue.specs.Kept.{ids_on}
-use Rattle.catalogue.specs.Refusing.{holds, broken}
+use Rattle.beas_core.specs.declared.refusal.Refusal.TheVariants.{AlreadyBroken}
+use Rattle.catalogue.specs.Refusing.{holds, broken, already_broken, refused_if}
 use Rattle.catalogue.proofs.ListFacts.{find_none}
 use Rattle.access_index.specs.Index.{Index, IsIndexOf}
 use Rattle.update_guard.specs.Guarding.{HoldOver, IndexesOf}
@@ -96,3 +96,16 @@ judged accesses table rows row k place indexes index answer p h indexed hold is 
     broken_step mine (own_rows ++ row ∷ []) k (get_or mine k no_access) l (get_or_default mine k (get_or mine k no_access) no_access l)
     ∙ ap (λ a. cond (not (holds (own_rows ++ row ∷ []) a)) (Some a) (broken_from mine (own_rows ++ row ∷ []) (k + 1))) (sym same)
     ∙ ap (λ b. cond (not b) (Some x) (broken_from mine (own_rows ++ row ∷ []) (k + 1))) (answers (own_rows ++ row ∷ []) x answer to from)
+
+-- whether a greatest group passes the bound
+pub broken_where : (rows : List Row) (a : Access) (needed : ℕ) → needed ≡ greatest rows a.key a.fetched → a.bound < needed → already_broken rows a ≡ Some (AlreadyBroken needed a.bound)
+broken_where rows a needed e l =
+    ap (λ b. refused_if (not b) (AlreadyBroken (greatest rows a.key a.fetched) a.bound)) (lt-leb (greatest rows a.key a.fetched) a.bound (omega (arith, e, l)))
+    ∙ ap (λ n. Some (AlreadyBroken n a.bound)) (sym e)
+
+pub whole_where : (rows : List Row) (a : Access) (needed : ℕ) → needed ≡ greatest rows a.key a.fetched → needed ≤ a.bound → already_broken rows a ≡ None
+whole_where rows a needed e l =
+    ap (λ b. refused_if (not b) (AlreadyBroken (greatest rows a.key a.fetched) a.bound)) (le-leb (greatest rows a.key a.fetched) a.bound (omega (arith, e, l)))
+
+pub held_where : (rows : List Row) (a : Access) (needed : ℕ) → needed ≡ greatest rows a.key a.fetched → needed ≤ a.bound → Holds rows a
+held_where rows a needed e l = Holds-from_greatest rows a (omega (arith, e, l))

@@ -1,10 +1,10 @@
 -- A constraint holds over some of the rows over which it holds.
-use Rattle.std.proofs.Common.{◌≡◌, ◌∙◌, ◌<◌, ◌≤◌, ◌+◌, Bool, List, [], ◌∷◌, ◌++◌, map, length, ap, sym, subst, arith, inl, inr}
+use Rattle.std.proofs.Common.{◌≡◌, ◌≤◌, Bool, List, [], ◌∷◌, ◌++◌, map, length, ap, sym, subst, arith, inl, inr}
 use Rattle.std.specs.Prelude.{filter}
 use Rattle.std.specs.Cmp.{IsTotalOrder}
 use Rattle.std.specs.declared.cmp.Ordering.{Ordering}
 use Rattle.beas_core.specs.declared.schema.Access.{Access}
-use Rattle.beas_core.specs.Order.{row_cmp, row_cmp_total, TellsApart}
+use Rattle.beas_core.specs.Order.{row_cmp_total, TellsApart}
 use Rattle.beas_core.specs.Sets.{distinct}
 use Rattle.beas_core.specs.Types.{Row}
 use Rattle.beas_core.specs.Groups.{Holds, project, same_row}

@@ -1,10 +1,10 @@
 -- What a guard keeps stays true when a table is made, a constraint is made or dropped, and rows come or go; and the database that it is then.
-use Rattle.std.proofs.Common.{◌≡◌, ◌≢◌, ◌∙◌, ◌<◌, ◌≤◌, ◌+◌, ◌⊎◌, ℕ, zero, suc, Bool, List, [], ◌∷◌, ◌++◌, map, length, get_or, set, ap, refl, sym, subst, arith, inl, inr, length-append, length-set, if◌then◌else◌}
+use Rattle.std.proofs.Common.{◌≡◌, ◌∙◌, ◌<◌, ◌≤◌, ◌+◌, ◌⊎◌, ℕ, zero, suc, List, [], ◌∷◌, ◌++◌, map, length, get_or, set, ap, refl, sym, subst, arith, inl, inr, length-append, length-set, if◌then◌else◌}
 use Rattle.std.specs.Prelude.{All, remove, Result, Ok, Err, OnOk, OnErr}
 use Rattle.std.proofs.Math.Seq.{get_or-append_seam}
 use Rattle.std.proofs.Math.ListN.{get_or-append}
 use Rattle.std.proofs.lemmas.Bool.{cases_eq, cases_order}
-use Rattle.std.proofs.lemmas.List.{get_or-set_same, get_or-set_other, get_or_default}
+use Rattle.std.proofs.lemmas.List.{get_or-set_same, get_or-set_other}
 use Rattle.std.proofs.lemmas.List.Elements.{All-push}
 use Rattle.std.proofs.lemmas.List.Edits.{get_or-remove_below, get_or-remove_above, length-remove}
 use Rattle.beas_core.specs.declared.schema.Access.{Access}
@@ -15,7 +15,7 @@ use Rattle.beas_core.specs.Groups.{Holds}
 use Rattle.access_index.specs.Index.{Index, IsIndexOf}
 use Rattle.catalogue.specs.declared.tables.TableSchema.{TableSchema}
 use Rattle.catalogue.specs.Schema.{Schema, no_table, columns_at, schema_with_table, schema_with_access, schema_without_access}
-use Rattle.catalogue.specs.Database.{Database, Table, RowFits, table_schema, schema_of, rows_at, empty_table, with_table, with_rows}
+use Rattle.catalogue.specs.Database.{Database, RowFits, table_schema, schema_of, rows_at, empty_table, with_table, with_rows}
 use Rattle.std.specs.Option.{option_or, is_none}
 use Rattle.beas_core.specs.declared.limits.Limits.{Limits}
 use Rattle.beas_core.specs.declared.schema.AccessSpec.{AccessSpec}

@@ -1,20 +1,18 @@
 -- The indexes of a table's constraints, one of them moved at a time.
-use Rattle.std.proofs.Common.{◌≡◌, ◌≢◌, ◌∙◌, ◌<◌, ◌≤◌, ◌+◌, ◌-◌, ◌==◌, ◌||◌, ℕ, zero, suc, Bool, true, false, not, cond, List, [], ◌∷◌, ◌++◌, map, take, drop, length, get_or, set, ap, refl, sym, subst, arith, true≢false, inl, inr, length-set, length-take, length-drop, if◌then◌else◌}
+use Rattle.std.proofs.Common.{◌≡◌, ◌≢◌, ◌∙◌, ◌<◌, ◌≤◌, ◌+◌, ◌-◌, ◌==◌, ◌||◌, ℕ, zero, suc, Bool, true, false, cond, List, [], ◌∷◌, ◌++◌, map, take, drop, length, get_or, set, ap, refl, sym, subst, arith, true≢false, inl, inr, length-set, length-take, length-drop, if◌then◌else◌}
 use Rattle.std.specs.Prelude.{filter, All, AllPairs}
 use Rattle.std.specs.List.{list_any}
 use Rattle.std.proofs.Math.Seq.{drop-cons, take-suc}
-use Rattle.std.proofs.Math.ListN.{drop_of_length-le}
-use Rattle.std.proofs.lemmas.Bool.{eq-eqb, ne_eqb, eqb-true, cases_eq, cases_order}
+use Rattle.std.proofs.lemmas.Bool.{eq-eqb, ne_eqb, eqb-true, cases_eq}
 use Rattle.std.proofs.lemmas.List.{get_or-set_same, get_or-set_other, get_or-map, get_or-take, get_or-drop, get_or_default, length-map}
 use Rattle.std.proofs.lemmas.List.Elements.{All-filter, filter_passes}
 use Rattle.std.proofs.lemmas.List.Kept.{AllPairs-filter}
 use Rattle.std.proofs.lemmas.List.Folds.{list_any_none, list_any-append, list_any_at}
 use Rattle.beas_core.specs.declared.schema.Access.{Access}
 use Rattle.beas_core.specs.declared.schema.AccessId.{AccessId}
-use Rattle.beas_core.specs.declared.schema.TableId.{TableId}
 use Rattle.beas_core.specs.Types.{Row}
 use Rattle.access_index.specs.Index.{Index, IsIndexOf}
-use Rattle.catalogue.specs.Schema.{access_with_id, accesses_on}
+use Rattle.catalogue.specs.Schema.{access_with_id}
 use Rattle.catalogue.specs.Kept.{ids_on}
 use Rattle.catalogue.proofs.IdFacts.{IdsRise, located_at}
 use Rattle.catalogue.proofs.ListFacts.{one_place}

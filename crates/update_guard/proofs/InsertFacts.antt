@@ -1,5 +1,5 @@
 -- Rows put into the indexes of their table one after another.
-use Rattle.std.proofs.Common.{◌≡◌, ◌≢◌, ◌∙◌, ◌<◌, ◌≤◌, ◌+◌, ◌^◌, ℕ, suc, List, [], ◌∷◌, ◌++◌, map, take, drop, length, get_or, set, ap, refl, sym, subst, arith, inl, inr, Option, Some, None, add-one, length-append, append_assoc}
+use Rattle.std.proofs.Common.{◌≡◌, ◌∙◌, ◌<◌, ◌≤◌, ◌+◌, ◌^◌, ℕ, suc, List, [], ◌∷◌, ◌++◌, map, take, drop, length, get_or, set, ap, sym, arith, inl, inr, Option, None, add-one, length-append, append_assoc}
 use Rattle.std.specs.Prelude.{option_map, All, Result, Ok, Err, OnErr}
 use Rattle.std.specs.List.{enumerate_from}
 use Rattle.std.specs.Option.{option_or}

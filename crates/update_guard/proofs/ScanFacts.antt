@@ -1,6 +1,6 @@
 -- Scans of numbered lists and of pairs, from a place on.
-use Rattle.std.proofs.Common.{◌≡◌, ◌∙◌, ◌<◌, ◌≤◌, ◌+◌, ◌++◌, ℕ, suc, Bool, true, false, not, cond, List, [], ◌∷◌, drop, take, length, get_or, ap, refl, sym, subst, arith, add-one, Option, Some, None, is_some, zero, ◌&&◌}
-use Rattle.std.specs.Prelude.{find, option_map, zip, All}
+use Rattle.std.proofs.Common.{◌≡◌, ◌∙◌, ◌<◌, ◌≤◌, ◌+◌, ◌++◌, ℕ, suc, Bool, true, false, not, cond, List, [], ◌∷◌, drop, take, length, get_or, ap, refl, sym, subst, arith, add-one, Option, Some, None, zero, ◌&&◌}
+use Rattle.std.specs.Prelude.{find, zip, All}
 use Rattle.std.specs.List.{enumerate_from, list_all}
 use Rattle.std.proofs.Math.Seq.{drop-cons, take-suc}
 use Rattle.std.proofs.lemmas.List.{take_all}

@@ -1,5 +1,5 @@
 -- What a guard keeps stays true when rows come and go.
-use Rattle.std.proofs.Common.{◌≡◌, ◌≢◌, ◌∙◌, ◌<◌, ◌≤◌, ◌+◌, ℕ, Bool, not, List, [], ◌∷◌, ◌++◌, length, get_or, set, ap, refl, sym, subst, arith, inl, inr, length-append, length-set}
+use Rattle.std.proofs.Common.{◌≡◌, ◌∙◌, ◌<◌, ◌≤◌, ◌+◌, ℕ, Bool, not, List, [], ◌++◌, length, get_or, set, ap, refl, sym, subst, arith, inl, inr, length-append}
 use Rattle.std.specs.Prelude.{All, filter, Result, Ok, Err, OnOk, OnErr}
 use Rattle.std.proofs.lemmas.Bool.{cases_eq}
 use Rattle.std.proofs.lemmas.List.{get_or-set_same, get_or-set_other, set-get_or}

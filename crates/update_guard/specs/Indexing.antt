@@ -8,7 +8,7 @@ use Rattle.std.specs.List.{list_any}
 use Rattle.beas_core.specs.declared.schema.Access.{Access}
 use Rattle.beas_core.specs.declared.schema.AccessId.{AccessId}
 use Rattle.beas_core.specs.Types.{Row}
-use Rattle.access_index.specs.Index.{Index, IsIndexOf}
+use Rattle.access_index.specs.Index.{Index}
 use Rattle.catalogue.specs.Schema.{access_with_id}
 use Rattle.catalogue.specs.Kept.{ids_on}
 use Rattle.update_guard.specs.Guarding.{IsIndexAt, IndexesOf}

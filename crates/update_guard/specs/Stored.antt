@@ -1,7 +1,7 @@
 -- A guard as the database that it keeps, and what hits stand for in it.
 --     stored guarded                the database
 --     index_with_id indexes id      the index of the constraint with this id
-use Rattle.std.specs.Prelude.{◌==◌, ◌<◌, ℕ, List, [], find, unwrap_or}
+use Rattle.std.specs.Prelude.{◌==◌, List, [], find, unwrap_or}
 use Rattle.beas_core.specs.declared.schema.AccessId.{AccessId}
 use Rattle.beas_core.specs.Found.{Found}
 use Rattle.beas_core.specs.Types.{Row}

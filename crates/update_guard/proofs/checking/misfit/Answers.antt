@@ -1,4 +1,4 @@
-use Rattle.std.proofs.Common.{◌≡◌, ◌∙◌, ◌<◌, ◌+◌, ◌∷◌, Bool, not, ap, sym, drop, length, get_or, arith, add-one, Option, Some, cond, suc}
+use Rattle.std.proofs.Common.{◌∙◌, ◌<◌, ◌∷◌, Bool, not, ap, sym, drop, length, get_or, arith, add-one, Some, cond, suc}
 use Rattle.std.specs.Prelude.{find, option_map, zip}
 use Rattle.beas_core.specs.declared.schema.Column.{Column}
 use Rattle.beas_core.specs.declared.value.Value.{Value}

@@ -1,9 +1,8 @@
-use Rattle.std.proofs.Common.{◌≡◌, ◌∙◌, ◌<◌, ◌≤◌, ◌+◌, ◌^◌, ◌++◌, ◌∷◌, [], List, take, length, get_or, set, ap, sym, subst, arith, add-one, suc}
+use Rattle.std.proofs.Common.{◌≡◌, ◌∙◌, ◌<◌, ◌+◌, ◌^◌, ◌++◌, ◌∷◌, List, take, length, get_or, set, ap, sym, subst, arith, add-one, suc}
 use Rattle.std.proofs.lemmas.List.{get_or_default, set-get_or, take_all}
 use Rattle.access_index.specs.Index.{IsIndexOf, Index}
 use Rattle.beas_core.specs.declared.schema.AccessId.{AccessId}
 use Rattle.catalogue.specs.Kept.{ids_on}
-use Rattle.update_guard.specs.Guarding.{IndexesOf}
 use Rattle.update_guard.specs.Indexing.{AreIndexed, is_done}
 use Rattle.update_guard.proofs.IndexFacts.{turn_of, turn_in, from_all_done, fresh_at, fresh_after}
 use Rattle.update_guard.proofs.indexing.add_row.Goals as goal

@@ -1,4 +1,4 @@
-use Rattle.std.proofs.Common.{◌≡◌, ◌∙◌, ◌<◌, ◌+◌, ◌++◌, ◌∷◌, [], ap, sym, length, get_or, cond, not, Some, arith}
+use Rattle.std.proofs.Common.{◌∙◌, ◌<◌, ◌+◌, ◌++◌, ◌∷◌, [], ap, length, get_or, cond, not, Some, arith}
 use Rattle.catalogue.specs.Schema.{accesses_on}
 use Rattle.catalogue.specs.Kept.{ids_on}
 use Rattle.std.proofs.lemmas.List.{length-map}

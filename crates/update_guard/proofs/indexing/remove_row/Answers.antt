@@ -1,4 +1,4 @@
-use Rattle.std.proofs.Common.{◌≡◌, ◌∙◌, ◌++◌, ◌∷◌, ap, sym, subst, take, length, arith}
+use Rattle.std.proofs.Common.{◌≡◌, ◌++◌, ◌∷◌, ap, sym, subst, take, length, arith}
 use Rattle.catalogue.specs.Kept.{ids_on}
 use Rattle.update_guard.specs.Indexing.{AreIndexed}
 use Rattle.update_guard.proofs.IndexFacts.{all_done}

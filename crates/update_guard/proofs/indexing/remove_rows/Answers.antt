@@ -1,5 +1,4 @@
-use Rattle.std.proofs.Common.{◌≡◌, ◌∙◌, ◌<◌, ◌+◌, ◌-◌, ◌++◌, ◌∷◌, [], ap, sym, subst, take, length, get_or, set, arith, suc, append_assoc, append-nil}
-use Rattle.std.proofs.Math.Seq.{take-suc}
+use Rattle.std.proofs.Common.{◌≡◌, ◌∙◌, ◌-◌, ◌++◌, ◌∷◌, [], ap, sym, subst, take, set, arith, append_assoc, append-nil}
 use Rattle.update_guard.specs.Guarding.{IndexesOf}
 use Rattle.update_guard.proofs.IndexFacts.{take_back}
 use Rattle.update_guard.proofs.indexing.remove_rows.Goals as goal

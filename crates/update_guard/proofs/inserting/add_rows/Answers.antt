@@ -1,4 +1,4 @@
-use Rattle.std.proofs.Common.{◌≡◌, ◌∙◌, ◌<◌, ◌≤◌, ◌+◌, ◌++◌, ◌∷◌, [], List, take, length, get_or, set, ap, sym, subst, arith, Option, None, length-set, length-take}
+use Rattle.std.proofs.Common.{◌≡◌, ◌∙◌, ◌<◌, ◌+◌, ◌++◌, ◌∷◌, [], List, take, length, get_or, set, ap, sym, subst, arith, Option, None, length-set, length-take}
 use Rattle.std.specs.Prelude.{option_map, Err}
 use Rattle.std.specs.Option.{option_or}
 use Rattle.std.proofs.lemmas.List.{get_or-set_same, set-get_or, take_all}

@@ -1,8 +1,7 @@
-use Rattle.std.proofs.Common.{◌≡◌, ◌∙◌, ◌<◌, ◌≤◌, ◌+◌, ◌++◌, [], List, length, get_or, set, ap, sym, subst, arith, Option, None}
+use Rattle.std.proofs.Common.{◌≡◌, ◌∙◌, ◌<◌, ◌+◌, ◌++◌, [], List, length, get_or, set, ap, sym, subst, arith, None}
 use Rattle.std.specs.Prelude.{All, nat_lt}
 use Rattle.std.specs.Option.{option_or}
 use Rattle.std.proofs.lemmas.List.{get_or_default, set-get_or}
-use Rattle.beas_core.specs.declared.refusal.Refusal.{Refusal}
 use Rattle.beas_core.specs.declared.refusal.Refusal.TheVariants.{TooMany}
 use Rattle.beas_core.specs.declared.refusal.Counted.TheVariants.{Rows}
 use Rattle.beas_core.specs.declared.schema.Column.{Column}
@@ -11,7 +10,6 @@ use Rattle.catalogue.specs.Schema.{accesses_on, columns_at}
 use Rattle.catalogue.specs.Database.{RowFits}
 use Rattle.catalogue.specs.Refusing.{IsRefusedAs, wrong_width, wrong_type, refused_if, broken_bound}
 use Rattle.update_guard.specs.Guarding.{IndexesOf, HoldOver}
-use Rattle.update_guard.specs.Indexing.{AreOwn}
 use Rattle.update_guard.proofs.GuardFacts.{few_at, on_ok, on_err}
 use Rattle.update_guard.proofs.UpdateFacts.{after_insert}
 use Rattle.update_guard.proofs.inserting.insert_into.Goals as goal

@@ -1,4 +1,4 @@
-use Rattle.std.proofs.Common.{◌≡◌, ◌∙◌, ◌++◌, ap, sym, subst, set}
+use Rattle.std.proofs.Common.{◌∙◌, ◌++◌, sym, subst, set}
 use Rattle.update_guard.specs.Guarding.{IndexesOf}
 use Rattle.update_guard.proofs.InsertFacts.{always_err}
 use Rattle.update_guard.proofs.inserting.insert_rows.Goals as goal

@@ -1,4 +1,4 @@
-use Rattle.std.proofs.Common.{◌++◌, ◌∷◌, [], ap, sym, subst, set, append-nil}
+use Rattle.std.proofs.Common.{[], sym, subst, set, append-nil}
 use Rattle.update_guard.specs.Guarding.{IndexesOf}
 use Rattle.update_guard.proofs.InsertFacts.{always_err}
 use Rattle.update_guard.proofs.inserting.put_row.Goals as goal

@@ -1,4 +1,4 @@
-use Rattle.std.proofs.Common.{◌≡◌, ◌∙◌, ap, sym, not, None, Some, subst, true, false}
+use Rattle.std.proofs.Common.{◌≡◌, ◌∙◌, ap, not, None, false}
 use Rattle.beas_core.specs.declared.refusal.Refusal.TheVariants.{UnknownAccess}
 use Rattle.catalogue.specs.Refusing.{refused_if}
 use Rattle.update_guard.proofs.making.drop_index.Goals as goal

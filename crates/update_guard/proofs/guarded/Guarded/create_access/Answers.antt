@@ -1,4 +1,4 @@
-use Rattle.std.proofs.Common.{◌≡◌, ◌∙◌, ◌+◌, ◌≤◌, ap, sym, subst}
+use Rattle.std.proofs.Common.{◌∙◌, ◌+◌, ◌≤◌, ap, sym, subst}
 use Rattle.catalogue.specs.Database.{with_access}
 use Rattle.catalogue.specs.Refusing.{IsRefusedAs, admitted}
 use Rattle.update_guard.specs.Guarding.{database_of}

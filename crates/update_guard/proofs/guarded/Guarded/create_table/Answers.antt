@@ -1,4 +1,4 @@
-use Rattle.std.proofs.Common.{◌≡◌, ◌∙◌, ◌++◌, ◌∷◌, [], ap, sym, subst, length}
+use Rattle.std.proofs.Common.{◌≡◌, ◌∙◌, ◌++◌, ◌∷◌, [], ap, sym, subst}
 use Rattle.std.specs.Prelude.{IfOk}
 use Rattle.catalogue.specs.Schema.{schema_with_table}
 use Rattle.catalogue.specs.Refusing.{IsRefusedAs, add_table_refusal}

@@ -1,7 +1,6 @@
-use Rattle.std.proofs.Common.{◌≡◌, ◌∙◌, ap, sym, subst}
+use Rattle.std.proofs.Common.{◌∙◌, sym, subst}
 use Rattle.catalogue.specs.Refusing.{IsRefusedAs, drop_access_refusal}
-use Rattle.update_guard.specs.Guarding.{database_of}
-use Rattle.update_guard.proofs.GuardFacts.{after_drop_access, schema_of_stored, on_ok}
+use Rattle.update_guard.proofs.GuardFacts.{after_drop_access, schema_of_stored}
 use Rattle.update_guard.proofs.guarded.Guarded.drop_access.Goals as goal
 
 pub invariant_of-self : goal.invariant_of-self

@@ -1,4 +1,4 @@
-use Rattle.std.proofs.Common.{◌≡◌, ◌∙◌, ◌<◌, ◌+◌, ◌++◌, ℕ, List, [], length, get_or, set, ap, sym, subst, arith, Option}
+use Rattle.std.proofs.Common.{◌∙◌, ◌+◌, ◌++◌, ℕ, List, [], length, get_or, set, ap, sym, subst, arith, Option}
 use Rattle.std.specs.Prelude.{Err, nat_lt}
 use Rattle.std.specs.Option.{option_or}
 use Rattle.beas_core.specs.declared.refusal.Refusal.{Refusal}

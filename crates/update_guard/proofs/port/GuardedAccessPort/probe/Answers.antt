@@ -1,13 +1,12 @@
-use Rattle.std.proofs.Common.{◌≡◌, ◌∙◌, ◌≤◌, List, [], ap, sym, subst, get_or, length}
+use Rattle.std.proofs.Common.{◌≡◌, ◌∙◌, ◌≤◌, [], ap, sym, subst, get_or, length}
 use Rattle.beas_core.specs.declared.schema.Access.{Access}
 use Rattle.beas_core.specs.Derivations.{access_in}
-use Rattle.beas_core.specs.Types.{Row}
 use Rattle.beas_core.specs.Groups.{Holds, group_of}
 use Rattle.access_index.specs.Index.{Index, IsIndexOf, members_at, stands_at}
 use Rattle.update_guard.specs.Indexing.{no_access}
 use Rattle.update_guard.specs.Stored.{index_with_id}
 use Rattle.update_guard.proofs.GuardFacts.{rows_at_stored}
-use Rattle.update_guard.proofs.PortFacts.{IsIndexFound, index_found, same_access}
+use Rattle.update_guard.proofs.PortFacts.{index_found, same_access}
 use Rattle.update_guard.proofs.port.GuardedAccessPort.probe.Goals as goal
 
 pub probe-requires : goal.probe-requires

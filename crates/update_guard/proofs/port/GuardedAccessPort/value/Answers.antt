@@ -1,4 +1,4 @@
-use Rattle.std.proofs.Common.{◌≡◌, ◌∙◌, List, [], ap, sym, subst, get_or}
+use Rattle.std.proofs.Common.{◌∙◌, [], ap, sym, subst, get_or}
 use Rattle.std.specs.Prelude.{IsTrue}
 use Rattle.beas_core.specs.declared.schema.Access.{Access}
 use Rattle.beas_core.specs.Derivations.{access_in}
