@@ -34,3 +34,25 @@ pub fn run_steady<L: Ledger>(
     let mut steps = Steps::<L>::start(blank);
     run(alloc, words, &mut files, &mut out, &mut err, &mut steps)
 }
+
+#[cfg(test)]
+mod tests {
+    use super::*;
+    use beas_core::{Bytes, Text};
+    use std::marker::Brand;
+    use std::test::Fail;
+
+    #[test]
+    fn a_missing_script_is_empty(rt: HostRuntime) -> Result<(), Fail> {
+        let alloc = rt.alloc();
+        let mut files = SteadyFiles::new(alloc);
+        let script = Bytes::from_vec(b"CREATE TABLE r (a INTEGER)".to_vec(alloc)?);
+        files.add(Text::from_str(alloc, "script")?, script)?;
+        let mut words = Vec::new(alloc);
+        words.push(String::from_str(alloc, "other")?)?;
+        let out = SteadySink::new(alloc);
+        let status = run_steady::<Brand>(alloc, &words, files, out, Blank::new(1));
+        assert_eq!(rt; status, 0);
+        Ok(())
+    }
+}
