@@ -11,4 +11,5 @@ pub mod BindFacts
 pub mod RowFacts
 pub mod DeleteFacts
 pub mod WellFormed
+pub mod OverTables
 pub mod SpelledTrees

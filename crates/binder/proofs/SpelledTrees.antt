@@ -1,5 +1,5 @@
 -- What tokens spell meets what binding asks: no more blocks and conditions than tokens, and an atom in each block.
-use Rattle.std.proofs.Common.{◌≡◌, ℕ, ◌+◌, ◌<◌, ◌≤◌, List, [], ◌∷◌, ◌++◌, length, All, arith}
+use Rattle.std.proofs.Common.{ℕ, ◌≤◌, List, [], ◌∷◌, ◌++◌, length, arith}
 use Rattle.std.specs.List.{flat_map}
 use Rattle.std.proofs.lemmas.List.{length-append}
 use Rattle.beas_core.specs.declared.query.Sign.{Sign}
@@ -11,10 +11,9 @@ use Rattle.sql_tree.specs.Grammar.{IsCondition, comparison, range, parentheses, 
 use Rattle.sql_tree.specs.Grammar.{IsJoins, no_join, join, inner_join, cross_join, Source, IsSource, joined_source, IsBlock, select_block}
 use Rattle.sql_tree.specs.Grammar.{IsTerm, single, nested, IsQuery, term, union, except}
 use Rattle.sql_tree.specs.Symbols.{Symbol}
-use Rattle.sql_tree.specs.Trees.{Tree, Block, Union, Except}
-use Rattle.sql_tree.specs.Words.{AND, BETWEEN, CLOSE, COMMA, CROSS, EXCEPT, FROM, INNER, JOIN, ON, OPEN, SELECT, UNION}
+use Rattle.sql_tree.specs.Trees.{Tree}
+use Rattle.sql_tree.specs.Words.{AND, BETWEEN, CLOSE, COMMA, CROSS, EXCEPT, FROM, INNER, JOIN, ON, SELECT, UNION}
 use Rattle.binder.specs.Binding.{blocks_of}
-use Rattle.binder.proofs.BindFacts.{all_of}
 use Rattle.binder.proofs.Ranges.{Each, each_append, each_weaker}
 
 sign_some : (a : List Symbol) (s : Sign) → IsSign a s → 1 ≤ length a

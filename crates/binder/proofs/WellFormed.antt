@@ -160,7 +160,7 @@ wide_named : (schema : Schema) (n : ℕ) (b : Bool) → ltb n (length schema.tab
 wide_named schema n true below sound there = table_wide schema.tables sound n (grind (arith, nat_tests))
 wide_named schema n false below sound there = cc
 
-known : (b : Bool) (why : Refusal) → first (refused_if b why) ≡ None → b ≡ false
+pub known : (b : Bool) (why : Refusal) → first (refused_if b why) ≡ None → b ≡ false
 known true why none = cc
 known false why none = refl
 
@@ -280,7 +280,7 @@ each_shape : (schema : Schema) (trees : List BlockTree) (n : ℕ) → Each (λ b
 each_shape schema [] n same = tt
 each_shape schema (tree ∷ trees) n same = (same.0 ∙ sym (as_many_outputs schema tree), each_shape schema trees n same.1)
 
-blocks_made : (f : BlockTree → Block) (t : tree.Tree) → query.blocks_of (with_blocks f t) ≡ map f (blocks_of t)
+pub blocks_made : (f : BlockTree → Block) (t : tree.Tree) → query.blocks_of (with_blocks f t) ≡ map f (blocks_of t)
 blocks_made f (tree.Block b) = refl
 blocks_made f (tree.Union l r) = ap (λ bs. bs ++ query.blocks_of (with_blocks f r)) (blocks_made f l)
     ∙ ap (λ bs. map f (blocks_of l) ++ bs) (blocks_made f r) ∙ sym (map-append f (blocks_of l) (blocks_of r))

@@ -3,8 +3,10 @@ ghost use Rattle.std.specs.Prelude.{◌≡◌, ◌++◌, ◌∷◌, [], ◌<◌,
 ghost use Rattle.std.specs.List.{flat_map, enumerate_from};
 ghost use Rattle.beas_core.specs.declared.query.Block.{Block as Bound};
 ghost use Rattle.sql_tree.specs.declared.tree.BlockTree.{BlockTree as Source};
+ghost use Rattle.catalogue.specs.Queries.{QueryIsOver};
 ghost use Rattle.catalogue.specs.Schema.{SchemaIsSound};
 ghost use Rattle.beas_core.specs.Shapes.{QueryIsWellFormed};
+ghost use Rattle.beas_core.specs.Trees.{blocks_of as blocks_in};
 ghost use Rattle.binder.specs.Binding.{blocks_of, kinds, places_in_all, shape_of, looked_refusals, refusals, with_blocks, bound};
 ghost use Rattle.binder.specs.LookedUp.{looked_up, bound_block, BlockIsSmall};
 ghost use Rattle.binder.specs.Refusing.{Tells, unknown_tables, repeated_aliases, places};
@@ -215,6 +217,8 @@ pub fn bind(
     ensures query { IfOk result (λ query. query ≡ bound catalogue.now tree.now) }
     ensures well_formed { IfOk result (λ query.
         All (λ b. 1 ≤ length b.from_items) (blocks_of tree.now) → QueryIsWellFormed query) }
+    ensures over { IfOk result (QueryIsOver catalogue.now) }
+    ensures count { IfOk result (λ query. length (blocks_in query) ≡ length (blocks_of tree.now)) }
 {
     is_sound(catalogue);
     let found = looked_up_blocks(alloc, catalogue, tree)?;

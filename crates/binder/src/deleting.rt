@@ -1,6 +1,7 @@
 // Binds the conditions of a DELETE.
 ghost use Rattle.std.specs.Prelude.{◌≡◌, ◌<◌, ◌^◌, [], IfOk, length};
 ghost use Rattle.beas_core.specs.Shapes.{BlockIsWellFormed};
+ghost use Rattle.catalogue.specs.Queries.{BlockIsOver};
 ghost use Rattle.binder.specs.Binding.{delete_block, delete_refusals, bound_delete, places_of_kinds};
 ghost use Rattle.binder.specs.LookedUp.{looked_up};
 ghost use Rattle.binder.specs.Refusing.{Tells};
@@ -80,6 +81,8 @@ pub fn bind_delete(
     ensures refused { Tells result (delete_refusals limits.now catalogue.now table.now conditions.now) }
     ensures block { IfOk result (λ block. block ≡ bound_delete catalogue.now table.now conditions.now) }
     ensures well_formed { IfOk result BlockIsWellFormed }
+    ensures over { IfOk result (BlockIsOver catalogue.now) }
+    ensures one { IfOk result (λ block. length block.atoms ≡ 1) }
 {
     is_sound(catalogue);
     want_table(alloc, catalogue, table)?;

@@ -1,4 +1,5 @@
 pub mod Database
 pub mod Kept
+pub mod Queries
 pub mod Refusing
 pub mod Schema

@@ -1,4 +1,4 @@
-use Rattle.std.proofs.Common.{[], ◌++◌, sym, ◌∙◌, ap, subst}
+use Rattle.std.proofs.Common.{[], ◌++◌, length, sym, ◌∙◌, ap, subst}
 use Rattle.std.specs.List.{flat_map}
 use Rattle.std.proofs.lemmas.Result.{err_from_is_err_and}
 use Rattle.binder.specs.Binding.{blocks_of, refusals, looked_refusals}
@@ -6,7 +6,10 @@ use Rattle.binder.specs.LookedUp.{looked_up, bound_block}
 use Rattle.binder.specs.Refusing.{first, unknown_tables, repeated_aliases}
 use Rattle.binder.proofs.BindFacts.{blocks_small, conditions_few, blocks_are, none_left}
 use Rattle.binder.proofs.WellFormed.{query_fits}
+use Rattle.binder.proofs.OverTables.{query_over, as_many_blocks}
 use Rattle.beas_core.specs.Shapes.{QueryIsWellFormed}
+use Rattle.beas_core.specs.Trees as query
+use Rattle.catalogue.specs.Queries.{QueryIsOver}
 use Rattle.binder.proofs.TellsFacts.{err_first, err_second, first_none}
 use Rattle.binder.proofs.binding.bind.Goals as goal
 
@@ -63,3 +66,22 @@ returns-clause-well_formed c = λ some.
     (blocks_of c.args.tree.now)) c.in_ok-found.ensures.refused)
     (ap (λ blocks. first (looked_refusals c.args.limits.now blocks)) (sym (c.deref.ensures.value ∙ c.in_ok-found.ensures.blocks))
     ∙ c.in_ok-refuse_all.ensures))
+
+pub returns-clause-over : goal.returns-clause-over
+unfolding refusals
+returns-clause-over c =
+    subst (QueryIsOver c.args.catalogue.now)
+    (sym (c.in_ok-joined.ensures.query [] (λ b. bound_block (looked_up c.args.catalogue.now b))
+    (blocks_are c.args.catalogue.now (blocks_of c.args.tree.now) c.in_ok-found.found.items c.deref-2.result.now c.in_ok-bound.bound.items
+    c.in_ok-found.ensures.blocks c.deref-2.ensures.value c.in_ok-bound.ensures)).1)
+    (query_over c.args.catalogue.now c.args.tree.now
+    (none_left (flat_map (unknown_tables c.args.catalogue.now) (blocks_of c.args.tree.now)) (flat_map repeated_aliases
+    (blocks_of c.args.tree.now)) c.in_ok-found.ensures.refused))
+
+pub returns-clause-count : goal.returns-clause-count
+returns-clause-count c =
+    ap (λ q. length (query.blocks_of q))
+    (c.in_ok-joined.ensures.query [] (λ b. bound_block (looked_up c.args.catalogue.now b))
+    (blocks_are c.args.catalogue.now (blocks_of c.args.tree.now) c.in_ok-found.found.items c.deref-2.result.now c.in_ok-bound.bound.items
+    c.in_ok-found.ensures.blocks c.deref-2.ensures.value c.in_ok-bound.ensures)).1
+    ∙ as_many_blocks c.args.catalogue.now c.args.tree.now

@@ -7,6 +7,9 @@ use Rattle.binder.specs.Refusing.{first, unknown_table}
 use Rattle.binder.proofs.DeleteFacts.{delete_small, delete_few}
 use Rattle.beas_core.specs.Shapes.{BlockIsWellFormed}
 use Rattle.binder.proofs.WellFormed.{delete_fits}
+use Rattle.binder.proofs.OverTables.{delete_over, delete_one}
+use Rattle.catalogue.specs.Queries.{BlockIsOver}
+use Rattle.beas_core.specs.declared.query.Block.{Block}
 use Rattle.binder.proofs.TellsFacts.{err_first, err_second, first_none}
 use Rattle.binder.proofs.deleting.bind_delete.Goals as goal
 
@@ -51,3 +54,15 @@ returns-clause-well_formed c =
     let is = c.in_ok-found.ensures.block ∙ ap (λ cs. looked_up c.args.catalogue.now (delete_block c.args.table.now cs)) c.as_slice.ensures in
     subst BlockIsWellFormed (sym (c.in_ok-bound_block.ensures ∙ ap bound_block is))
     (delete_fits c.args.catalogue.now c.args.table.now c.args.conditions.now c.is_sound.ensures c.in_ok-want_table.ensures)
+
+pub returns-clause-over : goal.returns-clause-over
+returns-clause-over c =
+    let is = c.in_ok-found.ensures.block ∙ ap (λ cs. looked_up c.args.catalogue.now (delete_block c.args.table.now cs)) c.as_slice.ensures in
+    subst (BlockIsOver c.args.catalogue.now) (sym (c.in_ok-bound_block.ensures ∙ ap bound_block is))
+    (delete_over c.args.catalogue.now c.args.table.now c.args.conditions.now c.in_ok-want_table.ensures)
+
+pub returns-clause-one : goal.returns-clause-one
+returns-clause-one c =
+    let is = c.in_ok-found.ensures.block ∙ ap (λ cs. looked_up c.args.catalogue.now (delete_block c.args.table.now cs)) c.as_slice.ensures in
+    ap (λ (b : Block). length b.atoms) (c.in_ok-bound_block.ensures ∙ ap bound_block is)
+    ∙ delete_one c.args.catalogue.now c.args.table.now c.args.conditions.now
