@@ -1,5 +1,5 @@
-mod Closing
-mod Counting
+pub mod Closing
+pub mod Counting
 pub mod Listed
 mod Searches
 pub mod Sets

@@ -77,8 +77,8 @@ fn open_column(block: &Normal, set: &[bool], atom: u16, columns: &[ColumnId]) ->
     None
 }
 
-// The first needed column, by atom and then column, whose class isn't in the set.
-fn open_place(block: &Normal, set: &[bool]) -> Option<Place>
+/// The first needed column, by atom and then column, whose class isn't in a set.
+pub fn open_place(block: &Normal, set: &[bool]) -> Option<Place>
     requires { length block.now.needed ≤ 65536 }
     ensures { result ≡ find (is_open block.now set.now) (needed_places block.now) }
 {

@@ -1,8 +1,8 @@
 -- The best of the uses so far.
-use Rattle.std.proofs.Common.{◌≡◌, ◌&&◌, ◌<◌, ◌+◌, ℕ, zero, suc, Bool, true, false, cond, nat_lt, List, [], ◌∷◌, ◌++◌, length, map, take, get_or, Option, Some, None, refl, ap, sym, ◌∙◌, subst, arith, add-one}
-use Rattle.std.specs.List.{filter, fold, best_of}
+use Rattle.std.proofs.Common.{◌≡◌, ◌&&◌, ◌<◌, ◌+◌, ℕ, Bool, true, false, cond, nat_lt, List, [], ◌∷◌, ◌++◌, length, map, take, get_or, Option, Some, refl, ap, sym, ◌∙◌, add-one}
+use Rattle.std.specs.List.{filter, best_of}
 use Rattle.std.proofs.Math.Seq.{take-suc}
-use Rattle.std.proofs.lemmas.List.{map-append, append-nil, get_or-map}
+use Rattle.std.proofs.lemmas.List.{map-append, append-nil}
 use Rattle.std.proofs.lemmas.List.Elements.{filter-append}
 use Rattle.beas_core.specs.Types.{Use}
 use Rattle.beas_core.specs.Derivations.{least_bound}
@@ -10,7 +10,7 @@ use Rattle.attribute_closure.specs.declared.uses.UseAt.{UseAt}
 use Rattle.attribute_closure.specs.Uses.{seen}
 use Rattle.plan_builder.specs.Choices.{is_better}
 
-abbrev lesser : Use → Use → Bool
+abbrev pub lesser : Use → Use → Bool
 lesser v w = nat_lt v.access.bound w.access.bound
 
 fold_push : (b : Use) (us : List Use) (u : Use) → best_of lesser b (us ++ u ∷ []) ≡ cond (lesser u (best_of lesser b us)) u (best_of lesser b us)

@@ -1,6 +1,6 @@
 -- The turns of a derivation, one at a time.
-use Rattle.std.proofs.Common.{◌≡◌, ◌<◌, ◌≤◌, ◌-◌, ◌+◌, ◌&&◌, ◌||◌, ◌==◌, ℕ, zero, suc, Bool, true, false, cond, List, [], ◌∷◌, ◌++◌, length, map, take, drop, get_or, Option, Some, None, refl, ap, sym, ◌∙◌, subst, arith, append_assoc, add-one, drop-cons}
-use Rattle.std.specs.List.{filter, list_any, range_with_len}
+use Rattle.std.proofs.Common.{◌≡◌, ◌<◌, ◌≤◌, ◌-◌, ◌+◌, ◌&&◌, ◌||◌, ◌==◌, ℕ, zero, suc, Bool, true, false, cond, List, [], ◌∷◌, ◌++◌, length, map, drop, get_or, Option, Some, None, refl, ap, sym, ◌∙◌, subst, arith, append_assoc, add-one, drop-cons}
+use Rattle.std.specs.List.{filter}
 use Rattle.std.specs.Option.{option_map, is_some}
 use Rattle.std.proofs.lemmas.List.{append-nil, map-append, drop_all}
 use Rattle.std.proofs.lemmas.List.FromFn.{get_or-range_with_len, length-range_with_len}
@@ -11,7 +11,7 @@ use Rattle.beas_core.specs.declared.plan.NotCovered.{NotCovered}
 use Rattle.beas_core.specs.Types.{ClassSet, Use}
 use Rattle.beas_core.specs.Shapes.{EachIdOnce}
 use Rattle.beas_core.specs.Coverage.{serves, uses, is_covered, reason, atoms_of, covered_set, holds_needed, ClassesInRange}
-use Rattle.beas_core.specs.Derivations.{access_in, least_bound, is_served_by, then_step, enabled_uses, adding_steps, serving_steps, greedy_steps, derivation, step_of, with_use, use_of, bound_after, bound_by}
+use Rattle.beas_core.specs.Derivations.{least_bound, is_served_by, then_step, enabled_uses, adding_steps, serving_steps, greedy_steps, derivation, step_of, with_use, use_of, bound_after, bound_by}
 use Rattle.beas_core.proofs.Sets.{Has, Has-from_filter}
 use Rattle.evaluation_facts.proofs.UseFacts.{use_facts, found_by_id, least_has}
 use Rattle.evaluation_facts.proofs.SoundDerivations.{bound_step, bound-append}

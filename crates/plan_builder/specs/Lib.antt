@@ -1,2 +1,5 @@
+pub mod Candidates
 pub mod Choices
+pub mod Parts
 pub mod Plans
+pub mod Preparation

@@ -18,14 +18,6 @@ fn beats(found: &UseAt<'_>, best: &Option<UseAt<'_>>) -> bool
     }
 }
 
-fn adds_now(block: &Normal, set: &[bool], found: &UseAt<'_>) -> bool
-    ensures { result ≡ may_add block.now set.now (seen found.now) }
-{
-    let held = holds_columns(block, set, found.atom, found.access.key.as_slice());
-    let more = adds(block, set, found);
-    held & more
-}
-
 fn serves_now(block: &Normal, set: &[bool], atom: u16, found: &UseAt<'_>) -> bool
     ensures { result ≡ may_serve block.now set.now atom (seen found.now) }
 {
@@ -34,21 +26,6 @@ fn serves_now(block: &Normal, set: &[bool], atom: u16, found: &UseAt<'_>) -> boo
     } else {
         false
     }
-}
-
-/// The use of least bound whose key the set holds and that adds a class, the first of those where several have it.
-pub fn best_adding<'a>(block: &Normal, uses: &[UseAt<'a>], set: &[bool]) -> Option<UseAt<'a>>
-    ensures { option_map seen result ≡ least_bound (filter (may_add block.now set.now) (map seen uses.now)) }
-{
-    let mut best: Option<UseAt<'a>> = None;
-    for found in uses {
-        let may = adds_now(block, set, found);
-        let better = beats(found, &best);
-        if may & better {
-            best = Some(*found);
-        }
-    }
-    best
 }
 
 /// The use of least bound that serves an atom, the first of those where several have it.

@@ -1,15 +1,18 @@
 // Derivations: steps that add classes while the block isn't covered, then steps that serve its atoms.
-ghost use Rattle.std.specs.Prelude.{◌≡◌, ◌≤◌, ◌<◌, ◌++◌, ◌∷◌, [], IfOk, OnOk, MatchBool, MatchResult, None, Some, length, map, take};
+ghost use Rattle.std.specs.Prelude.{◌≡◌, ◌≤◌, ◌<◌, ◌++◌, ◌∷◌, [], IfOk, List as Several, OnOk, MatchBool, MatchResult, None, Some, length, map, take};
 ghost use Rattle.std.specs.List.{list_any};
-ghost use Rattle.beas_core.specs.Coverage.{ClassesInRange, atoms_of, constant_classes as classes_of_constants, holds_needed as needed_are_held, is_covered, own_reason, uses as uses_in};
+ghost use Rattle.beas_core.specs.declared.schema.Access.{Access as Constraint};
+ghost use Rattle.beas_core.specs.Coverage.{ClassesInRange, atoms_of, constant_classes as classes_of_constants, own_reason, uses as uses_in};
 ghost use Rattle.beas_core.specs.Derivations.{adding_steps, greedy_steps, own_derivation, serving_steps, step_of, use_of, with_use};
 ghost use Rattle.beas_core.specs.Shapes.{EachIdOnce};
 ghost use Rattle.attribute_closure.specs.Uses.{seen};
+ghost use Rattle.plan_builder.specs.Candidates.{AreCandidates};
 ghost use Rattle.plan_builder.specs.Plans.{HasCome, served_among};
 
-use crate::choices::{best_adding, best_serving};
+use crate::candidates::Candidates;
+use crate::choices::best_serving;
 use crate::sets::{add_use, adds};
-use attribute_closure::{UseAt, close, constant_classes, holds_needed, uses_of, why_not};
+use attribute_closure::{UseAt, close, constant_classes, holds_needed, why_not};
 use beas_core::{Access, DStep, Derivation, List, NoMemory, Normal, NotCovered};
 use std::alloc::Global;
 
@@ -35,49 +38,41 @@ fn take_step(plan: &mut Plan, block: &Normal, found: UseAt<'_>) -> Result<(), No
     Ok(())
 }
 
-fn is_covered_by(block: &Normal, accesses: &[Access], set: &[bool]) -> bool
-    requires atoms { length block.now.atoms ≤ 65536 }
-    requires needed { length block.now.needed ≤ 65536 }
-    ensures { result ≡ is_covered block.now accesses.now set.now }
-{
-    match why_not(block, accesses, set) {
-        None => true,
-        Some(_why) => false,
-    }
-}
-
 // Adds steps until the set covers the block, and notes their uses. False where no use is left that adds a class.
 fn add_steps<'a>(
     plan: &mut Plan,
     taken: &mut List<UseAt<'a>>,
     block: &Normal,
-    accesses: &[Access],
-    uses: &[UseAt<'a>],
+    candidates: &mut Candidates<'a>,
 ) -> Result<bool, NoMemory>
-    requires atoms { length block.now.atoms ≤ 65536 }
+    requires ranges { ClassesInRange block.now }
     requires needed { length block.now.needed ≤ 65536 }
-    requires ids { EachIdOnce accesses.now }
-    requires uses { map seen uses.now ≡ uses_in block.now accesses.now }
+    requires are { AreCandidates block.now candidates.old }
+    requires set { candidates.old.keys.set.items ≡ plan.old.set.items }
     requires steps { plan.old.steps ≡ [] }
     requires taken { taken.old ≡ [] }
-    ensures { IfOk result (λ whole. MatchBool whole
-        (HasCome block.now accesses.now plan.old.set.items plan.new taken.new
-        × (adding_steps block.now.count block.now accesses.now plan.old.set.items ≡ Some plan.new.steps))
-        (adding_steps block.now.count block.now accesses.now plan.old.set.items ≡ None)) }
+    ensures uses { candidates.new.keys.uses ≡ candidates.old.keys.uses }
+    ensures come { IfOk result (λ whole. (accesses : Several Constraint)
+        → EachIdOnce accesses → map seen candidates.old.keys.uses ≡ uses_in block.now accesses
+        → MatchBool whole
+        (HasCome block.now accesses plan.old.set.items plan.new taken.new
+        × (adding_steps block.now.count block.now accesses plan.old.set.items ≡ Some plan.new.steps))
+        (adding_steps block.now.count block.now accesses plan.old.set.items ≡ None)) }
 {
     for _turn in 0..block.count {
-        if is_covered_by(block, accesses, &plan.set) {
+        if candidates.cover(block) {
             return Ok(true);
         }
-        match best_adding(block, uses, &plan.set) {
+        match candidates.next(block) {
             None => return Ok(false),
             Some(found) => {
                 take_step(plan, block, found)?;
                 taken.push(found)?;
+                candidates.take(block, &found)?;
             }
         }
     }
-    Ok(is_covered_by(block, accesses, &plan.set))
+    Ok(candidates.cover(block))
 }
 
 fn is_served_among(block: &Normal, taken: &[UseAt<'_>], atom: u16) -> bool
@@ -126,31 +121,27 @@ pub fn greedy(
     block: &Normal,
     start: &[bool],
 ) -> Result<Option<List<DStep>>, NoMemory>
+    requires ranges { ClassesInRange block.now }
+    requires classes { length start.now ≡ block.now.count }
     requires atoms { length block.now.atoms < 65536 }
     requires needed { length block.now.needed ≤ 65536 }
     requires ids { EachIdOnce accesses.now }
     ensures { IfOk result (λ steps. steps ≡ greedy_steps block.now accesses.now start.now) }
 {
-    let uses = uses_of(alloc, block, accesses.as_slice())?;
+    let mut candidates = Candidates::of(alloc, block, accesses.as_slice(), start)?;
     let mut taken = List::new(alloc);
     let mut plan = Plan {
         steps: List::new(alloc),
         set: Vec::from_slice(alloc, start)?,
     };
-    if !add_steps(
-        &mut plan,
-        &mut taken,
-        block,
-        accesses.as_slice(),
-        uses.as_slice(),
-    )? {
+    if !add_steps(&mut plan, &mut taken, block, &mut candidates)? {
         return Ok(None);
     }
     serve_atoms(
         &mut plan,
         block,
         accesses.as_slice(),
-        uses.as_slice(),
+        candidates.keys.uses.as_slice(),
         taken.as_slice(),
     )?;
     Ok(Some(plan.steps))

@@ -1,61 +1,79 @@
-use Rattle.std.proofs.Common.{◌≡◌, ◌≤◌, ◌∙◌, ap, sym, map, true, false, Some, None, arith}
+use Rattle.std.proofs.Common.{◌∙◌, ap, sym, map, arith}
 use Rattle.std.specs.List.{filter}
 use Rattle.beas_core.specs.Coverage.{is_covered, uses}
-use Rattle.beas_core.specs.Derivations.{least_bound, enabled_uses}
+use Rattle.beas_core.specs.Derivations.{least_bound, enabled_uses, with_use}
 use Rattle.attribute_closure.specs.Uses.{seen}
 use Rattle.plan_builder.specs.Choices.{may_add}
 use Rattle.plan_builder.proofs.Turns.{left_done, left_stuck, left_out, plan_bound, plan_uses, plan_left, chosen_member, by_bool}
 use Rattle.plan_builder.proofs.derivations.add_steps.Goals as goal
 
-pub returns-then-is_covered_by : goal.returns-then-is_covered_by
-returns-then-is_covered_by c =
-    let covered = ap (is_covered c.args.block.now c.args.accesses.now) (sym c.deref.ensures.value) ∙ sym c.is_covered_by.ensures ∙ c.if-is_covered_by.true in (
-      c.loop-turn.invariant.come,
-      left_done c.args.block.now c.args.accesses.now c.args.plan.now.set.items c.loop-turn.plan.set.items c.loop-turn.plan.steps c.args.block.now.count
-          c.loop-turn._turn (omega arith) c.loop-turn.invariant.left covered,
+pub returns-then-cover-clause-come : goal.returns-then-cover-clause-come
+returns-then-cover-clause-come c = λ accesses once same.
+    let now = c.loop-turn.invariant in
+    let so_far = now.come accesses once same in
+    let covered = ap (is_covered c.args.block.now accesses) (sym now.set) ∙ sym (c.cover.ensures accesses (ap (map seen) now.listed ∙ same))
+    ∙ c.if-cover.true in (
+      so_far.0,
+      left_done c.args.block.now accesses c.args.plan.now.set.items c.loop-turn.plan.set.items c.loop-turn.plan.steps c.args.block.now.count
+          c.loop-turn._turn (omega arith) so_far.1 covered,
     )
 
-pub returns-in-None : goal.returns-in-None
-returns-in-None c =
-    let covered = ap (is_covered c.args.block.now c.args.accesses.now) (sym c.deref.ensures.value) ∙ sym c.is_covered_by.ensures ∙ c.if-is_covered_by.false in
-    let best = ap (λ s. least_bound (enabled_uses c.args.block.now c.args.accesses.now s)) (sym c.deref-in-loop-turn.ensures.value)
-    ∙ ap (λ us. least_bound (filter (may_add c.args.block.now c.deref-in-loop-turn.result.now) us)) (sym c.requires.uses) ∙ sym c.in-None.ensures in
-    left_stuck c.args.block.now c.args.accesses.now c.args.plan.now.set.items c.loop-turn.plan.set.items c.loop-turn.plan.steps c.args.block.now.count
-    c.loop-turn._turn (omega arith) c.loop-turn.invariant.left covered best
+pub returns-in-None-clause-come : goal.returns-in-None-clause-come
+returns-in-None-clause-come c = λ accesses once same.
+    let now = c.loop-turn.invariant in
+    let listed = ap (map seen) now.listed ∙ same in
+    let so_far = now.come accesses once same in
+    let covered = ap (is_covered c.args.block.now accesses) (sym now.set) ∙ sym (c.cover.ensures accesses listed) ∙ c.if-cover.false in
+    let best = ap (λ s. least_bound (enabled_uses c.args.block.now accesses s)) (sym now.set)
+    ∙ ap (λ us. least_bound (filter (may_add c.args.block.now c.loop-turn.candidates.keys.set.items) us)) (sym listed) ∙ sym c.in-None.ensures.best in
+    left_stuck c.args.block.now accesses c.args.plan.now.set.items c.loop-turn.plan.set.items c.loop-turn.plan.steps c.args.block.now.count
+    c.loop-turn._turn (omega arith) so_far.1 covered best
 
 pub loop-turn-preserved : goal.loop-turn-preserved
 loop-turn-preserved c =
-    let covered = ap (is_covered c.args.block.now c.args.accesses.now) (sym c.deref.ensures.value) ∙ sym c.is_covered_by.ensures ∙ c.if-is_covered_by.false in
-    let chosen = c.in-Some.ensures ∙ ap (λ us. least_bound (filter (may_add c.args.block.now c.deref-in-loop-turn.result.now) us)) c.requires.uses in
-    let best = ap (λ s. least_bound (enabled_uses c.args.block.now c.args.accesses.now s)) (sym c.deref-in-loop-turn.ensures.value) ∙ sym chosen in
-    let member = chosen_member (may_add c.args.block.now c.deref-in-loop-turn.result.now) (uses c.args.block.now c.args.accesses.now)
-    (seen c.in-Some.found) chosen in
+    let now = c.loop-turn.invariant in
+    let found = c.in-Some.found in
+    let step = c.in_ok-take_step-in-Some.ensures in
+    let take = c.in_ok-take-in-Some.ensures in
+    let normal = c.args.block.now in
+    let set = c.loop-turn.plan.set.items in
+    let steps = c.loop-turn.plan.steps in
+    let start = c.args.plan.now.set.items in
+    let plan = c.take_step.new.plan in
     record {
-      come = record {
-        bound = plan_bound c.args.block.now c.args.accesses.now c.requires.ids c.args.plan.now.set.items c.loop-turn.plan.set.items
-            c.loop-turn.plan.steps c.loop-turn.taken c.in-Some.found member
-            c.take_step.new.plan.set.items c.take_step.new.plan.steps c.in_ok-take_step-in-Some.ensures.set c.in_ok-take_step-in-Some.ensures.steps
-            c.loop-turn.invariant.come.bound;
-        uses = plan_uses c.args.block.now c.args.accesses.now c.requires.ids c.args.plan.now.set.items c.loop-turn.plan.set.items c.loop-turn.plan.steps
-            c.loop-turn.taken c.in-Some.found member
-            c.take_step.new.plan.set.items c.take_step.new.plan.steps c.in_ok-take_step-in-Some.ensures.set c.in_ok-take_step-in-Some.ensures.steps
-            c.push.new.self c.in_ok-push-in-Some.ensures.ok c.loop-turn.invariant.come.uses;
-      };
-      left = plan_left c.args.block.now c.args.accesses.now c.requires.ids c.args.plan.now.set.items c.loop-turn.plan.set.items c.loop-turn.plan.steps
-          c.loop-turn.taken c.in-Some.found member
-          c.take_step.new.plan.set.items c.take_step.new.plan.steps c.in_ok-take_step-in-Some.ensures.set c.in_ok-take_step-in-Some.ensures.steps
-          c.args.block.now.count c.loop-turn._turn c.loop-turn-test.true
-          c.loop-turn.invariant.left covered best;
+      are = take.are;
+      listed = take.uses ∙ ap (λ k. k.uses) c.in-Some.ensures.keys ∙ now.listed;
+      set = take.set ∙ ap (λ k. with_use normal k.set.items (seen found)) c.in-Some.ensures.keys ∙ ap (λ s. with_use normal s (seen found)) now.set
+          ∙ sym step.set;
+      come = λ accesses once same.
+          let listed = ap (map seen) now.listed ∙ same in
+          let so_far = now.come accesses once same in
+          let covered = ap (is_covered normal accesses) (sym now.set) ∙ sym (c.cover.ensures accesses listed) ∙ c.if-cover.false in
+          let chosen = c.in-Some.ensures.best
+          ∙ ap (λ us. least_bound (filter (may_add normal c.loop-turn.candidates.keys.set.items) us)) listed in
+          let best = ap (λ s. least_bound (enabled_uses normal accesses s)) (sym now.set) ∙ sym chosen in
+          let member = chosen_member (may_add normal c.loop-turn.candidates.keys.set.items) (uses normal accesses) (seen found) chosen in (
+            record {
+              bound = plan_bound normal accesses once start set steps c.loop-turn.taken found member plan.set.items plan.steps step.set step.steps
+                  so_far.0.bound;
+              uses = plan_uses normal accesses once start set steps c.loop-turn.taken found member plan.set.items plan.steps step.set step.steps
+                  c.push.new.self c.in_ok-push-in-Some.ensures.ok so_far.0.uses;
+            },
+            plan_left normal accesses once start set steps c.loop-turn.taken found member plan.set.items plan.steps step.set step.steps
+                normal.count c.loop-turn._turn c.loop-turn-test.true so_far.1 covered best,
+          );
     }
 
-pub returns : goal.returns
-returns c =
-    by_bool c.is_covered_by-2.result (is_covered c.args.block.now c.args.accesses.now c.loop-turn.plan.set.items) (c.is_covered_by-2.ensures
-    ∙ ap (is_covered c.args.block.now c.args.accesses.now) c.deref-2.ensures.value)
+pub returns-clause-come : goal.returns-clause-come
+returns-clause-come c = λ accesses once same.
+    let now = c.loop-turn.invariant in
+    let so_far = now.come accesses once same in
+    by_bool c.cover-2.result (is_covered c.args.block.now accesses c.loop-turn.plan.set.items)
+    (c.cover-2.ensures accesses (ap (map seen) now.listed ∙ same) ∙ ap (is_covered c.args.block.now accesses) now.set)
     (λ h. (
-      c.loop-turn.invariant.come,
-      left_done c.args.block.now c.args.accesses.now c.args.plan.now.set.items c.loop-turn.plan.set.items c.loop-turn.plan.steps c.args.block.now.count
-          c.loop-turn._turn c.loop-turn.auto._turn-end c.loop-turn.invariant.left h,
+      so_far.0,
+      left_done c.args.block.now accesses c.args.plan.now.set.items c.loop-turn.plan.set.items c.loop-turn.plan.steps c.args.block.now.count
+          c.loop-turn._turn c.loop-turn.auto._turn-end so_far.1 h,
     ))
-    (λ h. left_out c.args.block.now c.args.accesses.now c.args.plan.now.set.items c.loop-turn.plan.set.items c.loop-turn.plan.steps
-    c.args.block.now.count c.loop-turn._turn c.loop-turn.auto._turn-end c.loop-turn.invariant.left h c.loop-turn-test.false)
+    (λ h. left_out c.args.block.now accesses c.args.plan.now.set.items c.loop-turn.plan.set.items c.loop-turn.plan.steps
+    c.args.block.now.count c.loop-turn._turn c.loop-turn.auto._turn-end so_far.1 h c.loop-turn-test.false)

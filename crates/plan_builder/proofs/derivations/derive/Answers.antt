@@ -1,9 +1,12 @@
-use Rattle.std.proofs.Common.{◌≡◌, ◌∙◌, false, ap, sym, Some, None}
-use Rattle.beas_core.specs.Coverage.{constant_classes, covered_set, own_cover, reason}
+use Rattle.std.proofs.Common.{◌∙◌, false, length, ap, sym}
+use Rattle.beas_core.specs.Coverage.{constant_classes, reason}
 use Rattle.beas_core.specs.Derivations.{greedy_steps}
 use Rattle.evaluation_facts.proofs.StartFacts.{start_counted}
 use Rattle.plan_builder.proofs.Turns.{derivation_is, always_why, not_some}
 use Rattle.plan_builder.proofs.derivations.derive.Goals as goal
+
+pub greedy-requires-clause-classes : goal.greedy-requires-clause-classes
+greedy-requires-clause-classes c = ap length (c.as_slice.ensures ∙ c.in_ok-start.ensures) ∙ start_counted c.args.block.now false
 
 pub returns-in-Some : goal.returns-in-Some
 returns-in-Some c =

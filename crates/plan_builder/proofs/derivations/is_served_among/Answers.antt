@@ -1,4 +1,4 @@
-use Rattle.std.proofs.Common.{◌≡◌, ◌∙◌, sym}
+use Rattle.std.proofs.Common.{◌∙◌, sym}
 use Rattle.plan_builder.proofs.Turns.{among_here}
 use Rattle.plan_builder.proofs.derivations.is_served_among.Goals as goal
 

@@ -1,10 +1,10 @@
-use Rattle.std.proofs.Common.{◌≡◌, ◌==◌, ◌&&◌, ◌≤◌, ◌<◌, ◌+◌, ◌++◌, ◌∙◌, ap, sym, subst, map, drop, length, arith}
+use Rattle.std.proofs.Common.{◌≡◌, ◌≤◌, ◌<◌, ◌+◌, ◌++◌, ◌∙◌, ap, sym, subst, map, drop, length}
 use Rattle.std.specs.List.{filter}
-use Rattle.beas_core.specs.Coverage.{atoms_of, uses, serves}
+use Rattle.beas_core.specs.Coverage.{atoms_of, uses}
 use Rattle.beas_core.specs.Derivations.{least_bound, serving_steps}
 use Rattle.attribute_closure.specs.Uses.{seen}
 use Rattle.plan_builder.specs.Choices.{may_serve}
-use Rattle.plan_builder.proofs.Turns.{serve_served, serve_none, serve_taken, serve_end, served_same, not_some}
+use Rattle.plan_builder.proofs.Turns.{serve_served, serve_none, serve_taken, serve_end, served_same}
 use Rattle.plan_builder.proofs.derivations.serve_atoms.Goals as goal
 use Rattle.plan_builder.proofs.derivations.serve_atoms.Goals.{then-not-is_served_among+in-Some+in_ok-take_step, then-not-is_served_among+in_default, else-not-is_served_among}
 
