@@ -1,0 +1,115 @@
+// The valuations that meet the comparisons.
+ghost use Rattle.std.specs.Prelude.{◌≡◌, ◌≤◌, filter, length, pos, slice_index_or, All};
+ghost use Rattle.beas_core.specs.declared.value.Value.TheVariants.{Int};
+ghost use Rattle.beas_core.specs.Order.{value_cmp};
+ghost use Rattle.beas_core.specs.Full.{sign_holds as holds_of};
+ghost use Rattle.beas_core.specs.Coverage.{place_class};
+ghost use Rattle.beas_core.specs.Valuations.{as_bindings, classes_in, comparison_is_met};
+ghost use Rattle.evaluation_facts.specs.Extensions.{kept};
+ghost use Rattle.plan_ops.specs.Over.{IsOver, bound_set, set_of};
+ghost use Rattle.plan_ops.specs.Places.{place_of};
+
+use crate::places::{place_in, value_or};
+use crate::valuations::Valuations;
+use attribute_closure::class_at;
+use beas_core::{Comparison, List, Normal, Operand, Place, Row, Sign, Value, compare};
+use std::alloc::Global;
+use std::cmp::Ordering;
+use std::mem;
+
+fn sign_holds(sign: Sign, order: Ordering) -> bool
+    ensures { result ≡ holds_of sign order }
+{
+    match sign {
+        Sign::Equal => order.is_eq(),
+        Sign::Differs => order.is_ne(),
+        Sign::Less => order.is_lt(),
+        Sign::AtMost => order.is_le(),
+        Sign::More => order.is_gt(),
+        Sign::AtLeast => order.is_ge(),
+    }
+}
+
+// Drops the rows whose value at a place doesn't compare so with a fixed one.
+fn keep_fixed(rows: &mut Vec<Row>, left: usize, sign: Sign, right: &Value, zero: &Value)
+    ensures { rows.new.items
+        ≡ filter (λ row. holds_of sign (value_cmp (slice_index_or row left zero.now) right.now)) rows.old.items }
+{
+    rows.retain(|row| sign_holds(sign, compare(value_or(row.as_slice(), left, zero), right)));
+}
+
+// Drops the rows whose values at two places don't compare so.
+fn keep_pair(rows: &mut Vec<Row>, left: usize, sign: Sign, right: usize, zero: &Value)
+    ensures { rows.new.items
+        ≡ filter
+        (λ row. holds_of sign (value_cmp (slice_index_or row left zero.now) (slice_index_or row right zero.now)))
+        rows.old.items }
+{
+    rows.retain(|row| {
+        let row = row.as_slice();
+        sign_holds(
+            sign,
+            compare(value_or(row, left, zero), value_or(row, right, zero)),
+        )
+    });
+}
+
+fn place_among(block: &Normal, classes: &[u16], place: &Place) -> usize
+    requires { classes.now ≡ classes_in (set_of block.now classes.now) }
+    ensures { result ≡ place_of classes.now (place_class block.now place.now) }
+{
+    place_in(classes, class_at(block, place.atom, place.column))
+}
+
+// Drops the rows that fail a comparison, where its columns are all bound.
+fn keep_meeting(
+    block: &Normal,
+    classes: &[u16],
+    comparison: &Comparison,
+    rows: &mut Vec<Row>,
+    zero: &Value,
+)
+    requires classes { classes.now ≡ classes_in (set_of block.now classes.now) }
+    requires widths { All (λ row. length row ≡ length classes.now) rows.old.items }
+    requires zero { zero.now ≡ Int (pos 0) }
+    ensures { rows.new.items ≡ filter (λ row. comparison_is_met block.now (set_of block.now classes.now)
+        (as_bindings (set_of block.now classes.now) row) comparison.now) rows.old.items }
+{
+    let left = place_among(block, classes, &comparison.left);
+    if left == classes.len() {
+        return;
+    }
+    match &comparison.right {
+        Operand::Fixed(value) => keep_fixed(rows, left, comparison.sign, value, zero),
+        Operand::At(place) => {
+            let right = place_among(block, classes, place);
+            if right < classes.len() {
+                keep_pair(rows, left, comparison.sign, right, zero);
+            }
+        }
+    }
+}
+
+fn keep_all(block: &Normal, classes: &[u16], rows: &mut Vec<Row>, zero: &Value)
+    requires classes { classes.now ≡ classes_in (set_of block.now classes.now) }
+    requires widths { All (λ row. length row ≡ length classes.now) rows.old.items }
+    requires zero { zero.now ≡ Int (pos 0) }
+    ensures { rows.new.items ≡ kept block.now (set_of block.now classes.now) rows.old.items }
+{
+    for comparison in block.comparisons.as_slice() {
+        keep_meeting(block, classes, comparison, rows, zero);
+    }
+}
+
+/// Drops the valuations that fail a comparison whose columns are all bound. It takes no memory.
+pub fn keep(alloc: Global, block: &Normal, from: &mut Valuations)
+    requires { IsOver (bound_set block.now from.old) from.old }
+    ensures over { IsOver (bound_set block.now from.old) from.new }
+    ensures rows { from.new.rows ≡ kept block.now (bound_set block.now from.old) from.old.rows }
+    ensures classes { from.new.classes ≡ from.old.classes }
+{
+    let zero = Value::Int(0);
+    let mut rows = mem::replace(&mut from.rows, List::new(alloc)).into_vec();
+    keep_all(block, from.classes.as_slice(), &mut rows, &zero);
+    from.rows = List::from_vec(rows);
+}

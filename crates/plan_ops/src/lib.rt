@@ -1,0 +1,26 @@
+//! The operators that answer a query: of a block the valuations before its first step, how each step extends them,
+//! which of them meet the comparisons, and the output.
+//!
+//! They read rows through an `AccessPort` and nothing else, and count what they read. What a whole query answers is
+//! the matter of the crate above.
+#![tactic(auto)]
+
+mod extending;
+mod joining;
+mod keeping;
+mod matching;
+mod picking;
+mod places;
+mod probing;
+mod projecting;
+mod sets;
+mod starting;
+mod tables;
+mod valuations;
+
+pub use extending::extend;
+pub use keeping::keep;
+pub use projecting::project;
+pub use sets::{subtract, unite};
+pub use starting::start;
+pub use valuations::Valuations;

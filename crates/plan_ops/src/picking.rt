@@ -1,0 +1,38 @@
+// Values that columns pick from rows.
+ghost use Rattle.std.specs.Prelude.{◌≡◌, map, IfOk};
+ghost use Rattle.beas_core.specs.Groups.{project};
+ghost use Rattle.beas_core.specs.Order.{row_cmp};
+ghost use Rattle.beas_core.specs.Sets.{distinct};
+
+use beas_core::{ColumnId, Duplicate, List, NoMemory, Row, Value, sort_distinct};
+use std::alloc::Global;
+
+// The values of a row in some columns. One past the row's end is made up, since nothing reaches it.
+fn picked(alloc: Global, columns: &[ColumnId], row: &[Value]) -> Result<Row, NoMemory>
+    ensures { IfOk result (λ values. values ≡ project columns.now row.now) }
+{
+    let mut values = Vec::with_capacity(alloc, columns.len())?;
+    for column in columns {
+        let value = match row.get(usize::from(column.0)) {
+            Some(value) => value.copy(alloc)?,
+            None => Value::Int(0),
+        };
+        values.push(value)?;
+    }
+    Ok(List::from_vec(values))
+}
+
+/// The values of rows in some columns, as a set in order.
+pub fn distinct_picked(
+    alloc: Global,
+    columns: &[ColumnId],
+    rows: &[Row],
+) -> Result<Vec<Row>, NoMemory>
+    ensures { IfOk result (λ found. found.items ≡ distinct row_cmp (map (project columns.now) rows.now)) }
+{
+    let mut found = Vec::with_capacity(alloc, rows.len())?;
+    for row in rows {
+        found.push(picked(alloc, columns, row.as_slice())?)?;
+    }
+    Ok(sort_distinct(found))
+}

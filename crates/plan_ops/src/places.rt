@@ -1,0 +1,79 @@
+// Where classes stand in valuations.
+ghost use Rattle.std.specs.Prelude.{◌≡◌, map, slice_index_or, IfOk};
+ghost use Rattle.std.specs.Ordering.{nat_cmp};
+ghost use Rattle.beas_core.specs.Coverage.{class_at as class_of_column, place_class};
+ghost use Rattle.beas_core.specs.Sets.{IsInOrder};
+ghost use Rattle.beas_core.specs.Valuations.{classes_in};
+ghost use Rattle.plan_ops.specs.Over.{set_of};
+ghost use Rattle.plan_ops.specs.Places.{column_of, place_of};
+
+use attribute_closure::class_at;
+use beas_core::{ColumnId, NoMemory, Normal, Place, Value};
+use std::alloc::Global;
+
+/// Where a class stands among ascending ones, or their number where it stands nowhere. It takes no memory.
+pub fn place_in(classes: &[u16], class: u16) -> usize
+    requires { IsInOrder nat_cmp classes.now }
+    ensures { result ≡ place_of classes.now class }
+{
+    match classes.binary_search(&class) {
+        Ok(at) => at,
+        Err(_) => classes.len(),
+    }
+}
+
+/// The value at a place of a row, and zero past its end.
+pub fn value_or<'a>(row: &'a [Value], place: usize, zero: &'a Value) -> &'a Value
+    ensures { result.now ≡ slice_index_or row.now place zero.now }
+{
+    match row.get(place) {
+        Some(value) => value,
+        None => zero,
+    }
+}
+
+// The column that a class has in valuations.
+fn column_in(block: &Normal, classes: &[u16], class: u16) -> ColumnId
+    requires { classes.now ≡ classes_in (set_of block.now classes.now) }
+    ensures { result ≡ column_of classes.now class }
+{
+    let _count = block.count;
+    ColumnId(place_in(classes, class) as u16)
+}
+
+/// The columns that the classes of some columns of an atom have in valuations.
+pub fn columns_in(
+    alloc: Global,
+    block: &Normal,
+    classes: &[u16],
+    atom: u16,
+    columns: &[ColumnId],
+) -> Result<Vec<ColumnId>, NoMemory>
+    requires { classes.now ≡ classes_in (set_of block.now classes.now) }
+    ensures { IfOk result (λ found. found.items
+        ≡ map (λ c. column_of classes.now (class_of_column block.now atom c)) columns.now) }
+{
+    let mut found = Vec::with_capacity(alloc, columns.len())?;
+    for column in columns {
+        found.push(column_in(block, classes, class_at(block, atom, *column)))?;
+    }
+    Ok(found)
+}
+
+/// The columns that the classes of some places have in valuations.
+pub fn columns_at(
+    alloc: Global,
+    block: &Normal,
+    classes: &[u16],
+    places: &[Place],
+) -> Result<Vec<ColumnId>, NoMemory>
+    requires { classes.now ≡ classes_in (set_of block.now classes.now) }
+    ensures { IfOk result (λ found. found.items
+        ≡ map (λ p. column_of classes.now (place_class block.now p)) places.now) }
+{
+    let mut found = Vec::with_capacity(alloc, places.len())?;
+    for place in places {
+        found.push(column_in(block, classes, class_at(block, place.atom, place.column)))?;
+    }
+    Ok(found)
+}
