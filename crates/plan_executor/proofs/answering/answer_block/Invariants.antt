@@ -1,0 +1,11 @@
+use Rattle.std.proofs.Common.{◌≡◌, ◌+◌, take}
+use Rattle.beas_core.specs.Reads.{own_reads}
+use Rattle.plan_executor.proofs.FrontFacts.{Front}
+use Rattle.plan_executor.proofs.answering.answer_block.Given as goal
+
+abbrev pub invariant-loop-step : goal.invariant-loop-step
+invariant-loop-step g l = record {
+  front : Front (g.P.AccessPort.rows l.port) l.block (g.P.AccessPort.accesses l.port) (take l.step-index l.plan) l.from;
+  reads : l.reads ≡ l.fn.reads + own_reads (g.P.AccessPort.rows l.port) l.block (g.P.AccessPort.accesses l.port) (take l.step-index l.plan);
+  steps : l.steps ≡ l.fn.steps + own_reads (g.P.AccessPort.rows l.port) l.block (g.P.AccessPort.accesses l.port) (take l.step-index l.plan);
+}
