@@ -15,7 +15,7 @@ use Rattle.beas_core.specs.Numbers.{announced, size_after, own_announced_of_all}
 use Rattle.beas_core.specs.Fits.{OwnPlanIsSound, PlanFits}
 use Rattle.beas_core.proofs.Sets.{Contains-from_has}
 use Rattle.beas_core.proofs.Accesses.{access_in-member}
-use Rattle.catalogue.specs.Schema.{Schema, SchemaIsSound, AccessIsSound}
+use Rattle.catalogue.specs.Schema.{Schema, SchemaIsSound, AccessIsSound, access_with_id}
 use Rattle.report.specs.Plans.{StepsAreTold, answer_text, block_text, plan_text, step_line, step_text, steps_text, use_text}
 
 -- the lines of the steps left are that of the first and those after it
@@ -61,19 +61,10 @@ told accesses prepared fits below =
     let small = rw fits.bound at below in
     all_told accesses prepared.normals prepared.derivations fits.plans small
 
--- a live access constraint is found
-pub not_found : (accesses : List Access) (id : AccessId) → find (λ a. a.id.0 == id.0) accesses ≡ None → IsTrue (is_live accesses id) → ⊥
-not_found [] id none live = cc live
-not_found (a ∷ accesses) id none live = by (a.id.0 == id.0) none live (not_found accesses id)
-  where
-    by : (same : Bool) → (if same then Some a else find (λ c. c.id.0 == id.0) accesses) ≡ None → IsTrue (same || is_live accesses id)
-        → (find (λ c. c.id.0 == id.0) accesses ≡ None → IsTrue (is_live accesses id) → ⊥) → ⊥
-    by true n l rest = cc n
-    by false n l rest = rest n l
-
-pub found_is : (accesses : List Access) (id : AccessId) (access : Access) → Some access ≡ find (λ a. a.id.0 == id.0) accesses → access ≡ access_in accesses id
+-- the catalogue's definition of the live constraint with an id is that of derivations
+pub access_is : (accesses : List Access) (id : AccessId) → access_with_id accesses id ≡ access_in accesses id
 unfolding access_in
-found_is accesses id access found = rw (← found) refl
+access_is accesses id = refl
 
 -- and its table is one of the schema
 pub found_table : (schema : Schema) (id : AccessId) → SchemaIsSound schema → IsTrue (is_live schema.accesses id)

@@ -1,7 +1,6 @@
 // The plan lines of a prepared query.
 ghost use Rattle.std.specs.List.{enumerate_from, flat_map};
-ghost use Rattle.std.specs.Option.{option_copied};
-ghost use Rattle.std.specs.Prelude.{◌≡◌, ◌==◌, if◌then◌else◌, find, ◌≤◌, ◌<◌, ◌+◌, ◌*◌, ◌^◌, ◌++◌, ℕ, All, length, IsTrue, IfOk, OnOk};
+ghost use Rattle.std.specs.Prelude.{◌≡◌, if◌then◌else◌, ◌≤◌, ◌<◌, ◌+◌, ◌*◌, ◌^◌, ◌++◌, ℕ, All, length, IsTrue, IfOk, OnOk};
 ghost use Rattle.beas_core.specs.Derivations.{access_in, is_live};
 ghost use Rattle.beas_core.specs.Fits.{PlanFits};
 ghost use Rattle.beas_core.specs.Trees.{blocks_of};
@@ -135,16 +134,9 @@ fn access_of(catalogue: &Catalogue, id: AccessId) -> &Access
     ensures access { result.now ≡ access_in catalogue.now.accesses id }
     ensures table { result.now.table.0 < length catalogue.now.tables }
 {
-    match access_with(catalogue.accesses().as_slice(), id) {
-        Some(access) => access,
-        None => unreachable!(),
-    }
-}
-
-fn access_with(accesses: &[Access], id: AccessId) -> Option<&Access>
-    ensures { option_copied result ≡ find (λ access. access.id.0 == id.0) accesses.now }
-{
-    accesses.iter().find(|access| access.id.0 == id.0)
+    // Its clauses say what is true of every catalogue.
+    let _accesses = catalogue.accesses();
+    catalogue.access(id)
 }
 
 /// Adds how the blocks of a query, numbered from `first` on, make the answer, and tells the next number.
