@@ -1,0 +1,9 @@
+pub mod AnnouncedFacts
+pub mod AppliedFacts
+pub mod CarryFacts
+pub mod FileFacts
+pub mod GivenFacts
+pub mod PairFacts
+pub mod StoreFacts
+pub mod TieFacts
+pub mod TupleFacts

@@ -1,0 +1,16 @@
+use Rattle.std.proofs.lemmas.Result.{IfOk-weaker}
+use Rattle.beas_core.specs.declared.plan.Prepared.{Prepared}
+use Rattle.beas_core.specs.Fits.{Fits}
+use Rattle.beas_core.specs.Types.{TableRows}
+use Rattle.catalogue.specs.Database.{rows_at}
+use Rattle.catalogue.specs.Queries.{RowsAreWide}
+use Rattle.update_guard.specs.Stored.{stored}
+use Rattle.session.proofs.StoreFacts.{stored_rows_are_wide}
+use Rattle.session.proofs.session.Session.announce.Goals as goal
+
+pub returns-clause-fits : goal.returns-clause-fits
+returns-clause-fits c =
+    let g = c.args.self.now.guarded in
+    IfOk-weaker c.announcement.result (λ (p : Prepared). (rows : TableRows) → RowsAreWide g.catalogue rows → Fits g.catalogue.accesses rows p)
+    (λ (p : Prepared). Fits g.catalogue.accesses (rows_at (stored g)) p) (λ p fits. fits (rows_at (stored g)) (stored_rows_are_wide g))
+    c.announcement.ensures.fits

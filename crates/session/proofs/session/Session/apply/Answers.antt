@@ -1,0 +1,28 @@
+use Rattle.std.proofs.Common.{refl}
+use Rattle.update_guard.specs.Stored.{stored}
+use Rattle.session.specs.Applied.{settings_of}
+use Rattle.session.specs.Effects.{act_of}
+use Rattle.session.specs.Ties.{seen}
+use Rattle.session.proofs.AppliedFacts.{at_once, did_at_once, later_same}
+use Rattle.session.proofs.session.Session.apply.Goals as goal
+
+pub returns-in_default : goal.returns-in_default
+returns-in_default g c =
+    let s = c.args.self.now in
+    let db = stored s.guarded in
+    let statement = c.args.statement.now in
+    let files = seen g.F.Files.told g.F.Files.content g.F.Files.faults g.F.Files.taken c.args.files.now in
+    let now = stored c.carry_out.new.self.guarded in
+    let once = at_once (settings_of s) db statement c.in_default.not-Load in
+    let did = did_at_once s.limits.file (act_of (settings_of s) db statement) once.0 db c.reported.result now c.args.steps.now c.carry_out.new.steps files
+    once.1 (c.reported.ensures.carried once.0 db now c.args.steps.now c.carry_out.new.steps (c.carry_out.ensures.carried once.0 once.1)) in
+    record {
+      applied = did.applied;
+      within = c.reported.ensures.within c.carry_out.ensures.within;
+      settings = c.carry_out.ensures.settings;
+      unchanged = did.unchanged;
+      at_most = did.at_most;
+      no_fewer = did.no_fewer;
+      unread = λ effect h. refl;
+      later = later_same files;
+    }

@@ -1,0 +1,35 @@
+-- What is announced of a query before any row is read: a function of catalogue, limits, budget and tree, and of no row.
+--     binding limits schema tree                  the query that the tree is bound to, or why it is refused
+--     announcement limits budget schema tree      the query as it is prepared, or why it is refused
+use Rattle.std.specs.Prelude.{ℕ, if◌then◌else◌, nat_le, List, [], ◌∷◌, Option, Some, None, Result, Ok, Err}
+use Rattle.beas_core.specs.declared.limits.Limits.{Limits}
+use Rattle.beas_core.specs.declared.plan.Prepared.{Prepared}
+use Rattle.beas_core.specs.declared.refusal.Refusal.{Refusal}
+use Rattle.beas_core.specs.declared.refusal.Refusal.TheVariants.{OverBudget}
+use Rattle.beas_core.specs.Trees.{QueryTree}
+use Rattle.catalogue.specs.Schema.{Schema}
+use Rattle.sql_tree.specs.Trees.{Tree}
+use Rattle.binder.specs.Binding.{refusals, bound}
+use Rattle.plan_builder.specs.Preparation.{preparation}
+
+-- an answer, unless there are refusals: then the first
+abbrev pub unless_refused : {A : Type 0} → List Refusal → A → Result A Refusal
+unless_refused [] answer = Ok answer
+unless_refused (why ∷ more) answer = Err why
+
+abbrev pub and_then : {A B : Type 0} → Result A Refusal → (A → Result B Refusal) → Result B Refusal
+and_then (Ok answer) next = next answer
+and_then (Err why) next = Err why
+
+abbrev pub binding : Limits → Schema → Tree → Result QueryTree Refusal
+binding limits schema tree = unless_refused (refusals limits schema tree) (bound schema tree)
+
+-- a query whose number is above the budget is refused
+abbrev pub within_budget : Option ℕ → Prepared → Result Prepared Refusal
+within_budget None prepared = Ok prepared
+within_budget (Some budget) prepared =
+    if nat_le prepared.bound budget then Ok prepared else Err (OverBudget prepared.bound budget)
+
+unfoldable pub announcement : Limits → Option ℕ → Schema → Tree → Result Prepared Refusal
+announcement limits budget schema tree =
+    and_then (binding limits schema tree) (λ query. and_then (preparation schema query) (within_budget budget))

@@ -1,0 +1,238 @@
+-- What a statement does: its report, how many tuples it reads, and the database afterwards.
+--     Settings                         the limits, the budget, and whether a query's plan is shown
+--     Effect                           a report, the tuples that are read, and the database afterwards
+--     Act                              what a statement does at once, or by what the read of its file gives
+--     act_of settings db statement     what the statement does
+-- The rules of refusals are those of the catalogue, the binder and the files; here stands which comes first.
+use Rattle.std.specs.Prelude.{◌-◌, if◌then◌else◌, ℕ, Bool, List, [], length, map, slice_index_or, unwrap_or, Option, Some, None, Result, Ok, Err}
+use Rattle.std.specs.Option.{ok_or}
+use Rattle.beas_core.specs.declared.limits.Limits.{Limits}
+use Rattle.beas_core.specs.declared.plan.Prepared.{Prepared}
+use Rattle.beas_core.specs.declared.query.Block.{Block}
+use Rattle.beas_core.specs.declared.refusal.Refusal.{Refusal}
+use Rattle.beas_core.specs.declared.refusal.Refusal.TheVariants.{UnknownTable, BadLimit, Unreadable, FileTooLong}
+use Rattle.beas_core.specs.declared.schema.Access.{Access}
+use Rattle.beas_core.specs.declared.schema.AccessSpec.{AccessSpec}
+use Rattle.beas_core.specs.declared.schema.Column.{Column}
+use Rattle.beas_core.specs.declared.schema.ColumnId.{ColumnId}
+use Rattle.beas_core.specs.declared.schema.TableId.{TableId}
+use Rattle.beas_core.specs.Full.{full_of}
+use Rattle.beas_core.specs.Groups.{greatest}
+use Rattle.beas_core.specs.Reads.{own_reads_of_all}
+use Rattle.beas_core.specs.Spelling.{limit_in}
+use Rattle.beas_core.specs.Types.{Row}
+use Rattle.catalogue.specs.Database.{Database, schema_of, rows_at, with_table, with_access, without_access, appended, kept, kept_rows, block_table}
+use Rattle.catalogue.specs.Refusing.{add_table_refusal, resolve_refusal, admit_refusal, drop_access_refusal, insert_refusal, already_broken, admitted, columns_of_named, column_ids}
+use Rattle.catalogue.specs.Schema.{Schema, table_named, columns_at}
+use Rattle.sql_tree.specs.declared.tree.Cond.{Cond}
+use Rattle.sql_tree.specs.declared.tree.Literal.{Literal}
+use Rattle.sql_tree.specs.declared.tree.Statement.{Statement}
+use Rattle.sql_tree.specs.declared.tree.Statement.TheVariants.{CreateTable, CreateAccess, DropAccess, Load, Insert, Delete, DiscoverGroup, DiscoverPairs, Select, Explain}
+use Rattle.sql_tree.specs.Trees.{Tree}
+use Rattle.binder.specs.Binding.{row_refusals, bound_rows, delete_refusals, bound_delete}
+use Rattle.csv_load.specs.CsvRows.{fault_of, rows_in}
+use Rattle.constraint_miner.specs.Pairs.{pairs_in}
+use Rattle.report.specs.declared.reports.Report.{Report}
+use Rattle.report.specs.declared.reports.Report.TheVariants.{Done, Changed, Greatest, Pairs, Explained, Answered, Refused}
+use Rattle.report.specs.Plans.{plan_text}
+use Rattle.session.specs.declared.discovery.Resolved.{Resolved}
+use Rattle.session.specs.declared.outcome.Outcome.{Outcome}
+use Rattle.session.specs.declared.outcome.Outcome.TheVariants.{Content, Failed, TooLong}
+use Rattle.session.specs.Announced.{announcement, unless_refused}
+
+pub record Settings : Type 0 where
+  pub limits : Limits
+  pub budget : Option ℕ
+  pub explain : Bool
+
+pub record Effect : Type 0 where
+  pub report : Report
+  pub cost : ℕ
+  pub db : Database
+
+-- a LOAD of a known table waits for what the read of its file gives; every other statement is carried out at once
+pub data Act : Type 0 where
+  Does : Effect → Act
+  Reads : List ℕ → (Outcome → Effect) → Act
+
+-- a refused statement changes nothing
+abbrev pub refusal_effect : Database → Refusal → Effect
+refusal_effect db why = record { report = Refused why; cost = 0; db = db }
+
+-- the effect, unless there is a refusal
+abbrev pub unless : Option Refusal → Database → Effect → Effect
+unless None db effect = effect
+unless (Some why) db effect = refusal_effect db why
+
+-- what is made of an answer, unless it is a refusal
+abbrev pub with_answer : {A : Type 0} → Result A Refusal → Database → (A → Effect) → Effect
+with_answer (Ok answer) db effect = effect answer
+with_answer (Err why) db effect = refusal_effect db why
+
+-- an answer, unless there is a refusal
+abbrev pub or_refusal : {A : Type 0} → Option Refusal → A → Result A Refusal
+or_refusal None answer = Ok answer
+or_refusal (Some why) answer = Err why
+
+abbrev pub table_or_refusal : Schema → List ℕ → Result TableId Refusal
+table_or_refusal schema name = ok_or (table_named schema name) (UnknownTable name)
+
+-- the effect of a statement that reads each row of a table once, refused or not
+abbrev pub reading_rows : Database → TableId → Effect → Effect
+reading_rows db id effect = record effect { cost = length (rows_at db id) }
+
+-- ---- CREATE TABLE, CREATE ACCESS, DROP ACCESS
+
+abbrev pub create_table_effect : Limits → Database → List ℕ → List Column → Effect
+create_table_effect limits db name columns =
+    unless (add_table_refusal limits (schema_of db) name columns) db
+    (record { report = Done; cost = 0; db = with_table db name columns })
+
+-- past the checks of names and shape each row is read, whether the constraint then holds or not
+abbrev pub build_access_effect : Database → Access → Effect
+build_access_effect db access =
+    reading_rows db access.table
+    (unless (already_broken (rows_at db access.table) access) db
+    (record { report = Done; cost = 0; db = with_access db access }))
+
+abbrev pub create_access_effect : Limits → Database → AccessSpec → Effect
+create_access_effect limits db spec =
+    unless (admit_refusal limits (schema_of db) spec) db (build_access_effect db (admitted (schema_of db) spec))
+
+abbrev pub drop_access_effect : Database → List ℕ → Effect
+drop_access_effect db name =
+    unless (drop_access_refusal (schema_of db) name) db
+    (record { report = Done; cost = 0; db = without_access db name })
+
+-- ---- INSERT, LOAD, DELETE
+
+abbrev pub add_rows_effect : Limits → Database → TableId → List Row → Effect
+add_rows_effect limits db id rows =
+    unless (insert_refusal limits db id rows) db
+    (record { report = Changed (length rows); cost = 0; db = appended db id rows })
+
+abbrev pub tuples_binding : Limits → List (List Literal) → Result (List Row) Refusal
+tuples_binding limits tuples = unless_refused (row_refusals limits tuples) (bound_rows tuples)
+
+abbrev pub insert_effect : Limits → Database → List ℕ → List (List Literal) → Effect
+insert_effect limits db table tuples =
+    with_answer (table_or_refusal (schema_of db) table) db (λ id.
+    with_answer (tuples_binding limits tuples) db (λ rows.
+    add_rows_effect limits db id rows))
+
+-- the rows of a file for a table with these columns
+abbrev pub file_rows : Limits → List Column → List ℕ → Result (List Row) Refusal
+file_rows limits columns bytes = or_refusal (fault_of limits.text columns bytes) (rows_in limits.text columns bytes)
+
+abbrev pub load_effect : Limits → Database → List ℕ → TableId → Outcome → Effect
+load_effect limits db file id Failed = refusal_effect db (Unreadable file)
+load_effect limits db file id TooLong = refusal_effect db (FileTooLong limits.file)
+load_effect limits db file id (Content bytes) =
+    with_answer (file_rows limits (columns_at (schema_of db) id) bytes) db (λ rows. add_rows_effect limits db id rows)
+
+abbrev pub load_act : Limits → Database → Result TableId Refusal → List ℕ → Act
+load_act limits db (Err why) file = Does (refusal_effect db why)
+load_act limits db (Ok id) file = Reads file (load_effect limits db file id)
+
+-- the report tells how many rows are gone
+abbrev pub delete_rows_effect : Database → Block → Effect
+delete_rows_effect db block =
+    let rows = rows_at db (block_table block) in
+    reading_rows db (block_table block)
+    (record { report = Changed (length rows - length (kept_rows block rows)); cost = 0; db = kept block db })
+
+abbrev pub delete_binding : Limits → Database → List ℕ → List Cond → Result Block Refusal
+delete_binding limits db table conditions =
+    unless_refused (delete_refusals limits (schema_of db) table conditions)
+    (bound_delete (schema_of db) table conditions)
+
+abbrev pub delete_effect : Limits → Database → List ℕ → List Cond → Effect
+delete_effect limits db table conditions =
+    with_answer (delete_binding limits db table conditions) db (delete_rows_effect db)
+
+-- ---- DISCOVER
+
+abbrev pub name_at : List Column → ColumnId → List ℕ
+name_at columns column = slice_index_or (map (λ c. c.name) columns) column.0 []
+
+abbrev pub named_pairs : List Column → List (ColumnId × ColumnId × ℕ) → List (List ℕ × List ℕ × ℕ)
+named_pairs columns pairs = map (λ p. (name_at columns p.0, name_at columns p.1, p.2)) pairs
+
+abbrev pub greatest_effect : Database → TableId → List ColumnId → List ColumnId → Effect
+greatest_effect db id key fetched =
+    reading_rows db id (record { report = Greatest (greatest (rows_at db id) key fetched); cost = 0; db = db })
+
+-- the table and the columns that names stand for
+abbrev pub resolved_in : Schema → List ℕ → List (List ℕ) → List (List ℕ) → Resolved
+resolved_in schema table key fetched = record {
+  table = unwrap_or (table_named schema table) (record { 0 = 0 });
+  key = column_ids (columns_of_named schema table) key;
+  fetched = column_ids (columns_of_named schema table) fetched;
+}
+
+abbrev pub resolution : Schema → List ℕ → List (List ℕ) → List (List ℕ) → Result Resolved Refusal
+resolution schema table key fetched =
+    or_refusal (resolve_refusal schema table key fetched) (resolved_in schema table key fetched)
+
+abbrev pub discover_group_effect : Database → List ℕ → List (List ℕ) → List (List ℕ) → Effect
+discover_group_effect db table key fetched =
+    with_answer (resolution (schema_of db) table key fetched) db (λ r. greatest_effect db r.table r.key r.fetched)
+
+abbrev pub limit_or_refusal : List ℕ → Result ℕ Refusal
+limit_or_refusal digits = ok_or (limit_in digits) (BadLimit digits)
+
+abbrev pub pairs_effect : Database → TableId → ℕ → Effect
+pairs_effect db id limit =
+    let columns = columns_at (schema_of db) id in
+    reading_rows db id
+    (record {
+      report = Pairs (named_pairs columns (pairs_in (rows_at db id) (length columns) limit));
+      cost = 0;
+      db = db;
+    })
+
+abbrev pub discover_pairs_effect : Database → List ℕ → List ℕ → Effect
+discover_pairs_effect db table digits =
+    with_answer (table_or_refusal (schema_of db) table) db (λ id.
+    with_answer (limit_or_refusal digits) db (λ limit.
+    pairs_effect db id limit))
+
+-- ---- queries and EXPLAIN
+
+abbrev pub reads_in : Database → Prepared → ℕ
+reads_in db prepared = own_reads_of_all (rows_at db) prepared.normals db.accesses prepared.derivations
+
+abbrev pub plan_shown : Bool → Database → Prepared → List ℕ
+plan_shown explain db prepared = if explain then plan_text (schema_of db) prepared else []
+
+abbrev pub answer_effect : Bool → Database → Prepared → Effect
+answer_effect explain db prepared = record {
+  report =
+      Answered prepared.bound (plan_shown explain db prepared) prepared.header
+      (full_of (rows_at db) prepared.query) (reads_in db prepared);
+  cost = reads_in db prepared;
+  db = db;
+}
+
+abbrev pub select_effect : Settings → Database → Tree → Effect
+select_effect s db tree =
+    with_answer (announcement s.limits s.budget (schema_of db) tree) db (answer_effect s.explain db)
+
+abbrev pub explain_effect : Limits → Option ℕ → Database → Tree → Effect
+explain_effect limits budget db tree =
+    with_answer (announcement limits budget (schema_of db) tree) db (λ prepared.
+    record { report = Explained prepared.bound (plan_text (schema_of db) prepared); cost = 0; db = db })
+
+-- ---- each statement
+
+abbrev pub act_of : Settings → Database → Statement → Act
+act_of s db (CreateTable name columns) = Does (create_table_effect s.limits db name columns)
+act_of s db (CreateAccess spec) = Does (create_access_effect s.limits db spec)
+act_of s db (DropAccess name) = Does (drop_access_effect db name)
+act_of s db (Load table file) = load_act s.limits db (table_or_refusal (schema_of db) table) file
+act_of s db (Insert table tuples) = Does (insert_effect s.limits db table tuples)
+act_of s db (Delete table conditions) = Does (delete_effect s.limits db table conditions)
+act_of s db (DiscoverGroup table key fetched) = Does (discover_group_effect db table key fetched)
+act_of s db (DiscoverPairs table limit) = Does (discover_pairs_effect db table limit)
+act_of s db (Select tree) = Does (select_effect s db tree)
+act_of s db (Explain tree) = Does (explain_effect s.limits s.budget db tree)

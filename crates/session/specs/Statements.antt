@@ -1,0 +1,33 @@
+-- What a statement has that tokens spell: a table with a column, a constraint that fetches a column, a block over a
+-- table; and fewer of each kind of its parts than a report can number.
+--     TreeIsWellFormed tree
+--     StatementIsWellFormed statement
+use Rattle.std.specs.Prelude.{◌<◌, ◌≤◌, ◌^◌, List, length, All}
+use Rattle.sql_tree.specs.declared.tree.Literal.{Literal}
+use Rattle.sql_tree.specs.declared.tree.Statement.{Statement}
+use Rattle.sql_tree.specs.declared.tree.Statement.TheVariants.{CreateTable, CreateAccess, Load, Insert, Delete, Select, Explain}
+use Rattle.sql_tree.specs.Trees.{Tree}
+use Rattle.binder.specs.Binding.{blocks_of}
+
+pub record TreeIsWellFormed (tree : Tree) : Type 0 where
+  pub few_blocks : length (blocks_of tree) < 2 ^ 32
+  pub few_conditions : All (λ b. length b.conditions < 2 ^ 32) (blocks_of tree)
+  pub some_table : All (λ b. 1 ≤ length b.from_items) (blocks_of tree)
+
+pub record TuplesAreFew (tuples : List (List Literal)) : Type 0 where
+  pub few : length tuples < 2 ^ 32
+  pub narrow : All (λ tuple. length tuple < 2 ^ 32) tuples
+
+abbrev pub StatementIsWellFormed : Statement → Type 0
+StatementIsWellFormed (CreateTable name columns) = 1 ≤ length columns
+StatementIsWellFormed (CreateAccess spec) = 1 ≤ length spec.fetched
+StatementIsWellFormed (Insert table tuples) = TuplesAreFew tuples
+StatementIsWellFormed (Delete table conditions) = length conditions < 2 ^ 32
+StatementIsWellFormed (Select tree) = TreeIsWellFormed tree
+StatementIsWellFormed (Explain tree) = TreeIsWellFormed tree
+StatementIsWellFormed _ = Unit {0}
+
+-- a LOAD alone waits for what the read of its file gives
+abbrev pub IsNoLoad : Statement → Type 0
+IsNoLoad (Load table file) = ⊥
+IsNoLoad _ = Unit {0}

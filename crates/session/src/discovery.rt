@@ -1,0 +1,135 @@
+// The greatest groups of a table.
+ghost use Rattle.std.specs.Prelude.{◌≡◌, ◌<◌, ◌≤◌, length, slice_index_or, [], All, IfOk};
+ghost use Rattle.catalogue.specs.Database.{schema_of};
+ghost use Rattle.update_guard.specs.Stored.{stored};
+ghost use Rattle.session.specs.Carried.{Carries, Gives};
+ghost use Rattle.session.specs.Effects.{discover_group_effect, discover_pairs_effect, greatest_effect, limit_or_refusal, name_at, named_pairs, resolution};
+ghost use Rattle.session.specs.Turns.{IsWithin};
+
+use crate::stored::{columns_of, known_table, rows_of_table};
+use beas_core::{
+    Column, ColumnId, Duplicate, Fail, List, Name, NoMemory, Refusal, Steps, TableId, Text,
+    limit_of,
+};
+use constraint_miner::{Pair, greatest_group, pairs_within};
+use report::Report;
+use std::alloc::Global;
+use std::sync::ledger::Ledger;
+use update_guard::Guarded;
+
+/// A table and its columns, found by their names.
+#[derive(Drop)]
+pub struct Resolved {
+    pub table: TableId,
+    pub key: List<ColumnId>,
+    pub fetched: List<ColumnId>,
+}
+
+fn resolve_names(
+    alloc: Global,
+    guarded: &Guarded,
+    table: &Name,
+    key: &List<Name>,
+    fetched: &List<Name>,
+) -> Result<Resolved, Fail>
+    ensures found { Gives result (resolution (schema_of (stored guarded.now)) table.now key.now fetched.now) }
+    ensures live { IfOk result (λ found. found.table.0 < length (stored guarded.now).tables) }
+{
+    let (table, key, fetched) = guarded.catalogue.resolve(alloc, table, key, fetched)?;
+    Ok(Resolved {
+        table,
+        key,
+        fetched,
+    })
+}
+
+fn greatest_of<L: Ledger>(
+    alloc: Global,
+    guarded: &Guarded,
+    found: &Resolved,
+    steps: &mut Steps<L>,
+) -> Result<Report, Fail>
+    requires { found.now.table.0 < length (stored guarded.now).tables }
+    ensures carried { Carries (greatest_effect (stored guarded.now) found.now.table found.now.key found.now.fetched)
+        (stored guarded.now) result (stored guarded.now) steps.old steps.new }
+    ensures within { IfOk result IsWithin }
+{
+    let rows = rows_of_table(guarded, found.table);
+    let most = greatest_group(alloc, rows, &found.key, &found.fetched, steps)?;
+    Ok(Report::Greatest { most })
+}
+
+/// DISCOVER with FETCH. It reads each row of the table once.
+pub fn discover_group<L: Ledger>(
+    alloc: Global,
+    guarded: &Guarded,
+    table: &Name,
+    key: &List<Name>,
+    fetched: &List<Name>,
+    steps: &mut Steps<L>,
+) -> Result<Report, Fail>
+    ensures carried { Carries (discover_group_effect (stored guarded.now) table.now key.now fetched.now)
+        (stored guarded.now) result (stored guarded.now) steps.old steps.new }
+    ensures within { IfOk result IsWithin }
+{
+    let found = resolve_names(alloc, guarded, table, key, fetched)?;
+    greatest_of(alloc, guarded, &found, steps)
+}
+
+/// The number after LIMIT.
+fn known_limit(alloc: Global, digits: &Text) -> Result<u32, Fail>
+    ensures { Gives result (limit_or_refusal digits.now) }
+{
+    match limit_of(digits) {
+        Some(limit) => Ok(limit),
+        None => Err(Fail::Refused(Refusal::BadLimit {
+            digits: digits.copy(alloc)?,
+        })),
+    }
+}
+
+fn name_at(alloc: Global, columns: &[Column], column: ColumnId) -> Result<Name, NoMemory>
+    requires { column.0 < length columns.now }
+    ensures { IfOk result (λ name. name ≡ name_at columns.now column) }
+{
+    columns[column.0 as usize].name.copy(alloc)
+}
+
+/// Pairs of columns by their names.
+fn named_pairs(
+    alloc: Global,
+    columns: &[Column],
+    pairs: &[Pair],
+) -> Result<List<(Name, Name, u32)>, NoMemory>
+    requires { All (λ p. (p.0.0 < length columns.now) × (p.1.0 < length columns.now)) pairs.now }
+    ensures { IfOk result (λ found. found ≡ named_pairs columns.now pairs.now) }
+{
+    let mut found = List::new(alloc);
+    for pair in pairs {
+        let first = name_at(alloc, columns, pair.0)?;
+        let second = name_at(alloc, columns, pair.1)?;
+        found.push((first, second, pair.2))?;
+    }
+    Ok(found)
+}
+
+/// DISCOVER with LIMIT. It reads each row of the table once.
+pub fn discover_pairs<L: Ledger>(
+    alloc: Global,
+    guarded: &Guarded,
+    table: &Name,
+    digits: &Text,
+    steps: &mut Steps<L>,
+) -> Result<Report, Fail>
+    ensures carried { Carries (discover_pairs_effect (stored guarded.now) table.now digits.now)
+        (stored guarded.now) result (stored guarded.now) steps.old steps.new }
+    ensures within { IfOk result IsWithin }
+{
+    let id = known_table(alloc, guarded, table)?;
+    let limit = known_limit(alloc, digits)?;
+    let columns = columns_of(guarded, id).as_slice();
+    let rows = rows_of_table(guarded, id);
+    let pairs = pairs_within(alloc, rows, columns.len() as u16, limit, steps)?;
+    let found = named_pairs(alloc, columns, pairs.as_slice())?;
+    Ok(Report::Pairs { found })
+}
