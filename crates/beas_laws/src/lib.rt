@@ -7,6 +7,7 @@ mod classes;
 mod coverage;
 mod order;
 mod printing;
+mod sessions;
 #[cfg(test)]
 mod spellings;
 mod texts;
@@ -20,4 +21,5 @@ pub use coverage::{
 };
 pub use order::{law_greatest, law_order, law_set};
 pub use printing::law_printed;
+pub use sessions::session_fields;
 pub use texts::canonical;

@@ -1,10 +1,10 @@
 -- There are no more statements than tokens, and one more.
-use Rattle.std.proofs.Common.{◌≡◌, ◌≤◌, ◌<◌, ◌+◌, ◌∷◌, [], List, ℕ, Bool, true, false, cond, length, arith, refl}
+use Rattle.std.proofs.Common.{◌≡◌, ◌≤◌, ◌+◌, ◌∷◌, [], List, ℕ, Bool, true, false, cond, length, arith, refl}
 use Rattle.std.specs.Prelude.{filter, nat_lt}
 use Rattle.std.specs.List.{slice_split, onto_first}
 use Rattle.sql_text.specs.declared.token.Token.{Token}
 use Rattle.sql_text.specs.declared.token.Piece.{Piece}
-use Rattle.sql_text.specs.Pieces.{pieces_of, places, without_empty, is_semicolon}
+use Rattle.sql_text.specs.Pieces.{pieces_of, places, is_semicolon}
 
 kept_le : {X : Type 0} (b : Bool) (x : X) (some xs : List X) → length some ≤ length xs → length (cond b (x ∷ some) some) ≤ length (x ∷ xs)
 kept_le true x some xs h = omega arith

@@ -1,11 +1,9 @@
-mod Answering
 mod Complete
 mod Counting
-mod Digits
 mod Empty
-mod Fronts
-mod Once
-mod Progress
+mod Pieces
+mod Reached
 mod Reading
-mod Selections
-mod Within
+mod Ties
+mod Turns
+mod WellFormed

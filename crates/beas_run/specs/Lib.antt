@@ -1,6 +1,6 @@
 pub mod Endings
-pub mod Forms
-pub mod Meaning
 pub mod NoScripts
+pub mod Pieces
 pub mod Runs
 pub mod Scripts
+pub mod Walks

@@ -1,35 +1,22 @@
--- What a script means: what is written for it, and the reads that it takes. Its pieces are read by the grammar; a
--- reading is the statement that a piece spells, or why it spells none.
---     Readings script readings   each piece of the script has this reading
---     out_of readings            the texts of the reports, one after another
---     cost_of readings           the reads of all statements
---     reports_of readings        the reports, one for each reading
---     IsWithin report            a covered query reads at most the number that was announced
---     any_refused readings       whether a report is a refusal
-use Rattle.std.specs.Prelude.{ℕ, ◌≤◌, ◌+◌, ◌||◌, Bool, true, false, List, [], ◌∷◌, ◌++◌, map, slice_range, Option, Some, None, Result, Ok, Err}
+-- What a script means. Its pieces are read by the grammar; a reading is the statement that a piece spells, or why it
+-- spells none.
+--     Readings script readings                each piece of the script has this reading
+--     act_for settings db reading             what a piece does in a database
+--     turns settings db readings outcomes     what the pieces do one after another, where the reads of their files give these outcomes
+-- What is written for the script is the `out_of` its turns, and what it reads their `cost_of`.
+use Rattle.std.specs.Prelude.{ℕ, List, [], ◌∷◌, map, slice_range, Option, Some, None, Ok, Err}
 use Rattle.std.specs.List.{AllZip}
-use Rattle.beas_core.specs.declared.refusal.Refusal.{Refusal}
+use Rattle.std.specs.Option.{option_map_or}
+use Rattle.catalogue.specs.Database.{Database}
+use Rattle.session.specs.declared.outcome.Outcome.{Outcome}
+use Rattle.session.specs.Effects.{Settings, Act, Does, Reads, refusal_effect, act_of}
+use Rattle.session.specs.Turns.{Turn, turn_of}
 use Rattle.sql_text.specs.declared.token.Token.{Token}
 use Rattle.sql_text.specs.declared.token.Piece.{Piece}
 use Rattle.sql_text.specs.Tokens.{tokens_of}
 use Rattle.sql_text.specs.Pieces.{statements_of}
-use Rattle.sql_tree.specs.declared.tree.Statement.{Statement}
 use Rattle.sql_tree.specs.Symbols.{symbols}
 use Rattle.sql_parser.specs.Outcome.{Reading, Parses, parsed}
-use Rattle.report.specs.declared.reports.Report.{Report}
-use Rattle.report.specs.declared.reports.Report.TheVariants.{Done, Changed, Answered, Refused}
-use Rattle.report.specs.Reports.{report_text}
-use Rattle.beas_run.specs.Forms.{form_of}
-use Rattle.beas_run.specs.Meaning.{Relation, Outcome, refused, step}
-
-abbrev pub is_refusal : Report → Bool
-is_refusal (Refused why) = true
-is_refusal _ = false
-
--- the reads of a covered query are at most the number that its report announces; no other report announces one
-abbrev pub IsWithin : Report → Type 0
-IsWithin (Answered bound plan header rows reads) = reads ≤ bound
-IsWithin _ = Unit {0}
 
 -- the pieces of a script that hold a token
 abbrev pub pieces : List ℕ → List (List Token)
@@ -48,38 +35,24 @@ readings_of script = map reading_of (pieces script)
 abbrev pub readings_at : List Token → List Piece → List Reading
 readings_at tokens places = map (λ p. reading_of (slice_range tokens p.from p.to)) places
 
--- what a piece does in a state
-abbrev pub outcome : Option Relation → Reading → Outcome
-outcome state (Ok statement) = step state (form_of statement)
-outcome state (Err why) = refused state why
+-- a piece that spells no statement is refused
+unfoldable pub act_for : Settings → Database → Reading → Act
+act_for s db (Ok statement) = act_of s db statement
+act_for s db (Err why) = Does (refusal_effect db why)
 
--- what is written from statement k on
-abbrev pub out_from : ℕ → Option Relation → List Reading → List ℕ
-out_from k state [] = []
-out_from k state (reading ∷ readings) =
-    report_text k (outcome state reading).report ++ out_from (k + 1) (outcome state reading).state readings
+-- a turn, and the outcomes of the reads after it
+pub record Next : Type 0 where
+  pub turn : Turn
+  pub left : List Outcome
 
--- what is reported, piece by piece
-abbrev pub reports_from : Option Relation → List Reading → List Report
-reports_from state [] = []
-reports_from state (reading ∷ readings) = (outcome state reading).report ∷ reports_from (outcome state reading).state readings
+-- a read takes the next outcome; where there is none, there is no turn
+abbrev pub next : Act → List Outcome → Option Next
+next (Does effect) outcomes = Some (record { turn = record { effect = effect; read = None }; left = outcomes })
+next (Reads name effect) [] = None
+next (Reads name effect) (outcome ∷ outcomes) = Some (record { turn = turn_of (Reads name effect) outcome; left = outcomes })
 
-abbrev pub cost_from : Option Relation → List Reading → ℕ
-cost_from state [] = 0
-cost_from state (reading ∷ readings) = (outcome state reading).cost + cost_from (outcome state reading).state readings
-
-abbrev pub refused_from : Option Relation → List Reading → Bool
-refused_from state [] = false
-refused_from state (reading ∷ readings) = is_refusal (outcome state reading).report || refused_from (outcome state reading).state readings
-
-abbrev pub out_of : List Reading → List ℕ
-out_of readings = out_from 1 None readings
-
-abbrev pub reports_of : List Reading → List Report
-reports_of readings = reports_from None readings
-
-abbrev pub cost_of : List Reading → ℕ
-cost_of readings = cost_from None readings
-
-abbrev pub any_refused : List Reading → Bool
-any_refused readings = refused_from None readings
+-- up to the first read without an outcome: more outcomes only make the list longer
+abbrev pub turns : Settings → Database → List Reading → List Outcome → List Turn
+turns s db [] outcomes = []
+turns s db (reading ∷ readings) outcomes =
+    option_map_or (λ n. n.turn ∷ turns s n.turn.effect.db readings n.left) (next (act_for s db reading) outcomes) []

@@ -1,18 +1,19 @@
 // A script, statement by statement.
-ghost use Rattle.std.specs.Prelude.{◌≡◌, ◌<◌, ◌≤◌, ◌+◌, ◌-◌, ◌^◌, ◌++◌, ◌⊎◌, true, None, length, All, IfOk, OnOk, IsErrOf};
+ghost use Rattle.std.specs.Prelude.{◌≡◌, ◌<◌, ◌≤◌, ◌+◌, ◌-◌, ◌^◌, ◌++◌, ◌⊎◌, ℕ, true, length, All, IfOk, IfErr, OnOk, OnErr, IsErrOf};
 ghost use Rattle.outside.specs.Counts.{Rose};
-ghost use Rattle.outside.specs.Parts.{SentPart};
-ghost use Rattle.report.specs.Reports.{report_text};
-ghost use Rattle.beas_run.specs.Scripts.{reading_of, readings_of, readings_at, outcome, is_refusal, out_from, cost_from, refused_from, out_of, cost_of, any_refused};
+ghost use Rattle.update_guard.specs.Stored.{stored};
+ghost use Rattle.session.specs.Applied.{Applied, MayCost, settings_of};
+ghost use Rattle.session.specs.Ties.{IsLater, seen};
+ghost use Rattle.session.specs.Turns.{is_refusal, IsWithin};
 ghost use Rattle.beas_run.specs.Endings.{status_of};
-ghost use Rattle.beas_run.specs.Runs.{Ran};
+ghost use Rattle.beas_run.specs.Pieces.{IsReported, IsUnreported, IsUndone};
+ghost use Rattle.beas_run.specs.Scripts.{act_for, reading_of, readings_of, readings_at};
+ghost use Rattle.beas_run.specs.Walks.{scene, Walked};
 
-use crate::fitting::form_of;
-use crate::statement::apply;
-use crate::table::Table;
 use beas_core::{Fail, NoMemory, Steps};
-use outside::{Sink, SinkError};
+use outside::{Files, Sink, SinkError};
 use report::{Report, text};
+use session::Session;
 use sql_parser::parse;
 use sql_text::{Piece, Token, lex, split};
 use std::alloc::Global;
@@ -59,81 +60,97 @@ fn is_refusal(report: &Report) -> bool
 }
 
 /// Reads a piece and carries out its statement, and says what is reported of it.
-fn report_on<L: Ledger>(
+fn report_on<F: Files, L: Ledger>(
     alloc: Global,
-    state: &mut Option<Table>,
+    session: &mut Session,
     tokens: &[Token],
+    files: &mut F,
     steps: &mut Steps<L>,
 ) -> Result<Report, NoMemory>
-    ensures report { IfOk result (λ report. report ≡ (outcome state.old (reading_of tokens.now)).report) }
-    ensures state { OnOk result (state.new ≡ (outcome state.old (reading_of tokens.now)).state) }
-    ensures cost { OnOk result (steps.new ≡ steps.old + (outcome state.old (reading_of tokens.now)).cost) }
+    requires { length tokens.now < 2 ^ 32 - 1 }
+    ensures applied { IfOk result (λ report. Applied session.old.limits.file
+        (act_for (settings_of session.old) (stored session.old.guarded) (reading_of tokens.now))
+        report (stored session.new.guarded) steps.old steps.new
+        (seen F.told F.content F.faults F.taken files.old) (seen F.told F.content F.faults F.taken files.new)) }
+    ensures within { IfOk result IsWithin }
+    ensures settings { settings_of session.new ≡ settings_of session.old }
+    ensures unchanged { OnErr result (stored session.new.guarded ≡ stored session.old.guarded) }
     ensures no_fewer { steps.old ≤ steps.new }
-    ensures at_most { steps.new ≤ steps.old + (outcome state.old (reading_of tokens.now)).cost }
+    ensures at_most { MayCost (act_for (settings_of session.old) (stored session.old.guarded) (reading_of tokens.now))
+        steps.old steps.new }
+    ensures later { IsLater
+        (seen F.told F.content F.faults F.taken files.old) (seen F.told F.content F.faults F.taken files.new) }
 {
     match parse(alloc, tokens) {
-        Ok(statement) => {
-            let form = form_of(alloc, statement)?;
-            apply(alloc, state, form, steps)
-        }
+        Ok(statement) => session.apply(alloc, files, &statement, steps),
         Err(Fail::Refused(why)) => Ok(Report::Refused { why }),
         Err(Fail::NoMemory) => Err(NoMemory),
     }
 }
 
 /// Carries out a piece and writes its report. It tells whether the report is a refusal.
-fn carry_out<O: Sink, L: Ledger>(
+fn carry_out<F: Files, O: Sink, L: Ledger>(
     alloc: Global,
-    state: &mut Option<Table>,
+    session: &mut Session,
     tokens: &[Token],
     number: u32,
+    files: &mut F,
     out: &mut O,
     steps: &mut Steps<L>,
 ) -> Result<bool, Ending>
+    requires { length tokens.now < 2 ^ 32 - 1 }
+    ensures reported { IfOk result (λ refused. IsReported session.old.limits.file
+        (act_for (settings_of session.old) (stored session.old.guarded) (reading_of tokens.now)) number refused
+        (scene session.old steps.old (O.told out.old) (O.sent out.old) (seen F.told F.content F.faults F.taken files.old))
+        (scene session.new steps.new (O.told out.new) (O.sent out.new) (seen F.told F.content F.faults F.taken files.new))) }
+    ensures stopped { IfErr result (λ why.
+        let before = scene session.old steps.old (O.told out.old) (O.sent out.old) (seen F.told F.content F.faults F.taken files.old) in
+        let after = scene session.new steps.new (O.told out.new) (O.sent out.new) (seen F.told F.content F.faults F.taken files.new) in
+        let act = act_for (settings_of session.old) (stored session.old.guarded) (reading_of tokens.now) in
+        ((why ≡ Ending.NoMemory) × IsUndone act before after) ⊎ IsUnreported session.old.limits.file act number before after) }
+    ensures settings { settings_of session.new ≡ settings_of session.old }
+    ensures later { IsLater
+        (seen F.told F.content F.faults F.taken files.old) (seen F.told F.content F.faults F.taken files.new) }
     ensures told { O.told out.new ≡ O.told out.old }
-    ensures state { OnOk result (state.new ≡ (outcome state.old (reading_of tokens.now)).state) }
-    ensures refused { IfOk result (λ refused. refused ≡ is_refusal (outcome state.old (reading_of tokens.now)).report) }
-    ensures part { O.told out.old ≡ true → SentPart (O.sent out.old) (O.sent out.new) (report_text number (outcome state.old (reading_of tokens.now)).report) }
-    ensures sent { OnOk result (O.told out.old ≡ true → O.sent out.new ≡ O.sent out.old ++ report_text number (outcome state.old (reading_of tokens.now)).report) }
     ensures no_fault { OnOk result (O.faults out.new ≡ O.faults out.old) }
     ensures fault { IsErrOf result Ending.Fault → Rose (O.faults out.old) (O.faults out.new) }
-    ensures cost { OnOk result (steps.new ≡ steps.old + (outcome state.old (reading_of tokens.now)).cost) }
-    ensures no_fewer { steps.old ≤ steps.new }
-    ensures at_most { steps.new ≤ steps.old + (outcome state.old (reading_of tokens.now)).cost }
+    ensures rise { O.faults out.old ≤ O.faults out.new }
 {
-    let report = report_on(alloc, state, tokens, steps)?;
+    let report = report_on(alloc, session, tokens, files, steps)?;
     let lines = text(alloc, number, &report)?;
     out.put(lines.as_str().as_bytes())?;
     Ok(is_refusal(&report))
 }
 
-/// Carries out the statements at these places, from a state with no table on.
-fn carry_out_all<O: Sink, L: Ledger>(
+/// Carries out the statements at these places, and writes each report before the next statement.
+fn carry_out_all<F: Files, O: Sink, L: Ledger>(
     alloc: Global,
+    session: &mut Session,
     tokens: &[Token],
     pieces: &[Piece],
+    files: &mut F,
     out: &mut O,
     steps: &mut Steps<L>,
 ) -> Result<bool, Ending>
     requires few { length pieces.now < 2 ^ 32 - 1 }
+    requires short { length tokens.now < 2 ^ 32 - 1 }
     requires within { All (λ p. (p.from < p.to) × (p.to ≤ length tokens.now)) pieces.now }
+    ensures walked { Walked (settings_of session.old) (readings_at tokens.now pieces.now) (status_of result)
+        (scene session.old steps.old (O.told out.old) (O.sent out.old) (seen F.told F.content F.faults F.taken files.old))
+        (scene session.new steps.new (O.told out.new) (O.sent out.new) (seen F.told F.content F.faults F.taken files.new)) }
+    ensures settings { settings_of session.new ≡ settings_of session.old }
+    ensures later { IsLater
+        (seen F.told F.content F.faults F.taken files.old) (seen F.told F.content F.faults F.taken files.new) }
     ensures told { O.told out.new ≡ O.told out.old }
-    ensures refused { IfOk result (λ refused. refused ≡ refused_from None (readings_at tokens.now pieces.now)) }
-    ensures part { O.told out.old ≡ true → SentPart (O.sent out.old) (O.sent out.new) (out_from 1 None (readings_at tokens.now pieces.now)) }
-    ensures sent { OnOk result (O.told out.old ≡ true → O.sent out.new ≡ O.sent out.old ++ out_from 1 None (readings_at tokens.now pieces.now)) }
     ensures no_fault { OnOk result (O.faults out.new ≡ O.faults out.old) }
     ensures fault { IsErrOf result Ending.Fault → Rose (O.faults out.old) (O.faults out.new) }
-    ensures cost { OnOk result (steps.new ≡ steps.old + cost_from None (readings_at tokens.now pieces.now)) }
-    ensures no_fewer { steps.old ≤ steps.new }
-    ensures at_most { steps.new ≤ steps.old + cost_from None (readings_at tokens.now pieces.now) }
+    ensures rise { O.faults out.old ≤ O.faults out.new }
 {
-    let mut state = None;
     let mut refused = false;
     for (place, piece) in pieces.iter().enumerate() {
         let statement = &tokens[piece.from as usize..piece.to as usize];
         let number = place as u32 + 1;
-        let now = carry_out(alloc, &mut state, statement, number, out, steps)?;
-        refused = refused || now;
+        refused |= carry_out(alloc, session, statement, number, files, out, steps)?;
     }
     Ok(refused)
 }
@@ -151,41 +168,61 @@ fn status_of(ended: Result<bool, Ending>) -> u8
 }
 
 /// Carries out the statements of a text.
-fn carry_out_text<O: Sink, L: Ledger>(
+fn carry_out_text<F: Files, O: Sink, L: Ledger>(
     alloc: Global,
+    session: &mut Session,
     script: &str,
+    files: &mut F,
     out: &mut O,
     steps: &mut Steps<L>,
 ) -> Result<bool, Ending>
     requires { length script.now ≤ 16777216 }
-    ensures refused { IfOk result (λ refused. refused ≡ any_refused (readings_of script.now)) }
-    ensures part { O.told out.old ≡ true → SentPart (O.sent out.old) (O.sent out.new) (out_of (readings_of script.now)) }
-    ensures sent { OnOk result (O.told out.old ≡ true → O.sent out.new ≡ O.sent out.old ++ out_of (readings_of script.now)) }
+    ensures walked { Walked (settings_of session.old) (readings_of script.now) (status_of result)
+        (scene session.old steps.old (O.told out.old) (O.sent out.old) (seen F.told F.content F.faults F.taken files.old))
+        (scene session.new steps.new (O.told out.new) (O.sent out.new) (seen F.told F.content F.faults F.taken files.new)) }
+    ensures settings { settings_of session.new ≡ settings_of session.old }
+    ensures later { IsLater
+        (seen F.told F.content F.faults F.taken files.old) (seen F.told F.content F.faults F.taken files.new) }
+    ensures told { O.told out.new ≡ O.told out.old }
     ensures no_fault { OnOk result (O.faults out.new ≡ O.faults out.old) }
     ensures fault { IsErrOf result Ending.Fault → Rose (O.faults out.old) (O.faults out.new) }
-    ensures cost { OnOk result (steps.new ≡ steps.old + cost_of (readings_of script.now)) }
-    ensures no_fewer { steps.old ≤ steps.new }
-    ensures at_most { steps.new ≤ steps.old + cost_of (readings_of script.now) }
+    ensures rise { O.faults out.old ≤ O.faults out.new }
 {
     let tokens = lex(alloc, script)?;
     let pieces = split(alloc, &tokens)?;
-    carry_out_all(alloc, tokens.as_slice(), pieces.as_slice(), out, steps)
+    carry_out_all(
+        alloc,
+        session,
+        tokens.as_slice(),
+        pieces.as_slice(),
+        files,
+        out,
+        steps,
+    )
 }
 
-/// Runs a script: 0 where no report is a refusal, 1 where one is, 4 where the output failed, 5 where memory ran
-/// out.
-#[tactic(auto, using(crate::proofs::Within::within_of))]
-pub fn run_script<O: Sink, L: Ledger>(
+/// Runs a script over a session: 0 where no report is a refusal, 1 where one is, 4 where the output failed, 5 where
+/// memory ran out.
+pub fn run_script<F: Files, O: Sink, L: Ledger>(
     alloc: Global,
+    session: &mut Session,
     script: &str,
+    files: &mut F,
     out: &mut O,
     steps: &mut Steps<L>,
 ) -> u8
     requires { length script.now ≤ 16777216 }
-    ensures ran { Ran (readings_of script.now) result (O.told out.old) (O.sent out.old) (O.sent out.new) steps.old steps.new }
+    ensures walked { Walked (settings_of session.old) (readings_of script.now) result
+        (scene session.old steps.old (O.told out.old) (O.sent out.old) (seen F.told F.content F.faults F.taken files.old))
+        (scene session.new steps.new (O.told out.new) (O.sent out.new) (seen F.told F.content F.faults F.taken files.new)) }
     ensures statuses { (result < 2) ⊎ (result ≡ 4) ⊎ (result ≡ 5) }
+    ensures settings { settings_of session.new ≡ settings_of session.old }
+    ensures later { IsLater
+        (seen F.told F.content F.faults F.taken files.old) (seen F.told F.content F.faults F.taken files.new) }
+    ensures told { O.told out.new ≡ O.told out.old }
     ensures no_fault { result < 2 → O.faults out.new ≡ O.faults out.old }
     ensures fault { result ≡ 4 → Rose (O.faults out.old) (O.faults out.new) }
+    ensures rise { O.faults out.old ≤ O.faults out.new }
 {
-    status_of(carry_out_text(alloc, script, out, steps))
+    status_of(carry_out_text(alloc, session, script, files, out, steps))
 }

@@ -4,14 +4,16 @@ ghost use Rattle.std.specs.Str.{IsUtf8};
 ghost use Rattle.std.specs.String.{string_bytes};
 ghost use Rattle.outside.specs.Counts.{Rose};
 ghost use Rattle.outside.specs.Parts.{SentPart};
-ghost use Rattle.sql_parser.specs.Outcome.{Reading};
+ghost use Rattle.session.specs.Applied.{settings_of};
+ghost use Rattle.session.specs.Ties.{IsLater, seen};
 ghost use Rattle.beas_run.specs.NoScripts.{status_of};
-ghost use Rattle.beas_run.specs.Scripts.{Readings};
-ghost use Rattle.beas_run.specs.Runs.{script_name, longest_script, line, IsTooLong, IsNoText, IsWithout, Ran, HasScript, Completes};
+ghost use Rattle.beas_run.specs.Runs.{script_name, request_of, settings_of_words, longest_script, line, HasRun, IsContent, IsTooLong, IsNoText, IsUntouched, IsWith, IsWithout, Completes, CompletesWithout};
+ghost use Rattle.beas_run.specs.Walks.{scene};
 
 use crate::script::run_script;
 use beas_core::{Bytes, Steps};
 use outside::{Files, FilesError, Sink, SinkError};
+use session::Session;
 use std::alloc::Global;
 use std::str;
 use std::sync::ledger::Ledger;
@@ -32,16 +34,32 @@ enum NoScript {
     NoMemory,
 }
 
-/// The script that the words name, if they do.
-fn script_name(words: &[String]) -> Option<&str>
-    ensures { option_map (λ name. name.now) result ≡ script_name (map string_bytes words.now) }
+/// What the words ask for.
+#[derive(Drop)]
+struct Request<'a> {
+    /// The name of the script.
+    path: &'a str,
+    /// A query with a greater number isn't run.
+    budget: Option<u64>,
+    /// Whether the report of a query shows its plan.
+    explain: bool,
+}
+
+/// What the words ask for, if they are accepted: the one word, which doesn't begin with a dash, names the script.
+fn request_of(words: &[String]) -> Option<Request<'_>>
+    ensures { option_map (λ r. record { path = r.path.now; budget = r.budget; explain = r.explain }) result
+        ≡ request_of (map string_bytes words.now) }
 {
     match words {
         [word] => {
-            let name = word.as_str();
-            match name.as_bytes() {
+            let path = word.as_str();
+            match path.as_bytes() {
                 [b'-', ..] => None,
-                _ => Some(name),
+                _ => Some(Request {
+                    path,
+                    budget: None,
+                    explain: false,
+                }),
             }
         }
         _ => None,
@@ -52,12 +70,15 @@ fn script_name(words: &[String]) -> Option<&str>
 fn read_named<F: Files>(alloc: Global, name: &str, files: &mut F) -> Result<Bytes, NoScript>
     ensures text { IfOk result IsUtf8 }
     ensures fits { IfOk result (λ bytes. length bytes ≤ longest_script) }
-    ensures content { IfOk result (λ bytes. F.told files.old ≡ true → F.content files.old name.now ≡ Some bytes) }
+    ensures content { IfOk result (λ bytes. IsContent (seen F.told F.content F.faults F.taken files.old) bytes name.now) }
     ensures named { IsErrOf result NoScript.Words → ⊥ }
     ensures unread { IsErrOf result NoScript.Unread → Rose (F.faults files.old name.now) (F.faults files.new name.now) }
-    ensures too_long { IsErrOf result NoScript.TooLong
-        → IsTooLong (F.told files.old) (F.content files.old name.now) (F.taken files.old) (F.taken files.new) }
-    ensures not_text { IsErrOf result NoScript.NotText → IsNoText (F.told files.old) (F.content files.old name.now) }
+    ensures too_long { IsErrOf result NoScript.TooLong → IsTooLong
+        (seen F.told F.content F.faults F.taken files.old) (seen F.told F.content F.faults F.taken files.new) name.now }
+    ensures not_text { IsErrOf result NoScript.NotText
+        → IsNoText (seen F.told F.content F.faults F.taken files.old) name.now }
+    ensures later { IsLater
+        (seen F.told F.content F.faults F.taken files.old) (seen F.told F.content F.faults F.taken files.new) }
 {
     match files.read(alloc, name, LONGEST_SCRIPT) {
         Ok(bytes) => checked(bytes),
@@ -117,6 +138,8 @@ fn say<E: Sink>(why: NoScript, err: &mut E) -> u8
     ensures part { E.told err.old ≡ true → SentPart (E.sent err.old) (E.sent err.new) (line result) }
     ensures whole { IsWithout result → E.told err.old ≡ true
         → (E.sent err.new ≡ E.sent err.old ++ line result) ⊎ Rose (E.faults err.old) (E.faults err.new) }
+    ensures told { E.told err.new ≡ E.told err.old }
+    ensures rise { E.faults err.old ≤ E.faults err.new }
 {
     match err.put(line_of(why).as_bytes()) {
         Ok(()) => status_of(why),
@@ -128,16 +151,26 @@ fn say<E: Sink>(why: NoScript, err: &mut E) -> u8
 /// The run, with the cause of each status.
 fn run_named<F: Files, O: Sink, E: Sink, L: Ledger>(
     alloc: Global,
+    session: &mut Session,
     words: &[String],
     files: &mut F,
     out: &mut O,
     err: &mut E,
     steps: &mut Steps<L>,
 ) -> u8
-    // What was sent and read is the meaning of the script, as its pieces are read, or as far as the run came.
-    ensures ran { (script : List ℕ) × (readings : List Reading) × Readings script readings
-        × Ran readings result (O.told out.old) (O.sent out.old) (O.sent out.new) steps.old steps.new
-        × HasScript script result (script_name (map string_bytes words.now)) (F.told files.old) (F.content files.old) }
+    // What was sent, read and changed is the meaning of the script, as its pieces are read, or as far as the run came.
+    ensures ran { HasRun session.old.limits (map string_bytes words.now) result
+        (scene session.old steps.old (O.told out.old) (O.sent out.old) (seen F.told F.content F.faults F.taken files.old))
+        (scene session.new steps.new (O.told out.new) (O.sent out.new) (seen F.told F.content F.faults F.taken files.new)) }
+    ensures untouched { IsWithout result → IsUntouched
+        (scene session.old steps.old (O.told out.old) (O.sent out.old) (seen F.told F.content F.faults F.taken files.old))
+        (scene session.new steps.new (O.told out.new) (O.sent out.new) (seen F.told F.content F.faults F.taken files.new)) }
+
+    // The session's budget and flag are those of the words, unless there is no script.
+    ensures limits { session.new.limits ≡ session.old.limits }
+    ensures settings { IsWith result
+        → settings_of session.new ≡ settings_of_words session.old.limits (map string_bytes words.now) }
+    ensures settings_without { IsWithout result → settings_of session.new ≡ settings_of session.old }
 
     // Each status has its cause.
     ensures statuses { result ≤ 7 }
@@ -147,41 +180,63 @@ fn run_named<F: Files, O: Sink, E: Sink, L: Ledger>(
         (λ name. Rose (F.faults files.old name) (F.faults files.new name)) }
     ensures fault { result ≡ 4 → Rose (O.faults out.old) (O.faults out.new) }
     ensures no_fault { result < 2 → O.faults out.new ≡ O.faults out.old }
-    ensures too_long { result ≡ 6 → IsSomeAnd (script_name (map string_bytes words.now))
-        (λ name. IsTooLong (F.told files.old) (F.content files.old name) (F.taken files.old) (F.taken files.new)) }
-    ensures not_text { result ≡ 7 → IsSomeAnd (script_name (map string_bytes words.now))
-        (λ name. IsNoText (F.told files.old) (F.content files.old name)) }
+    ensures too_long { result ≡ 6 → IsSomeAnd (script_name (map string_bytes words.now)) (IsTooLong
+        (seen F.told F.content F.faults F.taken files.old) (seen F.told F.content F.faults F.taken files.new)) }
+    ensures not_text { result ≡ 7 → IsSomeAnd (script_name (map string_bytes words.now)) (IsNoText
+        (seen F.told F.content F.faults F.taken files.old)) }
 
     // A run without a script says why, and no other run says anything there.
     ensures said { E.told err.old ≡ true → SentPart (E.sent err.old) (E.sent err.new) (line result) }
     ensures said_whole { IsWithout result → E.told err.old ≡ true
         → (E.sent err.new ≡ E.sent err.old ++ line result) ⊎ Rose (E.faults err.old) (E.faults err.new) }
+
+    // What files and sinks tell stays, and no count falls.
+    ensures later { IsLater
+        (seen F.told F.content F.faults F.taken files.old) (seen F.told F.content F.faults F.taken files.new) }
+    ensures out_told { O.told out.new ≡ O.told out.old }
+    ensures out_rise { O.faults out.old ≤ O.faults out.new }
+    ensures err_told { E.told err.new ≡ E.told err.old }
+    ensures err_rise { E.faults err.old ≤ E.faults err.new }
 {
-    let Some(name) = script_name(words) else {
+    let Some(request) = request_of(words) else {
         return say(NoScript::Words, err);
     };
-    match read_named(alloc, name, files) {
-        Ok(bytes) => run_script(alloc, text_of(&bytes), out, steps),
+    match read_named(alloc, request.path, files) {
+        Ok(bytes) => {
+            session.budget = request.budget;
+            session.explain = request.explain;
+            run_script(alloc, session, text_of(&bytes), files, out, steps)
+        }
         Err(why) => say(why, err),
     }
 }
 
-/// Runs the script that the words name, and gives the status of the program: 0 and 1 where the script was carried
-/// out whole, without a refusal and with one; 2 where the words name no script; 3 where it can't be read; 4 where
-/// `out` failed; 5 where memory ran out; 6 where the script is longer than 16,777,216 bytes; 7 where it is not
-/// UTF-8.
+/// Runs the script that the words name over a session, and gives the status of the program: 0 and 1 where the script was
+/// carried out whole, without a refusal and with one; 2 where the words name no script; 3 where it can't be read; 4
+/// where `out` failed; 5 where memory ran out; 6 where the script is longer than 16,777,216 bytes; 7 where it is not
+/// UTF-8. Each report is put to `out` before the next statement.
 pub fn run<F: Files, O: Sink, E: Sink, L: Ledger>(
     alloc: Global,
+    session: &mut Session,
     words: &[String],
     files: &mut F,
     out: &mut O,
     err: &mut E,
     steps: &mut Steps<L>,
 ) -> u8
-    // What was sent and read is the meaning of the script, as its pieces are read, or as far as the run came.
-    ensures ran { (script : List ℕ) × (readings : List Reading) × Readings script readings
-        × Ran readings result (O.told out.old) (O.sent out.old) (O.sent out.new) steps.old steps.new
-        × HasScript script result (script_name (map string_bytes words.now)) (F.told files.old) (F.content files.old) }
+    // What was sent, read and changed is the meaning of the script, as its pieces are read, or as far as the run came.
+    ensures ran { HasRun session.old.limits (map string_bytes words.now) result
+        (scene session.old steps.old (O.told out.old) (O.sent out.old) (seen F.told F.content F.faults F.taken files.old))
+        (scene session.new steps.new (O.told out.new) (O.sent out.new) (seen F.told F.content F.faults F.taken files.new)) }
+    ensures untouched { IsWithout result → IsUntouched
+        (scene session.old steps.old (O.told out.old) (O.sent out.old) (seen F.told F.content F.faults F.taken files.old))
+        (scene session.new steps.new (O.told out.new) (O.sent out.new) (seen F.told F.content F.faults F.taken files.new)) }
+
+    // The session's budget and flag are those of the words, unless there is no script.
+    ensures limits { session.new.limits ≡ session.old.limits }
+    ensures settings { IsWith result
+        → settings_of session.new ≡ settings_of_words session.old.limits (map string_bytes words.now) }
+    ensures settings_without { IsWithout result → settings_of session.new ≡ settings_of session.old }
 
     // Each status has its cause.
     ensures statuses { result ≤ 7 }
@@ -191,21 +246,32 @@ pub fn run<F: Files, O: Sink, E: Sink, L: Ledger>(
         (λ name. Rose (F.faults files.old name) (F.faults files.new name)) }
     ensures fault { result ≡ 4 → Rose (O.faults out.old) (O.faults out.new) }
     ensures no_fault { result < 2 → O.faults out.new ≡ O.faults out.old }
-    ensures too_long { result ≡ 6 → IsSomeAnd (script_name (map string_bytes words.now))
-        (λ name. IsTooLong (F.told files.old) (F.content files.old name) (F.taken files.old) (F.taken files.new)) }
-    ensures not_text { result ≡ 7 → IsSomeAnd (script_name (map string_bytes words.now))
-        (λ name. IsNoText (F.told files.old) (F.content files.old name)) }
+    ensures too_long { result ≡ 6 → IsSomeAnd (script_name (map string_bytes words.now)) (IsTooLong
+        (seen F.told F.content F.faults F.taken files.old) (seen F.told F.content F.faults F.taken files.new)) }
+    ensures not_text { result ≡ 7 → IsSomeAnd (script_name (map string_bytes words.now)) (IsNoText
+        (seen F.told F.content F.faults F.taken files.old)) }
 
-    // With a script that could be read, and an output that didn't fail, nothing else comes but out of memory.
+    // With a script that could be read nothing else comes than what it is, but out of memory, and a fault of the output.
     ensures complete { (name script : List ℕ) → script_name (map string_bytes words.now) ≡ Some name
         → F.told files.old ≡ true → F.content files.old name ≡ Some script
         → (Rose (F.faults files.old name) (F.faults files.new name) → ⊥)
         → (Rose (O.faults out.old) (O.faults out.new) → ⊥) → Completes script result }
+    ensures complete_without { (name script : List ℕ) → script_name (map string_bytes words.now) ≡ Some name
+        → F.told files.old ≡ true → F.content files.old name ≡ Some script
+        → (Rose (F.faults files.old name) (F.faults files.new name) → ⊥) → CompletesWithout script result }
 
     // A run without a script says why, and no other run says anything there.
     ensures said { E.told err.old ≡ true → SentPart (E.sent err.old) (E.sent err.new) (line result) }
     ensures said_whole { IsWithout result → E.told err.old ≡ true
         → (E.sent err.new ≡ E.sent err.old ++ line result) ⊎ Rose (E.faults err.old) (E.faults err.new) }
+
+    // What files and sinks tell stays, and no count falls.
+    ensures later { IsLater
+        (seen F.told F.content F.faults F.taken files.old) (seen F.told F.content F.faults F.taken files.new) }
+    ensures out_told { O.told out.new ≡ O.told out.old }
+    ensures out_rise { O.faults out.old ≤ O.faults out.new }
+    ensures err_told { E.told err.new ≡ E.told err.old }
+    ensures err_rise { E.faults err.old ≤ E.faults err.new }
 {
-    run_named(alloc, words, files, out, err, steps)
+    run_named(alloc, session, words, files, out, err, steps)
 }

@@ -7,10 +7,11 @@ mod interrupted;
 mod real_files;
 mod real_sink;
 
-use beas_core::Steps;
+use beas_core::{Limits, Steps};
 use beas_run::run;
 use real_files::RealFiles;
 use real_sink::RealSink;
+use session::Session;
 use std::env;
 use std::io::{self, ErrorKind};
 use std::marker::Brand;
@@ -32,7 +33,8 @@ fn words_of(rt: &HostRuntime) -> io::Result<Vec<String>> {
     Ok(words)
 }
 
-/// Runs the script that the words name, over the system's files and streams and one counter of reads.
+/// Runs the script that the words name, over a session without tables, the system's files and streams, and one counter
+/// of reads.
 fn start<L: Ledger>(rt: &HostRuntime, blank: Blank) -> u8
     requires name { blank.name ≡ L.name }
     requires parts { blank.parts ≡ L.parts }
@@ -47,12 +49,14 @@ fn start<L: Ledger>(rt: &HostRuntime, blank: Blank) -> u8
         [_, named @ ..] => named,
         [] => words.as_slice(),
     };
+    let mut session = Session::new(rt.alloc(), Limits::standard(), None, false);
     let mut files = RealFiles::new(rt);
     let mut out = RealSink::new(rt.stdout());
     let mut err = RealSink::new(rt.stderr());
     let mut steps = Steps::<L>::start(blank);
     run(
         rt.alloc(),
+        &mut session,
         named,
         &mut files,
         &mut out,

@@ -5,6 +5,9 @@ use std::{fs, io};
 /// The name of a case's script, which is the word that it is run with where it names no other.
 const SCRIPT: &str = "script.beas";
 
+/// The name of the script that is run before, over the same session.
+const SCRIPT_BEFORE: &str = "before.beas";
+
 /// A file of a case.
 #[derive(Drop)]
 pub struct CaseFile {
@@ -21,6 +24,10 @@ pub struct Case {
     pub output: Vec<u8>,
     pub error: Vec<u8>,
     pub status: u8,
+    /// The number of the read that fails, from 0 on, if one is to fail.
+    pub failing_read: Option<u32>,
+    /// The words of the run that comes before, over the same session, where there is one.
+    pub words_before: Vec<String>,
 }
 
 /// The names of the folders, or else of the files, in a folder, in order.
@@ -80,6 +87,20 @@ fn status_of(alloc: Global, files: &[CaseFile]) -> io::Result<u8> {
     Ok(digits.as_str().trim().parse::<u8>().unwrap_or(0))
 }
 
+/// The number of the read that fails.
+fn failing_read_of(alloc: Global, files: &[CaseFile]) -> io::Result<Option<u32>> {
+    let digits = text_of(alloc, files, "failing_read")?;
+    Ok(digits.as_str().trim().parse::<u32>().ok())
+}
+
+fn words_before_of(alloc: Global, files: &[CaseFile]) -> io::Result<Vec<String>> {
+    let mut words = Vec::new(alloc);
+    if files.iter().any(|file| file.name.as_str() == SCRIPT_BEFORE) {
+        words.push(String::from_str(alloc, SCRIPT_BEFORE)?)?;
+    }
+    Ok(words)
+}
+
 fn case_in(rt: &HostRuntime, folder: &str, name: String) -> io::Result<Case> {
     let alloc = rt.alloc();
     let path = format!(in alloc; "{folder}/{name}")?;
@@ -89,6 +110,8 @@ fn case_in(rt: &HostRuntime, folder: &str, name: String) -> io::Result<Case> {
         output: bytes_of(alloc, &files, "output")?,
         error: bytes_of(alloc, &files, "error")?,
         status: status_of(alloc, &files)?,
+        failing_read: failing_read_of(alloc, &files)?,
+        words_before: words_before_of(alloc, &files)?,
         name,
         files,
     })

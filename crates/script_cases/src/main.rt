@@ -6,20 +6,25 @@
 //! - `status`, the status that is wanted, where that isn't 0, and `error`, what is wanted on standard error, where that
 //!   isn't nothing;
 //! - `words`, the command line's words, one a line, where they aren't `script.beas`;
-//! - all files that the script loads.
+//! - `failing_read`, the number of the read that fails, from 0 on, where one is to fail;
+//! - `before.beas`, a script that is run before, over the same session, where there is to be one;
+//! - all files that the scripts load.
 //!
-//! A case is run whole, and then once for each length at which its output may fail: then the status is 4 and the
-//! output is what comes before the failure.
+//! A case is run whole, then over an output that keeps each put by itself, which is to be one report, and then once for
+//! each length at which its output may fail: then the status is 4 and the output is what comes before the failure.
 #![tactic(auto)]
 
 ghost use Rattle.std.specs.Prelude.{◌≡◌, ◌<◌};
 
 mod cases;
+mod puts;
 
-use beas_core::{Bytes, Steps, Text};
+use beas_core::{Bytes, Limits, Steps, Text};
 use beas_run::run;
 use cases::{Case, cases_of};
-use outside::{MemoryFiles, MemorySink};
+use outside::{MemoryFiles, MemorySink, Sink};
+use puts::Puts;
+use session::Session;
 use std::alloc::Global;
 use std::marker::Brand;
 use std::sync::ledger::{Blank, Ledger};
@@ -44,6 +49,9 @@ fn files_of(alloc: Global, case: &Case) -> io::Result<MemoryFiles> {
         let bytes = Bytes::from_vec(file.bytes.to_vec(alloc)?);
         files.add(name, bytes).map_err(out_of_memory)?;
     }
+    if let Some(call) = case.failing_read {
+        files.fail_at(call).map_err(out_of_memory)?;
+    }
     Ok(files)
 }
 
@@ -51,36 +59,72 @@ fn out_of_memory(_: beas_core::NoMemory) -> io::Error {
     io::Error::from(io::ErrorKind::OutOfMemory)
 }
 
-/// Runs a case with a counter of its own.
-fn run_counted<L: Ledger>(
+/// Runs the script that comes before, if there is one, over an output that takes everything.
+fn run_before<L: Ledger>(
     alloc: Global,
     case: &Case,
-    total: u64,
+    session: &mut Session,
+    files: &mut MemoryFiles,
+    steps: &mut Steps<L>,
+) {
+    if case.words_before.is_empty() {
+        return;
+    }
+    let mut out = MemorySink::new(alloc);
+    let mut err = MemorySink::new(alloc);
+    run(
+        alloc,
+        session,
+        &case.words_before,
+        files,
+        &mut out,
+        &mut err,
+        steps,
+    );
+}
+
+/// Runs a case over a session without tables and this output, with a counter of its own. It gives the status, and what
+/// was said on standard error.
+fn run_counted<O: Sink, L: Ledger>(
+    alloc: Global,
+    case: &Case,
+    out: &mut O,
     blank: Blank,
-) -> io::Result<Ending>
+) -> io::Result<(u8, MemorySink)>
     requires name { blank.name ≡ L.name }
     requires parts { blank.parts ≡ L.parts }
     requires some { 0 < blank.parts }
 {
+    let mut session = Session::new(alloc, Limits::standard(), None, false);
     let mut files = files_of(alloc, case)?;
-    let mut out = MemorySink::new(alloc);
-    out.fail_after(total);
     let mut err = MemorySink::new(alloc);
     let mut steps = Steps::<L>::start(blank);
+    run_before(alloc, case, &mut session, &mut files, &mut steps);
     let status = run(
         alloc,
+        &mut session,
         &case.words,
         &mut files,
-        &mut out,
+        out,
         &mut err,
         &mut steps,
     );
-    Ok(Ending { status, out, err })
+    Ok((status, err))
 }
 
 /// Runs a case over an output that fails after so many bytes.
 fn run_case(alloc: Global, case: &Case, total: u64) -> io::Result<Ending> {
-    run_counted::<Brand>(alloc, case, total, Blank::new(1))
+    let mut out = MemorySink::new(alloc);
+    out.fail_after(total);
+    let (status, err) = run_counted::<MemorySink, Brand>(alloc, case, &mut out, Blank::new(1))?;
+    Ok(Ending { status, out, err })
+}
+
+/// The first put of a run of the case that isn't one report.
+fn wrong_put(alloc: Global, case: &Case) -> io::Result<Option<usize>> {
+    let mut out = Puts::new(alloc);
+    run_counted::<Puts, Brand>(alloc, case, &mut out, Blank::new(1))?;
+    out.wrong_put(alloc)
 }
 
 /// Whether a whole run of the case is as it is to be.
@@ -113,6 +157,10 @@ fn try_case(rt: &HostRuntime, case: &Case) -> io::Result<bool> {
         let ending = run_case(rt.alloc(), case, u64::MAX)?;
         let wrote = String::from_utf8_lossy(rt.alloc(), ending.out.bytes())?;
         println!(rt; "{name}: status {}, and it wrote\n{wrote}", ending.status)?;
+        return Ok(false);
+    }
+    if let Some(number) = wrong_put(rt.alloc(), case)? {
+        println!(rt; "{name}: put {number} isn't one report")?;
         return Ok(false);
     }
     if let Some(total) = wrong_length(rt.alloc(), case)? {

@@ -1,4 +1,4 @@
-use Rattle.beas_cases.proofs.Steady.{no_fault, none_rose}
+use Rattle.beas_cases.proofs.Steady.{no_fault, none_at, none_rose}
 use Rattle.std.proofs.Common.{refl}
 use Rattle.beas_cases.proofs.run_steady.Goals as goal
 
@@ -10,3 +10,11 @@ returns-clause-sent g c = λ failed. none_rose (c.run.ensures.fault failed)
 
 pub returns-clause-complete : goal.returns-clause-complete
 returns-clause-complete g c = λ name named. c.run.ensures.complete name _ named refl refl none_rose none_rose
+
+pub returns-clause-complete_without : goal.returns-clause-complete_without
+returns-clause-complete_without g c = λ name named. c.run.ensures.complete_without name _ named refl refl none_rose
+
+pub returns-clause-loads : goal.returns-clause-loads
+returns-clause-loads g c =
+    let run = c.run.ensures.ran in
+    record { run = run; none = λ name. none_at _ (run.walked.follows.tied.failed name) }

@@ -1,18 +1,19 @@
-use Rattle.std.proofs.Common.{◌≡◌, ◌≤◌, ◌+◌, ◌++◌, ◌||◌, true, None, length, drop}
-use Rattle.beas_run.specs.Scripts.{readings_at, out_from, cost_from, refused_from}
+use Rattle.std.proofs.Common.{◌≡◌, drop}
+use Rattle.session.specs.Applied.{settings_of}
+use Rattle.session.specs.Ties.{seen}
+use Rattle.beas_run.specs.Scripts.{readings_at}
+use Rattle.beas_run.specs.Walks.{scene}
+use Rattle.beas_run.proofs.Reached.{Reached}
 use Rattle.beas_run.proofs.script.carry_out_all.Given as goal
 
--- what was done so far, and then what the pieces left do, is all of it
 abbrev pub invariant-loop-place : goal.invariant-loop-place
 invariant-loop-place g l =
-    let rest = readings_at l.tokens (drop l.place l.pieces) in
-    let all = readings_at l.tokens l.pieces in
+    let files_then = seen g.F.Files.told g.F.Files.content g.F.Files.faults g.F.Files.taken l.fn.files in
+    let files_now = seen g.F.Files.told g.F.Files.content g.F.Files.faults g.F.Files.taken l.files in
     record {
-      told : g.O.Sink.told l.out ≡ g.O.Sink.told l.fn.out;
-      sent : g.O.Sink.told l.fn.out ≡ true → g.O.Sink.sent l.out ++ out_from (l.place + 1) l.state rest ≡ g.O.Sink.sent l.fn.out ++ out_from 1 None all;
-      longer : g.O.Sink.told l.fn.out ≡ true → length (g.O.Sink.sent l.fn.out) ≤ length (g.O.Sink.sent l.out);
+      reached : Reached (settings_of l.fn.session) (readings_at l.tokens l.pieces) (readings_at l.tokens (drop l.place l.pieces)) l.place l.refused
+          (scene l.fn.session l.fn.steps (g.O.Sink.told l.fn.out) (g.O.Sink.sent l.fn.out) files_then)
+          (scene l.session l.steps (g.O.Sink.told l.out) (g.O.Sink.sent l.out) files_now);
+      settings : settings_of l.session ≡ settings_of l.fn.session;
       faults : g.O.Sink.faults l.out ≡ g.O.Sink.faults l.fn.out;
-      cost : l.steps + cost_from l.state rest ≡ l.fn.steps + cost_from None all;
-      no_fewer : l.fn.steps ≤ l.steps;
-      refused : (l.refused || refused_from l.state rest) ≡ refused_from None all;
     }

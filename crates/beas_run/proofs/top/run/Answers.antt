@@ -1,7 +1,12 @@
-use Rattle.beas_run.proofs.Complete.{completes}
+use Rattle.beas_run.proofs.Complete.{completes, completes_without}
 use Rattle.beas_run.proofs.top.run.Goals as goal
 
 pub returns-clause-complete : goal.returns-clause-complete
-returns-clause-complete g c =
+returns-clause-complete g c = λ name script named told is quiet out_quiet.
     let e = c.run_named.ensures in
-    completes _ _ _ _ _ _ _ _ _ _ e.statuses e.words_alone e.unread e.fault e.too_long e.not_text e.ran.0 e.ran.4
+    completes _ _ _ _ e.statuses e.words_alone e.unread e.too_long e.not_text name script named told is quiet (λ four. out_quiet (e.fault four))
+
+pub returns-clause-complete_without : goal.returns-clause-complete_without
+returns-clause-complete_without g c = λ name script named told is quiet.
+    let e = c.run_named.ensures in
+    completes_without _ _ _ _ e.statuses e.words_alone e.unread e.too_long e.not_text name script named told is quiet _ e.ran.has

@@ -1,21 +1,17 @@
-use Rattle.std.proofs.Common.{[]}
+use Rattle.std.proofs.Common.{refl}
 use Rattle.beas_run.specs.declared.top.NoScript.TheVariants.{Words}
-use Rattle.beas_run.proofs.Empty.{no_readings, ran_nothing, has_none, has_read, early_said}
-use Rattle.beas_run.specs.Scripts.{readings_of}
-use Rattle.beas_run.proofs.Reading.{found}
+use Rattle.beas_run.proofs.Empty.{ran_nothing, ran_script}
+use Rattle.beas_run.proofs.Reached.{same_later}
 use Rattle.beas_run.proofs.top.run_named.Goals as goal
 
 pub returns-in_default-clause-ran : goal.returns-in_default-clause-ran
-returns-in_default-clause-ran g c =
-    let early = early_said Words c.say.result c.say.ensures.status in
-    ([], [], no_readings, ran_nothing _ _ _ _ early, has_none _ _ _ _ early)
+returns-in_default-clause-ran g c = ran_nothing _ _ Words _ _ _ c.say.ensures.status (λ _. refl) refl refl (same_later _)
 
 pub returns-in-Err-clause-ran : goal.returns-in-Err-clause-ran
-returns-in-Err-clause-ran g c =
-    let early = early_said c.in-Err.why c.say-in-Err.result c.say-in-Err.ensures.status in
-    ([], [], no_readings, ran_nothing _ _ _ _ early, has_none _ _ _ _ early)
+returns-in-Err-clause-ran g c = ran_nothing _ _ c.in-Err.why _ _ _ c.say-in-Err.ensures.status (λ _. refl) refl refl c.in-Err.ensures.later
 
 pub returns-in-Ok-clause-ran : goal.returns-in-Ok-clause-ran
 returns-in-Ok-clause-ran g c =
     let e = c.in-Ok.ensures in
-    (c.in-Ok.bytes, readings_of c.in-Ok.bytes, found c.in-Ok.bytes, rw c.text_of.ensures at c.run_script.ensures.ran, has_read _ _ _ _ _ _ c.in-Some.ensures e.fits e.text e.content c.run_script.ensures.statuses)
+    let run = c.run_script.ensures in
+    ran_script _ _ _ _ c.in-Ok.bytes _ _ _ _ c.in-Some.ensures refl e.fits e.text e.content run.statuses e.later (rw c.text_of.ensures at run.walked)

@@ -1,0 +1,84 @@
+-- What tokens spell has no more parts than there are tokens, and those that a statement asks for.
+use Rattle.std.proofs.Common.{ℕ, ◌+◌, ◌-◌, ◌^◌, ◌<◌, ◌≤◌, List, [], ◌∷◌, ◌++◌, length, All, true, false, Ok, arith}
+use Rattle.std.proofs.lemmas.List.{length-append, length-map}
+use Rattle.std.proofs.lemmas.List.Elements.{All-cons, All-nil, All-weaker}
+use Rattle.sql_parser.specs.Outcome.{Parses}
+use Rattle.sql_text.specs.declared.token.Token.{Token}
+use Rattle.sql_tree.specs.declared.tree.Cond.{Cond}
+use Rattle.sql_tree.specs.declared.tree.Literal.{Literal}
+use Rattle.sql_tree.specs.declared.tree.Statement.{Statement}
+use Rattle.sql_tree.specs.Grammar.{Commas, last, comma, IsId, IsTuple, tuple, IsWhere, alone, no_join, joined_source, all_rows, all_columns, select_block, single, term, IsQuery, Spells, create_table, create_access, drop_access, load, insert, delete, discover_group, discover_pairs, select, explain, block_of}
+use Rattle.sql_tree.specs.Symbols.{Symbol, symbol_of, symbols}
+use Rattle.sql_tree.specs.Trees.{Tree, Block}
+use Rattle.sql_tree.specs.Words.{OPEN, CLOSE, COMMA, INSERT, INTO, VALUES, DELETE, FROM, SELECT, STAR}
+use Rattle.binder.specs.Binding.{blocks_of}
+use Rattle.binder.proofs.BindFacts.{all_of}
+use Rattle.binder.proofs.SpelledTrees.{IsFew, query_few}
+use Rattle.session.specs.Statements.{StatementIsWellFormed, TreeIsWellFormed}
+
+-- ---- lists
+
+module _ {X : Type 0} (Spelled : List Symbol → X → Type 0) where
+  commas_some : (a : List Symbol) (xs : List X) → Commas Spelled a xs → 1 ≤ length xs
+  commas_some a xs (last h) = omega arith
+  commas_some a xs (comma h hs) = omega arith
+
+  commas_few : (a : List Symbol) (xs : List X) → Commas Spelled a xs → length xs ≤ length a + 1
+  commas_few a xs (last h) = omega arith
+  commas_few a xs (comma {a = x} {b = y} {x = z} {xs = zs} h hs) = omega (arith, commas_few y zs hs, length-append x (COMMA ∷ y))
+
+  commas_all : (P : X → Type 0) (n : ℕ) → ((a : List Symbol) (x : X) → Spelled a x → length a ≤ n → P x)
+      → (a : List Symbol) (xs : List X) → Commas Spelled a xs → length a ≤ n → All P xs
+  commas_all P n each a xs (last {x = z} h) le = All-cons P z [] (each a z h le) (All-nil P)
+  commas_all P n each a xs (comma {a = x} {b = y} {x = z} {xs = zs} h hs) le =
+      let sum = length-append x (COMMA ∷ y) in
+      All-cons P z zs (each x z h (omega arith)) (commas_all P n each y zs hs (omega arith))
+
+tuple_few : (n : ℕ) (a : List Symbol) (literals : List Literal) → IsTuple a literals → length a ≤ n → length literals ≤ n
+tuple_few n a literals (tuple {a = inner} h) le = omega (arith, commas_few _ inner literals h, length-append (OPEN ∷ inner) (CLOSE ∷ []))
+
+-- ---- a DELETE has the conditions of a query over its table
+
+query_where : (a d : List Symbol) (t : List ℕ) (cs : List Cond) → IsId a t → IsWhere d cs
+    → IsQuery (((SELECT ∷ STAR ∷ []) ++ (FROM ∷ (a ++ []))) ++ d) (Block (block_of false true [] (((record { table = t; alias = t } ∷ []), []) ∷ []) cs))
+query_where a d t cs h w = term (single (select_block all_rows all_columns (last (joined_source (alone h) no_join)) w))
+
+where_few : (a d : List Symbol) (t : List ℕ) (cs : List Cond) → IsId a t → IsWhere d cs → length cs ≤ 3 + length a + length d
+where_few a d t cs h w =
+    let few = query_few _ _ (query_where a d t cs h w) in
+    let one : length cs ≤ length (((SELECT ∷ STAR ∷ []) ++ (FROM ∷ (a ++ []))) ++ d) = few.conditions.0 in
+    omega (arith, one, length-append ((SELECT ∷ STAR ∷ []) ++ (FROM ∷ (a ++ []))) d, length-append a [])
+
+-- ---- queries
+
+tree_is : (n : ℕ) (t : Tree) → IsFew n t → n < 2 ^ 32 → TreeIsWellFormed t
+tree_is n t few below = record {
+  few_blocks = omega (arith, few.blocks);
+  few_conditions = All-weaker (λ b. length b.conditions ≤ n) (λ b. length b.conditions < 2 ^ 32) (λ b le. omega (arith, le)) (blocks_of t)
+      (all_of (λ b. length b.conditions ≤ n) (blocks_of t) few.conditions);
+  some_table = all_of (λ b. 1 ≤ length b.from_items) (blocks_of t) few.atoms;
+}
+
+pub well_formed : (a : List Symbol) (s : Statement) → Spells a s → length a < 2 ^ 32 - 1 → StatementIsWellFormed s
+well_formed a s (create_table {b = y} {cs = columns} n h) le = commas_some _ y columns h
+well_formed a s (create_access {d = y} {fetched = fetched} n t key h) le = commas_some _ y fetched h
+well_formed a s (drop_access n) le = tt
+well_formed a s (load t) le = tt
+well_formed a s (insert {a = x} {b = y} {rows = rows} t h) le =
+    let sum = length-append (INSERT ∷ INTO ∷ x) (VALUES ∷ y) in
+    record {
+      few = omega (arith, commas_few _ y rows h);
+      narrow = commas_all IsTuple (λ literals. length literals < 2 ^ 32) (length y) (λ b literals t below. omega (arith, tuple_few (length y) b literals t below)) y rows h (omega arith);
+    }
+well_formed a s (delete {a = x} {b = y} {t = t} {cs = cs} n w) le =
+    omega (arith, where_few x y t cs n w, length-append (DELETE ∷ FROM ∷ x) y)
+well_formed a s (discover_group t key fetched) le = tt
+well_formed a s (discover_pairs t) le = tt
+well_formed a s (select {t = t} q d) le = tree_is (length a) t (query_few a t q) (omega arith)
+well_formed a s (explain {a = x} {t = t} q d) le = tree_is (length x) t (query_few x t q) (omega arith)
+
+-- the same of what the tokens of a piece are read as
+pub parsed_well : (tokens : List Token) (s : Statement) → Parses (symbols tokens) (Ok s) → length tokens < 2 ^ 32 - 1 → StatementIsWellFormed s
+parsed_well tokens s spelled few =
+    let same = length-map tokens (λ (token : Token). symbol_of token.kind token.text) in
+    well_formed (symbols tokens) s spelled.1 (omega arith)

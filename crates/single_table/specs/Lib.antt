@@ -1,3 +1,0 @@
-pub mod Queries
-pub mod Store
-pub mod Stretches
