@@ -1,6 +1,0 @@
-use Rattle.std.proofs.Common.{◌≡◌}
-use Rattle.beas_core.specs.Coverage.{grow_times}
-use Rattle.plain_cover.proofs.coverage.grow_often.Given as goal
-
-abbrev pub invariant-loop-turn : goal.invariant-loop-turn
-invariant-loop-turn l = l.set ≡ grow_times l._turn l.normal l.accesses l.start

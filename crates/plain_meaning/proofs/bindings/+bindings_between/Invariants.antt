@@ -1,5 +1,0 @@
-use Rattle.std.proofs.Common.{length}
-use Rattle.plain_meaning.proofs.bindings.+bindings_between.Given as goal
-
-abbrev pub decreases-bindings_between : goal.decreases-bindings_between
-decreases-bindings_between l = length l.classes.now

@@ -1,6 +1,0 @@
-use Rattle.std.proofs.Common.{◌≡◌, ◌++◌, map, take}
-use Rattle.beas_core.specs.Valuations.{bindings_of}
-use Rattle.plain_meaning.proofs.bindings.with_rows.Given as goal
-
-abbrev pub invariant-loop-row : goal.invariant-loop-row
-invariant-loop-row l = l.ways ≡ map (λ row. l.way ++ bindings_of l.normal l.accesses l.step row) (take l.row-index l.rows)

@@ -1,0 +1,41 @@
+//! Runs the reference programs on named cases of standard input, and prints what they give.
+//!
+//! For each case, in the words of `named_blocks`: of each block its classes and needed columns by atom, the covered classes, and
+//! the steps of its derivation with cost and size, or why it isn't covered; then of the query the announced number and the
+//! reads, where all blocks are covered, and in any case the rows of the full answer.
+#![tactic(auto)]
+
+mod shown;
+
+use named_blocks::{Wrong, cases_of};
+use shown::show_case;
+use std::io;
+
+fn out_of(wrong: &Wrong) -> io::Error {
+    match wrong {
+        Wrong::NoMemory => io::Error::from(io::ErrorKind::OutOfMemory),
+        Wrong::Line(_) => io::Error::from(io::ErrorKind::InvalidData),
+    }
+}
+
+fn main(rt: HostRuntime) -> io::Result<()> {
+    let mut text = String::new(rt.alloc());
+    for line in rt.lines(rt.alloc()) {
+        let line = line?;
+        text.push_str(line.as_str())?;
+        text.push('\n')?;
+    }
+    let cases = match cases_of(rt.alloc(), text.as_str()) {
+        Ok(cases) => cases,
+        Err(Wrong::Line(number)) => return println!(rt; "line {number} can't be read"),
+        Err(wrong) => return Err(out_of(&wrong)),
+    };
+    for case in cases.iter() {
+        match show_case(rt.alloc(), case) {
+            Ok(shown) => print!(rt; "{shown}")?,
+            Err(Wrong::Line(_)) => println!(rt; "case {} has no query", case.name)?,
+            Err(wrong) => return Err(out_of(&wrong)),
+        }
+    }
+    Ok(())
+}

@@ -1,0 +1,2 @@
+pub mod SetLengths
+pub mod Turns

@@ -1,0 +1,281 @@
+// The covered set, grown turn by turn, and the reason why a block isn't covered.
+ghost use Rattle.std.specs.Prelude.{◌≡◌, ◌<◌, ◌++◌, ◌&&◌, ◌==◌, not, map, find, length, IfOk, OnOk, option_map};
+ghost use Rattle.std.specs.List.{list_all, list_any};
+ghost use Rattle.std.specs.Option.{option_copied};
+ghost use Rattle.beas_core.specs.Coverage.{holds_classes, key_classes, fetched_classes, uses, grow, grow_times, covered_set, is_open, is_served, serves, holds_needed, needed_of, needed_places, atoms_of, is_covered, reason, class_at};
+ghost use Rattle.beas_core.specs.Groups.{has_column, member_columns};
+
+use crate::access_uses::{AccessUse, uses};
+use crate::classes::{class_at, class_of, has_class};
+use beas_core::{Access, ColumnId, List, NoMemory, Normal, NotCovered, Place};
+use std::alloc::Global;
+
+/// Whether a set holds the classes of some columns of an atom.
+pub fn holds_columns(normal: &Normal, set: &[bool], atom: u16, columns: &[ColumnId]) -> bool
+    ensures { result ≡ holds_classes set.now (map (class_at normal.now atom) columns.now) }
+{
+    columns
+        .iter()
+        .map(|column| class_at(normal, atom, *column))
+        .all(|class| has_class(set, class))
+}
+
+// Whether one of some columns of an atom has this class.
+fn some_has_class(normal: &Normal, atom: u16, columns: &[ColumnId], class: u16) -> bool
+    ensures { result ≡ list_any (λ d. d == class) (map (class_at normal.now atom) columns.now) }
+{
+    columns
+        .iter()
+        .map(|column| class_at(normal, atom, *column))
+        .any(|other| other == class)
+}
+
+// Whether a use adds this class, where the set holds its key.
+fn use_gives(normal: &Normal, set: &[bool], given: &AccessUse, class: u16) -> bool
+    ensures { result ≡ holds_classes set.now (key_classes normal.now given.now) && list_any (λ d. d == class) (fetched_classes normal.now given.now) }
+{
+    let key = given.access.key.as_slice();
+    let fetched = given.access.fetched.as_slice();
+    let enabled = holds_columns(normal, set, given.atom, key);
+    let fetches = some_has_class(normal, given.atom, fetched, class);
+    enabled & fetches
+}
+
+fn some_use_gives(normal: &Normal, set: &[bool], found: &[AccessUse], class: u16) -> bool
+    ensures { result ≡ list_any (λ u. holds_classes set.now (key_classes normal.now u) && list_any (λ d. d == class) (fetched_classes normal.now u)) found.now }
+{
+    found
+        .iter()
+        .any(|given| use_gives(normal, set, given, class))
+}
+
+// The set with all that each use adds to it.
+#[tactic(auto, using(reference_normal_form::proofs::ListSteps::range_map_step))]
+fn grow(
+    alloc: Global,
+    normal: &Normal,
+    accesses: &[Access],
+    found: &[AccessUse],
+    set: &[bool],
+) -> Result<List<bool>, NoMemory>
+    requires { found.now ≡ uses normal.now accesses.now }
+    ensures { IfOk result (λ more. more ≡ grow normal.now accesses.now set.now) }
+{
+    let mut more = List::new(alloc);
+    for class in 0..normal.count {
+        let held = has_class(set, class);
+        let given = some_use_gives(normal, set, found, class);
+        more.push(held | given)?;
+    }
+    Ok(more)
+}
+
+/// The least set of classes that holds the start and is closed under the constraints.
+#[tactic(auto, unfolding(beas_core::specs::Coverage::covered_set))]
+pub fn covered_set(
+    alloc: Global,
+    normal: &Normal,
+    accesses: &[Access],
+    start: &[bool],
+) -> Result<List<bool>, NoMemory>
+    requires { length normal.now.atoms < 65536 }
+    ensures { IfOk result (λ set. set ≡ covered_set normal.now accesses.now start.now) }
+{
+    let found = uses(alloc, normal, accesses)?;
+    let mut set = List::from_vec(start.to_vec(alloc)?);
+    for _turn in 0..normal.count {
+        set = grow(alloc, normal, accesses, found.as_slice(), set.as_slice())?;
+    }
+    Ok(set)
+}
+
+// Whether one of two lists of columns has a column.
+fn has_column(key: &[ColumnId], fetched: &[ColumnId], column: ColumnId) -> bool
+    ensures { result ≡ has_column (key.now ++ fetched.now) column }
+{
+    key.iter()
+        .chain(fetched.iter())
+        .any(|other| other.0 == column.0)
+}
+
+/// Whether these key and fetched columns hold all needed columns of an atom.
+pub fn columns_hold_needed(
+    normal: &Normal,
+    atom: u16,
+    key: &[ColumnId],
+    fetched: &[ColumnId],
+) -> bool
+    ensures { result ≡ list_all (has_column (key.now ++ fetched.now)) (needed_of normal.now atom) }
+{
+    match normal.needed.as_slice().get(usize::from(atom)) {
+        Some(needed) => needed
+            .as_slice()
+            .iter()
+            .all(|column| has_column(key, fetched, *column)),
+        None => true,
+    }
+}
+
+/// Whether a use of a constraint serves its atom.
+pub fn serves(normal: &Normal, set: &[bool], given: &AccessUse) -> bool
+    ensures { result ≡ serves normal.now set.now given.now }
+{
+    let key = given.access.key.as_slice();
+    let fetched = given.access.fetched.as_slice();
+    let held = holds_columns(normal, set, given.atom, key);
+    let whole = columns_hold_needed(normal, given.atom, key, fetched);
+    held & whole
+}
+
+/// Whether a use is on this atom and serves it.
+pub fn serves_atom(normal: &Normal, set: &[bool], given: &AccessUse, atom: u16) -> bool
+    ensures { result ≡ (given.now.atom == atom) && serves normal.now set.now given.now }
+{
+    let here = given.atom == atom;
+    let served = serves(normal, set, given);
+    here & served
+}
+
+fn is_served(
+    normal: &Normal,
+    accesses: &[Access],
+    found: &[AccessUse],
+    set: &[bool],
+    atom: u16,
+) -> bool
+    requires { found.now ≡ uses normal.now accesses.now }
+    ensures { result ≡ is_served normal.now accesses.now set.now atom }
+{
+    found
+        .iter()
+        .any(|given| serves_atom(normal, set, given, atom))
+}
+
+fn push_places(places: &mut List<Place>, atom: u16, columns: &[ColumnId]) -> Result<(), NoMemory>
+    ensures { OnOk result (places.new ≡ places.old ++ map (λ c. record { atom = atom; column = c }) columns.now) }
+{
+    for column in columns {
+        places.push(Place {
+            atom,
+            column: *column,
+        })?;
+    }
+    Ok(())
+}
+
+fn needed_places(alloc: Global, normal: &Normal) -> Result<List<Place>, NoMemory>
+    requires { length normal.now.needed < 65536 }
+    ensures { IfOk result (λ places. places ≡ needed_places normal.now) }
+{
+    let mut places = List::new(alloc);
+    for (atom, columns) in normal.needed.as_slice().iter().enumerate() {
+        push_places(&mut places, atom as u16, columns.as_slice())?;
+    }
+    Ok(places)
+}
+
+fn first_open<'a>(normal: &Normal, set: &[bool], places: &'a [Place]) -> Option<&'a Place>
+    ensures { option_copied result ≡ find (is_open normal.now set.now) places.now }
+{
+    places
+        .iter()
+        .find(|place| !has_class(set, class_of(normal, **place)))
+}
+
+/// The atoms of a block, by number.
+#[tactic(auto, using(reference_normal_form::proofs::ListSteps::range_step))]
+pub fn atoms_of(alloc: Global, normal: &Normal) -> Result<Vec<u16>, NoMemory>
+    requires { length normal.now.atoms < 65536 }
+    ensures { IfOk result (λ numbers. numbers.items ≡ atoms_of normal.now) }
+{
+    let mut numbers = Vec::new(alloc);
+    for atom in 0..normal.atoms.len() as u16 {
+        numbers.push(atom)?;
+    }
+    Ok(numbers)
+}
+
+fn first_unserved<'a>(
+    normal: &Normal,
+    accesses: &[Access],
+    found: &[AccessUse],
+    set: &[bool],
+    atoms: &'a [u16],
+) -> Option<&'a u16>
+    requires { found.now ≡ uses normal.now accesses.now }
+    ensures { option_copied result ≡ find (λ atom. not (is_served normal.now accesses.now set.now atom)) atoms.now }
+{
+    atoms
+        .iter()
+        .find(|atom| !is_served(normal, accesses, found, set, **atom))
+}
+
+/// The first needed column whose class isn't in the set, else the first atom that no constraint serves.
+#[tactic(auto, unfolding(beas_core::specs::Coverage::reason))]
+pub fn reason(
+    alloc: Global,
+    normal: &Normal,
+    accesses: &[Access],
+    set: &[bool],
+) -> Result<Option<NotCovered>, NoMemory>
+    requires atoms { length normal.now.atoms < 65536 }
+    requires needed { length normal.now.needed < 65536 }
+    ensures { IfOk result (λ why. why ≡ reason normal.now accesses.now set.now) }
+{
+    let places = needed_places(alloc, normal)?;
+    let found = uses(alloc, normal, accesses)?;
+    let atoms = atoms_of(alloc, normal)?;
+    let open = first_open(normal, set, places.as_slice());
+    let unserved = first_unserved(normal, accesses, found.as_slice(), set, &atoms);
+    match (open, unserved) {
+        (Some(place), _) => Ok(Some(NotCovered::ColumnOpen {
+            atom: place.atom,
+            column: place.column,
+        })),
+        (None, Some(atom)) => Ok(Some(NotCovered::AtomUnindexed { atom: *atom })),
+        (None, None) => Ok(None),
+    }
+}
+
+fn all_served(
+    normal: &Normal,
+    accesses: &[Access],
+    found: &[AccessUse],
+    set: &[bool],
+    atoms: &[u16],
+) -> bool
+    requires { found.now ≡ uses normal.now accesses.now }
+    ensures { result ≡ list_all (is_served normal.now accesses.now set.now) atoms.now }
+{
+    atoms
+        .iter()
+        .all(|atom| is_served(normal, accesses, found, set, *atom))
+}
+
+/// Whether the set holds each needed column's class, and each atom has a constraint that serves it.
+#[tactic(auto, unfolding(beas_core::specs::Coverage::is_covered))]
+pub fn is_covered(
+    alloc: Global,
+    normal: &Normal,
+    accesses: &[Access],
+    set: &[bool],
+) -> Result<bool, NoMemory>
+    requires atoms { length normal.now.atoms < 65536 }
+    requires needed { length normal.now.needed < 65536 }
+    ensures { IfOk result (λ covered. covered ≡ is_covered normal.now accesses.now set.now) }
+{
+    let places = needed_places(alloc, normal)?;
+    let found = uses(alloc, normal, accesses)?;
+    let atoms = atoms_of(alloc, normal)?;
+    let open = some_open(normal, set, places.as_slice());
+    let served = all_served(normal, accesses, found.as_slice(), set, &atoms);
+    Ok(!open & served)
+}
+
+fn some_open(normal: &Normal, set: &[bool], places: &[Place]) -> bool
+    ensures { result ≡ list_any (is_open normal.now set.now) places.now }
+{
+    places
+        .iter()
+        .any(|place| !has_class(set, class_of(normal, *place)))
+}

@@ -1,0 +1,37 @@
+// Rows, tables and sets in order.
+ghost use Rattle.std.specs.Prelude.{◌≡◌, pos, slice_index_or};
+ghost use Rattle.beas_core.specs.declared.value.Value.TheVariants.{Int as Number};
+ghost use Rattle.beas_core.specs.Order.{row_cmp};
+ghost use Rattle.beas_core.specs.Sets.{distinct};
+ghost use Rattle.beas_core.specs.Groups.{value_at};
+ghost use Rattle.reference_evaluation.specs.Tables.{rows_in};
+
+use beas_core::{ColumnId, List, Row, TableId, Value, sort_distinct};
+
+/// The rows as a set in order.
+pub fn distinct_rows(rows: List<Row>) -> List<Row>
+    ensures { result ≡ distinct row_cmp rows }
+{
+    List::from_vec(sort_distinct(rows.into_vec()))
+}
+
+/// The rows of a table.
+pub fn rows_of(tables: &[List<Row>], id: TableId) -> &[Row]
+    ensures { result.now ≡ rows_in tables.now id }
+{
+    match tables.get(id.0 as usize) {
+        Some(rows) => rows.as_slice(),
+        None => &[],
+    }
+}
+
+/// A column's value in a row. `zero` stands where the row has no such column.
+pub fn value_or<'a>(row: &'a [Value], column: ColumnId, zero: &'a Value) -> &'a Value
+    requires { zero.now ≡ Number (pos 0) }
+    ensures { result.now ≡ value_at row.now column }
+{
+    match row.get(column.0 as usize) {
+        Some(value) => value,
+        None => zero,
+    }
+}

@@ -1,0 +1,7 @@
+use Rattle.std.proofs.Common.{◌≡◌, ◌++◌, ◌∷◌, take}
+use Rattle.std.specs.List.{flat_map}
+use Rattle.beas_core.specs.Classes.{operand_places}
+use Rattle.reference_normal_form.proofs.needed.push_comparisons.Given as goal
+
+abbrev pub invariant-loop-comparison : goal.invariant-loop-comparison
+invariant-loop-comparison l = l.places ≡ l.initial.places ++ flat_map (λ c. c.left ∷ operand_places c.right) (take l.comparison-index l.comparisons)
