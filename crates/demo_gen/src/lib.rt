@@ -1,0 +1,12 @@
+//! The script of the demonstration: tables of persons, cafés and meals, and queries over them, drawn from a seed.
+#![tactic(auto)]
+
+mod draws;
+mod inserts;
+mod queries;
+mod script;
+mod summary;
+mod texts;
+
+pub use script::demo;
+pub use summary::{Outcome, Summary};
