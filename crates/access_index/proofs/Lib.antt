@@ -4,4 +4,5 @@ pub mod Holding
 pub mod Indexing
 pub mod Places
 pub mod Reading
+pub mod Sorting
 pub mod Storing

@@ -1,5 +1,5 @@
 // The index of one access constraint.
-ghost use Rattle.std.specs.Prelude.{◌≡◌, ◌+◌, ◌<◌, ◌≤◌, ◌^◌, ◌⊎◌, ◌↔◌, ◌++◌, ◌∷◌, [], ℕ, List, length, take, max, slice_index_or, IsTrue, IfOk, OnOk, OnErr};
+ghost use Rattle.std.specs.Prelude.{◌≡◌, ◌+◌, ◌<◌, ◌≤◌, ◌^◌, ◌⊎◌, ◌↔◌, ◌++◌, ◌∷◌, [], ℕ, List, length, map, take, max, slice_index_or, IsTrue, IfOk, OnOk, OnErr};
 ghost use Rattle.beas_core.specs.declared.value.Value.{Value as Cell};
 ghost use Rattle.beas_core.specs.Groups.{Holds, greatest, group_of, member_columns, has_column, value_in};
 ghost use Rattle.beas_core.specs.Order.{row_cmp};
@@ -8,6 +8,7 @@ ghost use Rattle.access_index.specs.Buckets.{tuples_in, IsBest};
 ghost use Rattle.access_index.specs.Index.{IsIndexOf, WouldHold, members_at, stands_at};
 
 use crate::bucket::{Bucket, count_down, count_up, front, group_in, of_one, search};
+use crate::lending::lend_in_order;
 use crate::values::{Given, Picked, hash_values};
 use beas_core::{Access, ColumnId, Hits, List, NoMemory, Row, Steps, Value};
 use indexmap::IndexMap;
@@ -106,7 +107,8 @@ fn value_of<'a>(columns: &[ColumnId], tuple: &'a [Value], column: ColumnId) -> &
 }
 
 impl AccessIndex {
-    /// The index of these rows, whether or not the constraint holds over them. It reads each row once.
+    /// The index of these rows, whether or not the constraint holds over them. It reads each row once. The rows go in
+    /// in the order of their tuples, so that each comes to the end of its bucket.
     pub fn build<L: Ledger>(
         alloc: Global,
         access: Access,
@@ -120,16 +122,28 @@ impl AccessIndex {
         ensures no_fewer { steps.old ≤ steps.new }
     {
         let columns = joined_columns(alloc, &access)?;
+        let lent = lend_in_order(alloc, rows, columns.as_slice(), steps)?;
         let mut index = AccessIndex {
             access,
             columns,
             total: 0,
             buckets: IndexMap::new(alloc),
         };
-        for i in 0..rows.len() {
-            index.add(alloc, rows.row(i, steps))?;
-        }
+        index.add_all(alloc, lent.as_slice())?;
         Ok(index)
+    }
+
+    /// Counts the first rows of an index.
+    fn add_all(&mut self, alloc: Global, rows: &[&Row]) -> Result<(), NoMemory>
+        requires none { IsIndexOf self.old [] }
+        requires few { length rows.now < 2 ^ 32 }
+        ensures access { self.new.access ≡ self.old.access }
+        ensures index { OnOk result (IsIndexOf self.new (map (λ row. row.now) rows.now)) }
+    {
+        for row in rows {
+            self.add(alloc, row)?;
+        }
+        Ok(())
     }
 
     /// The constraint. It takes no memory.

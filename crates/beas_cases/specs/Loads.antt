@@ -3,11 +3,12 @@
 --     NoneFailed ..          a run in which no read of a LOAD failed, so that none was reported as unreadable
 use Rattle.std.specs.Prelude.{◌≡◌, ℕ, true, List, [], Some, unwrap_or}
 use Rattle.beas_core.specs.declared.limits.Limits.{Limits}
+use Rattle.command_words.specs.Words.{args_of}
 use Rattle.outside.specs.declared.memory_files.SteadyFiles.{SteadyFiles}
 use Rattle.outside.specs.Contents.{content_of}
 use Rattle.session.specs.Ties.{Seen, failures}
 use Rattle.session.specs.Turns.{reads_of}
-use Rattle.beas_run.specs.Runs.{HasRun, settings_of_words}
+use Rattle.beas_run.specs.Runs.{HasRun, outcomes_in, settings_of_words}
 use Rattle.beas_run.specs.Scripts.{turns}
 use Rattle.beas_run.specs.Walks.{Scene}
 
@@ -17,4 +18,4 @@ steady files = record { told = true; content = λ name. Some (unwrap_or (content
 pub record NoneFailed (limits : Limits) (words : List (List ℕ)) (status : ℕ) (before after : Scene) : Type 0 where
   pub run : HasRun limits words status before after
   pub none : (name : List ℕ)
-      → failures name (reads_of (turns (settings_of_words limits words) before.db run.readings run.walked.outcomes)) ≡ 0
+      → failures name (reads_of (turns (settings_of_words limits words) before.db run.readings (outcomes_in (args_of words) run.walked))) ≡ 0

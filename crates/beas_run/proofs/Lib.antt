@@ -1,4 +1,5 @@
 mod Complete
+mod Counted
 mod Counting
 mod Empty
 mod Pieces

@@ -1,0 +1,4 @@
+mod Ids
+mod Lent
+mod Members
+mod Tables
