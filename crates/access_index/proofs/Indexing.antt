@@ -8,6 +8,8 @@ use Rattle.std.specs.declared.cmp.Ordering.TheVariants.{Less}
 use Rattle.std.specs.List.{filter, flat_map, AllByRecursion}
 use Rattle.std.specs.Map.{values_of, lookup}
 use Rattle.std.proofs.lemmas.List.{take_at, length-append, length-map}
+use Rattle.std.specs.List.Sorted.{IsPermutation}
+use Rattle.std.proofs.lemmas.List.Sorted.{sum_by-IsPermutation, length_permutation}
 use Rattle.std.proofs.lemmas.List.Sums.{sum_by-append, sum_by-cons}
 use Rattle.beas_core.specs.declared.value.Value.{Value}
 use Rattle.beas_core.specs.declared.schema.Access.{Access}
@@ -192,6 +194,27 @@ module _ (access : Access) (n total : ℕ) (entries : List (ℕ × List Tally)) 
               (ap (λ k. count_in (bucket_at entries (hash_of k)) x) (sym (same_row_true (take (length access.key) x) key e)) ∙ counts x)
           alike x false e =
               ap (λ b. cond b (count_in (bucket_at entries (hash_of key)) x) 0) e ∙ sym (ap (λ b. cond b (rows_with access rows x) 0) e)
+
+-- in whatever order the rows stand
+module _ (access : Access) (xs ys : List (List Value)) (same : IsPermutation xs ys) where
+  rows_with_any : (x : List Value) → rows_with access ys x ≡ rows_with access xs x
+  rows_with_any x = sum_by-IsPermutation (λ r. cond {A = ℕ} (same_row (tuple_of access r) x) 1 0) xs ys same
+
+  index_of_any : (key : List Value) → index_of access xs key ≡ index_of access ys key
+  index_of_any key =
+      let w = length access.key in
+      same_counts (index_of access xs key) (index_of access ys key)
+      (subst (IsInOrder row_cmp) (sym (group_tuples access xs key)) (group_in_order access xs key key))
+      (subst (IsInOrder row_cmp) (sym (group_tuples access ys key)) (group_in_order access ys key key))
+      (counted_map access xs key (group_of xs access key) (λ x h. h)) (counted_map access ys key (group_of ys access key) (λ x h. h))
+      (λ x. index_count access xs key x
+      ∙ ap (λ n. cond (same_row (take w x) key) n 0) (sym (rows_with_any x)) ∙ sym (index_count access ys key x))
+
+pub index_of_permutation : (index : Index) (xs ys : List (List Value)) → IsPermutation xs ys → IsIndexOf index xs → IsIndexOf index ys
+index_of_permutation index xs ys p is = record {
+  tallies_are = λ key. is.tallies_are key ∙ index_of_any index.access xs ys p key;
+  total_is = is.total_is ∙ sym (length_permutation xs ys p);
+}
 
 -- the greatest group
 pub record IsReachedIn (w : ℕ) (buckets : List (List Tally)) (best : ℕ) : Type 0 where

@@ -1,7 +1,10 @@
 pub mod Changing
 pub mod Counting
+pub mod FewerRows
+pub mod Growing
 pub mod Holding
 pub mod Indexing
 pub mod Places
 pub mod Reading
+pub mod Sorting
 pub mod Storing

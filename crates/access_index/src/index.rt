@@ -1,5 +1,5 @@
 // The index of one access constraint.
-ghost use Rattle.std.specs.Prelude.{◌≡◌, ◌+◌, ◌<◌, ◌≤◌, ◌^◌, ◌⊎◌, ◌↔◌, ◌++◌, ◌∷◌, [], ℕ, List, length, take, max, slice_index_or, IsTrue, IfOk, OnOk, OnErr};
+ghost use Rattle.std.specs.Prelude.{◌≡◌, ◌+◌, ◌<◌, ◌≤◌, ◌^◌, ◌⊎◌, ◌↔◌, ◌++◌, ◌∷◌, [], ℕ, List, length, map, take, max, slice_index_or, if◌then◌else◌, IsTrue, IfOk, OnOk, OnErr};
 ghost use Rattle.beas_core.specs.declared.value.Value.{Value as Cell};
 ghost use Rattle.beas_core.specs.Groups.{Holds, greatest, group_of, member_columns, has_column, value_in};
 ghost use Rattle.beas_core.specs.Order.{row_cmp};
@@ -8,6 +8,7 @@ ghost use Rattle.access_index.specs.Buckets.{tuples_in, IsBest};
 ghost use Rattle.access_index.specs.Index.{IsIndexOf, WouldHold, members_at, stands_at};
 
 use crate::bucket::{Bucket, count_down, count_up, front, group_in, of_one, search};
+use crate::lending::{Lent, lend_in_order, lend_new_in_order};
 use crate::values::{Given, Picked, hash_values};
 use beas_core::{Access, ColumnId, Hits, List, NoMemory, Row, Steps, Value};
 use indexmap::IndexMap;
@@ -106,7 +107,8 @@ fn value_of<'a>(columns: &[ColumnId], tuple: &'a [Value], column: ColumnId) -> &
 }
 
 impl AccessIndex {
-    /// The index of these rows, whether or not the constraint holds over them. It reads each row once.
+    /// The index of these rows, whether or not the constraint holds over them. It reads each row once. The rows go in
+    /// in the order of their tuples, so that each comes to the end of its bucket.
     pub fn build<L: Ledger>(
         alloc: Global,
         access: Access,
@@ -120,16 +122,28 @@ impl AccessIndex {
         ensures no_fewer { steps.old ≤ steps.new }
     {
         let columns = joined_columns(alloc, &access)?;
+        let lent = lend_in_order(alloc, rows, columns.as_slice(), steps)?;
         let mut index = AccessIndex {
             access,
             columns,
             total: 0,
             buckets: IndexMap::new(alloc),
         };
-        for i in 0..rows.len() {
-            index.add(alloc, rows.row(i, steps))?;
-        }
+        index.add_all(alloc, lent.as_slice())?;
         Ok(index)
+    }
+
+    /// Counts the first rows of an index.
+    fn add_all(&mut self, alloc: Global, rows: &[Lent]) -> Result<(), NoMemory>
+        requires none { IsIndexOf self.old [] }
+        requires few { length rows.now < 2 ^ 32 }
+        ensures access { self.new.access ≡ self.old.access }
+        ensures index { OnOk result (IsIndexOf self.new (map (λ lent. lent.row.now) rows.now)) }
+    {
+        for lent in rows {
+            self.add(alloc, lent.row)?;
+        }
+        Ok(())
     }
 
     /// The constraint. It takes no memory.
@@ -240,6 +254,71 @@ impl AccessIndex {
         }
         self.buckets.swap_remove(&hash);
         self.total -= 1;
+    }
+
+    /// Counts rows that come after all others where the constraint holds with them all, and else none of them. They
+    /// go in in the order of their tuples, so that each is searched close to the one before it. After an error the
+    /// index counts what it counted before.
+    pub fn add_rows(&mut self, alloc: Global, rows: &[Row]) -> Result<bool, NoMemory>
+        requires { self.old.total + length rows.now < 2 ^ 32 }
+        ensures access { self.new.access ≡ self.old.access }
+        ensures index { IfOk result (λ all. (front : List (List Cell)) → IsIndexOf self.old front
+            → IsIndexOf self.new (if all then front ++ rows.now else front)) }
+        ensures holds { IfOk result (λ all. (front : List (List Cell)) → IsIndexOf self.old front
+            → Holds front self.old.access → (IsTrue all ↔ Holds (front ++ rows.now) self.old.access)) }
+        ensures err { OnErr result ((front : List (List Cell)) → IsIndexOf self.old front
+            → IsIndexOf self.new front) }
+    {
+        let lent = lend_new_in_order(alloc, rows, self.columns.as_slice())?;
+        self.add_in_turn(alloc, lent.as_slice())
+    }
+
+    /// Counts rows that come after all others, one by one, where the constraint holds with them all, and else none of
+    /// them.
+    fn add_in_turn(&mut self, alloc: Global, rows: &[Lent]) -> Result<bool, NoMemory>
+        requires { self.old.total + length rows.now < 2 ^ 32 }
+        ensures access { self.new.access ≡ self.old.access }
+        ensures index { IfOk result (λ all. (front : List (List Cell)) → IsIndexOf self.old front
+            → IsIndexOf self.new (if all then front ++ map (λ lent. lent.row.now) rows.now else front)) }
+        ensures holds { IfOk result (λ all. (front : List (List Cell)) → IsIndexOf self.old front
+            → Holds front self.old.access
+            → (IsTrue all ↔ Holds (front ++ map (λ lent. lent.row.now) rows.now) self.old.access)) }
+        ensures err { OnErr result ((front : List (List Cell)) → IsIndexOf self.old front
+            → IsIndexOf self.new front) }
+    {
+        for (i, lent) in rows.iter().enumerate() {
+            if !self.would_hold(lent.row) {
+                self.remove_lent(&rows[..i]);
+                return Ok(false);
+            }
+            if let Err(why) = self.add(alloc, lent.row) {
+                self.remove_lent(&rows[..i]);
+                return Err(why);
+            }
+        }
+        Ok(true)
+    }
+
+    /// Counts rows fewer, which came after all others. It takes no memory.
+    fn remove_lent(&mut self, rows: &[Lent])
+        ensures access { self.new.access ≡ self.old.access }
+        ensures rest { (front : List (List Cell)) → IsIndexOf self.old (front ++ map (λ lent. lent.row.now) rows.now)
+            → IsIndexOf self.new front }
+    {
+        for lent in rows {
+            self.remove(lent.row);
+        }
+    }
+
+    /// Counts rows fewer, which came after all others. It takes no memory.
+    pub fn remove_rows(&mut self, rows: &[Row])
+        ensures access { self.new.access ≡ self.old.access }
+        ensures rest { (front : List (List Cell)) → IsIndexOf self.old (front ++ rows.now)
+            → IsIndexOf self.new front }
+    {
+        for row in rows {
+            self.remove(row);
+        }
     }
 
     /// The group of a key, counted: the greater of 1 and the number of its tuples. It takes no memory.

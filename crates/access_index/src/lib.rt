@@ -4,6 +4,7 @@
 
 mod bucket;
 mod index;
+mod lending;
 mod tally;
 mod values;
 

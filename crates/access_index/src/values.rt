@@ -61,7 +61,7 @@ impl Values for Picked<'_> {
 }
 
 /// The order of a value and one that may be absent.
-fn compare_filled(left: &Value, right: Option<&Value>) -> Ordering
+pub fn compare_filled(left: &Value, right: Option<&Value>) -> Ordering
     ensures { result ≡ value_cmp left.now (filled (option_copied right.entry)) }
 {
     match right {

@@ -1,10 +1,12 @@
 -- Constraints over rows that come: which is broken first, and that the others hold.
-use Rattle.std.proofs.Common.{◌≡◌, ◌∙◌, ◌<◌, ◌≤◌, ◌+◌, ◌==◌, ℕ, zero, suc, Bool, true, false, not, cond, List, [], ◌∷◌, ◌++◌, drop, length, get_or, set, ap, refl, sym, subst, arith, true≢false, inl, inr, Option, Some, None, add-one}
-use Rattle.std.specs.Prelude.{filter, find, All, IsTrue, ◌↔◌}
+use Rattle.std.proofs.Common.{◌≡◌, ◌∙◌, ◌<◌, ◌≤◌, ◌+◌, ◌==◌, ℕ, zero, suc, Bool, true, false, not, cond, List, [], ◌∷◌, ◌++◌, map, take, drop, length, get_or, set, ap, refl, sym, subst, arith, true≢false, inl, inr, Option, Some, None, add-one, append_assoc}
+use Rattle.std.specs.Prelude.{filter, find, All, IsTrue, ◌↔◌, option_map}
+use Rattle.std.specs.List.{enumerate_from}
+use Rattle.std.specs.Option.{option_or, is_none}
 use Rattle.std.proofs.Math.Seq.{drop-cons}
 use Rattle.std.proofs.Math.ListN.{drop_of_length-le}
 use Rattle.std.proofs.lemmas.Bool.{leb-true, le-leb, false_from_ne_true, cases_eq, eq-eqb, lt-leb}
-use Rattle.std.proofs.lemmas.List.{get_or-set_same, get_or-set_other, length-map, get_or-map, get_or_default}
+use Rattle.std.proofs.lemmas.List.{get_or-set_same, get_or-set_other, length-map, get_or-map, get_or_default, take-append-drop}
 use Rattle.std.proofs.lemmas.List.Elements.{All-filter}
 use Rattle.beas_core.specs.declared.schema.Access.{Access}
 use Rattle.beas_core.specs.declared.schema.TableId.{TableId}
@@ -14,9 +16,11 @@ use Rattle.beas_core.proofs.Groups.{greatest-from_Holds, Holds-from_greatest}
 use Rattle.catalogue.specs.Schema.{access_with_id, accesses_on}
 use Rattle.catalogue.specs.Kept.{ids_on}
 use Rattle.beas_core.specs.declared.refusal.Refusal.TheVariants.{AlreadyBroken}
-use Rattle.catalogue.specs.Refusing.{holds, broken, already_broken, refused_if}
+use Rattle.beas_core.specs.declared.refusal.Refusal.{Refusal}
+use Rattle.catalogue.specs.Refusing.{holds, broken, broken_bound, breaks_bound, first_of, already_broken, refused_if}
 use Rattle.catalogue.proofs.ListFacts.{find_none}
 use Rattle.access_index.specs.Index.{Index, IsIndexOf}
+use Rattle.access_index.proofs.FewerRows.{Holds-front}
 use Rattle.update_guard.specs.Guarding.{HoldOver, IndexesOf}
 use Rattle.update_guard.specs.Indexing.{IsPlaceOn, no_access}
 use Rattle.update_guard.proofs.IndexFacts.{IsOwn, own}
@@ -66,17 +70,46 @@ hold_after accesses rows table own hold live none i d l = elim (cases_eq (get_or
   | inr n ↦ subst (λ (rs : List Row). Holds rs (get_or accesses i d)) (sym (get_or-set_other rows table.0 (get_or accesses i d).table.0 own [] n)) (hold i d l)
 ]
 
+-- where none is broken by all rows, none is by the first ones
+unbroken_front : (accesses : List Access) (front back : List Row) → broken accesses (front ++ back) ≡ None → broken accesses front ≡ None
+unbroken_front [] front back e = refl
+unbroken_front (a ∷ more) front back e = by (not (holds (front ++ back) a)) refl e (unbroken_front more front back)
+  where
+    by : (b : Bool) → not (holds (front ++ back) a) ≡ b → cond b (Some a) (broken more (front ++ back)) ≡ None
+        → (broken more (front ++ back) ≡ None → broken more front ≡ None) → broken (a ∷ more) front ≡ None
+    by true t f rest = cc
+    by false t f rest =
+        let held = true_from (holds (front ++ back) a) t in
+        let whole = Holds-from_greatest (front ++ back) a (leb-true (greatest (front ++ back) a.key a.fetched) a.bound held) in
+        ap (λ b. cond (not b) (Some a) (broken more front)) (holds_where front a (Holds-front front back a whole)) ∙ rest f
+
+first_of_none : {X : Type 0} (F : X → Option Refusal) → ((x : X) → F x ≡ None) → (xs : List X) → first_of (map F xs) ≡ None
+first_of_none F none [] = refl
+first_of_none F none (x ∷ xs) = ap (λ r. option_or r (first_of (map F xs))) (none x) ∙ first_of_none F none xs
+
+-- and no row is refused
+pub none_refused : (accesses : List Access) (own rows : List Row) → broken accesses (own ++ rows) ≡ None → broken_bound accesses own rows ≡ None
+none_refused accesses own rows e =
+    first_of_none (λ r. option_map (breaks_bound r) (broken accesses (own ++ take r.0 rows)))
+    (λ r. let split = append_assoc own (take r.0 rows) (drop r.0 rows) ∙ ap (λ rs. own ++ rs) (take-append-drop r.0 rows) in
+    ap (option_map (breaks_bound r)) (unbroken_front accesses (own ++ take r.0 rows) (drop r.0 rows) (ap (broken accesses) split ∙ e)))
+    (enumerate_from 1 rows)
+
+pub none_of : {X : Type 0} (o : Option X) → is_none o ≡ true → o ≡ None
+none_of None e = refl
+none_of (Some x) e = cc
+
 answers : (rows : List Row) (a : Access) (answer : Bool) → (IsTrue answer → Holds rows a) → (Holds rows a → IsTrue answer) → holds rows a ≡ answer
 answers rows a true to from = holds_where rows a (to refl)
 answers rows a false to from = fails_where rows a (λ h. true≢false (sym (from h)))
 
--- what the index of a table's constraint number k tells of one row more
-pub judged : (accesses : List Access) (table : TableId) (rows : List (List Row)) (row : Row) (k place : ℕ) (indexes : List Index) (index : Index) (answer : Bool)
-    → IsPlaceOn accesses table.0 k place → k < length (ids_on accesses table.0) → IndexesOf accesses rows indexes → HoldOver accesses rows → index ≡ get_or indexes place index
-    → ((rs : List Row) → IsIndexOf index rs → Holds rs index.access → (IsTrue answer ↔ Holds (rs ++ row ∷ []) index.access))
-    → broken_from (accesses_on accesses table) (get_or rows table.0 [] ++ row ∷ []) k
-    ≡ cond (not answer) (Some (get_or accesses place no_access)) (broken_from (accesses_on accesses table) (get_or rows table.0 [] ++ row ∷ []) (k + 1))
-judged accesses table rows row k place indexes index answer p h indexed hold is tells =
+-- what the index of a table's constraint number k tells of more rows
+pub judged : (accesses : List Access) (table : TableId) (rows : List (List Row)) (more : List Row) (k place : ℕ)
+    (indexes : List Index) (index : Index) (answer : Bool) → IsPlaceOn accesses table.0 k place → k < length (ids_on accesses table.0) → IndexesOf accesses rows indexes → HoldOver accesses rows → index ≡ get_or indexes place index
+    → ((rs : List Row) → IsIndexOf index rs → Holds rs index.access → (IsTrue answer ↔ Holds (rs ++ more) index.access))
+    → broken_from (accesses_on accesses table) (get_or rows table.0 [] ++ more) k
+    ≡ cond (not answer) (Some (get_or accesses place no_access)) (broken_from (accesses_on accesses table) (get_or rows table.0 [] ++ more) (k + 1))
+judged accesses table rows more k place indexes index answer p h indexed hold is tells =
     let mine = accesses_on accesses table in
     let l : k < length mine = omega (arith, h, length-map mine (λ a. a.id)) in
     let x = get_or accesses place no_access in
@@ -91,11 +124,11 @@ judged accesses table rows row k place indexes index answer p h indexed hold is 
     let index_is : IsIndexOf index own_rows = subst (λ (r : List Row). IsIndexOf index r) rs (subst (λ (i : Index). IsIndexOf i (get_or rows x.table.0 [])) (sym is) at.index_is) in
     let held : Holds own_rows index.access = subst (λ (a : Access). Holds own_rows a) (sym access) (subst (λ (r : List Row). Holds r x) rs (hold place no_access p.within)) in
     let iff = tells own_rows index_is held in
-    let to : IsTrue answer → Holds (own_rows ++ row ∷ []) x = λ t. subst (λ (a : Access). Holds (own_rows ++ row ∷ []) a) access (iff.0 t) in
-    let from : Holds (own_rows ++ row ∷ []) x → IsTrue answer = λ g. iff.1 (subst (λ (a : Access). Holds (own_rows ++ row ∷ []) a) (sym access) g) in
-    broken_step mine (own_rows ++ row ∷ []) k (get_or mine k no_access) l (get_or_default mine k (get_or mine k no_access) no_access l)
-    ∙ ap (λ a. cond (not (holds (own_rows ++ row ∷ []) a)) (Some a) (broken_from mine (own_rows ++ row ∷ []) (k + 1))) (sym same)
-    ∙ ap (λ b. cond (not b) (Some x) (broken_from mine (own_rows ++ row ∷ []) (k + 1))) (answers (own_rows ++ row ∷ []) x answer to from)
+    let to : IsTrue answer → Holds (own_rows ++ more) x = λ t. subst (λ (a : Access). Holds (own_rows ++ more) a) access (iff.0 t) in
+    let from : Holds (own_rows ++ more) x → IsTrue answer = λ g. iff.1 (subst (λ (a : Access). Holds (own_rows ++ more) a) (sym access) g) in
+    broken_step mine (own_rows ++ more) k (get_or mine k no_access) l (get_or_default mine k (get_or mine k no_access) no_access l)
+    ∙ ap (λ a. cond (not (holds (own_rows ++ more) a)) (Some a) (broken_from mine (own_rows ++ more) (k + 1))) (sym same)
+    ∙ ap (λ b. cond (not b) (Some x) (broken_from mine (own_rows ++ more) (k + 1))) (answers (own_rows ++ more) x answer to from)
 
 -- whether a greatest group passes the bound
 pub broken_where : (rows : List Row) (a : Access) (needed : ℕ) → needed ≡ greatest rows a.key a.fetched → a.bound < needed → already_broken rows a ≡ Some (AlreadyBroken needed a.bound)

@@ -1,5 +1,5 @@
 -- The indexes of a table's constraints, one of them moved at a time.
-use Rattle.std.proofs.Common.{◌≡◌, ◌≢◌, ◌∙◌, ◌<◌, ◌≤◌, ◌+◌, ◌-◌, ◌==◌, ◌||◌, ℕ, zero, suc, Bool, true, false, cond, List, [], ◌∷◌, ◌++◌, map, take, drop, length, get_or, set, ap, refl, sym, subst, arith, true≢false, inl, inr, length-set, length-take, length-drop, if◌then◌else◌}
+use Rattle.std.proofs.Common.{◌≡◌, ◌≢◌, ◌∙◌, ◌<◌, ◌≤◌, ◌+◌, ◌==◌, ◌||◌, ℕ, zero, suc, Bool, true, false, cond, List, [], ◌∷◌, map, take, drop, length, get_or, set, ap, refl, sym, subst, arith, true≢false, inl, inr, length-set, length-take, length-drop, if◌then◌else◌}
 use Rattle.std.specs.Prelude.{filter, All, AllPairs}
 use Rattle.std.specs.List.{list_any}
 use Rattle.std.proofs.Math.Seq.{drop-cons, take-suc}
@@ -298,11 +298,22 @@ live_at accesses table k lent id rise e h is =
     let same : get_or (ids_on accesses table) k id ≡ id = ap (λ xs. get_or xs k id) (sym e) ∙ sym is in
     subst (λ (i : AccessId). list_any (λ x. x.id.0 == i.0) accesses ≡ true) same (on_table accesses table rise k id l).live
 
--- the last of the first n
-pub take_back : {X : Type 0} (xs : List X) (n : ℕ) (x : X) → 0 < n → n ≤ length xs → x ≡ get_or xs (n - 1) x → take n xs ≡ take (n - 1) xs ++ x ∷ []
-take_back xs n x some within is =
-    let e : n ≡ suc (n - 1) = omega arith in
-    ap (λ j. take j xs) e ∙ take-suc xs (n - 1) x (omega arith) ∙ ap (λ y. take (n - 1) xs ++ y ∷ []) (sym is)
+-- an index is replaced by one of the same rows
+pub kept_one : {accesses : List Access} {table k place : ℕ} (rows : List (List Row)) (before after : List Row) (done : List AccessId)
+    (indexes : List Index) (new : Index) → IsPlaceOn accesses table k place → table < length rows → new.access ≡ (get_or indexes place new).access
+    → ((own : List Row) → IsIndexOf (get_or indexes place new) own → IsIndexOf new own)
+    → AreIndexed accesses rows table before after done indexes → AreIndexed accesses rows table before after done (set indexes place new)
+kept_one {accesses} {table} {k} {place} rows before after done indexes new p live same keeps is = moved_one (record {
+  indexed = is;
+  rise = p.rise;
+  live = live;
+  within = p.within;
+  at = p.at;
+  is_on = p.is_on;
+  others = λ x n. refl;
+  access_is = same;
+  index_is = λ old. keeps (if has (id_at accesses table k).0 done then after else before) old;
+})
 
 -- an index whose constraint isn't done yet is as it was
 pub fresh_at : (accesses : List Access) (table k place : ℕ) (old new : List Index) (d : Index) → IsPlaceOn accesses table k place → k < length (ids_on accesses table)

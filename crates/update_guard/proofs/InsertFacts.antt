@@ -1,12 +1,12 @@
 -- Rows put into the indexes of their table one after another.
-use Rattle.std.proofs.Common.{◌≡◌, ◌∙◌, ◌<◌, ◌≤◌, ◌+◌, ◌^◌, ℕ, suc, List, [], ◌∷◌, ◌++◌, map, take, drop, length, get_or, set, ap, sym, arith, inl, inr, Option, None, add-one, length-append, append_assoc}
-use Rattle.std.specs.Prelude.{option_map, All, Result, Ok, Err, OnErr}
+use Rattle.std.proofs.Common.{◌≡◌, ◌∙◌, ◌<◌, ◌≤◌, ◌+◌, ◌^◌, ℕ, suc, Bool, false, List, [], ◌∷◌, ◌++◌, map, take, drop, length, get_or, set, ap, sym, subst, arith, inl, inr, Option, None, add-one, length-append, append_assoc}
+use Rattle.std.specs.Prelude.{option_map, All, Result, Ok, Err, OnErr, if◌then◌else◌}
 use Rattle.std.specs.List.{enumerate_from}
 use Rattle.std.specs.Option.{option_or}
 use Rattle.std.proofs.Math.Seq.{drop-cons, take-suc}
 use Rattle.std.proofs.Math.ListN.{drop_of_length-le}
 use Rattle.std.proofs.lemmas.Bool.{cases_eq}
-use Rattle.std.proofs.lemmas.List.{get_or-set_same, get_or-set_other}
+use Rattle.std.proofs.lemmas.List.{get_or-set_same, get_or-set_other, set-get_or}
 use Rattle.std.proofs.lemmas.List.FromFn.{get_or-enumerate_from, length-enumerate_from}
 use Rattle.beas_core.specs.declared.errors.Fail.{Fail}
 use Rattle.beas_core.specs.declared.errors.Fail.TheVariants.{NoMemory, Refused}
@@ -55,11 +55,13 @@ bound_end accesses own rows i h =
     let long : length (enumerate_from 1 rows) ≤ i = rw (length-enumerate_from 1 rows) h in
     ap (λ es. first_of (map (refusal_at accesses own rows) es)) (drop_of_length-le (enumerate_from 1 rows) long)
 
--- there is room for one row more in each index
-pub room_of : (accesses : List Access) (rows : List (List Row)) (table : ℕ) (own added : List Row) (more : ℕ) (indexes : List Index) → table < length rows
-    → ((i : ℕ) → length (get_or (set rows table own) i []) + more < 2 ^ 32) → length added + 1 ≤ more → IndexesOf accesses (set rows table (own ++ added)) indexes
-    → All (λ x. x.total + 1 < 2 ^ 32) indexes
-room_of accesses rows table own added more indexes live few fits is k d l =
+-- there is room for more rows in each index
+pub room_of : (accesses : List Access) (rows : List (List Row)) (table : ℕ) (own added : List Row) (count more : ℕ) (indexes : List Index)
+    → table < length rows
+    → ((i : ℕ) → length (get_or (set rows table own) i []) + more < 2 ^ 32) → length added + count ≤ more
+    → IndexesOf accesses (set rows table (own ++ added)) indexes
+    → All (λ x. x.total + count < 2 ^ 32) indexes
+room_of accesses rows table own added count more indexes live few fits is k d l =
     let o = is.each k d no_access (omega (arith, l, is.count)) in
     let a = get_or accesses k no_access in
     elim (cases_eq a.table.0 table) [
@@ -79,3 +81,16 @@ room_of accesses rows table own added more indexes live few fits is k d l =
 pub refused_alike : (A B : Type 0) (why : Fail) (r : Option Refusal) → IsRefusedAs {T = A} (Err why) r → IsRefusedAs {T = B} (Err why) r
 refused_alike A B NoMemory r h = tt
 refused_alike A B (Refused why) r h = h
+
+-- what is left where rows are to go in together, by whether they did
+abbrev pub LeftBy : List Access → ℕ → List Row → List Index → List Index → Bool → Type 0
+LeftBy accesses table added old new all =
+    (rows : List (List Row)) (front : List Row) → table < length rows → IndexesOf accesses (set rows table front) old
+    → IndexesOf accesses (set rows table (if all then front ++ added else front)) new
+
+-- where they didn't, the indexes are still those of all rows
+pub as_before : (accesses : List Access) (table : ℕ) (added : List Row) (old new : List Index) (rows : List (List Row))
+    → LeftBy accesses table added old new false → table < length rows → IndexesOf accesses rows old → IndexesOf accesses rows new
+as_before accesses table added old new rows left live is =
+    let same = set-get_or rows table [] in
+    subst (λ all. IndexesOf accesses all new) same (left rows (get_or rows table []) live (subst (λ all. IndexesOf accesses all old) (sym same) is))

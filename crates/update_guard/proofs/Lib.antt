@@ -1,5 +1,4 @@
 pub mod BoundFacts
-pub mod FewerRows
 pub mod GuardFacts
 pub mod IndexFacts
 pub mod InsertFacts

@@ -20,7 +20,7 @@ use Rattle.catalogue.specs.Schema.{Schema, columns_at}
 use Rattle.catalogue.specs.Database.{RowFits}
 use Rattle.update_guard.specs.Filtering.{PlaceFits, OperandFits, BlockFits}
 use Rattle.update_guard.specs.Guarding.{IndexesOf, HoldOver, IsGuarded}
-use Rattle.update_guard.proofs.FewerRows.{Holds-filter}
+use Rattle.access_index.proofs.FewerRows.{Holds-filter}
 use Rattle.update_guard.proofs.GuardFacts.{guarded_with_rows}
 
 -- after an insert, refused or not

@@ -1,6 +1,7 @@
 // Rows come into and go out of the indexes of their table's constraints.
-ghost use Rattle.std.specs.Prelude.{◌≡◌, ◌≢◌, ◌+◌, ◌<◌, ◌≤◌, ◌^◌, ◌++◌, ◌∷◌, ℕ, List, [], length, take, drop, All, Some, None, OnOk, OnErr, IfSome, IsTrue, option_map, vec_len, ◌==◌, slice_index_or, slice_set};
+ghost use Rattle.std.specs.Prelude.{◌≡◌, ◌≢◌, ◌+◌, ◌<◌, ◌≤◌, ◌^◌, ◌++◌, ◌∷◌, ℕ, List, [], length, take, drop, All, Some, None, if◌then◌else◌, IfOk, OnOk, OnErr, IfSome, IsTrue, option_map, vec_len, ◌==◌, slice_index_or, slice_set};
 ghost use Rattle.std.specs.List.{list_any};
+ghost use Rattle.std.specs.Option.{is_none};
 ghost use Rattle.beas_core.specs.declared.errors.Fail.TheVariants.{NoMemory as Want};
 ghost use Rattle.beas_core.specs.Types.{Row as Tuple};
 ghost use Rattle.access_index.specs.Index.{Index};
@@ -72,8 +73,30 @@ pub fn remove_row(catalogue: &Catalogue, table: TableId, indexes: &mut Vec<Acces
     );
 }
 
-/// Takes rows, the last of their table, out of the indexes of its constraints, from last to first. It
-/// takes no memory.
+/// Takes rows, the last of their table, out of the indexes of its first `n` constraints. It takes no memory.
+fn remove_rows_from(
+    catalogue: &Catalogue,
+    table: TableId,
+    n: usize,
+    indexes: &mut Vec<AccessIndex>,
+    added: &[Row],
+)
+    requires live { table.0 < length catalogue.now.tables }
+    requires within { n ≤ length (ids_on catalogue.now.accesses table.0) }
+    requires count { vec_len indexes.old ≡ length catalogue.now.accesses }
+    ensures taken { (rows : List (List Tuple)) (front : List Tuple) → table.0 < length rows
+        → AreIndexed catalogue.now.accesses rows table.0 front (front ++ added.now)
+        (take n (ids_on catalogue.now.accesses table.0)) indexes.old.items
+        → IndexesOf catalogue.now.accesses (slice_set rows table.0 front) indexes.new.items }
+    ensures len { vec_len indexes.new ≡ vec_len indexes.old }
+{
+    for k in 0..n {
+        let place = place_on(catalogue, table, k);
+        indexes[place].remove_rows(added);
+    }
+}
+
+/// Takes rows, the last of their table, out of the indexes of its constraints. It takes no memory.
 pub fn remove_rows(
     catalogue: &Catalogue,
     table: TableId,
@@ -87,11 +110,8 @@ pub fn remove_rows(
         → IndexesOf catalogue.now.accesses (slice_set rows table.0 front) indexes.new.items }
     ensures len { vec_len indexes.new ≡ vec_len indexes.old }
 {
-    let mut left = added.len();
-    while left > 0 {
-        left -= 1;
-        remove_row(catalogue, table, indexes, &added[left]);
-    }
+    let n = catalogue.ids_on(table).len();
+    remove_rows_from(catalogue, table, n, indexes, added);
 }
 
 /// Puts a row into the indexes of a table's constraints, or into none.
@@ -124,6 +144,49 @@ pub fn add_row(
         }
     }
     Ok(())
+}
+
+/// Puts rows, which are to come after those of their table, into the indexes of its constraints where these all
+/// hold with them, and else into none. Each index takes all rows before the next one does, so that it can take them
+/// in the order of its own tuples.
+pub fn add_all(
+    alloc: Global,
+    catalogue: &Catalogue,
+    table: TableId,
+    indexes: &mut Vec<AccessIndex>,
+    added: &[Row],
+) -> Result<bool, NoMemory>
+    requires live { table.0 < length catalogue.now.tables }
+    requires count { vec_len indexes.old ≡ length catalogue.now.accesses }
+    requires room { All (λ index. index.total + length added.now < 2 ^ 32) indexes.old.items }
+    ensures indexed { IfOk result (λ all. (rows : List (List Tuple)) (front : List Tuple) → table.0 < length rows
+        → IndexesOf catalogue.now.accesses (slice_set rows table.0 front) indexes.old.items
+        → IndexesOf catalogue.now.accesses (slice_set rows table.0 (if all then front ++ added.now else front))
+        indexes.new.items) }
+    ensures broken { IfOk result (λ all. (rows : List (List Tuple)) → table.0 < length rows
+        → IndexesOf catalogue.now.accesses rows indexes.old.items → HoldOver catalogue.now.accesses rows
+        → is_none (broken (accesses_on catalogue.now.accesses table) (slice_index_or rows table.0 [] ++ added.now))
+        ≡ all) }
+    ensures err { OnErr result ((rows : List (List Tuple)) (front : List Tuple) → table.0 < length rows
+        → IndexesOf catalogue.now.accesses (slice_set rows table.0 front) indexes.old.items
+        → IndexesOf catalogue.now.accesses (slice_set rows table.0 front) indexes.new.items) }
+    ensures len { vec_len indexes.new ≡ vec_len indexes.old }
+{
+    for k in 0..catalogue.ids_on(table).len() {
+        let place = place_on(catalogue, table, k);
+        match indexes[place].add_rows(alloc, added) {
+            Ok(true) => {}
+            Ok(false) => {
+                remove_rows_from(catalogue, table, k, indexes, added);
+                return Ok(false);
+            }
+            Err(why) => {
+                remove_rows_from(catalogue, table, k, indexes, added);
+                return Err(why);
+            }
+        }
+    }
+    Ok(true)
 }
 
 /// Where the first constraint on a table stands that would not hold with one row more, if there is one. It

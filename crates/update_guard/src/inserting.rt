@@ -10,7 +10,7 @@ ghost use Rattle.std.specs.Option.{option_or};
 ghost use Rattle.beas_core.specs.declared.refusal.Counted.TheVariants.{Rows as OfRows};
 
 use crate::checking::{refuse_types, refuse_widths};
-use crate::indexing::{add_row, first_broken, remove_rows};
+use crate::indexing::{add_all, add_row, first_broken, remove_rows};
 use access_index::AccessIndex;
 use beas_core::{
     Access, ColumnId, Counted, Duplicate, Fail, Limits, List, NoMemory, Refusal, Row, TableId,
@@ -18,6 +18,10 @@ use beas_core::{
 use catalogue::Catalogue;
 use row_store::Rows;
 use std::alloc::Global;
+
+/// From how many rows on they are tried together. Each index then takes them in its own order, which pays where
+/// searches would miss the processor's caches. Fewer rows gain nothing by it, and need no memory for an order.
+const MANY: usize = 64;
 
 /// The values of a row in these columns.
 fn values_in(alloc: Global, columns: &[ColumnId], row: &Row) -> Result<Row, NoMemory>
@@ -76,10 +80,9 @@ fn put_row(
     }
 }
 
-/// Puts rows, which are to come after those of their table, into the indexes of its constraints, or into
-/// none. The first row that breaks a constraint after those before it is refused, with the first such
-/// constraint.
-pub fn add_rows(
+/// Puts rows, which are to come after those of their table, into the indexes of its constraints one by one, or into
+/// none. The first row that breaks a constraint after those before it is refused, with the first such constraint.
+fn add_each(
     alloc: Global,
     catalogue: &Catalogue,
     table: TableId,
@@ -91,12 +94,15 @@ pub fn add_rows(
     requires few { length rows.now < 2 ^ 32 }
     requires wide { All (λ row. length row ≡ length (columns_at catalogue.now table)) rows.now }
     requires known { SomeRows catalogue.now.accesses table.0 (length rows.now) indexes.old.items }
-    ensures refused { (all : List (List Tuple)) → table.0 < length all → IndexesOf catalogue.now.accesses all indexes.old.items → HoldOver catalogue.now.accesses all
-        → IsRefusedAs result (broken_bound (accesses_on catalogue.now.accesses table) (slice_index_or all table.0 []) rows.now) }
+    ensures refused { (all : List (List Tuple)) → table.0 < length all
+        → IndexesOf catalogue.now.accesses all indexes.old.items → HoldOver catalogue.now.accesses all
+        → IsRefusedAs result
+        (broken_bound (accesses_on catalogue.now.accesses table) (slice_index_or all table.0 []) rows.now) }
     ensures added { OnOk result ((all : List (List Tuple)) (front : List Tuple) → table.0 < length all
         → IndexesOf catalogue.now.accesses (slice_set all table.0 front) indexes.old.items
         → IndexesOf catalogue.now.accesses (slice_set all table.0 (front ++ rows.now)) indexes.new.items) }
-    ensures hold { OnOk result ((all : List (List Tuple)) → table.0 < length all → IndexesOf catalogue.now.accesses all indexes.old.items → HoldOver catalogue.now.accesses all
+    ensures hold { OnOk result ((all : List (List Tuple)) → table.0 < length all
+        → IndexesOf catalogue.now.accesses all indexes.old.items → HoldOver catalogue.now.accesses all
         → HoldOver catalogue.now.accesses (slice_set all table.0 (slice_index_or all table.0 [] ++ rows.now))) }
     ensures err { OnErr result ((all : List (List Tuple)) (front : List Tuple) → table.0 < length all
         → IndexesOf catalogue.now.accesses (slice_set all table.0 front) indexes.old.items
@@ -113,6 +119,46 @@ pub fn add_rows(
         }
     }
     Ok(())
+}
+
+/// Puts rows, which are to come after those of their table, into the indexes of its constraints, or into
+/// none. The first row that breaks a constraint after those before it is refused, with the first such
+/// constraint. Many rows are first tried together, which is quick but tells no more than whether all can go in;
+/// where they can't, the one to be refused is found row by row.
+pub fn add_rows(
+    alloc: Global,
+    catalogue: &Catalogue,
+    table: TableId,
+    indexes: &mut Vec<AccessIndex>,
+    rows: &[Row],
+) -> Result<(), Fail>
+    requires live { table.0 < length catalogue.now.tables }
+    requires count { vec_len indexes.old ≡ length catalogue.now.accesses }
+    requires few { length rows.now < 2 ^ 32 }
+    requires wide { All (λ row. length row ≡ length (columns_at catalogue.now table)) rows.now }
+    requires known { SomeRows catalogue.now.accesses table.0 (length rows.now) indexes.old.items }
+    ensures refused { (all : List (List Tuple)) → table.0 < length all
+        → IndexesOf catalogue.now.accesses all indexes.old.items → HoldOver catalogue.now.accesses all
+        → IsRefusedAs result
+        (broken_bound (accesses_on catalogue.now.accesses table) (slice_index_or all table.0 []) rows.now) }
+    ensures added { OnOk result ((all : List (List Tuple)) (front : List Tuple) → table.0 < length all
+        → IndexesOf catalogue.now.accesses (slice_set all table.0 front) indexes.old.items
+        → IndexesOf catalogue.now.accesses (slice_set all table.0 (front ++ rows.now)) indexes.new.items) }
+    ensures hold { OnOk result ((all : List (List Tuple)) → table.0 < length all
+        → IndexesOf catalogue.now.accesses all indexes.old.items → HoldOver catalogue.now.accesses all
+        → HoldOver catalogue.now.accesses (slice_set all table.0 (slice_index_or all table.0 [] ++ rows.now))) }
+    ensures err { OnErr result ((all : List (List Tuple)) (front : List Tuple) → table.0 < length all
+        → IndexesOf catalogue.now.accesses (slice_set all table.0 front) indexes.old.items
+        → IndexesOf catalogue.now.accesses (slice_set all table.0 front) indexes.new.items) }
+    ensures len { vec_len indexes.new ≡ vec_len indexes.old }
+{
+    if rows.len() < MANY {
+        return add_each(alloc, catalogue, table, indexes, rows);
+    }
+    if add_all(alloc, catalogue, table, indexes, rows)? {
+        return Ok(());
+    }
+    add_each(alloc, catalogue, table, indexes, rows)
 }
 
 /// Moves rows to the end of a table and puts them into its indexes, all or none.

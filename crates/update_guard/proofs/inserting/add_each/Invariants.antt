@@ -5,7 +5,7 @@ use Rattle.beas_core.specs.Types.{Row}
 use Rattle.catalogue.specs.Schema.{accesses_on}
 use Rattle.catalogue.specs.Refusing.{broken_bound, first_of, broken, breaks_bound}
 use Rattle.update_guard.specs.Guarding.{IndexesOf, HoldOver}
-use Rattle.update_guard.proofs.inserting.add_rows.Given as goal
+use Rattle.update_guard.proofs.inserting.add_each.Given as goal
 
 abbrev pub invariant-loop-i : goal.invariant-loop-i
 invariant-loop-i l = record {
