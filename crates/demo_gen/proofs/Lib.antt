@@ -1,3 +1,4 @@
+pub mod Lengths
 pub mod Rows
 pub mod States
 pub mod Written

@@ -15,7 +15,7 @@ pub no_queries : (state : ℕ) → queries state 0 ≡ []
 unfolding queries
 no_queries state = refl
 
-one_query : (state n : ℕ) → queries state (n + 1) ≡ queries state n ++ query_at state n ∷ []
+pub one_query : (state n : ℕ) → queries state (n + 1) ≡ queries state n ++ query_at state n ∷ []
 unfolding queries
 one_query state n = map-range_with_len_more (query_at state) 0 n n (omega arith)
 
@@ -26,7 +26,7 @@ no_rounds state = refl
 range-more : (n : ℕ) → range_with_len 0 (n + 1) ≡ range_with_len 0 n ++ n ∷ []
 range-more n = ap (range_with_len 0) (add-one n) ∙ range-suc 0 n ∙ ap (λ (m : ℕ). range_with_len 0 n ++ m ∷ []) (omega arith)
 
-one_round : (state n : ℕ) → rounds state (n + 1) ≡ rounds state n ++ round_at (state_after state (31 * n))
+pub one_round : (state n : ℕ) → rounds state (n + 1) ≡ rounds state n ++ round_at (state_after state (31 * n))
 unfolding rounds
 one_round state n =
     let round = λ (m : ℕ). round_at (state_after state (31 * m)) in
