@@ -1,18 +1,26 @@
 -- Which script a run has. Without one, nothing is sent to its output and nothing is read.
-use Rattle.std.proofs.Common.{◌≡◌, ◌≢◌, ◌≤◌, ◌<◌, ◌⊎◌, ◌∙◌, ap, false, [], List, ℕ, true, Option, Some, None, refl, length, arith, inl, inr, subst}
-use Rattle.std.specs.Prelude.{IsSomeAnd, option_map}
+use Rattle.std.proofs.Common.{◌≡◌, ◌≢◌, ◌≤◌, ◌<◌, ◌⊎◌, ◌++◌, ◌∷◌, ◌∙◌, ap, false, [], List, ℕ, Bool, true, Option, Some, None, refl, length, arith, inl, inr, subst, sym, append-nil}
+use Rattle.std.specs.Prelude.{option_and_then}
 use Rattle.std.specs.Option.{option_map_or}
 use Rattle.std.specs.Str.{IsUtf8}
 use Rattle.std.proofs.lemmas.Str.{IsUtf8-nil}
 use Rattle.beas_core.specs.declared.limits.Limits.{Limits}
+use Rattle.command_words.specs.declared.arguments.Args.{Args}
+use Rattle.command_words.specs.declared.arguments.Args.TheVariants.{Script, Demo}
+use Rattle.command_words.specs.Words.{args_of}
+use Rattle.demo_gen.specs.Demo.{demo_text}
+use Rattle.demo_gen.proofs.Lengths.{length-demo}
+use Rattle.outside.specs.Parts.{SentPart}
 use Rattle.sql_text.specs.Tokens.{tokens_from}
 use Rattle.session.specs.Effects.{Settings}
 use Rattle.session.specs.Ties.{Seen, IsLater}
+use Rattle.sql_parser.specs.Outcome.{Reading}
 use Rattle.beas_run.specs.declared.top.NoScript.{NoScript}
 use Rattle.beas_run.specs.declared.top.NoScript.TheVariants.{Words, Unread, TooLong, NotText, NoMemory}
 use Rattle.beas_run.specs.NoScripts.{status_of}
 use Rattle.beas_run.specs.Scripts.{Readings, readings_of}
-use Rattle.beas_run.specs.Runs.{Request, request_of, script_name, settings_for, settings_of_words, HasScript, HasRun, IsContent, IsWith, IsWithout, longest_script}
+use Rattle.beas_run.specs.Runs.{seed_of, demo_seed, settings_for, settings_of_words, HasScript, HasRun, IsContent, IsScriptOf, IsWith, IsWithout, WalkedFor, longest_script}
+use Rattle.beas_run.specs.Demonstrations.{Demonstrated, summary_of, unwritten}
 use Rattle.beas_run.specs.Walks.{Scene, Walked}
 use Rattle.beas_run.proofs.Reached.{unstarted, walked_from}
 use Rattle.beas_run.proofs.Reading.{found}
@@ -33,12 +41,26 @@ pub early_said : (why : NoScript) (status : ℕ) → (status ≡ status_of why) 
 early_said why status (inl e) = let early = early_status why in (omega arith, omega (arith, early.1))
 early_said why status (inr e) = (omega arith, omega arith)
 
+-- out of memory is said as it is
+pub said_no_memory : (status : ℕ) → (status ≡ status_of NoMemory) ⊎ (status ≡ 5) → status ≡ 5
+said_no_memory status (inl e) = e
+said_no_memory status (inr e) = e
+
 not_with : (status : ℕ) → 2 ≤ status → status ≢ 4 → IsWith status → ⊥
 not_with status early fault (inl below) = omega arith
 not_with status early fault (inr four) = fault four
 
-has_none : (status : ℕ) (name : Option (List ℕ)) (files : Seen) → 2 ≤ status → status ≢ 4 → HasScript [] status name files
-has_none status name files early fault = record {
+some≢none : (n : ℕ) → Some n ≡ None → ⊥
+some≢none n e = cc
+
+none_of : (sent text : List ℕ) → SentPart sent sent text
+none_of sent text = record { part = []; left = text; sent = sym (append-nil sent); cut = refl }
+
+pub fits_demo : (seed : ℕ) (script : List ℕ) → script ≡ demo_text seed → length script ≤ longest_script
+fits_demo seed script e = let l = ap length e in let short = length-demo seed in omega arith
+
+has_none : (status : ℕ) (asked : Option Args) (files : Seen) → 2 ≤ status → status ≢ 4 → HasScript [] status asked files
+has_none status asked files early fault = record {
   fits = omega arith;
   is_text = IsUtf8-nil;
   read = λ with. absurd (not_with status early fault with);
@@ -46,58 +68,128 @@ has_none status name files early fault = record {
   without = λ _. refl;
 }
 
+-- nothing is done, whatever is asked for; where that is a demonstration, for want of memory
+idle : (asked : Option Args) (s : Settings) (before after : Scene) (status : ℕ)
+    → (before.told ≡ true → after.sent ≡ before.sent) → after.steps ≡ before.steps → after.db ≡ before.db → IsLater before.files after.files
+    → 2 ≤ status → status ≢ 4 → (option_and_then seed_of asked ≡ None) ⊎ (status ≡ 5) → WalkedFor asked s [] status before after
+idle None s before after status sent steps db later early fault why = unstarted s [] before after status sent steps db later early fault
+idle (Some (Script path budget explain)) s before after status sent steps db later early fault why =
+    unstarted s [] before after status sent steps db later early fault
+idle (Some (Demo seed budget explain)) s before after status sent steps db later early fault (inl none) = absurd (some≢none seed none)
+idle (Some (Demo seed budget explain)) s before after status sent steps db later early fault (inr five) = record {
+  ended = 5;
+  walked = unstarted s [] (unwritten before) (unwritten after) 5 (λ _. refl) steps db later (omega arith) (omega arith);
+  whole = λ below. absurd (omega arith);
+  part = λ on. rw (sent on) (none_of before.sent (summary_of []));
+  early = λ _. (refl, (five, sent));
+}
+
 -- a run without a script
 pub ran_nothing : (limits : Limits) (words : List (List ℕ)) (why : NoScript) (status : ℕ) (before after : Scene) → (status ≡ status_of why) ⊎ (status ≡ 5)
+    → (demo_seed words ≡ None) ⊎ (status ≡ 5)
     → (before.told ≡ true → after.sent ≡ before.sent) → after.steps ≡ before.steps → after.db ≡ before.db → IsLater before.files after.files
     → HasRun limits words status before after
-ran_nothing limits words why status before after said sent steps db later =
+ran_nothing limits words why status before after said none sent steps db later =
     let early = early_said why status said in
     record {
       script = [];
       readings = [];
-      has = has_none status (script_name words) before.files early.0 early.1;
+      has = has_none status (args_of words) before.files early.0 early.1;
       read_as = no_readings;
-      walked = unstarted (settings_of_words limits words) [] before after status sent steps db later early.0 early.1;
+      silent = λ _. sent;
+      walked = idle (args_of words) (settings_of_words limits words) before after status sent steps db later early.0 early.1 none;
     }
 
--- ---- a script that was read
+-- ---- a script that was read, or made
 
 not_without : (status : ℕ) → (status < 2) ⊎ (status ≡ 4) ⊎ (status ≡ 5) → IsWithout status → ⊥
 not_without status ended without = omega arith
 
-has_read : (script : List ℕ) (status : ℕ) (name : Option (List ℕ)) (files : Seen) (n : List ℕ)
-    → Some n ≡ name → length script ≤ longest_script → IsUtf8 script → IsContent files script n → (status < 2) ⊎ (status ≡ 4) ⊎ (status ≡ 5)
-    → HasScript script status name files
-has_read script status name files n named fits text is ended =
-    let begun : IsSomeAnd name (IsContent files script) = subst (λ o. IsSomeAnd o (IsContent files script)) named is in
-    record {
-      fits = fits;
-      is_text = text;
-      read = λ _. begun;
-      begun = inr begun;
-      without = λ without. absurd (not_without status ended without);
-    }
+has_read : (script : List ℕ) (status : ℕ) (asked : Option Args) (files : Seen)
+    → length script ≤ longest_script → IsUtf8 script → IsScriptOf asked files script → (status < 2) ⊎ (status ≡ 4) ⊎ (status ≡ 5)
+    → HasScript script status asked files
+has_read script status asked files fits text is ended = record {
+  fits = fits;
+  is_text = text;
+  read = λ _. is;
+  begun = inr is;
+  without = λ without. absurd (not_without status ended without);
+}
 
-path_is : (request : Request) (name : Option (List ℕ)) → Some request ≡ option_map (λ path. record { path = path; budget = None; explain = false }) name → Some request.path ≡ name
-path_is request None e = cc
-path_is request (Some path) e = cc
+-- ---- a script of no text has no statements, so nothing is sent for it
 
--- what the session then decides by
-pub settings_are : (limits : Limits) (words : List (List ℕ)) (request : Request) → Some request ≡ request_of words → settings_for limits request ≡ settings_of_words limits words
-settings_are limits words request asked = ap (λ o. option_map_or (settings_for limits) o (record { limits = limits; budget = None; explain = false })) asked
+none_before : (part left : List ℕ) → part ++ left ≡ [] → part ≡ []
+none_before [] left e = refl
+none_before (x ∷ part) left e = cc
 
--- a run over the script that its words ask for, after the read of the script
-pub ran_script : (limits : Limits) (words : List (List ℕ)) (request : Request) (settings : Settings) (script : List ℕ) (status : ℕ) (before after : Scene) (files : Seen)
-    → Some request ≡ request_of words → settings ≡ settings_for limits request
-    → length script ≤ longest_script → IsUtf8 script → IsContent before.files script request.path → (status < 2) ⊎ (status ≡ 4) ⊎ (status ≡ 5)
-    → IsLater before.files files → Walked settings (readings_of script) status (record before { files = files }) after
+silent_with : (s : Settings) (readings : List Reading) (status : ℕ) (before after : Scene) → readings ≡ [] → Walked s readings status before after
+    → before.told ≡ true → after.sent ≡ before.sent
+silent_with s [] status before after e walked on =
+    let p = walked.follows.part on in
+    p.sent ∙ ap (λ xs. before.sent ++ xs) (none_before p.part p.left p.cut) ∙ append-nil before.sent
+silent_with s (reading ∷ readings) status before after e walked on = cc
+
+none_read : readings_of [] ≡ []
+unfolding tokens_from
+none_read = refl
+
+silent_file : (s : Settings) (script : List ℕ) (status : ℕ) (before after : Scene) → Walked s (readings_of script) status before after
+    → script ≡ [] → before.told ≡ true → after.sent ≡ before.sent
+silent_file s script status before after walked none =
+    silent_with s (readings_of script) status before after (ap readings_of none ∙ none_read) walked
+
+-- the text of a demonstration is no empty one
+some_demo : (seed : ℕ) → demo_text seed ≡ [] → ⊥
+unfolding demo_text
+some_demo seed e = cc
+
+ran : (limits : Limits) (words : List (List ℕ)) (asked : Args) (script : List ℕ) (status : ℕ) (before after : Scene) → args_of words ≡ Some asked
+    → (script ≡ [] → before.told ≡ true → after.sent ≡ before.sent)
+    → HasScript script status (Some asked) before.files → WalkedFor (Some asked) (settings_for limits asked) (readings_of script) status before after
     → HasRun limits words status before after
-ran_script limits words request settings script status before after files asked same fits text is ended later walked =
-    let e = same ∙ settings_are limits words request asked in
+ran limits words asked script status before after e silent has walked =
+    let none : Settings = record { limits = limits; budget = None; explain = false } in
+    let P : Option Args → Type 0 = λ o. WalkedFor o (option_map_or (settings_for limits) o none) (readings_of script) status before after in
     record {
       script = script;
       readings = readings_of script;
-      has = has_read script status (script_name words) before.files request.path (path_is request (script_name words) asked) fits text is ended;
+      has = subst (λ o. HasScript script status o before.files) (sym e) has;
       read_as = found script;
-      walked = subst (λ s. Walked s (readings_of script) status before after) e (walked_from settings (readings_of script) status before after files later walked);
+      silent = silent;
+      walked = subst P (sym e) walked;
     }
+
+-- a run over the script in the file that its words name, after the read of the file
+pub ran_file : (limits : Limits) (words : List (List ℕ)) (path : List ℕ) (budget : Option ℕ) (explain : Bool) (script : List ℕ) (status : ℕ)
+    (before after : Scene) (files : Seen)
+    → args_of words ≡ Some (Script path budget explain)
+    → length script ≤ longest_script → IsUtf8 script → IsContent before.files script path → (status < 2) ⊎ (status ≡ 4) ⊎ (status ≡ 5)
+    → IsLater before.files files
+    → Walked (record { limits = limits; budget = budget; explain = explain }) (readings_of script) status (record before { files = files }) after
+    → HasRun limits words status before after
+ran_file limits words path budget explain script status before after files asked fits text is ended later walked =
+    let s : Settings = record { limits = limits; budget = budget; explain = explain } in
+    let whole = walked_from s (readings_of script) status before after files later walked in
+    ran limits words (Script path budget explain) script status before after asked
+    (silent_file s script status before after whole)
+    (has_read script status (Some (Script path budget explain)) before.files fits text is ended)
+    whole
+
+-- a run over the text of the demonstration that its words ask for
+pub ran_demo : (limits : Limits) (words : List (List ℕ)) (seed : ℕ) (budget : Option ℕ) (explain : Bool) (script : List ℕ) (status : ℕ) (before after : Scene)
+    → args_of words ≡ Some (Demo seed budget explain) → script ≡ demo_text seed → IsUtf8 script → (status < 2) ⊎ (status ≡ 4) ⊎ (status ≡ 5)
+    → Demonstrated (record { limits = limits; budget = budget; explain = explain }) (readings_of script) status before after
+    → HasRun limits words status before after
+ran_demo limits words seed budget explain script status before after asked is text ended walked =
+    ran limits words (Demo seed budget explain) script status before after asked
+    (λ none. absurd (some_demo seed (sym is ∙ none)))
+    (has_read script status (Some (Demo seed budget explain)) before.files (fits_demo seed script is) text is ended) walked
+
+-- ---- what the words ask for
+
+pub no_seed : (words : List (List ℕ)) → args_of words ≡ None → demo_seed words ≡ None
+no_seed words e = ap (option_and_then seed_of) e
+
+pub no_seed_beside : (words : List (List ℕ)) (path : List ℕ) (budget : Option ℕ) (explain : Bool) → args_of words ≡ Some (Script path budget explain)
+    → demo_seed words ≡ None
+no_seed_beside words path budget explain e = ap (option_and_then seed_of) e

@@ -1,4 +1,5 @@
 mod Complete
+mod Counted
 mod Counting
 mod Empty
 mod Pieces
@@ -6,4 +7,4 @@ mod Reached
 mod Reading
 mod Ties
 mod Turns
-mod WellFormed
+pub mod WellFormed

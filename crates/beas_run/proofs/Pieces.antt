@@ -52,7 +52,7 @@ refused s db reading why limit m x e =
 
 -- ---- its report
 
-turn_from : (limit : ℕ) (act : Act) (report : Report) (before after : Scene) → IsWithin report
+pub turn_from : (limit : ℕ) (act : Act) (report : Report) (before after : Scene) → IsWithin report
     → (a : Applied limit act report after.db before.steps after.steps before.files after.files) → IsTurn limit act a.outcome before after
 turn_from limit act report before after within a = record { steps = a.cost_is; db = a.db_is; within = subst IsWithin a.report_is within; tied = a.tied }
 

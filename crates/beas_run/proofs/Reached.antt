@@ -55,6 +55,10 @@ begun s readings before = record {
   told = refl;
 }
 
+pub begun_done : (s : Settings) (readings : List Reading) (before : Scene) → (begun s readings before).done ≡ []
+unfolding begun
+begun_done s readings before = refl
+
 within_one : (t : Turn) → IsWithin t.effect.report → AreWithin (t ∷ [])
 within_one t h = All-cons (λ t. IsWithin t.effect.report) t [] h (All-nil (λ t. IsWithin t.effect.report))
 
@@ -83,13 +87,10 @@ or_false : (b : Bool) → (b || false) ≡ b
 or_false true = refl
 or_false false = refl
 
-pub one_more : (s here : Settings) (all rest : List Reading) (reading : Reading) (place : ℕ) (refused more : Bool) (before now after : Scene)
-    → Reached s all (reading ∷ rest) place refused before now → here ≡ s
-    → IsReported here.limits.file (act_for here now.db reading) (place + 1) more now after → IsLater now.files after.files → after.told ≡ now.told
-    → Reached s all rest (place + 1) (refused || more) before after
-one_more s here all rest reading place refused more before now after r same did later told =
-    let P : Settings → Type 0 = λ h. IsReported h.limits.file (act_for h now.db reading) (place + 1) more now after in
-    let p : IsReported s.limits.file (act_for s now.db reading) (place + 1) more now after = subst P same did in
+pub more : (s : Settings) (all rest : List Reading) (reading : Reading) (place : ℕ) (refused is : Bool) (before now after : Scene)
+    → Reached s all (reading ∷ rest) place refused before now → IsReported s.limits.file (act_for s now.db reading) (place + 1) is now after
+    → IsLater now.files after.files → after.told ≡ now.told → Reached s all rest (place + 1) (refused || is) before after
+more s all rest reading place refused is before now after r p later told =
     let act = act_for s now.db reading in
     let t = turn_of act p.outcome in
     let Q : Database → (List Outcome) → Type 0 = λ db later. turns s before.db all (r.outcomes ++ (taken_by act p.outcome ++ later)) ≡ r.done ++ (t ∷ turns s db rest later) in
@@ -103,12 +104,27 @@ one_more s here all rest reading place refused more before now after r same did 
       count = let c = r.count in let l = length-append r.done (t ∷ []) in omega arith;
       places = let c = r.places in omega arith;
       did = did_more r.done act s.limits.file place p.outcome before now after r.did r.count r.told p.turn p.sent;
-      refused_is = ap (λ b. b || more) r.refused_is ∙ ap (λ b. any_refused r.done || b) (p.refused_is ∙ sym (or_false (is_refusal t.effect.report))) ∙ sym (refused-append r.done (t ∷ []));
+      refused_is = ap (λ b. b || is) r.refused_is ∙ ap (λ b. any_refused r.done || b) (p.refused_is ∙ sym (or_false (is_refusal t.effect.report))) ∙ sym (refused-append r.done (t ∷ []));
       tied = subst (λ reads. AreTied s.limits.file reads before.files after.files) (sym (reads-append r.done (t ∷ [])))
           (tied_twice s.limits.file (reads_of r.done) (reads_of (t ∷ [])) before.files now.files after.files r.later r.tied p.turn.tied);
       later = later_twice before.files now.files after.files r.later later;
       told = told ∙ r.told;
     }
+
+pub more_done : (s : Settings) (all rest : List Reading) (reading : Reading) (place : ℕ) (refused is : Bool) (before now after : Scene)
+    → (r : Reached s all (reading ∷ rest) place refused before now) (p : IsReported s.limits.file (act_for s now.db reading) (place + 1) is now after)
+    → (later : IsLater now.files after.files) (told : after.told ≡ now.told)
+    → (more s all rest reading place refused is before now after r p later told).done ≡ r.done ++ turn_of (act_for s now.db reading) p.outcome ∷ []
+unfolding more
+more_done s all rest reading place refused is before now after r p later told = refl
+
+pub one_more : (s here : Settings) (all rest : List Reading) (reading : Reading) (place : ℕ) (refused is : Bool) (before now after : Scene)
+    → Reached s all (reading ∷ rest) place refused before now → here ≡ s
+    → IsReported here.limits.file (act_for here now.db reading) (place + 1) is now after → IsLater now.files after.files → after.told ≡ now.told
+    → Reached s all rest (place + 1) (refused || is) before after
+one_more s here all rest reading place refused is before now after r same did later told =
+    let P : Settings → Type 0 = λ h. IsReported h.limits.file (act_for h now.db reading) (place + 1) is now after in
+    more s all rest reading place refused is before now after r (subst P same did) later told
 
 -- ---- the end
 
@@ -144,6 +160,11 @@ ended s all place refused before now status r status_is =
           subst (λ ts. Follows s.limits.file ts status before now) (sym e)
           (follows_all s.limits.file r.done status before now r.did r.tied (status_is ∙ ap status_for r.refused_is) (subst P (sym status_is) (below_two refused)));
     }
+
+pub ended_turns : (s : Settings) (all : List Reading) (place : ℕ) (refused : Bool) (before now : Scene) (status : ℕ) → (r : Reached s all [] place refused before now)
+    → (status_is : status ≡ status_for refused) → turns s before.db all (ended s all place refused before now status r status_is).outcomes ≡ r.done
+unfolding ended
+ended_turns s all place refused before now status r status_is = r.joined [] ∙ append-nil r.done
 
 -- ---- an end before the next report
 

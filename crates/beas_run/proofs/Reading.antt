@@ -7,7 +7,7 @@ use Rattle.sql_text.specs.declared.token.Piece.{Piece}
 use Rattle.sql_text.specs.Tokens.{tokens_of}
 use Rattle.sql_text.specs.Pieces.{statements_of}
 use Rattle.sql_tree.specs.Symbols.{symbols}
-use Rattle.sql_parser.specs.Outcome.{Reading, Parses}
+use Rattle.sql_parser.specs.Outcome.{Parses}
 use Rattle.sql_parser.proofs.Parsing.{parsed-parses}
 use Rattle.beas_run.specs.Scripts.{Readings, pieces, reading_of, readings_of, readings_at}
 

@@ -1,3 +1,4 @@
+pub mod Demonstrations
 pub mod Endings
 pub mod NoScripts
 pub mod Pieces

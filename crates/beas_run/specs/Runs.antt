@@ -1,40 +1,48 @@
 -- What a run does, at each of its statuses.
---     request_of words       what the words ask for: the one word, which doesn't begin with a dash, is the script's name
---     settings_of_words ..   what the script's statements are then decided by
+--     script_name words      the name of the script that the words ask for, if they ask for one
+--     demo_seed words        the seed of the demonstration, if they ask for one
+--     settings_of_words ..   what the statements are then decided by
 --     line status            what is said where a run has no script
---     HasScript ..           which script a run has
+--     HasScript ..           which script a run has: a file's, or a demonstration's
 --     HasRun ..              what it did: its script's turns, or as far as it came
+--     outcomes_in ..         what the reads of its LOADs gave
 --     IsTooLong, IsNoText    why it has no script
 --     IsUntouched ..         and what it leaves then
 --     CompletesWithout, Completes     which statuses are left where nothing stands in its way
-use Rattle.std.specs.Prelude.{◌≡◌, ◌≢◌, ◌==◌, ◌<◌, ◌≤◌, ◌+◌, ◌⊎◌, ℕ, Bool, true, false, List, [], ◌∷◌, length, codes, slice_index, if◌then◌else◌, Option, Some, None, option_map, IsSomeAnd}
+use Rattle.std.specs.Prelude.{◌≡◌, ◌≢◌, ◌==◌, ◌<◌, ◌≤◌, ◌+◌, ◌⊎◌, ℕ, true, false, List, [], length, codes, if◌then◌else◌, Option, Some, None, option_and_then, IsSomeAnd}
 use Rattle.std.specs.Option.{option_map_or}
 use Rattle.std.specs.Str.{IsUtf8}
 use Rattle.beas_core.specs.declared.limits.Limits.{Limits}
+use Rattle.command_words.specs.declared.arguments.Args.{Args}
+use Rattle.command_words.specs.declared.arguments.Args.TheVariants.{Script, Demo}
+use Rattle.command_words.specs.Words.{args_of, usage_line}
+use Rattle.demo_gen.specs.Demo.{demo_text}
 use Rattle.outside.specs.Counts.{RoseBy}
+use Rattle.session.specs.declared.outcome.Outcome.{Outcome}
 use Rattle.session.specs.Effects.{Settings}
 use Rattle.session.specs.Ties.{Seen}
 use Rattle.sql_parser.specs.Outcome.{Reading}
+use Rattle.beas_run.specs.Demonstrations.{Demonstrated}
 use Rattle.beas_run.specs.Scripts.{Readings}
 use Rattle.beas_run.specs.Walks.{Scene, Walked}
 
--- the script's name, the budget, and whether a query's plan is shown
-pub record Request : Type 0 where
-  pub path : List ℕ
-  pub budget : Option ℕ
-  pub explain : Bool
+abbrev pub path_of : Args → Option (List ℕ)
+path_of (Script path budget explain) = Some path
+path_of (Demo seed budget explain) = None
 
--- 45 is the dash
+abbrev pub seed_of : Args → Option ℕ
+seed_of (Script path budget explain) = None
+seed_of (Demo seed budget explain) = Some seed
+
 abbrev pub script_name : List (List ℕ) → Option (List ℕ)
-script_name [] = None
-script_name (word ∷ []) = if slice_index word 0 == 45 then None else Some word
-script_name (word ∷ other ∷ words) = None
+script_name words = option_and_then path_of (args_of words)
 
-abbrev pub request_of : List (List ℕ) → Option Request
-request_of words = option_map (λ path. record { path = path; budget = None; explain = false }) (script_name words)
+abbrev pub demo_seed : List (List ℕ) → Option ℕ
+demo_seed words = option_and_then seed_of (args_of words)
 
-abbrev pub settings_for : Limits → Request → Settings
-settings_for limits request = record { limits = limits; budget = request.budget; explain = request.explain }
+abbrev pub settings_for : Limits → Args → Settings
+settings_for limits (Script path budget explain) = record { limits = limits; budget = budget; explain = explain }
+settings_for limits (Demo seed budget explain) = record { limits = limits; budget = budget; explain = explain }
 
 abbrev pub longest_script : ℕ
 longest_script = 16777216
@@ -42,7 +50,7 @@ longest_script = 16777216
 -- 2: the words are refused; 3: the script can't be read; 6: it is too long; 7: it is no text
 abbrev pub line : ℕ → List ℕ
 line status =
-    if status == 2 then codes "usage: beas SCRIPT\n"
+    if status == 2 then usage_line
     else (if status == 3 then codes "beas: cannot read the script\n"
     else (if status == 6 then codes "beas: the script is longer than 16777216 bytes\n"
     else (if status == 7 then codes "beas: the script is not UTF-8\n" else [])))
@@ -59,24 +67,45 @@ IsWith status = (status < 2) ⊎ (status ≡ 4)
 abbrev pub IsContent : Seen → List ℕ → List ℕ → Type 0
 IsContent files bytes name = files.told ≡ true → files.content name ≡ Some bytes
 
-pub record HasScript (script : List ℕ) (status : ℕ) (name : Option (List ℕ)) (files : Seen) : Type 0 where
+-- the script that is asked for: the content of a file, or the text of a demonstration
+abbrev pub IsScriptOf : Option Args → Seen → List ℕ → Type 0
+IsScriptOf None files script = ⊥
+IsScriptOf (Some (Script path budget explain)) files script = IsContent files script path
+IsScriptOf (Some (Demo seed budget explain)) files script = script ≡ demo_text seed
+
+pub record HasScript (script : List ℕ) (status : ℕ) (asked : Option Args) (files : Seen) : Type 0 where
   pub fits : length script ≤ longest_script
   pub is_text : IsUtf8 script
-  pub read : IsWith status → IsSomeAnd name (IsContent files script)
-  pub begun : (script ≡ []) ⊎ IsSomeAnd name (IsContent files script)
+  pub read : IsWith status → IsScriptOf asked files script
+  pub begun : (script ≡ []) ⊎ IsScriptOf asked files script
   pub without : IsWithout status → script ≡ []
 
 -- where the words ask for nothing there are no statements
 abbrev pub settings_of_words : Limits → List (List ℕ) → Settings
 settings_of_words limits words =
-    option_map_or (settings_for limits) (request_of words) (record { limits = limits; budget = None; explain = false })
+    option_map_or (settings_for limits) (args_of words) (record { limits = limits; budget = None; explain = false })
+
+-- the reports of a file's script are written, and of a demonstration's the line of their totals
+abbrev pub WalkedFor : Option Args → Settings → List Reading → ℕ → Scene → Scene → Type 0
+WalkedFor None = Walked
+WalkedFor (Some (Script path budget explain)) = Walked
+WalkedFor (Some (Demo seed budget explain)) = Demonstrated
+
+-- what the reads of LOADs gave
+abbrev pub outcomes_in : (asked : Option Args) (s : Settings) (readings : List Reading) (status : ℕ)
+    (before after : Scene) → WalkedFor asked s readings status before after → List Outcome
+outcomes_in None s readings status before after walked = walked.outcomes
+outcomes_in (Some (Script path budget explain)) s readings status before after walked = walked.outcomes
+outcomes_in (Some (Demo seed budget explain)) s readings status before after walked = walked.walked.outcomes
 
 pub record HasRun (limits : Limits) (words : List (List ℕ)) (status : ℕ) (before after : Scene) : Type 0 where
   pub script : List ℕ
   pub readings : List Reading
-  pub has : HasScript script status (script_name words) before.files
+  pub has : HasScript script status (args_of words) before.files
   pub read_as : Readings script readings
-  pub walked : Walked (settings_of_words limits words) readings status before after
+  -- where it ended before it had its script, not even the totals of no statements were sent
+  pub silent : script ≡ [] → before.told ≡ true → after.sent ≡ before.sent
+  pub walked : WalkedFor (args_of words) (settings_of_words limits words) readings status before after
 
 -- the script is longer than a script may be; where contents aren't told, one byte more was taken
 pub record IsTooLong (before after : Seen) (name : List ℕ) : Type 0 where

@@ -53,14 +53,14 @@ impl From<SinkError> for Ending {
     }
 }
 
-fn is_refusal(report: &Report) -> bool
+pub fn is_refusal(report: &Report) -> bool
     ensures { result ≡ is_refusal report.now }
 {
     matches!(report, Report::Refused { .. })
 }
 
 /// Reads a piece and carries out its statement, and says what is reported of it.
-fn report_on<F: Files, L: Ledger>(
+pub fn report_on<F: Files, L: Ledger>(
     alloc: Global,
     session: &mut Session,
     tokens: &[Token],

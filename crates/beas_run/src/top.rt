@@ -1,17 +1,21 @@
 // The top call: a script, from its name to its reports.
-ghost use Rattle.std.specs.Prelude.{◌≡◌, ◌<◌, ◌≤◌, ◌++◌, ◌⊎◌, ℕ, List, true, None, Some, length, map, option_map, IsSomeAnd, IfOk, IfErr, IsErrOf};
+ghost use Rattle.std.specs.Prelude.{◌≡◌, ◌<◌, ◌≤◌, ◌++◌, ◌⊎◌, ℕ, List, true, None, Some, length, map, IsSomeAnd, IfOk, IfErr, IsErrOf};
 ghost use Rattle.std.specs.Str.{IsUtf8};
 ghost use Rattle.std.specs.String.{string_bytes};
+ghost use Rattle.command_words.specs.Words.{args_of};
 ghost use Rattle.outside.specs.Counts.{Rose};
 ghost use Rattle.outside.specs.Parts.{SentPart};
 ghost use Rattle.session.specs.Applied.{settings_of};
 ghost use Rattle.session.specs.Ties.{IsLater, seen};
 ghost use Rattle.beas_run.specs.NoScripts.{status_of};
-ghost use Rattle.beas_run.specs.Runs.{script_name, request_of, settings_of_words, longest_script, line, HasRun, IsContent, IsTooLong, IsNoText, IsUntouched, IsWith, IsWithout, Completes, CompletesWithout};
+ghost use Rattle.beas_run.specs.Runs.{script_name, demo_seed, settings_of_words, longest_script, line, HasRun, IsContent, IsTooLong, IsNoText, IsUntouched, IsWith, IsWithout, Completes, CompletesWithout};
 ghost use Rattle.beas_run.specs.Walks.{scene};
 
+use crate::demonstration::run_demonstration;
 use crate::script::run_script;
-use beas_core::{Bytes, Steps};
+use beas_core::{Bytes, NoMemory, Steps};
+use command_words::{Args, Usage, args, usage_line};
+use demo_gen::demo;
 use outside::{Files, FilesError, Sink, SinkError};
 use session::Session;
 use std::alloc::Global;
@@ -24,7 +28,7 @@ const LONGEST_SCRIPT: u64 = 16_777_216;
 /// Why a run has no script.
 #[derive(Clone, Copy, Debug, PartialEq, Eq)]
 enum NoScript {
-    /// There isn't one word, or it begins with a dash.
+    /// The words are refused.
     Words,
     /// The script can't be read.
     Unread,
@@ -32,38 +36,6 @@ enum NoScript {
     /// The script is not UTF-8.
     NotText,
     NoMemory,
-}
-
-/// What the words ask for.
-#[derive(Drop)]
-struct Request<'a> {
-    /// The name of the script.
-    path: &'a str,
-    /// A query with a greater number isn't run.
-    budget: Option<u64>,
-    /// Whether the report of a query shows its plan.
-    explain: bool,
-}
-
-/// What the words ask for, if they are accepted: the one word, which doesn't begin with a dash, names the script.
-fn request_of(words: &[String]) -> Option<Request<'_>>
-    ensures { option_map (λ r. record { path = r.path.now; budget = r.budget; explain = r.explain }) result
-        ≡ request_of (map string_bytes words.now) }
-{
-    match words {
-        [word] => {
-            let path = word.as_str();
-            match path.as_bytes() {
-                [b'-', ..] => None,
-                _ => Some(Request {
-                    path,
-                    budget: None,
-                    explain: false,
-                }),
-            }
-        }
-        _ => None,
-    }
 }
 
 /// The bytes of a script that can be read and is a text.
@@ -124,7 +96,7 @@ fn line_of(why: NoScript) -> &'static str
     ensures { result.now ≡ line (status_of why) }
 {
     match why {
-        NoScript::Words => "usage: beas SCRIPT\n",
+        NoScript::Words => usage_line(),
         NoScript::Unread => "beas: cannot read the script\n",
         NoScript::NoMemory => "",
         NoScript::TooLong => "beas: the script is longer than 16777216 bytes\n",
@@ -171,15 +143,19 @@ fn run_named<F: Files, O: Sink, E: Sink, L: Ledger>(
     ensures settings { IsWith result
         → settings_of session.new ≡ settings_of_words session.old.limits (map string_bytes words.now) }
     ensures settings_without { IsWithout result → settings_of session.new ≡ settings_of session.old }
+    ensures settings_out_of_memory { result ≡ 5 → (settings_of session.new ≡ settings_of session.old)
+        ⊎ (settings_of session.new ≡ settings_of_words session.old.limits (map string_bytes words.now)) }
 
     // Each status has its cause.
     ensures statuses { result ≤ 7 }
-    ensures words { script_name (map string_bytes words.now) ≡ None → (result ≡ 2) ⊎ (result ≡ 5) }
-    ensures words_alone { result ≡ 2 → script_name (map string_bytes words.now) ≡ None }
+    ensures words { args_of (map string_bytes words.now) ≡ None → (result ≡ 2) ⊎ (result ≡ 5) }
+    ensures words_alone { result ≡ 2 → args_of (map string_bytes words.now) ≡ None }
     ensures unread { result ≡ 3 → IsSomeAnd (script_name (map string_bytes words.now))
         (λ name. Rose (F.faults files.old name) (F.faults files.new name)) }
     ensures fault { result ≡ 4 → Rose (O.faults out.old) (O.faults out.new) }
     ensures no_fault { result < 2 → O.faults out.new ≡ O.faults out.old }
+    ensures out_unused { IsWithout result → O.faults out.new ≡ O.faults out.old }
+    ensures err_unused { IsWith result → E.faults err.new ≡ E.faults err.old }
     ensures too_long { result ≡ 6 → IsSomeAnd (script_name (map string_bytes words.now)) (IsTooLong
         (seen F.told F.content F.faults F.taken files.old) (seen F.told F.content F.faults F.taken files.new)) }
     ensures not_text { result ≡ 7 → IsSomeAnd (script_name (map string_bytes words.now)) (IsNoText
@@ -198,23 +174,44 @@ fn run_named<F: Files, O: Sink, E: Sink, L: Ledger>(
     ensures err_told { E.told err.new ≡ E.told err.old }
     ensures err_rise { E.faults err.old ≤ E.faults err.new }
 {
-    let Some(request) = request_of(words) else {
-        return say(NoScript::Words, err);
-    };
-    match read_named(alloc, request.path, files) {
-        Ok(bytes) => {
-            session.budget = request.budget;
-            session.explain = request.explain;
-            run_script(alloc, session, text_of(&bytes), files, out, steps)
-        }
-        Err(why) => say(why, err),
+    match args(alloc, words) {
+        Ok(
+            Args::Script {
+                path,
+                budget,
+                explain,
+            },
+        ) => match read_named(alloc, path.as_str(), files) {
+            Ok(bytes) => {
+                session.budget = budget;
+                session.explain = explain;
+                run_script(alloc, session, text_of(&bytes), files, out, steps)
+            }
+            Err(why) => say(why, err),
+        },
+        Ok(
+            Args::Demo {
+                seed,
+                budget,
+                explain,
+            },
+        ) => match demo(alloc, seed) {
+            Ok(text) => {
+                session.budget = budget;
+                session.explain = explain;
+                run_demonstration(alloc, session, text.as_str(), files, out, steps)
+            }
+            Err(NoMemory) => say(NoScript::NoMemory, err),
+        },
+        Err(Usage::Refused) => say(NoScript::Words, err),
+        Err(Usage::NoMemory) => say(NoScript::NoMemory, err),
     }
 }
 
-/// Runs the script that the words name over a session, and gives the status of the program: 0 and 1 where the script was
-/// carried out whole, without a refusal and with one; 2 where the words name no script; 3 where it can't be read; 4
-/// where `out` failed; 5 where memory ran out; 6 where the script is longer than 16,777,216 bytes; 7 where it is not
-/// UTF-8. Each report is put to `out` before the next statement.
+/// Runs what the words ask for over a session, and gives the status of the program: 0 and 1 where the script was carried
+/// out whole, without a refusal and with one; 2 where the words are refused; 3 where the script can't be read; 4 where
+/// `out` failed; 5 where memory ran out; 6 where the script is longer than 16,777,216 bytes; 7 where it is not UTF-8.
+/// Each report is put to `out` before the next statement; of a demonstration one line of totals at its end.
 pub fn run<F: Files, O: Sink, E: Sink, L: Ledger>(
     alloc: Global,
     session: &mut Session,
@@ -237,15 +234,19 @@ pub fn run<F: Files, O: Sink, E: Sink, L: Ledger>(
     ensures settings { IsWith result
         → settings_of session.new ≡ settings_of_words session.old.limits (map string_bytes words.now) }
     ensures settings_without { IsWithout result → settings_of session.new ≡ settings_of session.old }
+    ensures settings_out_of_memory { result ≡ 5 → (settings_of session.new ≡ settings_of session.old)
+        ⊎ (settings_of session.new ≡ settings_of_words session.old.limits (map string_bytes words.now)) }
 
     // Each status has its cause.
     ensures statuses { result ≤ 7 }
-    ensures words { script_name (map string_bytes words.now) ≡ None → (result ≡ 2) ⊎ (result ≡ 5) }
-    ensures words_alone { result ≡ 2 → script_name (map string_bytes words.now) ≡ None }
+    ensures words { args_of (map string_bytes words.now) ≡ None → (result ≡ 2) ⊎ (result ≡ 5) }
+    ensures words_alone { result ≡ 2 → args_of (map string_bytes words.now) ≡ None }
     ensures unread { result ≡ 3 → IsSomeAnd (script_name (map string_bytes words.now))
         (λ name. Rose (F.faults files.old name) (F.faults files.new name)) }
     ensures fault { result ≡ 4 → Rose (O.faults out.old) (O.faults out.new) }
     ensures no_fault { result < 2 → O.faults out.new ≡ O.faults out.old }
+    ensures out_unused { IsWithout result → O.faults out.new ≡ O.faults out.old }
+    ensures err_unused { IsWith result → E.faults err.new ≡ E.faults err.old }
     ensures too_long { result ≡ 6 → IsSomeAnd (script_name (map string_bytes words.now)) (IsTooLong
         (seen F.told F.content F.faults F.taken files.old) (seen F.told F.content F.faults F.taken files.new)) }
     ensures not_text { result ≡ 7 → IsSomeAnd (script_name (map string_bytes words.now)) (IsNoText
@@ -259,6 +260,8 @@ pub fn run<F: Files, O: Sink, E: Sink, L: Ledger>(
     ensures complete_without { (name script : List ℕ) → script_name (map string_bytes words.now) ≡ Some name
         → F.told files.old ≡ true → F.content files.old name ≡ Some script
         → (Rose (F.faults files.old name) (F.faults files.new name) → ⊥) → CompletesWithout script result }
+    ensures complete_demo { (seed : ℕ) → demo_seed (map string_bytes words.now) ≡ Some seed
+        → (Rose (O.faults out.old) (O.faults out.new) → ⊥) → (result < 2) ⊎ (result ≡ 5) }
 
     // A run without a script says why, and no other run says anything there.
     ensures said { E.told err.old ≡ true → SentPart (E.sent err.old) (E.sent err.new) (line result) }

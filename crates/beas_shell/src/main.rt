@@ -24,17 +24,22 @@ const NO_MEMORY: u8 = 5;
 /// The status where the system doesn't give the words.
 const NO_WORDS: u8 = 8;
 
-/// The words of the command line, the program's name first.
+/// The words of the command line, the program's name first, or none where one isn't UTF-8: such words are faulty, and
+/// `run` refuses them as it does no words.
 fn words_of(rt: &HostRuntime) -> io::Result<Vec<String>> {
     let mut words = Vec::new(rt.alloc());
-    for word in env::args(rt)? {
+    let given = match env::args(rt) {
+        Ok(given) => given,
+        Err(why) if why.kind() == ErrorKind::InvalidData => return Ok(words),
+        Err(why) => return Err(why),
+    };
+    for word in given {
         words.push(word)?;
     }
     Ok(words)
 }
 
-/// Runs the script that the words name, over a session without tables, the system's files and streams, and one counter
-/// of reads.
+/// Runs what the words ask for, over a session without tables, the system's files and streams, and one counter of reads.
 fn start<L: Ledger>(rt: &HostRuntime, blank: Blank) -> u8
     requires name { blank.name ≡ L.name }
     requires parts { blank.parts ≡ L.parts }

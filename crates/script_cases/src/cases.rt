@@ -24,6 +24,8 @@ pub struct Case {
     pub output: Vec<u8>,
     pub error: Vec<u8>,
     pub status: u8,
+    /// Whether the words ask for a demonstration, which writes no reports.
+    pub is_demonstration: bool,
     /// The number of the read that fails, from 0 on, if one is to fail.
     pub failing_read: Option<u32>,
     /// The words of the run that comes before, over the same session, where there is one.
@@ -82,6 +84,10 @@ fn words_of(alloc: Global, files: &[CaseFile]) -> io::Result<Vec<String>> {
     Ok(words)
 }
 
+fn asks_for_demonstration(words: &[String]) -> bool {
+    words.iter().any(|word| word.as_str() == "--demo")
+}
+
 fn status_of(alloc: Global, files: &[CaseFile]) -> io::Result<u8> {
     let digits = text_of(alloc, files, "status")?;
     Ok(digits.as_str().trim().parse::<u8>().unwrap_or(0))
@@ -105,13 +111,15 @@ fn case_in(rt: &HostRuntime, folder: &str, name: String) -> io::Result<Case> {
     let alloc = rt.alloc();
     let path = format!(in alloc; "{folder}/{name}")?;
     let files = files_in(rt, path.as_str())?;
+    let words = words_of(alloc, &files)?;
     Ok(Case {
-        words: words_of(alloc, &files)?,
+        is_demonstration: asks_for_demonstration(&words),
         output: bytes_of(alloc, &files, "output")?,
         error: bytes_of(alloc, &files, "error")?,
         status: status_of(alloc, &files)?,
         failing_read: failing_read_of(alloc, &files)?,
         words_before: words_before_of(alloc, &files)?,
+        words,
         name,
         files,
     })

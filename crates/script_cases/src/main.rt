@@ -10,8 +10,10 @@
 //! - `before.beas`, a script that is run before, over the same session, where there is to be one;
 //! - all files that the scripts load.
 //!
-//! A case is run whole, then over an output that keeps each put by itself, which is to be one report, and then once for
-//! each length at which its output may fail: then the status is 4 and the output is what comes before the failure.
+//! A case is run over an output that takes as many bytes as are wanted and no more, then over one that keeps each put by
+//! itself, which is to be one report, and then over outputs that fail earlier, at each length or, where there are more
+//! than 400, at so many of them: then the status is 4 and the output is what comes before the failure. A demonstration has
+//! one put for all its statements, and is let fail at a few lengths alone, since each takes a whole run.
 #![tactic(auto)]
 
 ghost use Rattle.std.specs.Prelude.{◌≡◌, ◌<◌};
@@ -32,6 +34,9 @@ use std::{env, io};
 
 /// The most lengths at which the output of one case is let fail.
 const LENGTHS: usize = 400;
+
+/// The most lengths at which the output of a demonstration is let fail.
+const DEMONSTRATION_LENGTHS: usize = 4;
 
 /// What a run left.
 #[derive(Drop)]
@@ -120,26 +125,39 @@ fn run_case(alloc: Global, case: &Case, total: u64) -> io::Result<Ending> {
     Ok(Ending { status, out, err })
 }
 
-/// The first put of a run of the case that isn't one report.
+/// The first put of a run of the case that isn't one report, or a second one of a demonstration.
 fn wrong_put(alloc: Global, case: &Case) -> io::Result<Option<usize>> {
     let mut out = Puts::new(alloc);
     run_counted::<Puts, Brand>(alloc, case, &mut out, Blank::new(1))?;
+    if case.is_demonstration {
+        return Ok(out.second_put());
+    }
     out.wrong_put(alloc)
 }
 
-/// Whether a whole run of the case is as it is to be.
+/// Whether a run of the case is as it is to be, over an output with room for just what is wanted.
 fn is_as_wanted(alloc: Global, case: &Case) -> io::Result<bool> {
-    let ending = run_case(alloc, case, u64::MAX)?;
+    let ending = run_case(alloc, case, case.output.len() as u64)?;
     let status = ending.status == case.status;
     let out = ending.out.bytes() == case.output.as_slice();
     let err = ending.err.bytes() == case.error.as_slice();
     Ok(status && out && err)
 }
 
+/// How far apart the lengths are at which the output of a case is let fail.
+fn step_of(case: &Case) -> usize
+    ensures { 0 < result }
+{
+    let length = case.output.len();
+    if case.is_demonstration {
+        return length / DEMONSTRATION_LENGTHS + 1;
+    }
+    length / LENGTHS + 1
+}
+
 /// The first length at which the output fails otherwise than it is to.
 fn wrong_length(alloc: Global, case: &Case) -> io::Result<Option<usize>> {
-    let length = case.output.len();
-    for total in (0..length).step_by(length / LENGTHS + 1) {
+    for total in (0..case.output.len()).step_by(step_of(case)) {
         let ending = run_case(alloc, case, total as u64)?;
         let is_prefix = case.output.starts_with(ending.out.bytes())
             && ending.out.bytes().len() == total;

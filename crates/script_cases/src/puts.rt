@@ -21,6 +21,14 @@ impl Puts {
         }
     }
 
+    /// The second put, counted from 1, where there is one.
+    pub fn second_put(&self) -> Option<usize> {
+        if self.all.len() < 2 {
+            return None;
+        }
+        Some(2)
+    }
+
     /// The first put, counted from 1, that isn't one report: it doesn't begin with its number, or the next report
     /// begins in it.
     pub fn wrong_put(&self, alloc: Global) -> io::Result<Option<usize>> {

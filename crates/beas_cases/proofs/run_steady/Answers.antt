@@ -1,4 +1,4 @@
-use Rattle.beas_cases.proofs.Steady.{no_fault, none_at, none_rose}
+use Rattle.beas_cases.proofs.Steady.{no_fault, none_at, none_rose, walked_failures}
 use Rattle.std.proofs.Common.{refl}
 use Rattle.beas_cases.proofs.run_steady.Goals as goal
 
@@ -17,4 +17,4 @@ returns-clause-complete_without g c = λ name named. c.run.ensures.complete_with
 pub returns-clause-loads : goal.returns-clause-loads
 returns-clause-loads g c =
     let run = c.run.ensures.ran in
-    record { run = run; none = λ name. none_at _ (run.walked.follows.tied.failed name) }
+    record { run = run; none = λ name. none_at _ (walked_failures _ _ _ _ _ _ run.walked name) }
