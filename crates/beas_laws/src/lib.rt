@@ -8,8 +8,6 @@ mod coverage;
 mod order;
 mod printing;
 mod sessions;
-#[cfg(test)]
-mod spellings;
 mod texts;
 
 pub use answers::{law_answer, law_step};

@@ -5,8 +5,6 @@ mod lexer;
 mod pieces;
 mod quoting;
 mod runs;
-#[cfg(test)]
-mod tests;
 mod token;
 
 pub use lexer::lex;

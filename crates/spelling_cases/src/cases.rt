@@ -1,0 +1,106 @@
+// Cases as a file spells them.
+use beas_core::NoMemory;
+use std::alloc::Global;
+
+/// A text, and what it is to be read as.
+#[derive(Drop)]
+pub struct Case {
+    pub text: String,
+    pub wanted: String,
+}
+
+// The character with a number of base 16.
+fn character(digits: &str) -> Option<char> {
+    let mut number = 0_u32;
+    for digit in digits.chars() {
+        number = number
+            .saturating_mul(16)
+            .saturating_add(digit.to_digit(16)?);
+    }
+    char::from_u32(number)
+}
+
+// Adds what `[N TEXT]` stands for, of which the brackets are left out.
+fn add_repeated(text: &mut String, spelled: &str) -> Result<(), NoMemory> {
+    if let Some((count, once)) = spelled.split_once(' ') {
+        for _ in 0..count.parse::<u32>().unwrap_or(0) {
+            text.push_str(once)?;
+        }
+    }
+    Ok(())
+}
+
+// Adds what brackets with this between them stand for. A number of no character stands for U+FFFD.
+fn add_bracketed(text: &mut String, spelled: &str) -> Result<(), NoMemory> {
+    match spelled.strip_prefix("U+") {
+        Some(digits) => Ok(text.push(character(digits).unwrap_or(char::REPLACEMENT_CHARACTER))?),
+        None => add_repeated(text, spelled),
+    }
+}
+
+// Adds a line of a case, below those that stand there.
+fn add_line(text: &mut String, line: &str) -> Result<(), NoMemory> {
+    if !text.is_empty() {
+        text.push('\n')?;
+    }
+    for part in line.split('[') {
+        match part.split_once(']') {
+            Some((spelled, after)) => {
+                add_bracketed(text, spelled)?;
+                text.push_str(after)?;
+            }
+            None => text.push_str(part)?,
+        }
+    }
+    Ok(())
+}
+
+fn case_of(alloc: Global, part: &str) -> Result<Case, NoMemory> {
+    let mut text = String::new(alloc);
+    let mut wanted = String::new(alloc);
+    for line in part.lines() {
+        match line.strip_prefix("> ") {
+            Some(line) => add_line(&mut wanted, line)?,
+            None => add_line(&mut text, line)?,
+        }
+    }
+    Ok(Case { text, wanted })
+}
+
+/// The cases of a file, in order.
+pub fn cases_of(alloc: Global, file: &str) -> Result<Vec<Case>, NoMemory> {
+    let mut cases = Vec::new(alloc);
+    for part in file.split("\n\n") {
+        if !part.starts_with('#') {
+            cases.push(case_of(alloc, part)?)?;
+        }
+    }
+    Ok(cases)
+}
+
+fn add_case(cases: &mut Vec<Case>, text: String, wanted: String) -> Result<(), NoMemory> {
+    cases.push(Case { text, wanted })?;
+    Ok(())
+}
+
+// Adds the cases of a word: itself as a name, and the word with `_` after it.
+fn add_word(alloc: Global, cases: &mut Vec<Case>, word: &str) -> Result<(), NoMemory> {
+    let text = format!(in alloc; "DROP ACCESS {word}")?;
+    let longer = format!(in alloc; "{text}_")?;
+    let same = longer.clone()?;
+    add_case(
+        cases,
+        text,
+        String::from_str(alloc, "refused: no statement")?,
+    )?;
+    add_case(cases, longer, same)
+}
+
+/// Two cases for each line of a file, which is a word that is no name.
+pub fn word_cases_of(alloc: Global, file: &str) -> Result<Vec<Case>, NoMemory> {
+    let mut cases = Vec::new(alloc);
+    for word in file.lines() {
+        add_word(alloc, &mut cases, word)?;
+    }
+    Ok(cases)
+}
