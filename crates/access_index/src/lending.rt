@@ -37,18 +37,23 @@ fn compare_rows(columns: &[ColumnId], left: &[Value], right: &[Value]) -> Orderi
     Ordering::Equal
 }
 
-/// A row, lent, with a number that tells it from most others: rows are ordered by their numbers first, and few must be
-/// read for that. A row that is read lies anywhere in memory, so it costs more than all else. Any numbers are right.
+/// A row, lent, with two numbers that tell it from most others: rows are ordered by their numbers first, and few must
+/// be read for that. A row that is read lies anywhere in memory, so it costs more than all else. The numbers decide
+/// speed alone.
 #[derive(Drop)]
 pub struct Lent<'a> {
     pub row: &'a Row,
     rank: i64,
+    next: i64,
 }
+
+/// The bytes of a text that its rank is made of.
+const RANKED: usize = 7;
 
 /// A number for a text, which rises with its first bytes.
 fn rank_of_text(text: &[u8]) -> i64 {
     let mut rank: i64 = 0;
-    for place in 0..7 {
+    for place in 0..RANKED {
         let byte = match text.get(place) {
             Some(byte) => i64::from(*byte),
             None => 0,
@@ -58,31 +63,47 @@ fn rank_of_text(text: &[u8]) -> i64 {
     rank
 }
 
-/// A number for a row, which rises with its value in the first column.
-fn rank_of(columns: &[ColumnId], row: &[Value]) -> i64 {
-    let column = match columns.first() {
-        Some(column) => column,
-        None => return 0,
-    };
-    match row.get(column.0 as usize) {
+/// The value of a row in the column at a place among some.
+fn value_at<'a>(columns: &[ColumnId], row: &'a [Value], place: usize) -> Option<&'a Value> {
+    row.get(usize::from(columns.get(place)?.0))
+}
+
+/// A number for a value, which rises with it.
+fn rank_of(value: Option<&Value>) -> i64 {
+    match value {
         Some(Value::Int(number)) => *number,
         Some(Value::Str(text)) => rank_of_text(text.as_str().as_bytes()),
         None => 0,
     }
 }
 
+/// Whether a value's number tells it from most others, so that the next column counts where two numbers are equal.
+fn is_told(value: Option<&Value>) -> bool {
+    match value {
+        Some(Value::Str(text)) => text.as_str().len() < RANKED,
+        _ => true,
+    }
+}
+
 fn lend<'a>(row: &'a Row, columns: &[ColumnId]) -> Lent<'a>
     ensures { result.row.now ≡ row.now }
 {
+    let first = value_at(columns, row.as_slice(), 0);
+    let next = if is_told(first) {
+        rank_of(value_at(columns, row.as_slice(), 1))
+    } else {
+        0
+    };
     Lent {
         row,
-        rank: rank_of(columns, row.as_slice()),
+        rank: rank_of(first),
+        next,
     }
 }
 
 /// The order of two rows by their numbers, and where these tie by their values in some columns.
 fn compare_lent(columns: &[ColumnId], left: &Lent, right: &Lent) -> Ordering {
-    match left.rank.cmp(&right.rank) {
+    match left.rank.cmp(&right.rank).then(left.next.cmp(&right.next)) {
         Ordering::Equal => compare_rows(columns, left.row.as_slice(), right.row.as_slice()),
         order => order,
     }

@@ -15,61 +15,62 @@ use std::mem;
 /// A list in blocks: an item is read, put in, counted anew or dropped at any place in a time that grows
 /// with the cube root of the length at most.
 #[derive(Debug, Drop)]
-pub struct BlockedList<T: Counted> {
-    blocks: Blocks<T>,
+pub struct BlockedList<T: Counted, M: Piece<T> = Level<T, Level<T, Leaf<T>>>> {
+    blocks: Blocks<T, M>,
 }
 
-impl<T: Counted> Model for BlockedList<T> {
+impl<T: Counted, M: Piece<T>> Model for BlockedList<T, M> {
     ghost use Rattle.std.specs.Prelude.{List};
     ghost use Rattle.blocked_list.specs.Blocks.{items_of};
 
     ghost Value = { List T };
 
-    ghost view = { λ s. items_of s.blocks };
+    ghost view = { λ s. items_of M.items s.blocks };
 }
 
-/// The same items with room for more where memory is there.
-fn widened<T: Counted>(alloc: Global, blocks: Blocks<T>) -> Blocks<T>
-    ensures { items_of result ≡ items_of blocks }
+/// A leaf that is full, as two levels where memory is there; any other leaf stays.
+fn widened<T: Counted>(alloc: Global, leaf: Leaf<T>) -> Blocks<T>
+    ensures { items_of (λ level. level) result ≡ leaf }
 {
-    match blocks {
-        Blocks::Many(level) => Blocks::Many(level),
-        Blocks::Few(leaf) => {
-            if leaf.len() < MOST {
-                return Blocks::Few(leaf);
-            }
-            match Level::over(alloc, leaf) {
-                Ok(level) => Blocks::Many(level),
-                Err(leaf) => Blocks::Few(leaf),
-            }
-        }
+    if leaf.len() < MOST {
+        return Blocks::Few(leaf);
+    }
+    match Level::over(alloc, leaf) {
+        Ok(level) => Blocks::Many(level),
+        Err(leaf) => Blocks::Few(leaf),
     }
 }
 
 impl<T: Counted> BlockedList<T> {
     /// No items, which takes no memory.
-    pub fn new(alloc: Global) -> BlockedList<T>
+    pub fn new(_alloc: Global) -> BlockedList<T>
         ensures { result ≡ [] }
     {
         BlockedList {
-            blocks: Blocks::Few(Leaf::new(alloc)),
+            blocks: Blocks::Empty,
         }
     }
 
+    /// How many items there are. None of them is looked at.
     pub fn len(&self) -> usize
         ensures { result ≡ length self.now }
     {
         match &self.blocks {
+            Blocks::Empty => 0,
+            Blocks::One(_) => 1,
             Blocks::Few(leaf) => leaf.len(),
             Blocks::Many(level) => level.len(),
         }
     }
 
+    /// The item at a place.
     pub fn get(&self, at: usize) -> &T
         requires { at < length self.now }
         ensures { result.now ≡ slice_index_or self.now at result.now }
     {
         match &self.blocks {
+            Blocks::Empty => unreachable!(),
+            Blocks::One(item) => item,
             Blocks::Few(leaf) => leaf.get(at),
             Blocks::Many(level) => level.get(at),
         }
@@ -81,6 +82,8 @@ impl<T: Counted> BlockedList<T> {
         ensures { result ≡ length (filter (B.before wanted.now) self.now) }
     {
         match &self.blocks {
+            Blocks::Empty => 0,
+            Blocks::One(item) => usize::from(wanted.is_before(item)),
             Blocks::Few(leaf) => leaf.place_of(wanted),
             Blocks::Many(level) => level.place_of(wanted),
         }
@@ -93,11 +96,33 @@ impl<T: Counted> BlockedList<T> {
         ensures ok { OnOk result (self.new ≡ insert self.old at item) }
         ensures err { OnErr result (self.new ≡ self.old) }
     {
-        let blocks = mem::replace(&mut self.blocks, Blocks::Few(Leaf::new(alloc)));
-        self.blocks = widened(alloc, blocks);
+        // The first item stands in the list itself, so it needs no memory.
+        if self.len() == 0 {
+            self.blocks = Blocks::One(item);
+            return Ok(());
+        }
+        self.widen(alloc);
         match &mut self.blocks {
+            Blocks::Empty => unreachable!(),
+            // Memory for a leaf of two was refused.
+            Blocks::One(_) => Err(NoMemory),
             Blocks::Few(leaf) => leaf.insert(alloc, at, item),
             Blocks::Many(level) => level.insert(alloc, at, item),
+        }
+    }
+
+    /// Gives the list the form that one more item needs, where memory is there. The items stay.
+    fn widen(&mut self, alloc: Global)
+        ensures { self.new ≡ self.old }
+    {
+        match mem::replace(&mut self.blocks, Blocks::Empty) {
+            Blocks::Empty => {}
+            Blocks::One(item) => match Leaf::over(alloc, item) {
+                Ok(leaf) => self.blocks = Blocks::Few(leaf),
+                Err(item) => self.blocks = Blocks::One(item),
+            },
+            Blocks::Few(leaf) => self.blocks = widened(alloc, leaf),
+            Blocks::Many(level) => self.blocks = Blocks::Many(level),
         }
     }
 
@@ -107,6 +132,8 @@ impl<T: Counted> BlockedList<T> {
         ensures { (d : T) → self.new ≡ slice_set self.old at (T.recounted (slice_index_or self.old at d) count) }
     {
         match &mut self.blocks {
+            Blocks::Empty => unreachable!(),
+            Blocks::One(item) => item.set_count(count),
             Blocks::Few(leaf) => leaf.recount(at, count),
             Blocks::Many(level) => level.recount(at, count),
         }
@@ -118,6 +145,8 @@ impl<T: Counted> BlockedList<T> {
         ensures { self.new ≡ remove self.old at }
     {
         match &mut self.blocks {
+            Blocks::Empty => unreachable!(),
+            Blocks::One(_) => self.blocks = Blocks::Empty,
             Blocks::Few(leaf) => leaf.remove(at),
             Blocks::Many(level) => level.remove(at),
         }
