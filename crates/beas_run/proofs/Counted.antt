@@ -1,5 +1,5 @@
 -- Where the run of a demonstration is in the turns of its script, and the totals so far.
-use Rattle.std.proofs.Common.{◌≡◌, ◌<◌, ◌+◌, ◌^◌, ◌++◌, ◌||◌, ◌⊎◌, ◌∙◌, sym, ap, subst, refl, inl, inr, ℕ, Bool, true, false, List, [], ◌∷◌, Ok, map, arith, append-nil}
+use Rattle.std.proofs.Common.{◌≡◌, ◌≢◌, ◌<◌, ◌≤◌, ◌+◌, ◌^◌, ◌++◌, ◌||◌, ◌⊎◌, ◌∙◌, sym, ap, subst, refl, inl, inr, ℕ, Bool, true, false, List, [], ◌∷◌, Ok, map, arith, append-nil}
 use Rattle.std.proofs.lemmas.Bool.{false≢true}
 use Rattle.std.proofs.lemmas.List.{length-map, map-append}
 use Rattle.demo_gen.specs.declared.summary.Outcome.{Outcome as CountedOutcome}
@@ -107,8 +107,9 @@ pub demonstrated : (s : Settings) (readings : List Reading) (refused : Bool) (st
     → Tallied s readings (ended_at (Ok refused)) sum (record { db = db; steps = steps; told = false; sent = []; files = files }) (unwritten after)
     → (status ≡ ended_at (Ok refused)) ⊎ (status ≡ 4) ⊎ (status ≡ 5)
     → (status < 2 → told ≡ true → after.sent ≡ sent ++ summary_text sum) → (told ≡ true → SentPart sent after.sent (summary_text sum))
+    → (status ≡ 5 → told ≡ true → after.sent ≡ sent)
     → Demonstrated s readings status (record { db = db; steps = steps; told = told; sent = sent; files = files }) after
-demonstrated s readings refused status sum db steps after told sent files tally ended whole part =
+demonstrated s readings refused status sum db steps after told sent files tally ended whole part unsent =
     let same : sum ≡ totals_in (turns s db readings tally.walked.outcomes) = tally.sum_is (below_two refused) in
     let late = below_two refused in
     record {
@@ -116,9 +117,15 @@ demonstrated s readings refused status sum db steps after told sent files tally 
       walked = tally.walked;
       whole = λ below. (whole_ended status (ended_at (Ok refused)) below ended, λ on. whole below on ∙ ap (λ (t : Totals). sent ++ summary_text t) same);
       part = λ on. subst (λ (t : Totals). SentPart sent after.sent (summary_text t)) same (part on);
+      unsent = λ early fault. unsent (out_of_memory status (ended_at (Ok refused)) late early fault ended);
       early = λ early. absurd (omega arith);
     }
   where
+    out_of_memory : (status ended : ℕ) → ended < 2 → 2 ≤ status → status ≢ 4 → (status ≡ ended) ⊎ (status ≡ 4) ⊎ (status ≡ 5) → status ≡ 5
+    out_of_memory status ended late early fault (inl e) = absurd (omega arith)
+    out_of_memory status ended late early fault (inr (inl four)) = absurd (fault four)
+    out_of_memory status ended late early fault (inr (inr five)) = five
+
     whole_ended : (status ended : ℕ) → status < 2 → (status ≡ ended) ⊎ (status ≡ 4) ⊎ (status ≡ 5) → status ≡ ended
     whole_ended status ended below (inl e) = e
     whole_ended status ended below (inr other) = absurd (omega arith)
@@ -133,5 +140,6 @@ unfinished s readings sum db steps after sent told files tally same = record {
   walked = tally.walked;
   whole = λ below. absurd (omega arith);
   part = λ on. rw (same on) (early_part sent (summary_of (turns s db readings tally.walked.outcomes)));
-  early = λ _. (refl, (refl, same));
+  unsent = λ _ _. same;
+  early = λ _. (refl, refl);
 }

@@ -23,7 +23,8 @@ length-onto x [] some = absurd (omega arith)
 length-onto x (part ∷ parts) some = refl
 
 -- what one element more does to the number of parts
-one_more : {X : Type 0} (b : Bool) (x : X) (parts : List (List X)) → 1 ≤ length parts → (1 ≤ length (cond b ([] ∷ parts) (onto_first x parts))) × (length (cond b ([] ∷ parts) (onto_first x parts)) ≤ length parts + 1)
+one_more : {X : Type 0} (b : Bool) (x : X) (parts : List (List X)) → 1 ≤ length parts
+    → (1 ≤ length (cond b ([] ∷ parts) (onto_first x parts))) × (length (cond b ([] ∷ parts) (onto_first x parts)) ≤ length parts + 1)
 one_more true x parts some = (omega arith, omega arith)
 one_more false x parts some = let e = length-onto x parts some in (omega arith, omega arith)
 

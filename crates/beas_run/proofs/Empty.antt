@@ -68,7 +68,7 @@ has_none status asked files early fault = record {
   without = λ _. refl;
 }
 
--- nothing is done, whatever is asked for; where that is a demonstration, for want of memory
+-- nothing is done, whatever is asked for; where that is a demonstration, out of memory
 idle : (asked : Option Args) (s : Settings) (before after : Scene) (status : ℕ)
     → (before.told ≡ true → after.sent ≡ before.sent) → after.steps ≡ before.steps → after.db ≡ before.db → IsLater before.files after.files
     → 2 ≤ status → status ≢ 4 → (option_and_then seed_of asked ≡ None) ⊎ (status ≡ 5) → WalkedFor asked s [] status before after
@@ -81,7 +81,8 @@ idle (Some (Demo seed budget explain)) s before after status sent steps db later
   walked = unstarted s [] (unwritten before) (unwritten after) 5 (λ _. refl) steps db later (omega arith) (omega arith);
   whole = λ below. absurd (omega arith);
   part = λ on. rw (sent on) (none_of before.sent (summary_of []));
-  early = λ _. (refl, (five, sent));
+  unsent = λ _ _. sent;
+  early = λ _. (refl, five);
 }
 
 -- a run without a script

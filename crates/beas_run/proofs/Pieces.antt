@@ -15,6 +15,8 @@ use Rattle.session.specs.Applied.{Applied, MayCost}
 use Rattle.session.specs.Effects.{Settings, Act, Does, act_of, refusal_effect}
 use Rattle.session.specs.Ties.{Seen, IsLater}
 use Rattle.session.specs.Turns.{is_refusal, IsWithin}
+use Rattle.beas_run.specs.declared.script.Ending.{Ending}
+use Rattle.beas_run.specs.declared.script.Ending.TheVariants.{NoMemory as Want}
 use Rattle.beas_run.specs.Pieces.{IsTurn, IsReported, IsUnreported}
 use Rattle.beas_run.specs.Scripts.{act_for}
 use Rattle.beas_run.specs.Walks.{Scene}
@@ -26,7 +28,8 @@ act_is : (s : Settings) (db : Database) (reading : Reading) (statement : Stateme
 unfolding act_for
 act_is s db reading statement e = ap (act_for s db) (sym e)
 
-pub applied : (s : Settings) (db : Database) (reading : Reading) (statement : Statement) (limit : ℕ) (result : Result Report NoMemory) (after : Database) (m n : ℕ) (x y : Seen)
+pub applied : (s : Settings) (db : Database) (reading : Reading) (statement : Statement) (limit : ℕ) (result : Result Report NoMemory) (after : Database)
+    (m n : ℕ) (x y : Seen)
     → reading ≡ Ok statement → IfOk result (λ report. Applied limit (act_of s db statement) report after m n x y)
     → IfOk result (λ report. Applied limit (act_for s db reading) report after m n x y)
 applied s db reading statement limit result after m n x y e h =
@@ -66,13 +69,15 @@ reported limit act number report is before after within a told sent = record {
   refused_is = let P : Report → Type 0 = λ r. is ≡ is_refusal r in subst P a.report_is told;
 }
 
-pub unreported : (limit : ℕ) (act : Act) (number : ℕ) (report : Report) (before after : Scene) → IsWithin report
+pub unreported : (limit : ℕ) (act : Act) (number : ℕ) (report : Report) (why : Ending) (before after : Scene) → IsWithin report
     → Applied limit act report after.db before.steps after.steps before.files after.files
-    → (before.told ≡ true → SentPart before.sent after.sent (report_text number report)) → IsUnreported limit act number before after
-unreported limit act number report before after within a sent = record {
+    → (before.told ≡ true → SentPart before.sent after.sent (report_text number report)) → (why ≡ Want → before.told ≡ true → after.sent ≡ before.sent)
+    → IsUnreported limit act number why before after
+unreported limit act number report why before after within a sent unsent = record {
   outcome = a.outcome;
   turn = turn_from limit act report before after within a;
   sent = let P : Report → Type 0 = λ r. before.told ≡ true → SentPart before.sent after.sent (report_text number r) in subst P a.report_is sent;
+  unsent = unsent;
 }
 
 pub none_sent : (sent text : List ℕ) → SentPart sent sent text

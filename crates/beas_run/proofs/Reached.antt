@@ -19,6 +19,9 @@ use Rattle.session.specs.Applied.{MayCost}
 use Rattle.session.specs.Effects.{Settings, Act, Does, Reads, table_or_refusal, load_act, act_of}
 use Rattle.session.specs.Ties.{Seen, AreTied, IsLater}
 use Rattle.session.specs.Turns.{Turn, turn_of, is_refusal, out_of, cost_of, any_refused, reads_of, IsWithin}
+use Rattle.beas_run.specs.declared.script.Ending.{Ending}
+use Rattle.beas_run.specs.declared.script.Ending.TheVariants.{Fault, NoMemory}
+use Rattle.beas_run.specs.Endings.{status_of}
 use Rattle.beas_run.specs.Pieces.{IsTurn, IsReported, IsUnreported, IsUndone}
 use Rattle.beas_run.specs.Scripts.{next, act_for, turns}
 use Rattle.beas_run.specs.Walks.{Scene, AreWithin, Did, Stopped, whole_status, Follows, Walked}
@@ -64,7 +67,8 @@ within_one t h = All-cons (λ t. IsWithin t.effect.report) t [] h (All-nil (λ t
 
 -- ---- one piece more
 
-did_more : (done : List Turn) (act : Act) (limit place : ℕ) (outcome : Outcome) (before now after : Scene) → Did done before now → length done ≡ place → now.told ≡ before.told
+did_more : (done : List Turn) (act : Act) (limit place : ℕ) (outcome : Outcome) (before now after : Scene) → Did done before now → length done ≡ place
+    → now.told ≡ before.told
     → IsTurn limit act outcome now after
     → (now.told ≡ true → after.sent ≡ now.sent ++ report_text (place + 1) (turn_of act outcome).effect.report)
     → Did (done ++ turn_of act outcome ∷ []) before after
@@ -93,18 +97,21 @@ pub more : (s : Settings) (all rest : List Reading) (reading : Reading) (place :
 more s all rest reading place refused is before now after r p later told =
     let act = act_for s now.db reading in
     let t = turn_of act p.outcome in
-    let Q : Database → (List Outcome) → Type 0 = λ db later. turns s before.db all (r.outcomes ++ (taken_by act p.outcome ++ later)) ≡ r.done ++ (t ∷ turns s db rest later) in
+    let Q : Database → (List Outcome) → Type 0 = λ db later. turns s before.db all (r.outcomes ++ (taken_by act p.outcome ++ later))
+    ≡ r.done ++ (t ∷ turns s db rest later) in
     record {
       outcomes = r.outcomes ++ taken_by act p.outcome;
       done = r.done ++ t ∷ [];
       joined = λ os.
           ap (turns s before.db all) (append_assoc r.outcomes (taken_by act p.outcome) os)
-          ∙ subst (λ db. Q db os) (sym p.turn.db) (r.joined (taken_by act p.outcome ++ os) ∙ ap (λ ts. r.done ++ ts) (turns_taken s now.db reading rest p.outcome os))
+          ∙ subst (λ db. Q db os) (sym p.turn.db) (r.joined (taken_by act p.outcome ++ os)
+          ∙ ap (λ ts. r.done ++ ts) (turns_taken s now.db reading rest p.outcome os))
           ∙ sym (append_assoc r.done (t ∷ []) (turns s after.db rest os));
       count = let c = r.count in let l = length-append r.done (t ∷ []) in omega arith;
       places = let c = r.places in omega arith;
       did = did_more r.done act s.limits.file place p.outcome before now after r.did r.count r.told p.turn p.sent;
-      refused_is = ap (λ b. b || is) r.refused_is ∙ ap (λ b. any_refused r.done || b) (p.refused_is ∙ sym (or_false (is_refusal t.effect.report))) ∙ sym (refused-append r.done (t ∷ []));
+      refused_is = ap (λ b. b || is) r.refused_is ∙ ap (λ b. any_refused r.done || b) (p.refused_is ∙ sym (or_false (is_refusal t.effect.report)))
+          ∙ sym (refused-append r.done (t ∷ []));
       tied = subst (λ reads. AreTied s.limits.file reads before.files after.files) (sym (reads-append r.done (t ∷ [])))
           (tied_twice s.limits.file (reads_of r.done) (reads_of (t ∷ [])) before.files now.files after.files r.later r.tied p.turn.tied);
       later = later_twice before.files now.files after.files r.later later;
@@ -158,10 +165,12 @@ ended s all place refused before now status r status_is =
       whole = λ _. let l = ap length e in let c = r.count in let p = r.places in omega arith;
       follows =
           subst (λ ts. Follows s.limits.file ts status before now) (sym e)
-          (follows_all s.limits.file r.done status before now r.did r.tied (status_is ∙ ap status_for r.refused_is) (subst P (sym status_is) (below_two refused)));
+          (follows_all s.limits.file r.done status before now r.did r.tied (status_is ∙ ap status_for r.refused_is)
+          (subst P (sym status_is) (below_two refused)));
     }
 
-pub ended_turns : (s : Settings) (all : List Reading) (place : ℕ) (refused : Bool) (before now : Scene) (status : ℕ) → (r : Reached s all [] place refused before now)
+pub ended_turns : (s : Settings) (all : List Reading) (place : ℕ) (refused : Bool) (before now : Scene) (status : ℕ)
+    → (r : Reached s all [] place refused before now)
     → (status_is : status ≡ status_for refused) → turns s before.db all (ended s all place refused before now status r status_is).outcomes ≡ r.done
 unfolding ended
 ended_turns s all place refused before now status r status_is = r.joined [] ∙ append-nil r.done
@@ -194,14 +203,22 @@ follows_paused limit done left status before now after did told tied none sent n
         db = db ∙ did.db;
         within = did.within;
       });
-      part = λ on. record { part = out_of done; left = out_from (length done + 1) left; sent = sent (told ∙ on) ∙ did.sent on; cut = sym (out-append done left) };
+      part = λ on. record {
+        part = out_of done;
+        left = out_from (length done + 1) left;
+        sent = sent (told ∙ on) ∙ did.sent on;
+        cut = sym (out-append done left);
+      };
       no_fewer = omega arith;
       at_most = omega arith;
-      tied = subst (λ reads. AreTied limit reads before.files after.files) (sym (reads-append done left ∙ ap (λ reads. reads_of done ++ reads) none ∙ append-nil (reads_of done))) tied;
+      tied = subst (λ reads. AreTied limit reads before.files after.files)
+          (sym (reads-append done left ∙ ap (λ reads. reads_of done ++ reads) none ∙ append-nil (reads_of done))) tied;
     }
 
-pub paused : (s : Settings) (all rest : List Reading) (place : ℕ) (refused : Bool) (before now after : Scene) (status : ℕ) → Reached s all rest place refused before now
-    → (now.told ≡ true → after.sent ≡ now.sent) → now.steps ≤ after.steps → after.steps ≤ now.steps + cost_of (take 1 (turns s now.db rest [])) → after.db ≡ now.db
+pub paused : (s : Settings) (all rest : List Reading) (place : ℕ) (refused : Bool) (before now after : Scene) (status : ℕ)
+    → Reached s all rest place refused before now
+    → (now.told ≡ true → after.sent ≡ now.sent) → now.steps ≤ after.steps → after.steps ≤ now.steps + cost_of (take 1 (turns s now.db rest []))
+    → after.db ≡ now.db
     → IsLater now.files after.files → 2 ≤ status → status ≢ 4 → Walked s all status before after
 paused s all rest place refused before now after status r sent no_fewer at_most db later early fault =
     record {
@@ -210,7 +227,8 @@ paused s all rest place refused before now after status r sent no_fewer at_most 
       follows =
           subst (λ ts. Follows s.limits.file ts status before after) (sym (r.joined []))
           (follows_paused s.limits.file r.done (turns s now.db rest []) status before now after r.did r.told
-          (tied_later s.limits.file (reads_of r.done) before.files now.files after.files r.tied later) (no_reads s now.db rest) sent no_fewer at_most db early fault);
+          (tied_later s.limits.file (reads_of r.done) before.files now.files after.files r.tied later) (no_reads s now.db rest) sent no_fewer at_most db early
+          fault);
     }
 
 -- a read that failed costs nothing
@@ -244,7 +262,8 @@ cost_within : (s : Settings) (rest : List Reading) (act : Act) (before after : �
 cost_within s rest (Does effect) before after free may = let h = may Failed in omega arith
 cost_within s rest (Reads name effect) before after free may = let h = may Failed in omega arith
 
-pub stopped_in_statement : (s here : Settings) (all rest : List Reading) (reading : Reading) (place : ℕ) (refused : Bool) (before now after : Scene) (status : ℕ)
+pub stopped_in_statement : (s here : Settings) (all rest : List Reading) (reading : Reading) (place : ℕ) (refused : Bool) (before now after : Scene)
+    (status : ℕ)
     → Reached s all (reading ∷ rest) place refused before now → here ≡ s
     → IsUndone (act_for here now.db reading) now after → IsLater now.files after.files → 2 ≤ status → status ≢ 4 → Walked s all status before after
 stopped_in_statement s here all rest reading place refused before now after status r same undone later early fault =
@@ -265,10 +284,12 @@ part_after : (before now after first next : List ℕ) → now ≡ before ++ firs
 part_after before now after first next e part = subst (λ xs. SentPart xs after next) e part
 
 follows_unreported : (limit : ℕ) (done left : List Turn) (act : Act) (outcome : Outcome) (place status : ℕ) (before now after : Scene) → Did done before now
-    → length done ≡ place → now.told ≡ before.told → IsLater before.files now.files → AreTied limit (reads_of done) before.files now.files → IsTurn limit act outcome now after
+    → length done ≡ place → now.told ≡ before.told → IsLater before.files now.files → AreTied limit (reads_of done) before.files now.files
+    → IsTurn limit act outcome now after
     → (now.told ≡ true → SentPart now.sent after.sent (report_text (place + 1) (turn_of act outcome).effect.report))
+    → (status ≢ 4 → now.told ≡ true → after.sent ≡ now.sent)
     → reads_of left ≡ [] → 2 ≤ status → Follows limit (done ++ turn_of act outcome ∷ left) status before after
-follows_unreported limit done left act outcome place status before now after did count told later tied turn sent none early =
+follows_unreported limit done left act outcome place status before now after did count told later tied turn sent unsent none early =
     let t = turn_of act outcome in
     let steps = did.steps in
     let more = turn.steps in
@@ -294,6 +315,7 @@ follows_unreported limit done left act outcome place status before now after did
         left = left;
         turns_are = refl;
         sent = sent_at;
+        unsent = λ fault on. unsent fault (told ∙ on) ∙ did.sent on;
         steps = omega arith;
         db = turn.db;
         within = All-append (λ t. IsWithin t.effect.report) done (t ∷ []) did.within (within_one t turn.within);
@@ -306,7 +328,8 @@ follows_unreported limit done left act outcome place status before now after did
             sent = p.sent ∙ append_assoc before.sent (out_of done) p.part;
             cut =
                 append_assoc (out_of done) p.part (p.left ++ out_from (length done + 1 + 1) left)
-                ∙ ap (λ xs. out_of done ++ xs) (sym (append_assoc p.part p.left (out_from (length done + 1 + 1) left)) ∙ ap (λ xs. xs ++ out_from (length done + 1 + 1) left) p.cut)
+                ∙ ap (λ xs. out_of done ++ xs) (sym (append_assoc p.part p.left (out_from (length done + 1 + 1) left))
+                ∙ ap (λ xs. xs ++ out_from (length done + 1 + 1) left) p.cut)
                 ∙ sym (out-append done (t ∷ left));
           };
       no_fewer = omega arith;
@@ -314,12 +337,22 @@ follows_unreported limit done left act outcome place status before now after did
       tied = subst (λ rs. AreTied limit rs before.files after.files) reads both;
     }
 
+early : (why : Ending) → 2 ≤ status_of (Err why)
+early Fault = omega arith
+early NoMemory = omega arith
+
+no_memory : (why : Ending) (status : ℕ) → status ≡ status_of (Err why) → status ≢ 4 → why ≡ NoMemory
+no_memory Fault status is fault = absurd (fault is)
+no_memory NoMemory status is fault = refl
+
 pub stopped_in_report : (s here : Settings) (all rest : List Reading) (reading : Reading) (place : ℕ) (refused : Bool) (before now after : Scene) (status : ℕ)
+    (why : Ending)
     → Reached s all (reading ∷ rest) place refused before now → here ≡ s
-    → IsUnreported here.limits.file (act_for here now.db reading) (place + 1) now after → 2 ≤ status → Walked s all status before after
-stopped_in_report s here all rest reading place refused before now after status r same halted early =
-    let P : Settings → Type 0 = λ h. IsUnreported h.limits.file (act_for h now.db reading) (place + 1) now after in
-    let p : IsUnreported s.limits.file (act_for s now.db reading) (place + 1) now after = subst P same halted in
+    → IsUnreported here.limits.file (act_for here now.db reading) (place + 1) why now after → status ≡ status_of (Err why) → Walked s all status before after
+stopped_in_report s here all rest reading place refused before now after status why r same halted status_is =
+    let P : Settings → Type 0 = λ h. IsUnreported h.limits.file (act_for h now.db reading) (place + 1) why now after in
+    let p : IsUnreported s.limits.file (act_for s now.db reading) (place + 1) why now after = subst P same halted in
+    let least : 2 ≤ status_of (Err why) = early why in
     let act = act_for s now.db reading in
     let t = turn_of act p.outcome in
     let left = turns s t.effect.db rest [] in
@@ -327,11 +360,11 @@ stopped_in_report s here all rest reading place refused before now after status 
     r.joined (taken_by act p.outcome ++ []) ∙ ap (λ ts. r.done ++ ts) (turns_taken s now.db reading rest p.outcome []) in
     record {
       outcomes = r.outcomes ++ (taken_by act p.outcome ++ []);
-      whole = λ below. absurd (omega arith);
+      whole = λ below. absurd (omega (arith, least));
       follows =
           subst (λ ts. Follows s.limits.file ts status before after) (sym e)
           (follows_unreported s.limits.file r.done left act p.outcome place status before now after r.did r.count r.told r.later r.tied p.turn p.sent
-          (no_reads s t.effect.db rest) early);
+          (λ fault. p.unsent (no_memory why status status_is fault)) (no_reads s t.effect.db rest) (omega (arith, least)));
     }
 
 -- ---- a run that began a little earlier, when files had been read less
@@ -339,7 +372,8 @@ stopped_in_report s here all rest reading place refused before now after status 
 did_from : (ts : List Turn) (before after : Scene) (files : Seen) → Did ts (record before { files = files }) after → Did ts before after
 did_from ts before after files h = record { sent = h.sent; steps = h.steps; db = h.db; within = h.within }
 
-stopped_from : (ts : List Turn) (status : ℕ) (before after : Scene) (files : Seen) → Stopped ts status (record before { files = files }) after → Stopped ts status before after
+stopped_from : (ts : List Turn) (status : ℕ) (before after : Scene) (files : Seen) → Stopped ts status (record before { files = files }) after
+    → Stopped ts status before after
 stopped_from ts status before after files (inl h) = inl (record {
   done = h.done;
   left = h.left;
@@ -357,6 +391,7 @@ stopped_from ts status before after files (inr h) = inr (record {
   left = h.left;
   turns_are = h.turns_are;
   sent = h.sent;
+  unsent = h.unsent;
   steps = h.steps;
   db = h.db;
   within = h.within;

@@ -23,7 +23,8 @@ at_once : (tokens : List Token) (places : List Piece) → readings_at tokens pla
 at_once tokens [] = refl
 at_once tokens (p ∷ places) = ap (λ rest. reading_of (slice_range tokens p.from p.to) ∷ rest) (at_once tokens places)
 
-found_at : (tokens : List Token) (places : List Piece) (script : List ℕ) → map (λ p. slice_range tokens p.from p.to) places ≡ pieces script → readings_at tokens places ≡ readings_of script
+found_at : (tokens : List Token) (places : List Piece) (script : List ℕ) → map (λ p. slice_range tokens p.from p.to) places ≡ pieces script
+    → readings_at tokens places ≡ readings_of script
 found_at tokens places script e = at_once tokens places ∙ ap (map reading_of) e
 
 -- the same where the text's tokens and places are handed on

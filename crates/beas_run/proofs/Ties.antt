@@ -52,9 +52,11 @@ tied_none limit a b later = record {
   too_long = λ _. let t = later.taken in omega arith;
 }
 
-pub tied_twice : (limit : ℕ) (first second : List Read) (a b c : Seen) → IsLater a b → AreTied limit first a b → AreTied limit second b c → AreTied limit (first ++ second) a c
+pub tied_twice : (limit : ℕ) (first second : List Read) (a b c : Seen) → IsLater a b → AreTied limit first a b → AreTied limit second b c
+    → AreTied limit (first ++ second) a c
 tied_twice limit first second a b c later one two = record {
-  contents = λ told. All-append (GaveContent limit a) first second (one.contents told) (contents_from limit a b second later.content (two.contents (later.told ∙ told)));
+  contents = λ told. All-append (GaveContent limit a) first second (one.contents told)
+      (contents_from limit a b second later.content (two.contents (later.told ∙ told)));
   short = All-append (λ r. OutcomeIsShort limit r.outcome) first second one.short two.short;
   failed = λ name. rose_twice _ _ _ _ _ _ (failures-append name first second) (one.failed name) (two.failed name);
   too_long = λ untold. rose_twice _ _ _ _ _ _ (past-append limit first second) (one.too_long untold) (two.too_long (λ told. untold (sym later.told ∙ told)));

@@ -56,7 +56,8 @@ abbrev pub taken_by : Act → Outcome → List Outcome
 taken_by (Does effect) outcome = []
 taken_by (Reads name effect) outcome = outcome ∷ []
 
-next_taken : (act : Act) (outcome : Outcome) (later : List Outcome) → next act (taken_by act outcome ++ later) ≡ Some (record { turn = turn_of act outcome; left = later })
+next_taken : (act : Act) (outcome : Outcome) (later : List Outcome)
+    → next act (taken_by act outcome ++ later) ≡ Some (record { turn = turn_of act outcome; left = later })
 next_taken (Does effect) outcome later = refl
 next_taken (Reads name effect) outcome later = refl
 

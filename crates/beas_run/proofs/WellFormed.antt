@@ -68,7 +68,8 @@ well_formed a s (insert {a = x} {b = y} {rows = rows} t h) le =
     let sum = length-append (INSERT ∷ INTO ∷ x) (VALUES ∷ y) in
     record {
       few = omega (arith, commas_few _ y rows h);
-      narrow = commas_all IsTuple (λ literals. length literals < 2 ^ 32) (length y) (λ b literals t below. omega (arith, tuple_few (length y) b literals t below)) y rows h (omega arith);
+      narrow = commas_all IsTuple (λ literals. length literals < 2 ^ 32) (length y)
+          (λ b literals t below. omega (arith, tuple_few (length y) b literals t below)) y rows h (omega arith);
     }
 well_formed a s (delete {a = x} {b = y} {t = t} {cs = cs} n w) le =
     omega (arith, where_few x y t cs n w, length-append (DELETE ∷ FROM ∷ x) y)

@@ -6,7 +6,7 @@
 --     IsCounted ..           one piece was carried out, and its report counted
 --     Tallied ..             all were, or as far as memory went
 --     Demonstrated ..        and the line of the totals was written, or a part of it
-use Rattle.std.specs.Prelude.{◌≡◌, ◌<◌, ◌≤◌, ◌++◌, ℕ, Bool, true, false, List, [], ◌∷◌, length, map, Result, Ok, Err}
+use Rattle.std.specs.Prelude.{◌≡◌, ◌≢◌, ◌<◌, ◌≤◌, ◌++◌, ℕ, Bool, true, false, List, [], ◌∷◌, length, map, Result, Ok, Err}
 use Rattle.beas_core.specs.declared.errors.NoMemory.{NoMemory}
 use Rattle.outside.specs.Parts.{SentPart}
 use Rattle.demo_gen.specs.declared.summary.Outcome.{Outcome as Counted}
@@ -66,4 +66,6 @@ pub record Demonstrated (settings : Settings) (readings : List Reading) (status 
   -- however it ended
   pub part : before.told ≡ true
       → SentPart before.sent after.sent (summary_of (turns settings before.db readings walked.outcomes))
-  pub early : 2 ≤ ended → (ended ≡ 5) × ((status ≡ 5) × (before.told ≡ true → after.sent ≡ before.sent))
+  -- a run that isn't whole sent nothing, unless the output failed
+  pub unsent : 2 ≤ status → status ≢ 4 → before.told ≡ true → after.sent ≡ before.sent
+  pub early : 2 ≤ ended → (ended ≡ 5) × (status ≡ 5)

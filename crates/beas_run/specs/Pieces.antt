@@ -1,7 +1,7 @@
 -- What was done for one piece of a script.
 --     IsTurn limit act outcome before after      its act was carried out, where the read of its file, if it has one, gave this
 --     IsReported ..                              and its report was written
---     IsUnreported ..                            and its report wasn't written whole
+--     IsUnreported ..                            and its report has no text or its put failed, for this reason
 --     IsUndone act before after                  out of memory, the database is as it was
 use Rattle.std.specs.Prelude.{◌≡◌, ◌≤◌, ◌+◌, ◌++◌, ℕ, Bool, true, [], ◌∷◌}
 use Rattle.outside.specs.Parts.{SentPart}
@@ -11,6 +11,8 @@ use Rattle.session.specs.Applied.{MayCost}
 use Rattle.session.specs.Effects.{Act}
 use Rattle.session.specs.Ties.{AreTied}
 use Rattle.session.specs.Turns.{turn_of, reads_of, is_refusal, IsWithin}
+use Rattle.beas_run.specs.declared.script.Ending.{Ending}
+use Rattle.beas_run.specs.declared.script.Ending.TheVariants.{NoMemory}
 use Rattle.beas_run.specs.Walks.{Scene}
 
 pub record IsTurn (limit : ℕ) (act : Act) (outcome : Outcome) (before after : Scene) : Type 0 where
@@ -25,11 +27,12 @@ pub record IsReported (limit : ℕ) (act : Act) (number : ℕ) (refused : Bool) 
   pub sent : before.told ≡ true → after.sent ≡ before.sent ++ report_text number (turn_of act outcome).effect.report
   pub refused_is : refused ≡ is_refusal (turn_of act outcome).effect.report
 
-pub record IsUnreported (limit : ℕ) (act : Act) (number : ℕ) (before after : Scene) : Type 0 where
+pub record IsUnreported (limit : ℕ) (act : Act) (number : ℕ) (why : Ending) (before after : Scene) : Type 0 where
   pub outcome : Outcome
   pub turn : IsTurn limit act outcome before after
   pub sent : before.told ≡ true
       → SentPart before.sent after.sent (report_text number (turn_of act outcome).effect.report)
+  pub unsent : why ≡ NoMemory → before.told ≡ true → after.sent ≡ before.sent
 
 pub record IsUndone (act : Act) (before after : Scene) : Type 0 where
   pub sent : before.told ≡ true → after.sent ≡ before.sent

@@ -53,19 +53,22 @@ pub record StoppedInStatement (turns : List Turn) (status : ℕ) (before after :
   pub within : AreWithin done
 
 -- in the report of a statement that was carried out
-pub record StoppedInReport (turns : List Turn) (before after : Scene) : Type 0 where
+pub record StoppedInReport (turns : List Turn) (status : ℕ) (before after : Scene) : Type 0 where
   pub done : List Turn
   pub turn : Turn
   pub left : List Turn
   pub turns_are : turns ≡ done ++ turn ∷ left
   pub sent : before.told ≡ true
       → SentPart (before.sent ++ out_of done) after.sent (report_text (length done + 1) turn.effect.report)
+  -- unless the output failed, nothing of the report was sent
+  pub unsent : status ≢ 4 → before.told ≡ true → after.sent ≡ before.sent ++ out_of done
   pub steps : after.steps ≡ before.steps + cost_of (done ++ turn ∷ [])
   pub db : after.db ≡ turn.effect.db
   pub within : AreWithin (done ++ turn ∷ [])
 
 abbrev pub Stopped : List Turn → ℕ → Scene → Scene → Type 0
-Stopped turns status before after = StoppedInStatement turns status before after ⊎ StoppedInReport turns before after
+Stopped turns status before after =
+    StoppedInStatement turns status before after ⊎ StoppedInReport turns status before after
 
 -- 0: no report is a refusal; 1: some report is one
 abbrev pub whole_status : List Turn → ℕ

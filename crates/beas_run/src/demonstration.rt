@@ -1,5 +1,5 @@
 // The run of a demonstration: its statements, and one line of their totals.
-ghost use Rattle.std.specs.Prelude.{◌≡◌, ◌<◌, ◌≤◌, ◌+◌, ◌-◌, ◌^◌, ◌++◌, ◌⊎◌, [], false, true, length, All, IfOk, OnErr};
+ghost use Rattle.std.specs.Prelude.{◌≡◌, ◌≢◌, ◌<◌, ◌≤◌, ◌+◌, ◌-◌, ◌^◌, ◌++◌, ◌⊎◌, [], false, true, length, All, IfOk, OnErr};
 ghost use Rattle.demo_gen.specs.Summaries.{summary_text, totals_of};
 ghost use Rattle.outside.specs.Counts.{Rose};
 ghost use Rattle.outside.specs.Parts.{SentPart};
@@ -136,8 +136,9 @@ fn put_summary<O: Sink>(alloc: Global, refused: bool, summary: &Summary, out: &m
     ensures statuses { (result ≡ ended_at (Ok refused)) ⊎ (result ≡ 4) ⊎ (result ≡ 5) }
     ensures whole { result < 2 → O.told out.old ≡ true → O.sent out.new ≡ O.sent out.old ++ summary_text summary.now }
     ensures part { O.told out.old ≡ true → SentPart (O.sent out.old) (O.sent out.new) (summary_text summary.now) }
+    ensures unsent { result ≡ 5 → O.told out.old ≡ true → O.sent out.new ≡ O.sent out.old }
     ensures told { O.told out.new ≡ O.told out.old }
-    ensures no_fault { result < 2 → O.faults out.new ≡ O.faults out.old }
+    ensures no_fault { result ≢ 4 → O.faults out.new ≡ O.faults out.old }
     ensures fault { result ≡ 4 → Rose (O.faults out.old) (O.faults out.new) }
     ensures rise { O.faults out.old ≤ O.faults out.new }
 {
@@ -173,7 +174,7 @@ pub fn run_demonstration<F: Files, O: Sink, L: Ledger>(
     ensures later { IsLater
         (seen F.told F.content F.faults F.taken files.old) (seen F.told F.content F.faults F.taken files.new) }
     ensures told { O.told out.new ≡ O.told out.old }
-    ensures no_fault { result < 2 → O.faults out.new ≡ O.faults out.old }
+    ensures no_fault { result ≢ 4 → O.faults out.new ≡ O.faults out.old }
     ensures fault { result ≡ 4 → Rose (O.faults out.old) (O.faults out.new) }
     ensures rise { O.faults out.old ≤ O.faults out.new }
 {

@@ -1,5 +1,5 @@
 // A script, statement by statement.
-ghost use Rattle.std.specs.Prelude.{◌≡◌, ◌<◌, ◌≤◌, ◌+◌, ◌-◌, ◌^◌, ◌++◌, ◌⊎◌, ℕ, true, length, All, IfOk, IfErr, OnOk, OnErr, IsErrOf};
+ghost use Rattle.std.specs.Prelude.{◌≡◌, ◌≢◌, ◌<◌, ◌≤◌, ◌+◌, ◌-◌, ◌^◌, ◌++◌, ◌⊎◌, ℕ, true, length, All, IfOk, IfErr, OnOk, OnErr, IsErrOf};
 ghost use Rattle.outside.specs.Counts.{Rose};
 ghost use Rattle.update_guard.specs.Stored.{stored};
 ghost use Rattle.session.specs.Applied.{Applied, MayCost, settings_of};
@@ -101,18 +101,24 @@ fn carry_out<F: Files, O: Sink, L: Ledger>(
     requires { length tokens.now < 2 ^ 32 - 1 }
     ensures reported { IfOk result (λ refused. IsReported session.old.limits.file
         (act_for (settings_of session.old) (stored session.old.guarded) (reading_of tokens.now)) number refused
-        (scene session.old steps.old (O.told out.old) (O.sent out.old) (seen F.told F.content F.faults F.taken files.old))
-        (scene session.new steps.new (O.told out.new) (O.sent out.new) (seen F.told F.content F.faults F.taken files.new))) }
+        (scene session.old steps.old (O.told out.old) (O.sent out.old)
+        (seen F.told F.content F.faults F.taken files.old))
+        (scene session.new steps.new (O.told out.new) (O.sent out.new)
+        (seen F.told F.content F.faults F.taken files.new))) }
     ensures stopped { IfErr result (λ why.
-        let before = scene session.old steps.old (O.told out.old) (O.sent out.old) (seen F.told F.content F.faults F.taken files.old) in
-        let after = scene session.new steps.new (O.told out.new) (O.sent out.new) (seen F.told F.content F.faults F.taken files.new) in
+        let before = scene session.old steps.old (O.told out.old) (O.sent out.old)
+        (seen F.told F.content F.faults F.taken files.old) in
+        let after = scene session.new steps.new (O.told out.new) (O.sent out.new)
+        (seen F.told F.content F.faults F.taken files.new) in
         let act = act_for (settings_of session.old) (stored session.old.guarded) (reading_of tokens.now) in
-        ((why ≡ Ending.NoMemory) × IsUndone act before after) ⊎ IsUnreported session.old.limits.file act number before after) }
+        ((why ≡ Ending.NoMemory) × IsUndone act before after)
+        ⊎ IsUnreported session.old.limits.file act number why before after) }
     ensures settings { settings_of session.new ≡ settings_of session.old }
     ensures later { IsLater
         (seen F.told F.content F.faults F.taken files.old) (seen F.told F.content F.faults F.taken files.new) }
     ensures told { O.told out.new ≡ O.told out.old }
     ensures no_fault { OnOk result (O.faults out.new ≡ O.faults out.old) }
+    ensures no_memory { IsErrOf result Ending.NoMemory → O.faults out.new ≡ O.faults out.old }
     ensures fault { IsErrOf result Ending.Fault → Rose (O.faults out.old) (O.faults out.new) }
     ensures rise { O.faults out.old ≤ O.faults out.new }
 {
@@ -136,13 +142,16 @@ fn carry_out_all<F: Files, O: Sink, L: Ledger>(
     requires short { length tokens.now < 2 ^ 32 - 1 }
     requires within { All (λ p. (p.from < p.to) × (p.to ≤ length tokens.now)) pieces.now }
     ensures walked { Walked (settings_of session.old) (readings_at tokens.now pieces.now) (status_of result)
-        (scene session.old steps.old (O.told out.old) (O.sent out.old) (seen F.told F.content F.faults F.taken files.old))
-        (scene session.new steps.new (O.told out.new) (O.sent out.new) (seen F.told F.content F.faults F.taken files.new)) }
+        (scene session.old steps.old (O.told out.old) (O.sent out.old)
+        (seen F.told F.content F.faults F.taken files.old))
+        (scene session.new steps.new (O.told out.new) (O.sent out.new)
+        (seen F.told F.content F.faults F.taken files.new)) }
     ensures settings { settings_of session.new ≡ settings_of session.old }
     ensures later { IsLater
         (seen F.told F.content F.faults F.taken files.old) (seen F.told F.content F.faults F.taken files.new) }
     ensures told { O.told out.new ≡ O.told out.old }
     ensures no_fault { OnOk result (O.faults out.new ≡ O.faults out.old) }
+    ensures no_memory { IsErrOf result Ending.NoMemory → O.faults out.new ≡ O.faults out.old }
     ensures fault { IsErrOf result Ending.Fault → Rose (O.faults out.old) (O.faults out.new) }
     ensures rise { O.faults out.old ≤ O.faults out.new }
 {
@@ -178,13 +187,16 @@ fn carry_out_text<F: Files, O: Sink, L: Ledger>(
 ) -> Result<bool, Ending>
     requires { length script.now ≤ 16777216 }
     ensures walked { Walked (settings_of session.old) (readings_of script.now) (status_of result)
-        (scene session.old steps.old (O.told out.old) (O.sent out.old) (seen F.told F.content F.faults F.taken files.old))
-        (scene session.new steps.new (O.told out.new) (O.sent out.new) (seen F.told F.content F.faults F.taken files.new)) }
+        (scene session.old steps.old (O.told out.old) (O.sent out.old)
+        (seen F.told F.content F.faults F.taken files.old))
+        (scene session.new steps.new (O.told out.new) (O.sent out.new)
+        (seen F.told F.content F.faults F.taken files.new)) }
     ensures settings { settings_of session.new ≡ settings_of session.old }
     ensures later { IsLater
         (seen F.told F.content F.faults F.taken files.old) (seen F.told F.content F.faults F.taken files.new) }
     ensures told { O.told out.new ≡ O.told out.old }
     ensures no_fault { OnOk result (O.faults out.new ≡ O.faults out.old) }
+    ensures no_memory { IsErrOf result Ending.NoMemory → O.faults out.new ≡ O.faults out.old }
     ensures fault { IsErrOf result Ending.Fault → Rose (O.faults out.old) (O.faults out.new) }
     ensures rise { O.faults out.old ≤ O.faults out.new }
 {
@@ -213,14 +225,16 @@ pub fn run_script<F: Files, O: Sink, L: Ledger>(
 ) -> u8
     requires { length script.now ≤ 16777216 }
     ensures walked { Walked (settings_of session.old) (readings_of script.now) result
-        (scene session.old steps.old (O.told out.old) (O.sent out.old) (seen F.told F.content F.faults F.taken files.old))
-        (scene session.new steps.new (O.told out.new) (O.sent out.new) (seen F.told F.content F.faults F.taken files.new)) }
+        (scene session.old steps.old (O.told out.old) (O.sent out.old)
+        (seen F.told F.content F.faults F.taken files.old))
+        (scene session.new steps.new (O.told out.new) (O.sent out.new)
+        (seen F.told F.content F.faults F.taken files.new)) }
     ensures statuses { (result < 2) ⊎ (result ≡ 4) ⊎ (result ≡ 5) }
     ensures settings { settings_of session.new ≡ settings_of session.old }
     ensures later { IsLater
         (seen F.told F.content F.faults F.taken files.old) (seen F.told F.content F.faults F.taken files.new) }
     ensures told { O.told out.new ≡ O.told out.old }
-    ensures no_fault { result < 2 → O.faults out.new ≡ O.faults out.old }
+    ensures no_fault { result ≢ 4 → O.faults out.new ≡ O.faults out.old }
     ensures fault { result ≡ 4 → Rose (O.faults out.old) (O.faults out.new) }
     ensures rise { O.faults out.old ≤ O.faults out.new }
 {

@@ -1,5 +1,5 @@
 // The top call: a script, from its name to its reports.
-ghost use Rattle.std.specs.Prelude.{◌≡◌, ◌<◌, ◌≤◌, ◌++◌, ◌⊎◌, ℕ, List, true, None, Some, length, map, IsSomeAnd, IfOk, IfErr, IsErrOf};
+ghost use Rattle.std.specs.Prelude.{◌≡◌, ◌≢◌, ◌<◌, ◌≤◌, ◌++◌, ◌⊎◌, ℕ, List, true, None, Some, length, map, IsSomeAnd, IfOk, IfErr, IsErrOf};
 ghost use Rattle.std.specs.Str.{IsUtf8};
 ghost use Rattle.std.specs.String.{string_bytes};
 ghost use Rattle.command_words.specs.Words.{args_of};
@@ -42,7 +42,8 @@ enum NoScript {
 fn read_named<F: Files>(alloc: Global, name: &str, files: &mut F) -> Result<Bytes, NoScript>
     ensures text { IfOk result IsUtf8 }
     ensures fits { IfOk result (λ bytes. length bytes ≤ longest_script) }
-    ensures content { IfOk result (λ bytes. IsContent (seen F.told F.content F.faults F.taken files.old) bytes name.now) }
+    ensures content { IfOk result (λ bytes. IsContent
+        (seen F.told F.content F.faults F.taken files.old) bytes name.now) }
     ensures named { IsErrOf result NoScript.Words → ⊥ }
     ensures unread { IsErrOf result NoScript.Unread → Rose (F.faults files.old name.now) (F.faults files.new name.now) }
     ensures too_long { IsErrOf result NoScript.TooLong → IsTooLong
@@ -98,21 +99,27 @@ fn line_of(why: NoScript) -> &'static str
     match why {
         NoScript::Words => usage_line(),
         NoScript::Unread => "beas: cannot read the script\n",
+        // Nothing is said.
         NoScript::NoMemory => "",
         NoScript::TooLong => "beas: the script is longer than 16777216 bytes\n",
         NoScript::NotText => "beas: the script is not UTF-8\n",
     }
 }
 
-/// Says on `err` why there is no script, and gives the status.
+/// Says on `err` why there is no script, and gives the status. Out of memory, nothing is said.
 fn say<E: Sink>(why: NoScript, err: &mut E) -> u8
     ensures status { (result ≡ status_of why) ⊎ (result ≡ 5) }
     ensures part { E.told err.old ≡ true → SentPart (E.sent err.old) (E.sent err.new) (line result) }
     ensures whole { IsWithout result → E.told err.old ≡ true
         → (E.sent err.new ≡ E.sent err.old ++ line result) ⊎ Rose (E.faults err.old) (E.faults err.new) }
+    ensures unsaid { result ≡ 5 → E.told err.old ≡ true → E.sent err.new ≡ E.sent err.old }
+    ensures no_fault { result ≡ 5 → E.faults err.new ≡ E.faults err.old }
     ensures told { E.told err.new ≡ E.told err.old }
     ensures rise { E.faults err.old ≤ E.faults err.new }
 {
+    if why == NoScript::NoMemory {
+        return 5;
+    }
     match err.put(line_of(why).as_bytes()) {
         Ok(()) => status_of(why),
         Err(SinkError::Failed) => status_of(why),
@@ -132,11 +139,15 @@ fn run_named<F: Files, O: Sink, E: Sink, L: Ledger>(
 ) -> u8
     // What was sent, read and changed is the meaning of the script, as its pieces are read, or as far as the run came.
     ensures ran { HasRun session.old.limits (map string_bytes words.now) result
-        (scene session.old steps.old (O.told out.old) (O.sent out.old) (seen F.told F.content F.faults F.taken files.old))
-        (scene session.new steps.new (O.told out.new) (O.sent out.new) (seen F.told F.content F.faults F.taken files.new)) }
+        (scene session.old steps.old (O.told out.old) (O.sent out.old)
+        (seen F.told F.content F.faults F.taken files.old))
+        (scene session.new steps.new (O.told out.new) (O.sent out.new)
+        (seen F.told F.content F.faults F.taken files.new)) }
     ensures untouched { IsWithout result → IsUntouched
-        (scene session.old steps.old (O.told out.old) (O.sent out.old) (seen F.told F.content F.faults F.taken files.old))
-        (scene session.new steps.new (O.told out.new) (O.sent out.new) (seen F.told F.content F.faults F.taken files.new)) }
+        (scene session.old steps.old (O.told out.old) (O.sent out.old)
+        (seen F.told F.content F.faults F.taken files.old))
+        (scene session.new steps.new (O.told out.new) (O.sent out.new)
+        (seen F.told F.content F.faults F.taken files.new)) }
 
     // The session's budget and flag are those of the words, unless there is no script.
     ensures limits { session.new.limits ≡ session.old.limits }
@@ -153,9 +164,8 @@ fn run_named<F: Files, O: Sink, E: Sink, L: Ledger>(
     ensures unread { result ≡ 3 → IsSomeAnd (script_name (map string_bytes words.now))
         (λ name. Rose (F.faults files.old name) (F.faults files.new name)) }
     ensures fault { result ≡ 4 → Rose (O.faults out.old) (O.faults out.new) }
-    ensures no_fault { result < 2 → O.faults out.new ≡ O.faults out.old }
-    ensures out_unused { IsWithout result → O.faults out.new ≡ O.faults out.old }
-    ensures err_unused { IsWith result → E.faults err.new ≡ E.faults err.old }
+    ensures no_fault { result ≢ 4 → O.faults out.new ≡ O.faults out.old }
+    ensures out_unused { IsWithout result → out.new ≡ out.old }
     ensures too_long { result ≡ 6 → IsSomeAnd (script_name (map string_bytes words.now)) (IsTooLong
         (seen F.told F.content F.faults F.taken files.old) (seen F.told F.content F.faults F.taken files.new)) }
     ensures not_text { result ≡ 7 → IsSomeAnd (script_name (map string_bytes words.now)) (IsNoText
@@ -165,6 +175,9 @@ fn run_named<F: Files, O: Sink, E: Sink, L: Ledger>(
     ensures said { E.told err.old ≡ true → SentPart (E.sent err.old) (E.sent err.new) (line result) }
     ensures said_whole { IsWithout result → E.told err.old ≡ true
         → (E.sent err.new ≡ E.sent err.old ++ line result) ⊎ Rose (E.faults err.old) (E.faults err.new) }
+    ensures err_unused { IsWith result → err.new ≡ err.old }
+    ensures unsaid { result ≡ 5 → E.told err.old ≡ true → E.sent err.new ≡ E.sent err.old }
+    ensures err_no_fault { result ≡ 5 → E.faults err.new ≡ E.faults err.old }
 
     // What files and sinks tell stays, and no count falls.
     ensures later { IsLater
@@ -208,10 +221,11 @@ fn run_named<F: Files, O: Sink, E: Sink, L: Ledger>(
     }
 }
 
-/// Runs what the words ask for over a session, and gives the status of the program: 0 and 1 where the script was carried
-/// out whole, without a refusal and with one; 2 where the words are refused; 3 where the script can't be read; 4 where
-/// `out` failed; 5 where memory ran out; 6 where the script is longer than 16,777,216 bytes; 7 where it is not UTF-8.
-/// Each report is put to `out` before the next statement; of a demonstration one line of totals at its end.
+/// Runs what the words ask for over a session, and gives the status of the program: 0 and 1 where the script was
+/// carried out whole, without a refusal and with one; 2 where the words are refused; 3 where the script can't be
+/// read; 4 where `out` failed; 5 where memory ran out; 6 where the script is longer than 16,777,216 bytes; 7 where it
+/// is not UTF-8. Each report is put to `out` before the next statement; of a demonstration one line of totals at its
+/// end.
 pub fn run<F: Files, O: Sink, E: Sink, L: Ledger>(
     alloc: Global,
     session: &mut Session,
@@ -223,11 +237,15 @@ pub fn run<F: Files, O: Sink, E: Sink, L: Ledger>(
 ) -> u8
     // What was sent, read and changed is the meaning of the script, as its pieces are read, or as far as the run came.
     ensures ran { HasRun session.old.limits (map string_bytes words.now) result
-        (scene session.old steps.old (O.told out.old) (O.sent out.old) (seen F.told F.content F.faults F.taken files.old))
-        (scene session.new steps.new (O.told out.new) (O.sent out.new) (seen F.told F.content F.faults F.taken files.new)) }
+        (scene session.old steps.old (O.told out.old) (O.sent out.old)
+        (seen F.told F.content F.faults F.taken files.old))
+        (scene session.new steps.new (O.told out.new) (O.sent out.new)
+        (seen F.told F.content F.faults F.taken files.new)) }
     ensures untouched { IsWithout result → IsUntouched
-        (scene session.old steps.old (O.told out.old) (O.sent out.old) (seen F.told F.content F.faults F.taken files.old))
-        (scene session.new steps.new (O.told out.new) (O.sent out.new) (seen F.told F.content F.faults F.taken files.new)) }
+        (scene session.old steps.old (O.told out.old) (O.sent out.old)
+        (seen F.told F.content F.faults F.taken files.old))
+        (scene session.new steps.new (O.told out.new) (O.sent out.new)
+        (seen F.told F.content F.faults F.taken files.new)) }
 
     // The session's budget and flag are those of the words, unless there is no script.
     ensures limits { session.new.limits ≡ session.old.limits }
@@ -244,15 +262,15 @@ pub fn run<F: Files, O: Sink, E: Sink, L: Ledger>(
     ensures unread { result ≡ 3 → IsSomeAnd (script_name (map string_bytes words.now))
         (λ name. Rose (F.faults files.old name) (F.faults files.new name)) }
     ensures fault { result ≡ 4 → Rose (O.faults out.old) (O.faults out.new) }
-    ensures no_fault { result < 2 → O.faults out.new ≡ O.faults out.old }
-    ensures out_unused { IsWithout result → O.faults out.new ≡ O.faults out.old }
-    ensures err_unused { IsWith result → E.faults err.new ≡ E.faults err.old }
+    ensures no_fault { result ≢ 4 → O.faults out.new ≡ O.faults out.old }
+    ensures out_unused { IsWithout result → out.new ≡ out.old }
     ensures too_long { result ≡ 6 → IsSomeAnd (script_name (map string_bytes words.now)) (IsTooLong
         (seen F.told F.content F.faults F.taken files.old) (seen F.told F.content F.faults F.taken files.new)) }
     ensures not_text { result ≡ 7 → IsSomeAnd (script_name (map string_bytes words.now)) (IsNoText
         (seen F.told F.content F.faults F.taken files.old)) }
 
-    // With a script that could be read nothing else comes than what it is, but out of memory, and a fault of the output.
+    // With a script that could be read nothing else comes than what it is, but out of memory, and a fault of the
+    // output.
     ensures complete { (name script : List ℕ) → script_name (map string_bytes words.now) ≡ Some name
         → F.told files.old ≡ true → F.content files.old name ≡ Some script
         → (Rose (F.faults files.old name) (F.faults files.new name) → ⊥)
@@ -267,6 +285,9 @@ pub fn run<F: Files, O: Sink, E: Sink, L: Ledger>(
     ensures said { E.told err.old ≡ true → SentPart (E.sent err.old) (E.sent err.new) (line result) }
     ensures said_whole { IsWithout result → E.told err.old ≡ true
         → (E.sent err.new ≡ E.sent err.old ++ line result) ⊎ Rose (E.faults err.old) (E.faults err.new) }
+    ensures err_unused { IsWith result → err.new ≡ err.old }
+    ensures unsaid { result ≡ 5 → E.told err.old ≡ true → E.sent err.new ≡ E.sent err.old }
+    ensures err_no_fault { result ≡ 5 → E.faults err.new ≡ E.faults err.old }
 
     // What files and sinks tell stays, and no count falls.
     ensures later { IsLater

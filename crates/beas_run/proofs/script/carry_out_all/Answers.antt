@@ -8,7 +8,7 @@ use Rattle.sql_parser.specs.Outcome.{Reading}
 use Rattle.session.specs.Effects.{Settings}
 use Rattle.session.specs.Ties.{IsLater}
 use Rattle.beas_run.specs.declared.script.Ending.{Ending}
-use Rattle.beas_run.specs.declared.script.Ending.TheVariants.{Fault, NoMemory}
+use Rattle.beas_run.specs.declared.script.Ending.TheVariants.{NoMemory}
 use Rattle.beas_run.specs.Endings.{status_of}
 use Rattle.beas_run.specs.Pieces.{IsUndone, IsUnreported}
 use Rattle.beas_run.specs.Scripts.{act_for, reading_of, readings_at}
@@ -19,7 +19,8 @@ use Rattle.beas_run.proofs.script.carry_out_all.Goals as goal
 -- the piece at this place, and those after it
 at_place : (s : Settings) (tokens : List Token) (pieces : List Piece) (i : ℕ) (d : Piece) (refused : Bool) (before now : Scene) → i < length pieces
     → Reached s (readings_at tokens pieces) (readings_at tokens (drop i pieces)) i refused before now
-    → Reached s (readings_at tokens pieces) (reading_of (slice_range tokens (get_or pieces i d).from (get_or pieces i d).to) ∷ readings_at tokens (drop (i + 1) pieces)) i refused before now
+    → Reached s (readings_at tokens pieces) (reading_of (slice_range tokens (get_or pieces i d).from (get_or pieces i d).to) ∷ readings_at tokens
+    (drop (i + 1) pieces)) i refused before now
 at_place s tokens pieces i d refused before now below reached =
     let P : List Piece → Type 0 = λ left. Reached s (readings_at tokens pieces) (readings_at tokens left) i refused before now in
     rw (add-one) (subst P (drop-cons pieces i d below) reached)
@@ -35,22 +36,18 @@ whole_status_is : (refused : Bool) → status_of (Ok refused) ≡ status_for ref
 whole_status_is true = refl
 whole_status_is false = refl
 
-early : (why : Ending) → 2 ≤ status_of (Err why)
-early Fault = omega arith
-early NoMemory = omega arith
-
 -- the exit after a piece that wasn't carried out, or whose report wasn't written whole
-stopped : (s here : Settings) (all rest : List Reading) (reading : Reading) (place : ℕ) (refused : Bool) (before now after : Scene) (result : Result Bool Ending) (why : Ending)
+stopped : (s here : Settings) (all rest : List Reading) (reading : Reading) (place : ℕ) (refused : Bool) (before now after : Scene)
+    (result : Result Bool Ending) (why : Ending)
     → Reached s all (reading ∷ rest) place refused before now → here ≡ s → result ≡ Err why
-    → ((why ≡ NoMemory) × IsUndone (act_for here now.db reading) now after) ⊎ IsUnreported here.limits.file (act_for here now.db reading) (place + 1) now after
+    → ((why ≡ NoMemory) × IsUndone (act_for here now.db reading) now after)
+    ⊎ IsUnreported here.limits.file (act_for here now.db reading) (place + 1) why now after
     → IsLater now.files after.files → Walked s all (status_of result) before after
 stopped s here all rest reading place refused before now after result why reached same e (inl h) later =
     let five : status_of result ≡ 5 = ap status_of (e ∙ ap Err h.0) in
     stopped_in_statement s here all rest reading place refused before now after (status_of result) reached same h.1 later (omega arith) (omega arith)
 stopped s here all rest reading place refused before now after result why reached same e (inr h) later =
-    let same_status : status_of result ≡ status_of (Err why) = ap status_of e in
-    let least = early why in
-    stopped_in_report s here all rest reading place refused before now after (status_of result) reached same h (omega arith)
+    stopped_in_report s here all rest reading place refused before now after (status_of result) why reached same h (ap status_of e)
 
 pub loop-place-init : goal.loop-place-init
 loop-place-init g c = record { reached = begun _ _ _; settings = refl; faults = refl }

@@ -12,7 +12,8 @@ use Rattle.beas_run.proofs.Reading.{found_text}
 use Rattle.beas_run.proofs.script.carry_out_text.Goals as goal
 
 -- out of memory before the first statement
-unbegun : (s : Settings) (readings : List Reading) (before : Scene) (result : Result Bool Ending) → result ≡ Err NoMemory → Walked s readings (status_of result) before before
+unbegun : (s : Settings) (readings : List Reading) (before : Scene) (result : Result Bool Ending) → result ≡ Err NoMemory
+    → Walked s readings (status_of result) before before
 unbegun s readings before result e =
     let five : status_of result ≡ 5 = ap status_of e in
     unstarted s readings before before (status_of result) (λ _. refl) refl refl (same_later before.files) (omega arith) (omega arith)
@@ -32,4 +33,5 @@ carry_out_all-requires-clause-few g c =
     omega (arith, few, same, c.in_ok-tokens.ensures.few, c.requires)
 
 pub returns-clause-walked : goal.returns-clause-walked
-returns-clause-walked g c = rw (found_text _ _ _ _ _ c.in_ok-tokens.ensures.tokens c.as_slice.ensures c.as_slice-2.ensures c.in_ok-pieces.ensures.parts) at c.carry_out_all.ensures.walked
+returns-clause-walked g c = rw (found_text _ _ _ _ _ c.in_ok-tokens.ensures.tokens c.as_slice.ensures c.as_slice-2.ensures c.in_ok-pieces.ensures.parts) at
+    c.carry_out_all.ensures.walked
