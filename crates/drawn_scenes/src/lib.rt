@@ -1,0 +1,33 @@
+//! Small drawn scenes: tables with rows and constraints, updates of them and queries over them, as statements and as
+//! plain lists. They serve programs that compare what layers and sessions give with what plain programs give.
+//!
+//! What is drawn depends on a seed alone, so that it is the same in each run. A `Twin` draws updates and carries them
+//! out on a plain list of rows by scans; a `Batch` has them as a script, with what a session is to report of it.
+//! `reports` has a session carry out such a script. `draw_query` draws the text of a query, and `statement_of` reads
+//! it. Beside them stands what such programs need of their words and of folders of files.
+//!
+//! It promises nothing but safety, and of `statement_of` that a statement has what a session asks for: what is drawn
+//! can be seen by what is printed of it.
+#![tactic(auto)]
+
+mod conditions;
+mod draws;
+mod folders;
+mod plain;
+mod queries;
+mod scenes;
+mod statements;
+mod tables;
+mod updates;
+mod words;
+
+pub use conditions::{Test, push_column, push_conditions};
+pub use draws::Draws;
+pub use folders::{files_in, names_in, text_in};
+pub use plain::{Plain, Rule};
+pub use queries::draw_query;
+pub use scenes::{draw_scene, tables_of};
+pub use statements::{reports, reports_over, statement_of};
+pub use tables::{Fact, TABLES, column_name, table_name, value};
+pub use updates::{Batch, Twin, Update, creations};
+pub use words::{number_at, out_of_memory, word_at};

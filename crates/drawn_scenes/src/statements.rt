@@ -1,0 +1,109 @@
+// Statements, read and carried out by a session.
+ghost use Rattle.std.specs.Prelude.{◌-◌, ◌<◌, ◌≤◌, ◌^◌, length, All, IfOk};
+ghost use Rattle.session.specs.Statements.{StatementIsWellFormed};
+
+use beas_core::{Fail, NoMemory, Refusal, Steps, Text};
+use outside::MemoryFiles;
+use report::{Report, text};
+use session::Session;
+use sql_parser::parse;
+use sql_text::{Piece, Token, lex, split};
+use sql_tree::Statement;
+use std::alloc::Global;
+use std::sync::ledger::Ledger;
+
+/// The most bytes that statements may have.
+const LONGEST: usize = 16_777_216;
+
+/// The statement that some tokens spell.
+#[tactic(auto, using(beas_run::proofs::WellFormed::parsed_well))]
+fn parsed(alloc: Global, tokens: &[Token]) -> Result<Statement, Fail>
+    requires { length tokens.now < 2 ^ 32 - 1 }
+    ensures { IfOk result StatementIsWellFormed }
+{
+    parse(alloc, tokens)
+}
+
+/// The statement that a text of at most 16,777,216 bytes spells, with what a session asks of it.
+pub fn statement_of(alloc: Global, spelled: &str) -> Result<Statement, Fail>
+    ensures { IfOk result StatementIsWellFormed }
+{
+    if spelled.len() > LONGEST {
+        return Err(Fail::Refused(Refusal::Syntax));
+    }
+    let tokens = lex(alloc, spelled)?;
+    parsed(alloc, tokens.as_slice())
+}
+
+/// Carries out the statement that some tokens spell, and says what is reported of it.
+fn report_of<L: Ledger>(
+    alloc: Global,
+    session: &mut Session,
+    files: &mut MemoryFiles,
+    tokens: &[Token],
+    steps: &mut Steps<L>,
+) -> Result<Report, NoMemory>
+    requires { length tokens.now < 2 ^ 32 - 1 }
+{
+    match parsed(alloc, tokens) {
+        Ok(statement) => session.apply(alloc, files, &statement, steps),
+        Err(Fail::Refused(why)) => Ok(Report::Refused { why }),
+        Err(Fail::NoMemory) => Err(NoMemory),
+    }
+}
+
+/// Carries out the statements at these places, and gives the lines of their reports.
+fn reports_of<L: Ledger>(
+    alloc: Global,
+    session: &mut Session,
+    files: &mut MemoryFiles,
+    tokens: &[Token],
+    pieces: &[Piece],
+    steps: &mut Steps<L>,
+) -> Result<Text, NoMemory>
+    requires short { length tokens.now < 2 ^ 32 - 1 }
+    requires within { All (λ p. (p.from < p.to) × (p.to ≤ length tokens.now)) pieces.now }
+{
+    let mut lines = Text::new(alloc);
+    let mut number: u32 = 0;
+    for piece in pieces {
+        let statement = &tokens[piece.from as usize..piece.to as usize];
+        let report = report_of(alloc, session, files, statement, steps)?;
+        number = number.saturating_add(1);
+        lines.push_str(text(alloc, number, &report)?.as_str())?;
+    }
+    Ok(lines)
+}
+
+/// Carries out the statements of a script that may load files, and gives the lines of their reports, numbered from 1.
+pub fn reports_over<L: Ledger>(
+    alloc: Global,
+    session: &mut Session,
+    files: &mut MemoryFiles,
+    script: &str,
+    steps: &mut Steps<L>,
+) -> Result<Text, NoMemory> {
+    if script.len() > LONGEST {
+        return Ok(Text::new(alloc));
+    }
+    let tokens = lex(alloc, script)?;
+    let pieces = split(alloc, &tokens)?;
+    reports_of(
+        alloc,
+        session,
+        files,
+        tokens.as_slice(),
+        pieces.as_slice(),
+        steps,
+    )
+}
+
+/// The same of a script that loads none.
+pub fn reports<L: Ledger>(
+    alloc: Global,
+    session: &mut Session,
+    script: &str,
+    steps: &mut Steps<L>,
+) -> Result<Text, NoMemory> {
+    reports_over(alloc, session, &mut MemoryFiles::new(alloc), script, steps)
+}

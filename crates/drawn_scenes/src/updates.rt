@@ -1,0 +1,170 @@
+// Drawn updates, carried out on a plain list of rows, and the script that has them.
+use crate::conditions::push_conditions;
+use crate::draws::Draws;
+use crate::plain::{Plain, Rule};
+use crate::tables::{COLUMNS, Fact, TABLES, comma, push_columns, table_name};
+use beas_core::{NoMemory, Text};
+use std::alloc::Global;
+
+/// A statement, and what is to be reported of it.
+#[derive(Drop)]
+pub struct Update {
+    source: Text,
+    report: Text,
+}
+
+/// The plain rows and constraints of the tables of `creations`, with the draws that change them.
+#[derive(Drop)]
+pub struct Twin {
+    pub draws: Draws,
+    pub plain: Plain,
+}
+
+/// Statements, with the lines that are to be reported of them, and how many are refused.
+#[derive(Drop)]
+pub struct Batch {
+    pub script: Text,
+    pub wanted: Text,
+    pub refused: u32,
+}
+
+/// The script that creates the tables of drawn scenes, r, s and t, without rows. Each has the columns a and b of
+/// INTEGER, and c and d of TEXT.
+pub fn creations(alloc: Global) -> Result<Text, NoMemory> {
+    let mut script = Text::new(alloc);
+    for table in 0..TABLES {
+        let name = table_name(table);
+        let source = format!(in alloc; "CREATE TABLE {name} (a INT, b INT, c TEXT, d TEXT);")?;
+        script.push_str(source.as_str())?;
+    }
+    Ok(script)
+}
+
+impl Batch {
+    /// No statements.
+    pub fn new(alloc: Global) -> Batch {
+        Batch {
+            script: Text::new(alloc),
+            wanted: Text::new(alloc),
+            refused: 0,
+        }
+    }
+
+    /// Adds an update as the statement with this number in the lines of reports.
+    pub fn add(&mut self, alloc: Global, number: u32, update: &Update) -> Result<(), NoMemory> {
+        let report = update.report.as_str();
+        self.refused = self
+            .refused
+            .saturating_add(u32::from(report.starts_with("refused")));
+        self.script.push_str(update.source.as_str())?;
+        self.script.push_str(";")?;
+        self.wanted
+            .push_str(format!(in alloc; "{number} {report}\n")?.as_str())
+    }
+}
+
+impl Twin {
+    /// Tables without rows and constraints, and the draws of a seed.
+    pub fn new(alloc: Global, seed: u64) -> Twin {
+        Twin {
+            draws: Draws::new(seed),
+            plain: Plain {
+                rows: Vec::new(alloc),
+                rules: Vec::new(alloc),
+            },
+        }
+    }
+
+    /// Adds one to three drawn rows to a table, all or none.
+    pub fn insert(&mut self, alloc: Global) -> Result<Update, NoMemory> {
+        let table = self.draws.below(TABLES);
+        let into = format!(in alloc; "INSERT INTO {} VALUES ", table_name(table))?;
+        let mut source = Text::from_string(into);
+        let mut rows = Vec::new(alloc);
+        for place in 0..self.draws.below(3) + 1 {
+            let row = Fact::draw(&mut self.draws, table);
+            source.push_str(comma(usize::from(place)))?;
+            row.push_tuple(alloc, &mut source, &[0, 1, 2, 3])?;
+            rows.push(row)?;
+        }
+        let report = self.plain.insert(alloc, &rows)?;
+        Ok(Update { source, report })
+    }
+
+    /// Removes the rows of a table that meet drawn conditions.
+    fn delete(&mut self, alloc: Global) -> Result<Update, NoMemory> {
+        let table = self.draws.below(TABLES);
+        let name = table_name(table);
+        let mut source = Text::from_string(format!(in alloc; "DELETE FROM {name}")?);
+        let count = self.draws.below(40).min(3);
+        let tests = push_conditions(alloc, &mut source, &mut self.draws, &[name], count)?;
+        let report = self.plain.delete(alloc, table, &tests)?;
+        Ok(Update { source, report })
+    }
+
+    /// Some columns, each once.
+    fn columns(&mut self, alloc: Global, turns: u8) -> Result<Vec<u8>, NoMemory> {
+        let mut columns = Vec::new(alloc);
+        for _ in 0..turns {
+            let column = self.draws.below(COLUMNS);
+            if !columns.iter().any(|other| *other == column) {
+                columns.push(column)?;
+            }
+        }
+        Ok(columns)
+    }
+
+    /// Adds a constraint whose limit is below `most`, and which fetches fewer columns than `wide`, or one.
+    pub fn create(&mut self, alloc: Global, most: u8, wide: u8) -> Result<Update, NoMemory> {
+        let name = format!(in alloc; "k{}", self.draws.below(12))?;
+        let table = self.draws.below(TABLES);
+        let bound = self.draws.below(most.max(1));
+        let key_turns = self.draws.below(4).min(self.draws.below(4));
+        let fetched_turns = self.draws.below(wide.max(1)).max(1);
+        let key = self.columns(alloc, key_turns)?;
+        let fetched = self.columns(alloc, fetched_turns)?;
+        let on = format!(in alloc; "CREATE ACCESS {name} ON {} ", table_name(table))?;
+        let mut source = Text::from_string(on);
+        push_columns(&mut source, &key)?;
+        source.push_str(" FETCH ")?;
+        push_columns(&mut source, &fetched)?;
+        source.push_str(format!(in alloc; " LIMIT {bound}")?.as_str())?;
+        let rule = Rule {
+            name,
+            table,
+            key,
+            fetched,
+            bound: usize::from(bound),
+        };
+        let report = self.plain.create(alloc, rule)?;
+        Ok(Update { source, report })
+    }
+
+    /// Drops a constraint by its name.
+    fn drop_rule(&mut self, alloc: Global) -> Result<Update, NoMemory> {
+        let name = format!(in alloc; "k{}", self.draws.below(12))?;
+        let source = Text::from_string(format!(in alloc; "DROP ACCESS {name}")?);
+        let report = self.plain.drop_rule(alloc, name.as_str())?;
+        Ok(Update { source, report })
+    }
+
+    /// Carries out one drawn update, which may be refused.
+    fn next(&mut self, alloc: Global) -> Result<Update, NoMemory> {
+        match self.draws.below(100) {
+            0..=64 => self.insert(alloc),
+            65..=79 => self.delete(alloc),
+            80..=93 => self.create(alloc, 10, 6),
+            _ => self.drop_rule(alloc),
+        }
+    }
+
+    /// Carries out so many drawn updates, any of which may be refused.
+    pub fn batch(&mut self, alloc: Global, count: u32) -> Result<Batch, NoMemory> {
+        let mut batch = Batch::new(alloc);
+        for nth in 0..count {
+            let update = self.next(alloc)?;
+            batch.add(alloc, nth.saturating_add(1), &update)?;
+        }
+        Ok(batch)
+    }
+}

@@ -1,0 +1,236 @@
+// Drawn queries over small drawn tables.
+use crate::answers::wanted_report;
+use beas_core::{Fail, Limits, List, NoMemory, Refusal, Row, Steps, Text};
+use drawn_scenes::{Draws, Twin, creations, draw_query, draw_scene, reports, tables_of};
+use report::{Report, text};
+use session::Session;
+use std::alloc::Global;
+use std::sync::ledger::Ledger;
+use update_guard::Guarded;
+
+/// So many queries are drawn for one session.
+const QUERIES: u32 = 25;
+
+const BUDGET: u64 = 1000;
+
+/// How many queries are answered, not covered and above the budget, and how many scripts of them weren't reported so.
+#[derive(Clone, Copy)]
+struct Tally {
+    answered: u32,
+    open: u32,
+    above: u32,
+    differing: u32,
+}
+
+/// The number of a report's refusal, and 0 where it is none.
+fn number_of(report: &Report) -> u32 {
+    match report {
+        Report::Refused { why } => why.number(),
+        _ => 0,
+    }
+}
+
+impl Tally {
+    fn with(self, report: &Report) -> Tally {
+        let number = number_of(report);
+        Tally {
+            answered: self.answered.saturating_add(u32::from(number == 0)),
+            open: self.open.saturating_add(u32::from(number == 19)),
+            above: self.above.saturating_add(u32::from(number == 21)),
+            differing: self
+                .differing
+                .saturating_add(u32::from(!matches!(number, 0 | 19 | 21))),
+        }
+    }
+}
+
+/// The report where its number is within the budget, and else the refusal.
+fn within_budget(report: Report) -> Report {
+    match report {
+        Report::Answered { bound, .. } if bound > u128::from(BUDGET) => {
+            let budget = BUDGET;
+            Report::Refused {
+                why: Refusal::OverBudget { bound, budget },
+            }
+        }
+        report => report,
+    }
+}
+
+/// What is to be reported of a query.
+fn report_of<L: Ledger>(
+    alloc: Global,
+    guarded: &Guarded,
+    tables: &[List<Row>],
+    spelled: &str,
+    steps: &mut Steps<L>,
+) -> Result<Report, NoMemory> {
+    match wanted_report(alloc, guarded, tables, spelled, steps) {
+        Ok(report) => Ok(within_budget(report)),
+        Err(Fail::Refused(why)) => Ok(Report::Refused { why }),
+        Err(Fail::NoMemory) => Err(NoMemory),
+    }
+}
+
+/// Queries as a script, with what is to be reported of them.
+#[derive(Drop)]
+struct Queries {
+    script: Text,
+    wanted: Text,
+    tally: Tally,
+}
+
+impl Queries {
+    /// Adds a query as the statement with this number.
+    fn add(
+        &mut self,
+        alloc: Global,
+        number: u32,
+        query: &Text,
+        report: &Report,
+    ) -> Result<(), NoMemory> {
+        self.tally = self.tally.with(report);
+        self.script.push_str(query.as_str())?;
+        self.script.push_str(";")?;
+        self.wanted.push_str(text(alloc, number, report)?.as_str())
+    }
+}
+
+/// A session's store, and the same rows as plain tables.
+#[derive(Clone, Copy)]
+struct Scene<'a> {
+    guarded: &'a Guarded,
+    tables: &'a [List<Row>],
+}
+
+impl Queries {
+    /// Adds a drawn query.
+    fn draw<L: Ledger>(
+        &mut self,
+        alloc: Global,
+        number: u32,
+        scene: Scene<'_>,
+        draws: &mut Draws,
+        steps: &mut Steps<L>,
+    ) -> Result<(), NoMemory> {
+        let query = draw_query(alloc, draws)?;
+        let report = report_of(alloc, scene.guarded, scene.tables, query.as_str(), steps)?;
+        self.add(alloc, number, &query, &report)
+    }
+}
+
+/// Drawn queries over a scene.
+fn draw_queries<L: Ledger>(
+    alloc: Global,
+    scene: Scene<'_>,
+    draws: &mut Draws,
+    tally: Tally,
+    steps: &mut Steps<L>,
+) -> Result<Queries, NoMemory> {
+    let mut queries = Queries {
+        script: Text::new(alloc),
+        wanted: Text::new(alloc),
+        tally,
+    };
+    for nth in 1..=QUERIES {
+        queries.draw(alloc, nth, scene, draws, steps)?;
+    }
+    Ok(queries)
+}
+
+/// Adds drawn rows and constraints to a session and to plain tables.
+fn draw_rows<L: Ledger>(
+    alloc: Global,
+    session: &mut Session,
+    twin: &mut Twin,
+    steps: &mut Steps<L>,
+) -> Result<(), NoMemory> {
+    let scene = draw_scene(alloc, twin)?;
+    reports(alloc, session, scene.script.as_str(), steps)?;
+    Ok(())
+}
+
+/// Whether a session reports of queries what is wanted.
+fn are_answered<L: Ledger>(
+    alloc: Global,
+    session: &mut Session,
+    queries: &Queries,
+    steps: &mut Steps<L>,
+) -> Result<bool, NoMemory> {
+    let said = reports(alloc, session, queries.script.as_str(), steps)?;
+    Ok(said.as_str() == queries.wanted.as_str())
+}
+
+/// Has drawn queries answered by a session, whose rows and constraints a twin has too.
+fn try_drawn<L: Ledger>(
+    alloc: Global,
+    session: &mut Session,
+    twin: &mut Twin,
+    tally: Tally,
+    steps: &mut Steps<L>,
+) -> Result<Tally, NoMemory> {
+    let tables = tables_of(alloc, &twin.plain)?;
+    let scene = Scene {
+        guarded: &session.guarded,
+        tables: &tables,
+    };
+    let queries = draw_queries(alloc, scene, &mut twin.draws, tally, steps)?;
+    let is_same = are_answered(alloc, session, &queries, steps)?;
+    Ok(Tally {
+        differing: queries.tally.differing.saturating_add(u32::from(!is_same)),
+        ..queries.tally
+    })
+}
+
+/// Has drawn queries answered by a session with the rows and constraints that a seed gives.
+fn try_seed<L: Ledger>(
+    alloc: Global,
+    session: &mut Session,
+    seed: u64,
+    tally: Tally,
+    steps: &mut Steps<L>,
+) -> Result<Tally, NoMemory> {
+    let mut twin = Twin::new(alloc, seed);
+    draw_rows(alloc, session, &mut twin, steps)?;
+    try_drawn(alloc, session, &mut twin, tally, steps)
+}
+
+/// The same by a session that is made for it.
+fn try_session<L: Ledger>(
+    alloc: Global,
+    tables: &str,
+    seed: u64,
+    tally: Tally,
+    steps: &mut Steps<L>,
+) -> Result<Tally, NoMemory> {
+    let mut session = Session::new(alloc, Limits::standard(), Some(BUDGET), false);
+    reports(alloc, &mut session, tables, steps)?;
+    try_seed(alloc, &mut session, seed, tally, steps)
+}
+
+/// Has drawn queries answered by so many sessions, and says what came of them and what differed.
+pub fn try_queries<L: Ledger>(
+    alloc: Global,
+    sessions: u32,
+    steps: &mut Steps<L>,
+) -> Result<String, NoMemory> {
+    let mut tally = Tally {
+        answered: 0,
+        open: 0,
+        above: 0,
+        differing: 0,
+    };
+    let tables = creations(alloc)?;
+    for seed in 0..sessions {
+        tally = try_session(alloc, tables.as_str(), u64::from(seed), tally, steps)?;
+    }
+    let Tally {
+        answered,
+        open,
+        above,
+        differing,
+    } = tally;
+    Ok(format!(in alloc;
+        "{sessions} sessions with {QUERIES} queries each: {answered} answered, {open} not covered, {above} above the budget, {differing} differences"
+    )?)
+}
