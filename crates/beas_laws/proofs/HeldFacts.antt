@@ -7,7 +7,8 @@ use Rattle.beas_core.specs.Groups.{Holds}
 use Rattle.beas_core.specs.Derivations.{access_in}
 use Rattle.beas_laws.specs.Held.{StepHolds}
 
-pub step_holds : (rows : TableRows) (accesses : List Access) (s : DStep) (access : Access) → access ≡ access_in accesses s.access → Holds (rows access.table) access → 1 ≤ access.bound → StepHolds rows accesses s
+pub step_holds : (rows : TableRows) (accesses : List Access) (s : DStep) (access : Access) → access ≡ access_in accesses s.access
+    → Holds (rows access.table) access → 1 ≤ access.bound → StepHolds rows accesses s
 step_holds rows accesses s access e holds bound = record {
   holds = subst (λ (a : Access). Holds (rows a.table) a) e holds;
   bound = subst (λ (a : Access). 1 ≤ a.bound) e bound;

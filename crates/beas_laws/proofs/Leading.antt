@@ -18,7 +18,8 @@ abbrev pub ends : List ℕ → Bool
 ends [] = true
 ends (b ∷ bs) = b == 32 || b == 41 || b == 44 || b == 46
 
-first-not : (p : ℕ → Bool) (bytes : List ℕ) → ((b : ℕ) → (b == 32 || b == 41 || b == 44 || b == 46) ≡ true → p b ≡ false) → ends bytes ≡ true → take_while p bytes ≡ []
+first-not : (p : ℕ → Bool) (bytes : List ℕ) → ((b : ℕ) → (b == 32 || b == 41 || b == 44 || b == 46) ≡ true → p b ≡ false) → ends bytes ≡ true
+    → take_while p bytes ≡ []
 first-not p [] h e = refl
 first-not p (b ∷ bs) h e = take_while-cons p b bs ∙ cond-false (p b) (b ∷ take_while p bs) [] (h b e)
 
@@ -50,7 +51,8 @@ digit-no_minus b h = grind (arith, nat_tests)
 no_comment : (b : ℕ) (bs : List ℕ) → eqb 45 b ≡ false → starts_with eqb (b ∷ bs) (codes "--") ≡ false
 no_comment b bs e = rw e refl
 
-pub lead-of_word : (b : ℕ) (bs rest : List ℕ) → IsWordText (b ∷ bs) → ends rest ≡ true → lead (b ∷ (bs ++ rest)) ≡ Lexeme Word (length (b ∷ bs)) (map to_ascii_lowercase (b ∷ bs))
+pub lead-of_word : (b : ℕ) (bs rest : List ℕ) → IsWordText (b ∷ bs) → ends rest ≡ true
+    → lead (b ∷ (bs ++ rest)) ≡ Lexeme Word (length (b ∷ bs)) (map to_ascii_lowercase (b ∷ bs))
 lead-of_word b bs rest h e =
     lead-word (b ∷ (bs ++ rest)) (omega arith) (word-no_gap b h.first) (no_comment b (bs ++ rest) (word-no_minus b h.first)) h.first
     ∙ ap word_lead (run-ends continues_word (b ∷ bs) rest h.each (first-not continues_word rest ends-no_word e))
@@ -58,7 +60,8 @@ lead-of_word b bs rest h e =
 
 pub lead-of_number : (b : ℕ) (bs rest : List ℕ) → IsDigitText (b ∷ bs) → ends rest ≡ true → lead (b ∷ (bs ++ rest)) ≡ Lexeme Number (length (b ∷ bs)) (b ∷ bs)
 lead-of_number b bs rest h e =
-    lead-number (b ∷ (bs ++ rest)) (omega arith) (digit-no_gap b h.first) (no_comment b (bs ++ rest) (digit-no_minus b h.first)) (digit-no_word b h.first) h.first
+    lead-number (b ∷ (bs ++ rest)) (omega arith) (digit-no_gap b h.first) (no_comment b (bs ++ rest) (digit-no_minus b h.first)) (digit-no_word b h.first)
+    h.first
     ∙ ap (plain Number) (run-ends is_ascii_digit (b ∷ bs) rest h.each (first-not is_ascii_digit rest ends-no_digit e))
 
 -- a text between quotes

@@ -94,7 +94,8 @@ LeadIsLexical (Lexeme kind len text) = IsLexical (symbol_of kind text)
 
 word-lexical : (b : ℕ) (bs : List ℕ) → begins_word b ≡ true → list_all continues_word (b ∷ bs) ≡ true → LeadIsLexical (word_lead (b ∷ bs))
 word-lexical b bs h e =
-    cond_both (nat_lt longest_word (length (b ∷ bs))) (plain Bad (b ∷ bs)) (Lexeme Word (length (b ∷ bs)) (map to_ascii_lowercase (b ∷ bs))) LeadIsLexical (λ l. tt)
+    cond_both (nat_lt longest_word (length (b ∷ bs))) (plain Bad (b ∷ bs)) (Lexeme Word (length (b ∷ bs)) (map to_ascii_lowercase (b ∷ bs))) LeadIsLexical
+    (λ l. tt)
     (λ l. name-folded b bs (record { first = h; each = e; short = ltb-false longest_word (length (b ∷ bs)) l }))
 
 words-lexical : (b : ℕ) (rest : List ℕ) → begins_word b ≡ true → LeadIsLexical (word_lead (take_while continues_word (b ∷ rest)))
@@ -132,7 +133,8 @@ lead-lexical (b ∷ rest) =
 abbrev TokenIsLexical : Token → Type 0
 TokenIsLexical token = IsLexical (symbol_of token.kind token.text)
 
-first-lexical : (first : Lead) (at : ℕ) (after : ℕ → List Token) → LeadIsLexical first → ((len : ℕ) → Each TokenIsLexical (after len)) → Each TokenIsLexical (first_then first at after)
+first-lexical : (first : Lead) (at : ℕ) (after : ℕ → List Token) → LeadIsLexical first → ((len : ℕ) → Each TokenIsLexical (after len))
+    → Each TokenIsLexical (first_then first at after)
 first-lexical (Gap len) at after h more = more len
 first-lexical (Lexeme kind len text) at after h more = (h, more len)
 
@@ -140,7 +142,8 @@ tokens-lexical : (at skip : ℕ) (bytes : List ℕ) → Each TokenIsLexical (tok
 unfolding tokens_from
 tokens-lexical at skip [] = tt
 tokens-lexical at (suc skip) (b ∷ rest) = tokens-lexical (at + 1) skip rest
-tokens-lexical at zero (b ∷ rest) = first-lexical (lead (b ∷ rest)) at (λ len. tokens_from (at + 1) (len - 1) rest) (lead-lexical (b ∷ rest)) (λ len. tokens-lexical (at + 1) (len - 1) rest)
+tokens-lexical at zero (b ∷ rest) = first-lexical (lead (b ∷ rest)) at (λ len. tokens_from (at + 1) (len - 1) rest) (lead-lexical (b ∷ rest))
+    (λ len. tokens-lexical (at + 1) (len - 1) rest)
 
 each-symbol : (tokens : List Token) → Each TokenIsLexical tokens → AreLexical (symbols tokens)
 each-symbol [] h = tt

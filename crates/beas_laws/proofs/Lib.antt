@@ -2,6 +2,7 @@ pub mod Clean
 pub mod HeldFacts
 pub mod Leading
 pub mod Lexicals
+pub mod MoreConstraints
 pub mod Printed
 pub mod PrintedConditions
 pub mod PrintedParts

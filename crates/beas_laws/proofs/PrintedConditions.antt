@@ -46,7 +46,8 @@ ConditionAgain condition = Again IsAlone condition_of condition
 compared : (xs ys : List Lexeme) (text : List ℕ) → map symbol (xs ++ sign text ∷ ys) ≡ (map symbol xs ++ mark text ∷ []) ++ map symbol ys
 compared xs ys text = map-append symbol xs (sign text ∷ ys) ∙ sym (append_assoc (map symbol xs) (mark text ∷ []) (map symbol ys))
 
-ranged : (xs ys zs : List Lexeme) → map symbol ((xs ++ keyword (codes "BETWEEN") ∷ ys) ++ keyword (codes "AND") ∷ zs) ≡ (map symbol xs ++ BETWEEN ∷ map symbol ys) ++ AND ∷ map symbol zs
+ranged : (xs ys zs : List Lexeme) → map symbol ((xs ++ keyword (codes "BETWEEN") ∷ ys) ++ keyword (codes "AND") ∷ zs)
+    ≡ (map symbol xs ++ BETWEEN ∷ map symbol ys) ++ AND ∷ map symbol zs
 ranged xs ys zs =
     map-append symbol (xs ++ keyword (codes "BETWEEN") ∷ ys) (keyword (codes "AND") ∷ zs)
     ∙ ap (λ a. a ++ AND ∷ map symbol zs) (map-append symbol xs (keyword (codes "BETWEEN") ∷ ys))
@@ -58,7 +59,8 @@ mutual
       let left_again = side-again x left l (front IsLexical x y ahead) in
       let right_again = side-again z right r (back IsLexical (x ++ y) z h) in (
         record {
-          spelled = subst (λ t. IsAlone t (Compare left by right)) (sym (compared (side_of left) (side_of right) (sign_text by))) (comparison left_again.spelled (sign-again s) right_again.spelled e);
+          spelled = subst (λ t. IsAlone t (Compare left by right)) (sym (compared (side_of left) (side_of right) (sign_text by)))
+              (comparison left_again.spelled (sign-again s) right_again.spelled e);
           clean = clean-append left_again.clean (sign_then (sign-clean s) right_again.clean);
         },
         tt,
@@ -69,8 +71,10 @@ mutual
       let low_again = side-again y low l (back IsLexical x (BETWEEN ∷ y) ahead).1 in
       let high_again = side-again z high r (back IsLexical (x ++ BETWEEN ∷ y) (AND ∷ z) h).1 in (
         record {
-          spelled = subst (λ t. IsAlone t (Between value low high)) (sym (ranged (ref_of value) (side_of low) (side_of high))) (range value_again.spelled low_again.spelled high_again.spelled);
-          clean = clean-append (clean-append value_again.clean (clean-keyword (codes "BETWEEN") refl low_again.clean)) (clean-keyword (codes "AND") refl high_again.clean);
+          spelled = subst (λ t. IsAlone t (Between value low high)) (sym (ranged (ref_of value) (side_of low) (side_of high)))
+              (range value_again.spelled low_again.spelled high_again.spelled);
+          clean = clean-append (clean-append value_again.clean (clean-keyword (codes "BETWEEN") refl low_again.clean))
+              (clean-keyword (codes "AND") refl high_again.clean);
         },
         tt,
       )
@@ -85,7 +89,8 @@ pub where-again : (a : List Symbol) (cs : List Cond) → IsWhere a cs → AreLex
 where-again a cs no_where h = tt
 where-again a cs (where_ {a = b} c) h = conditions-again b cs c h.1
 
-joined_again : (c : Cond) (cs : List Cond) → ConditionAgain c → Each ConditionAgain cs → Again IsConditions (parted (keyword (codes "AND")) condition_of) (c ∷ cs)
+joined_again : (c : Cond) (cs : List Cond) → ConditionAgain c → Each ConditionAgain cs
+    → Again IsConditions (parted (keyword (codes "AND")) condition_of) (c ∷ cs)
 joined_again c [] h hs = record {
   spelled = last_condition (subst (λ ls. IsAlone (map symbol ls) c) (sym (append-nil (condition_of c))) h.spelled);
   clean = clean-append h.clean none;
@@ -93,10 +98,13 @@ joined_again c [] h hs = record {
 joined_again c (d ∷ ds) h hs =
     let others : Again IsConditions (parted (keyword (codes "AND")) condition_of) (d ∷ ds) = joined_again d ds hs.0 hs.1 in
     record {
-      spelled = subst (λ a. IsConditions a (c ∷ d ∷ ds)) (sym (map-append symbol (condition_of c) (keyword (codes "AND") ∷ parted (keyword (codes "AND")) condition_of (d ∷ ds)))) (conjunction h.spelled others.spelled);
+      spelled = subst (λ a. IsConditions a (c ∷ d ∷ ds)) (sym
+          (map-append symbol (condition_of c) (keyword (codes "AND") ∷ parted (keyword (codes "AND")) condition_of (d ∷ ds))))
+          (conjunction h.spelled others.spelled);
       clean = clean-append h.clean (clean-keyword (codes "AND") refl others.clean);
     }
 
 pub where_again : (cs : List Cond) → Each ConditionAgain cs → Again IsWhere where_of cs
 where_again [] h = record { spelled = no_where; clean = none }
-where_again (c ∷ cs) h = let again = joined_again c cs h.0 h.1 in record { spelled = where_ again.spelled; clean = clean-keyword (codes "WHERE") refl again.clean }
+where_again (c ∷ cs) h = let again = joined_again c cs h.0 h.1 in
+    record { spelled = where_ again.spelled; clean = clean-keyword (codes "WHERE") refl again.clean }

@@ -44,12 +44,14 @@ pub clean-closed : {xs : List Lexeme} → AreClean xs → AreClean (in_parenthes
 clean-closed c = sign_then open_mark (clean-append c (sign_then close_mark none))
 
 -- ---- lists
-each_again : {X : Type 0} {Spelled : List Symbol → X → Type 0} {part : X → List Lexeme} → ((a : List Symbol) (x : X) → Spelled a x → AreLexical a → Again Spelled part x)
+each_again : {X : Type 0} {Spelled : List Symbol → X → Type 0} {part : X → List Lexeme}
+    → ((a : List Symbol) (x : X) → Spelled a x → AreLexical a → Again Spelled part x)
     → {a : List Symbol} {xs : List X} → Commas Spelled a xs → AreLexical a → Each (Again Spelled part) xs
 each_again f (last {a} {x} s) l = (f a x s l, tt)
 each_again f (comma {a} {b} {x} s t) l = (f a x s (front IsLexical a (COMMA ∷ b) l), each_again f t (back IsLexical a (COMMA ∷ b) l).1)
 
-pub listed_again : {X : Type 0} {Spelled : List Symbol → X → Type 0} {part : X → List Lexeme} (x : X) (xs : List X) → Again Spelled part x → Each (Again Spelled part) xs → Again (Commas Spelled) (listed part) (x ∷ xs)
+pub listed_again : {X : Type 0} {Spelled : List Symbol → X → Type 0} {part : X → List Lexeme} (x : X) (xs : List X) → Again Spelled part x
+    → Each (Again Spelled part) xs → Again (Commas Spelled) (listed part) (x ∷ xs)
 listed_again {Spelled = Spelled} {part = part} x [] h hs = record {
   spelled = last (subst (λ ls. Spelled (map symbol ls) x) (sym (append-nil (part x))) h.spelled);
   clean = clean-append h.clean none;
@@ -57,11 +59,13 @@ listed_again {Spelled = Spelled} {part = part} x [] h hs = record {
 listed_again {Spelled = Spelled} {part = part} x (y ∷ ys) h hs =
     let more : Again (Commas Spelled) (listed part) (y ∷ ys) = listed_again y ys hs.0 hs.1 in
     record {
-      spelled = subst (λ a. Commas Spelled a (x ∷ y ∷ ys)) (sym (map-append symbol (part x) (sign (codes ",") ∷ listed part (y ∷ ys)))) (comma h.spelled more.spelled);
+      spelled = subst (λ a. Commas Spelled a (x ∷ y ∷ ys)) (sym (map-append symbol (part x) (sign (codes ",") ∷ listed part (y ∷ ys))))
+          (comma h.spelled more.spelled);
       clean = clean-append h.clean (sign_then comma_mark more.clean);
     }
 
-pub commas-again : {X : Type 0} {Spelled : List Symbol → X → Type 0} {part : X → List Lexeme} → ((a : List Symbol) (x : X) → Spelled a x → AreLexical a → Again Spelled part x)
+pub commas-again : {X : Type 0} {Spelled : List Symbol → X → Type 0} {part : X → List Lexeme}
+    → ((a : List Symbol) (x : X) → Spelled a x → AreLexical a → Again Spelled part x)
     → {a : List Symbol} {xs : List X} → Commas Spelled a xs → AreLexical a → Again (Commas Spelled) (listed part) xs
 commas-again f (last {a} {x} s) l = listed_again x [] (f a x s l) tt
 commas-again f (comma {a} {b} {x} {xs} s t) l =
@@ -116,7 +120,8 @@ unsigned-again ds h = record {
   clean = digits_then (trimmed-digits ds h) none;
 }
 
-minus-again : (ds : List ℕ) (zero : Bool) → bytes_eq (trimmed ds) (codes "0") ≡ zero → IsDigitText ds → Again IsLiteral literal_of (Number (not zero) (trimmed ds))
+minus-again : (ds : List ℕ) (zero : Bool) → bytes_eq (trimmed ds) (codes "0") ≡ zero → IsDigitText ds
+    → Again IsLiteral literal_of (Number (not zero) (trimmed ds))
 minus-again ds true e h = unsigned-again ds h
 minus-again ds false e h = record {
   spelled = subst (λ z. IsLiteral (MINUS ∷ number (trimmed ds) ∷ []) (Number (not z) (trimmed ds))) e

@@ -74,15 +74,19 @@ record AreSources (sources : List Source) : Type 0 where
   others_again : Each ItemAgain others
   conditions : Each ConditionAgain (flat_map (λ s. s.1) sources)
 
-all-again : {c : List Symbol} {ss : List Source} → Commas IsSource c ss → AreLexical c → Each ItemAgain (flat_map (λ s. s.0) ss) × Each ConditionAgain (flat_map (λ s. s.1) ss)
+all-again : {c : List Symbol} {ss : List Source} → Commas IsSource c ss → AreLexical c
+    → Each ItemAgain (flat_map (λ s. s.0) ss) × Each ConditionAgain (flat_map (λ s. s.1) ss)
 all-again (last (joined_source {a = x} {b = y} {i = i} {is = is} {cs = cs} h k)) l =
     let others = joins-again y is cs k (back IsLexical x y l) in
     ((item-again x i h (front IsLexical x y l), each-append ItemAgain is [] others.0 tt), each-append ConditionAgain cs [] others.1 tt)
 all-again (comma {b = b} {xs = ss} (joined_source {a = x} {b = y} {i = i} {is = is} {cs = cs} h k) more) l =
     let here = front IsLexical (x ++ y) (COMMA ∷ b) l in
     let others = joins-again y is cs k (back IsLexical x y here) in
-    let behind = all-again more (back IsLexical (x ++ y) (COMMA ∷ b) l).1 in
-    ((item-again x i h (front IsLexical x y here), each-append ItemAgain is (flat_map (λ s. s.0) ss) others.0 behind.0), each-append ConditionAgain cs (flat_map (λ s. s.1) ss) others.1 behind.1)
+    let behind = all-again more (back IsLexical (x ++ y) (COMMA ∷ b) l).1 in (
+      (item-again x i h (front IsLexical x y here), each-append ItemAgain is (flat_map (λ s. s.0) ss) others.0 behind.0),
+      each-append ConditionAgain cs
+          (flat_map (λ s. s.1) ss) others.1 behind.1,
+    )
 
 sources-again : {c : List Symbol} {ss : List Source} → Commas IsSource c ss → AreLexical c → AreSources ss
 sources-again (last (joined_source {a = x} {b = y} {i = i} {is = is} {cs = cs} h k)) l =
@@ -120,15 +124,18 @@ distinct-again : (a : List Symbol) (d : Bool) → IsDistinct a d → Again IsDis
 distinct-again a d all_rows = record { spelled = all_rows; clean = none }
 distinct-again a d distinct_rows = record { spelled = distinct_rows; clean = clean-keyword (codes "DISTINCT") refl none }
 
-output-again : (a : List Symbol) (star : Bool) (rs : List ColumnRef) → IsOutput a star rs → AreLexical a → Again (λ s refs. IsOutput s star refs) (output_of star) rs
+output-again : (a : List Symbol) (star : Bool) (rs : List ColumnRef) → IsOutput a star rs → AreLexical a
+    → Again (λ s refs. IsOutput s star refs) (output_of star) rs
 output-again a star rs all_columns l = record { spelled = all_columns; clean = sign_then star_mark none }
 output-again a star rs (columns h) l = let again = commas-again ref-again h l in record { spelled = columns again.spelled; clean = again.clean }
 
-block-shape : (d o f w : List Lexeme) → map symbol (((keyword (codes "SELECT") ∷ d ++ o) ++ keyword (codes "FROM") ∷ f) ++ w) ≡ ((SELECT ∷ map symbol d ++ map symbol o) ++ FROM ∷ map symbol f) ++ map symbol w
+block-shape : (d o f w : List Lexeme) → map symbol (((keyword (codes "SELECT") ∷ d ++ o) ++ keyword (codes "FROM") ∷ f) ++ w)
+    ≡ ((SELECT ∷ map symbol d ++ map symbol o) ++ FROM ∷ map symbol f) ++ map symbol w
 block-shape d o f w =
     map-append symbol ((keyword (codes "SELECT") ∷ d ++ o) ++ keyword (codes "FROM") ∷ f) w
     ∙ ap (λ a. a ++ map symbol w)
-    (map-append symbol (keyword (codes "SELECT") ∷ d ++ o) (keyword (codes "FROM") ∷ f) ∙ ap (λ a. a ++ FROM ∷ map symbol f) (map-append symbol (keyword (codes "SELECT") ∷ d) o))
+    (map-append symbol (keyword (codes "SELECT") ∷ d ++ o) (keyword (codes "FROM") ∷ f)
+    ∙ ap (λ a. a ++ FROM ∷ map symbol f) (map-append symbol (keyword (codes "SELECT") ∷ d) o))
 
 block-again : (a : List Symbol) (b : BlockTree) → IsBlock a b → AreLexical a → Again IsBlock block_lexemes b
 block-again a b (select_block {a = x} {b = y} {c = z} {d = v} {distinct = distinct} {star = star} {rs = rs} {ss = ss} {cs = cs} d o s w) l =
@@ -140,16 +147,21 @@ block-again a b (select_block {a = x} {b = y} {c = z} {d = v} {distinct = distin
     let f_again : Again (Commas (λ s i. IsSource s (lone i))) (listed item_of) (sources.first ∷ sources.others) =
     listed_again sources.first sources.others (item-lone sources.first sources.first_again) (items-lone sources.others sources.others_again) in
     let conditions : List Cond = flat_map (λ s. s.1) ss ++ cs in
-    let w_again = where_again conditions (each-append ConditionAgain (flat_map (λ s. s.1) ss) cs sources.conditions (where-again v cs w (back IsLexical ((SELECT ∷ x ++ y) ++ FROM ∷ z) v l))) in
+    let w_again = where_again conditions (each-append ConditionAgain (flat_map (λ s. s.1) ss) cs sources.conditions
+    (where-again v cs w (back IsLexical ((SELECT ∷ x ++ y) ++ FROM ∷ z) v l))) in
     let items = sources.first ∷ sources.others in
     let made = select_block d_again.spelled o_again.spelled (commas-map f_again.spelled) w_again.spelled in
     let as_block : List FromItem → List Cond → BlockTree = λ is cs. record { distinct = distinct; star = star; items = rs; from_items = is; conditions = cs } in
     let same : block_of distinct star rs (map lone items) conditions ≡ as_block items conditions =
-    ap (λ is. as_block is (flat_map (λ s. s.1) (map lone items) ++ conditions)) (lone-items items) ∙ ap (λ cs. as_block items (cs ++ conditions)) (lone-conditions items) in
+    ap (λ is. as_block is (flat_map (λ s. s.1) (map lone items) ++ conditions)) (lone-items items)
+    ∙ ap (λ cs. as_block items (cs ++ conditions)) (lone-conditions items) in
     let again : Again IsBlock block_lexemes (as_block items conditions) = record {
-      spelled = subst (λ t. IsBlock t (as_block items conditions)) (sym (block-shape (distinct_of distinct) (output_of star rs) (listed item_of items) (where_of conditions)))
-          (subst (λ t. IsBlock (((SELECT ∷ map symbol (distinct_of distinct) ++ map symbol (output_of star rs)) ++ FROM ∷ map symbol (listed item_of items)) ++ map symbol (where_of conditions)) t) same made);
-      clean = clean-append (clean-append (clean-append (clean-keyword (codes "SELECT") refl d_again.clean) o_again.clean) (clean-keyword (codes "FROM") refl f_again.clean)) w_again.clean;
+      spelled = subst (λ t. IsBlock t (as_block items conditions))
+          (sym (block-shape (distinct_of distinct) (output_of star rs) (listed item_of items) (where_of conditions)))
+          (subst (λ t. IsBlock (((SELECT ∷ map symbol (distinct_of distinct) ++ map symbol (output_of star rs)) ++ FROM ∷ map symbol (listed item_of items))
+          ++ map symbol (where_of conditions)) t) same made);
+      clean = clean-append (clean-append (clean-append (clean-keyword (codes "SELECT") refl d_again.clean) o_again.clean)
+          (clean-keyword (codes "FROM") refl f_again.clean)) w_again.clean;
     } in
     subst (λ is. Again IsBlock block_lexemes (as_block is conditions)) (sym sources.items) again
 
@@ -166,8 +178,10 @@ mutual
 
   query-blocks : (a : List Symbol) (t : Tree) → IsQuery a t → AreLexical a → AreAgain t
   query-blocks a t (term h) l = term-blocks a t h l
-  query-blocks a t (union {a = x} {b = y} {t = left} {u = right} h k) l = (query-blocks x left h (front IsLexical x (UNION ∷ y) l), term-blocks y right k (back IsLexical x (UNION ∷ y) l).1)
-  query-blocks a t (except {a = x} {b = y} {t = left} {u = right} h k) l = (query-blocks x left h (front IsLexical x (EXCEPT ∷ y) l), term-blocks y right k (back IsLexical x (EXCEPT ∷ y) l).1)
+  query-blocks a t (union {a = x} {b = y} {t = left} {u = right} h k) l =
+      (query-blocks x left h (front IsLexical x (UNION ∷ y) l), term-blocks y right k (back IsLexical x (UNION ∷ y) l).1)
+  query-blocks a t (except {a = x} {b = y} {t = left} {u = right} h k) l =
+      (query-blocks x left h (front IsLexical x (EXCEPT ∷ y) l), term-blocks y right k (back IsLexical x (EXCEPT ∷ y) l).1)
 
 abbrev operand_lexemes : Tree → List Lexeme
 operand_lexemes tree = operand_of tree (tree_lexemes tree)
@@ -189,14 +203,16 @@ tree-again (Union left right) h =
     let left_again = tree-again left h.0 in
     let right_again = operand-again right h.1 (tree-again right h.1) in
     record {
-      spelled = subst (λ a. IsQuery a (Union left right)) (sym (map-append symbol (tree_lexemes left) (keyword (codes "UNION") ∷ operand_lexemes right))) (union left_again.spelled right_again.spelled);
+      spelled = subst (λ a. IsQuery a (Union left right)) (sym (map-append symbol (tree_lexemes left) (keyword (codes "UNION") ∷ operand_lexemes right)))
+          (union left_again.spelled right_again.spelled);
       clean = clean-append left_again.clean (clean-keyword (codes "UNION") refl right_again.clean);
     }
 tree-again (Except left right) h =
     let left_again = tree-again left h.0 in
     let right_again = operand-again right h.1 (tree-again right h.1) in
     record {
-      spelled = subst (λ a. IsQuery a (Except left right)) (sym (map-append symbol (tree_lexemes left) (keyword (codes "EXCEPT") ∷ operand_lexemes right))) (except left_again.spelled right_again.spelled);
+      spelled = subst (λ a. IsQuery a (Except left right)) (sym (map-append symbol (tree_lexemes left) (keyword (codes "EXCEPT") ∷ operand_lexemes right)))
+          (except left_again.spelled right_again.spelled);
       clean = clean-append left_again.clean (clean-keyword (codes "EXCEPT") refl right_again.clean);
     }
 

@@ -18,7 +18,8 @@ use Rattle.beas_laws.proofs.PrintedConditions.{where-again, where_again}
 use Rattle.beas_laws.proofs.PrintedQueries.{query-again}
 
 -- key and fetched names
-key-shape : (ks fs : List Lexeme) → map symbol ((ks ++ sign (codes ")") ∷ []) ++ keyword (codes "FETCH") ∷ in_parentheses fs) ≡ (map symbol ks ++ CLOSE ∷ FETCH ∷ OPEN ∷ map symbol fs) ++ CLOSE ∷ []
+key-shape : (ks fs : List Lexeme) → map symbol ((ks ++ sign (codes ")") ∷ []) ++ keyword (codes "FETCH") ∷ in_parentheses fs)
+    ≡ (map symbol ks ++ CLOSE ∷ FETCH ∷ OPEN ∷ map symbol fs) ++ CLOSE ∷ []
 key-shape ks fs =
     map-append symbol (ks ++ sign (codes ")") ∷ []) (keyword (codes "FETCH") ∷ in_parentheses fs)
     ∙ ap (λ a. a ++ FETCH ∷ OPEN ∷ map symbol (fs ++ sign (codes ")") ∷ [])) (closed ks)
@@ -26,7 +27,8 @@ key-shape ks fs =
     ∙ ap (λ a. map symbol ks ++ CLOSE ∷ FETCH ∷ OPEN ∷ a) (closed fs)
     ∙ sym (append_assoc (map symbol ks) (CLOSE ∷ FETCH ∷ OPEN ∷ map symbol fs) (CLOSE ∷ []))
 
-access-shape : (ks fs : List Lexeme) (limit : List ℕ) → map symbol (((ks ++ sign (codes ")") ∷ []) ++ keyword (codes "FETCH") ∷ in_parentheses fs) ++ limit_of limit)
+access-shape : (ks fs : List Lexeme) (limit : List ℕ) → map symbol
+    (((ks ++ sign (codes ")") ∷ []) ++ keyword (codes "FETCH") ∷ in_parentheses fs) ++ limit_of limit)
     ≡ (map symbol ks ++ CLOSE ∷ FETCH ∷ OPEN ∷ map symbol fs) ++ CLOSE ∷ LIMIT ∷ number limit ∷ []
 access-shape ks fs limit =
     map-append symbol ((ks ++ sign (codes ")") ∷ []) ++ keyword (codes "FETCH") ∷ in_parentheses fs) (limit_of limit)
@@ -42,7 +44,8 @@ clean-limit limit h = clean-keyword (codes "LIMIT") refl (digits_then h none)
 abbrev SpellsAgain : Statement → Type 0
 SpellsAgain statement = Again Spells lexemes_of statement
 
-table-again : (n : List ℕ) (b : List Symbol) (cs : List Column) → IsId (word n ∷ []) n → IsNameText n → Commas IsColumn b cs → AreLexical b → SpellsAgain (CreateTable n cs)
+table-again : (n : List ℕ) (b : List Symbol) (cs : List Column) → IsId (word n ∷ []) n → IsNameText n → Commas IsColumn b cs → AreLexical b
+    → SpellsAgain (CreateTable n cs)
 table-again n b cs i h columns l =
     let again : Again (Commas IsColumn) (listed column_of) cs = commas-again column-again columns l in
     record {
@@ -50,44 +53,67 @@ table-again n b cs i h columns l =
       clean = clean-keyword (codes "CREATE") refl (clean-keyword (codes "TABLE") refl (name_then h (clean-closed again.clean)));
     }
 
-access-again : (n t limit : List ℕ) (key fetched : List (List ℕ)) → IsId (word n ∷ []) n → IsId (word t ∷ []) t → IsNameText n → IsNameText t → IsDigitText limit → Again IsMaybeIds names_of key → Again (Commas IsId) names_of fetched
+access-again : (n t limit : List ℕ) (key fetched : List (List ℕ)) → IsId (word n ∷ []) n → IsId (word t ∷ []) t → IsNameText n → IsNameText t
+    → IsDigitText limit → Again IsMaybeIds names_of key → Again (Commas IsId) names_of fetched
     → SpellsAgain (CreateAccess (record { name = n; table = t; key = key; fetched = fetched; limit = limit }))
 access-again n t limit key fetched i j h k digits_text key_again fetched_again =
     let spec : AccessSpec = record { name = n; table = t; key = key; fetched = fetched; limit = limit } in
     record {
-      spelled = subst (λ a. Spells (CREATE ∷ ACCESS ∷ word n ∷ ON ∷ word t ∷ OPEN ∷ a) (CreateAccess spec)) (sym (access-shape (names_of key) (names_of fetched) limit))
+      spelled = subst (λ a. Spells (CREATE ∷ ACCESS ∷ word n ∷ ON ∷ word t ∷ OPEN ∷ a) (CreateAccess spec))
+          (sym (access-shape (names_of key) (names_of fetched) limit))
           (create_access i j key_again.spelled fetched_again.spelled);
       clean = clean-keyword (codes "CREATE") refl (clean-keyword (codes "ACCESS") refl (name_then h (clean-keyword (codes "ON") refl (name_then k
           (clean-append (clean-key key_again.clean fetched_again.clean) (clean-limit limit digits_text))))));
     }
 
-group-again : (t : List ℕ) (key fetched : List (List ℕ)) → IsId (word t ∷ []) t → IsNameText t → Again IsMaybeIds names_of key → Again (Commas IsId) names_of fetched → SpellsAgain (DiscoverGroup t key fetched)
+group-again : (t : List ℕ) (key fetched : List (List ℕ)) → IsId (word t ∷ []) t → IsNameText t → Again IsMaybeIds names_of key
+    → Again (Commas IsId) names_of fetched → SpellsAgain (DiscoverGroup t key fetched)
 group-again t key fetched i h key_again fetched_again = record {
-  spelled = subst (λ a. Spells (DISCOVER ∷ word t ∷ OPEN ∷ a) (DiscoverGroup t key fetched)) (sym (key-shape (names_of key) (names_of fetched))) (discover_group i key_again.spelled fetched_again.spelled);
+  spelled = subst (λ a. Spells (DISCOVER ∷ word t ∷ OPEN ∷ a) (DiscoverGroup t key fetched)) (sym (key-shape (names_of key) (names_of fetched)))
+      (discover_group i key_again.spelled fetched_again.spelled);
   clean = clean-keyword (codes "DISCOVER") refl (name_then h (clean-key key_again.clean fetched_again.clean));
 }
 
-insert-again : (t : List ℕ) (b : List Symbol) (rows : List (List Literal)) → IsId (word t ∷ []) t → IsNameText t → Commas IsTuple b rows → AreLexical b → SpellsAgain (Insert t rows)
+insert-again : (t : List ℕ) (b : List Symbol) (rows : List (List Literal)) → IsId (word t ∷ []) t → IsNameText t → Commas IsTuple b rows → AreLexical b
+    → SpellsAgain (Insert t rows)
 insert-again t b rows i h tuples l =
     let again : Again (Commas IsTuple) (listed tuple_of) rows = commas-again tuple-again tuples l in
-    record { spelled = insert i again.spelled; clean = clean-keyword (codes "INSERT") refl (clean-keyword (codes "INTO") refl (name_then h (clean-keyword (codes "VALUES") refl again.clean))) }
+    record {
+      spelled = insert i again.spelled;
+      clean = clean-keyword (codes "INSERT") refl
+          (clean-keyword (codes "INTO") refl (name_then h (clean-keyword (codes "VALUES") refl again.clean)));
+    }
 
 -- The lexemes of a statement that lexical tokens spell.
 pub statement-again : (a : List Symbol) (s : Statement) → Spells a s → AreLexical a → Again Spells lexemes_of s
 statement-again a s (create_table {b = b} {n = n} {cs = cs} (id r) h) l = table-again n b cs (id r) l.1.1.0 h (front IsLexical b (CLOSE ∷ []) l.1.1.1.1)
 statement-again a s (create_access {c = c} {d = d} {n = n} {t = t} {limit = limit} {key = key} {fetched = fetched} (id p) (id q) h k) l =
     let ahead = front IsLexical (c ++ CLOSE ∷ FETCH ∷ OPEN ∷ d) (CLOSE ∷ LIMIT ∷ number limit ∷ []) l.1.1.1.1.1.1 in
-    access-again n t limit key fetched (id p) (id q) l.1.1.0 l.1.1.1.1.0 (back IsLexical (c ++ CLOSE ∷ FETCH ∷ OPEN ∷ d) (CLOSE ∷ LIMIT ∷ number limit ∷ []) l.1.1.1.1.1.1).1.1.0
+    access-again n t limit key fetched (id p) (id q) l.1.1.0 l.1.1.1.1.0
+    (back IsLexical (c ++ CLOSE ∷ FETCH ∷ OPEN ∷ d) (CLOSE ∷ LIMIT ∷ number limit ∷ []) l.1.1.1.1.1.1).1.1.0
     (maybe_ids-again h (front IsLexical c (CLOSE ∷ FETCH ∷ OPEN ∷ d) ahead)) (ids-again k (back IsLexical c (CLOSE ∷ FETCH ∷ OPEN ∷ d) ahead).1.1.1)
-statement-again a s (drop_access (id r)) l = record { spelled = drop_access (id r); clean = clean-keyword (codes "DROP") refl (clean-keyword (codes "ACCESS") refl (name_then l.1.1.0 none)) }
-statement-again a s (load (id r)) l = record { spelled = load (id r); clean = clean-keyword (codes "LOAD") refl (name_then l.1.0 (clean-keyword (codes "FROM") refl (content_then none))) }
+statement-again a s (drop_access (id r)) l = record {
+  spelled = drop_access (id r);
+  clean = clean-keyword (codes "DROP") refl (clean-keyword (codes "ACCESS") refl (name_then l.1.1.0 none));
+}
+statement-again a s (load (id r)) l = record {
+  spelled = load (id r);
+  clean = clean-keyword (codes "LOAD") refl (name_then l.1.0 (clean-keyword (codes "FROM") refl (content_then none)));
+}
 statement-again a s (insert {b = b} {t = t} {rows = rows} (id r) h) l = insert-again t b rows (id r) l.1.1.0 h l.1.1.1.1
 statement-again a s (delete {b = b} {cs = cs} (id r) w) l =
     let again = where_again cs (where-again b cs w l.1.1.1) in
-    record { spelled = delete (id r) again.spelled; clean = clean-keyword (codes "DELETE") refl (clean-keyword (codes "FROM") refl (name_then l.1.1.0 again.clean)) }
+    record {
+      spelled = delete (id r) again.spelled;
+      clean = clean-keyword (codes "DELETE") refl
+          (clean-keyword (codes "FROM") refl (name_then l.1.1.0 again.clean));
+    }
 statement-again a s (discover_group {b = b} {c = c} {t = t} {key = key} {fetched = fetched} (id r) h k) l =
     let ahead = front IsLexical (b ++ CLOSE ∷ FETCH ∷ OPEN ∷ c) (CLOSE ∷ []) l.1.1.1 in
-    group-again t key fetched (id r) l.1.0 (maybe_ids-again h (front IsLexical b (CLOSE ∷ FETCH ∷ OPEN ∷ c) ahead)) (ids-again k (back IsLexical b (CLOSE ∷ FETCH ∷ OPEN ∷ c) ahead).1.1.1)
-statement-again a s (discover_pairs {limit = limit} (id r)) l = record { spelled = discover_pairs (id r); clean = clean-keyword (codes "DISCOVER") refl (name_then l.1.0 (clean-limit limit l.1.1.1.0)) }
+    group-again t key fetched (id r) l.1.0 (maybe_ids-again h (front IsLexical b (CLOSE ∷ FETCH ∷ OPEN ∷ c) ahead))
+    (ids-again k (back IsLexical b (CLOSE ∷ FETCH ∷ OPEN ∷ c) ahead).1.1.1)
+statement-again a s (discover_pairs {limit = limit} (id r)) l = record
+    { spelled = discover_pairs (id r); clean = clean-keyword (codes "DISCOVER") refl (name_then l.1.0 (clean-limit limit l.1.1.1.0)) }
 statement-again a s (select h e) l = let again = query-again h l in record { spelled = select again.spelled e; clean = again.clean }
-statement-again a s (explain h e) l = let again = query-again h l.1 in record { spelled = explain again.spelled e; clean = clean-keyword (codes "EXPLAIN") refl again.clean }
+statement-again a s (explain h e) l = let again = query-again h l.1 in
+    record { spelled = explain again.spelled e; clean = clean-keyword (codes "EXPLAIN") refl again.clean }

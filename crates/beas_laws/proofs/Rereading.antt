@@ -19,7 +19,8 @@ abbrev pub read : List ℕ → List Symbol
 read bytes = symbols (tokens_of bytes)
 
 -- symbols have no places
-first-same : (first : Lead) (at other : ℕ) (after behind : ℕ → List Token) → ((len : ℕ) → symbols (after len) ≡ symbols (behind len)) → symbols (first_then first at after) ≡ symbols (first_then first other behind)
+first-same : (first : Lead) (at other : ℕ) (after behind : ℕ → List Token) → ((len : ℕ) → symbols (after len) ≡ symbols (behind len))
+    → symbols (first_then first at after) ≡ symbols (first_then first other behind)
 first-same (Gap len) at other after behind h = h len
 first-same (Found kind len text) at other after behind h = ap (λ more. symbol_of kind text ∷ more) (h len)
 
@@ -36,7 +37,8 @@ unfolding tokens_from
 skipped at [] rest = same_symbols at 0 0 rest
 skipped at (b ∷ bs) rest = skipped (at + 1) bs rest
 
-one_token : (kind : TokenKind) (text : List ℕ) (b : ℕ) (bs rest : List ℕ) → lead (b ∷ (bs ++ rest)) ≡ Found kind (length (b ∷ bs)) text → read (b ∷ (bs ++ rest)) ≡ symbol_of kind text ∷ read rest
+one_token : (kind : TokenKind) (text : List ℕ) (b : ℕ) (bs rest : List ℕ) → lead (b ∷ (bs ++ rest)) ≡ Found kind (length (b ∷ bs)) text
+    → read (b ∷ (bs ++ rest)) ≡ symbol_of kind text ∷ read rest
 unfolding tokens_from
 one_token kind text b bs rest e =
     let less_one : suc (length bs) - 1 ≡ length bs = omega arith in
@@ -114,7 +116,8 @@ written-ends (minus_then h c) = refl
 written-ends (content_then c) = refl
 written-ends (sign_then {rest = rest} h c) = sign-ends h rest
 
-sign-read : {text : List ℕ} → IsMarkText text → (rest : List Lexeme) → AreClean rest → read (text ++ written (holds_right (sign text)) rest) ≡ mark text ∷ read (written (holds_right (sign text)) rest)
+sign-read : {text : List ℕ} → IsMarkText text → (rest : List Lexeme) → AreClean rest
+    → read (text ++ written (holds_right (sign text)) rest) ≡ mark text ∷ read (written (holds_right (sign text)) rest)
 unfolding lead
 sign-read open_mark rest c = one_token Mark (codes "(") 40 [] (written true rest) refl
 sign-read close_mark rest c = one_token Mark (codes ")") 41 [] (written false rest) refl
@@ -142,7 +145,8 @@ read-written held (digits_then {text} {rest} h c) =
     ∙ ap (λ others. number text ∷ others) (read-written false c)
 read-written held (minus_then {text} {rest} h c) =
     gap-skipped (held || false) (codes "-") (text ++ written false rest) ∙ minus-read text (written false rest) h
-    ∙ ap (λ others. mark (codes "-") ∷ others) (number-read text (written false rest) h (written-ends c) ∙ ap (λ others. number text ∷ others) (read-written false c))
+    ∙ ap (λ others. mark (codes "-") ∷ others) (number-read text (written false rest) h (written-ends c)
+    ∙ ap (λ others. number text ∷ others) (read-written false c))
 read-written held (content_then {text} {rest} c) =
     gap-skipped (held || false) (quoted_bytes text) (written false rest) ∙ quoted-read text (written false rest) (written-ends c)
     ∙ ap (λ others. quoted text ∷ others) (read-written false c)

@@ -1,11 +1,13 @@
-// Laws on covered sets, reasons and derivations.
+// Laws on covered sets, reasons and derivations, and on what is prepared from them.
 ghost use Rattle.std.specs.Prelude.{◌≡◌, ◌↔◌, List as Items, length, IsTrue, Contains, Some, None, is_some};
 ghost use Rattle.beas_core.specs.declared.plan.DStep.{DStep as Step};
+ghost use Rattle.beas_core.specs.declared.plan.Prepared.{Prepared as Plan};
 ghost use Rattle.beas_core.specs.declared.schema.Access.{Access as Constraint};
-ghost use Rattle.beas_core.specs.Types.{ClassSet};
+ghost use Rattle.beas_core.specs.Types.{ClassSet, TableRows};
 ghost use Rattle.beas_core.specs.Shapes.{EachIdOnce};
 ghost use Rattle.beas_core.specs.Coverage.{ClassesInRange, IsLeastClosed, covered_set, is_covered, reason, query_is_covered, first_uncovered};
 ghost use Rattle.beas_core.specs.Derivations.{IsSound, derivation};
+ghost use Rattle.beas_core.specs.Fits.{Fits};
 ghost use Rattle.evaluation_facts.specs.Covered.{IsCovered};
 
 use beas_core::{Access, List, Normal};
@@ -53,4 +55,11 @@ pub fn law_more_accesses(normal: &Normal, accesses: &List<Access>, more: &List<A
     requires within { (access : Constraint) → Contains accesses.now access → Contains more.now access }
     ensures { (start : ClassSet) (steps : Items Step) → IsSound normal.now accesses.now start steps
         → IsSound normal.now more.now start steps }
+{}
+
+/// A prepared query that fits goes on fitting with more constraints live.
+pub fn law_still_fits(accesses: &List<Access>, more: &List<Access>)
+    requires ids { EachIdOnce more.now }
+    requires within { (access : Constraint) → Contains accesses.now access → Contains more.now access }
+    ensures { (rows : TableRows) (prepared : Plan) → Fits accesses.now rows prepared → Fits more.now rows prepared }
 {}

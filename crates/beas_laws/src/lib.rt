@@ -15,7 +15,7 @@ pub use bounds::{law_block_bound, law_bound};
 pub use classes::law_classes;
 pub use coverage::{
     law_covered_set, law_derivation_exists, law_derivation_sound, law_first_uncovered,
-    law_more_accesses, law_reason,
+    law_more_accesses, law_reason, law_still_fits,
 };
 pub use order::{law_greatest, law_order, law_set};
 pub use printing::law_printed;

@@ -11,7 +11,8 @@ use sql_tree::Statement;
 
 /// Where some tokens spell a statement, the tokens of its canonical text spell it, and no other.
 pub fn law_printed(statement: &Statement)
-    ensures spelled { IsSpelledByTokens statement.now → Spells (symbols (tokens_of (printed statement.now))) statement.now }
+    ensures spelled { IsSpelledByTokens statement.now → Spells (symbols (tokens_of (printed statement.now)))
+        statement.now }
     ensures no_other { IsSpelledByTokens statement.now → (other : Tree)
         → Spells (symbols (tokens_of (printed statement.now))) other → other ≡ statement.now }
 {}

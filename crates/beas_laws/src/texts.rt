@@ -17,8 +17,10 @@ use std::alloc::Global;
 /// is refused as its tokens are.
 pub fn canonical(alloc: Global, source: &str) -> Result<Text, Fail>
     requires { length source.now ≤ 16777216 }
-    ensures text { IfOk result (λ text. (s : Tree) × Parses (symbols (tokens_of source.now)) (Ok s) × (text ≡ printed s)) }
-    ensures refused { (why : Why) → IsErrOf result (Fail.Refused why) → Parses (symbols (tokens_of source.now)) (Err why) }
+    ensures text { IfOk result (λ text. (s : Tree) × Parses (symbols (tokens_of source.now)) (Ok s)
+        × (text ≡ printed s)) }
+    ensures refused { (why : Why) → IsErrOf result (Fail.Refused why)
+        → Parses (symbols (tokens_of source.now)) (Err why) }
 {
     let tokens = lex(alloc, source)?;
     let statement = parse(alloc, tokens.as_slice())?;

@@ -11,4 +11,5 @@ returns g c =
     let accesses = g.P.AccessPort.accesses c.args.port.now in
     let steps = c.args.steps.now in
     answers_are_full (g.P.AccessPort.rows c.args.port.now) block c.requires.block accesses steps c.requires.sound
-    (λ s h. All-contains (λ t. AccessIsWellFormed (width_of block.atoms t.atom) (access_in accesses t.access)) steps s c.requires.accesses (Contains-from_has steps s h))
+    (λ s h. All-contains (λ t. AccessIsWellFormed (width_of block.atoms t.atom) (access_in accesses t.access)) steps s c.requires.accesses
+    (Contains-from_has steps s h))

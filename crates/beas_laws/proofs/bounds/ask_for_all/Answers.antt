@@ -17,4 +17,5 @@ pub returns : goal.returns
 returns g c =
     let rows = g.P.AccessPort.rows c.args.port.now in
     let accesses = g.P.AccessPort.accesses c.args.port.now in
-    subst (All (PlanHolds rows accesses)) (take_all c.loop-derivation.derivation-index c.args.derivations.now c.loop-derivation-test.false) c.loop-derivation.invariant
+    subst (All (PlanHolds rows accesses)) (take_all c.loop-derivation.derivation-index c.args.derivations.now c.loop-derivation-test.false)
+    c.loop-derivation.invariant

@@ -1,0 +1,36 @@
+-- A prepared query that fits a store fits it with one constraint more.
+use Rattle.std.proofs.Common.{◌≡◌, List, [], ◌∷◌, ◌++◌, ap, sym, subst}
+use Rattle.std.specs.Prelude.{Contains}
+use Rattle.beas_core.specs.declared.schema.Access.{Access}
+use Rattle.beas_core.specs.declared.plan.Prepared.{Prepared}
+use Rattle.beas_core.specs.Types.{TableRows}
+use Rattle.beas_core.specs.Fits.{Fits}
+use Rattle.beas_core.proofs.Sets.{Has-append_left, Has-from_contains, Contains-from_has}
+use Rattle.beas_laws.proofs.MoreConstraints.{still_fits}
+use Rattle.catalogue.specs.Database.{Database, rows_at, with_access}
+use Rattle.catalogue.specs.Schema.{SchemaIsSound}
+use Rattle.plan_builder.proofs.PreparationFacts.{ids_once}
+use Rattle.update_guard.specs.declared.guarded.Guarded.{Guarded}
+use Rattle.update_guard.specs.Stored.{stored}
+
+abbrev pub FitsStore : Guarded → Prepared → Type 0
+FitsStore guarded prepared = Fits guarded.catalogue.accesses (rows_at (stored guarded)) prepared
+
+module _ (old new : Guarded) (prepared : Prepared) (fits : FitsStore old prepared) where
+  abbrev FitsDatabase : Database → Type 0
+  FitsDatabase db = Fits db.accesses (rows_at db) prepared
+
+  -- the store is as it was
+  pub fits_the_same : stored new ≡ stored old → FitsStore new prepared
+  fits_the_same e = subst FitsDatabase (sym e) fits
+
+  pub fits_with_access : (access : Access) → SchemaIsSound new.catalogue → stored new ≡ with_access (stored old) access → FitsStore new prepared
+  fits_with_access access sound e =
+      let few = old.catalogue.accesses in
+      let longer : new.catalogue.accesses ≡ few ++ access ∷ [] = ap (λ (db : Database). db.accesses) e in
+      let rows : rows_at (stored new) ≡ rows_at (stored old) = ap rows_at e in
+      subst (λ (r : TableRows). Fits new.catalogue.accesses r prepared) (sym rows)
+      (still_fits few new.catalogue.accesses (ids_once new.catalogue sound)
+      (λ a there. subst (λ (l : List Access). Contains l a) (sym longer)
+      (Contains-from_has (few ++ access ∷ []) a (Has-append_left few (access ∷ []) a (Has-from_contains few a there))))
+      (rows_at (stored old)) prepared fits)
