@@ -81,7 +81,8 @@ pub content_set_other : (files : List Entry) (name other : List ℕ) (file : Ent
     → content_of (set files i file) other ≡ content_of files other
 content_set_other files name other file i is same differs =
     ap (option_map (λ f. f.bytes))
-    (find_past (is_named other) files i file file (is_other name other (get_or files i file) (named_at files name i file is) differs) (is_other name other file same differs))
+    (find_past (is_named other) files i file file (is_other name other (get_or files i file) (named_at files name i file is) differs)
+    (is_other name other file same differs))
 
 or_none : (found : Option Entry) → option_or found None ≡ found
 or_none None = refl
@@ -92,7 +93,8 @@ pub content_pushed : (files : List Entry) (name : List ℕ) (file : Entry) → N
     → content_of (files ++ file ∷ []) name ≡ Some file.bytes
 content_pushed files name file is same =
     let named : is_named name file ≡ true = rw (← same) (is_itself file) in
-    let found : find (is_named name) (files ++ file ∷ []) ≡ Some file = rw (find-append (is_named name) files (file ∷ []), not_found files name is, named) refl in
+    let found : find (is_named name) (files ++ file ∷ []) ≡ Some file = rw (find-append (is_named name) files (file ∷ []), not_found files name is, named)
+    refl in
     ap (option_map (λ f. f.bytes)) found
 
 pub content_pushed_other : (files : List Entry) (name other : List ℕ) (file : Entry) → file.name ≡ name → other ≢ name

@@ -6,8 +6,6 @@ mod memory_files;
 mod memory_sink;
 mod shelf;
 mod sink;
-#[cfg(test)]
-mod tests;
 
 pub use files::{Files, FilesError};
 pub use memory_files::{MemoryFiles, SteadyFiles};

@@ -36,7 +36,8 @@ impl MemoryFiles {
     /// Gives a name its bytes. A name that is there gets the new ones.
     pub fn add(&mut self, name: Text, bytes: Bytes) -> Result<(), NoMemory>
         ensures added { OnOk result (content_of self.new.shelf name ≡ Some bytes) }
-        ensures others { (other : List ℕ) → other ≢ name → content_of self.new.shelf other ≡ content_of self.old.shelf other }
+        ensures others { (other : List ℕ) → other ≢ name → content_of self.new.shelf other
+            ≡ content_of self.old.shelf other }
         ensures err { OnErr result (self.new ≡ self.old) }
         ensures failing { self.new.failing ≡ self.old.failing }
         ensures failed { self.new.failed ≡ self.old.failed }
@@ -121,7 +122,8 @@ impl Files for MemoryFiles {
     fn read(&mut self, alloc: Global, name: &str, limit: u64) -> Result<Bytes, FilesError>
         ensures answer { IsErrOf result FilesError.NoMemory ⊎ (result ≡ next_answer self.old name.now limit) }
         ensures failed { IsErrOf result FilesError.Failed → self.new.failed ≡ self.old.failed ++ name.now ∷ [] }
-        ensures rose { IsErrOf result FilesError.Failed → Rose (times self.old.failed name.now) (times self.new.failed name.now) }
+        ensures rose { IsErrOf result FilesError.Failed → Rose (times self.old.failed name.now)
+            (times self.new.failed name.now) }
         ensures same { (IsErrOf result FilesError.Failed → ⊥) → self.new.failed ≡ self.old.failed }
         ensures reads { self.new.reads ≡ min (self.old.reads + 1) (2 ^ 64 - 1) }
         ensures failing { self.new.failing ≡ self.old.failing }
@@ -155,7 +157,8 @@ impl SteadyFiles {
     /// Gives a name its bytes. A name that is there gets the new ones.
     pub fn add(&mut self, name: Text, bytes: Bytes) -> Result<(), NoMemory>
         ensures added { OnOk result (content_of self.new.shelf name ≡ Some bytes) }
-        ensures others { (other : List ℕ) → other ≢ name → content_of self.new.shelf other ≡ content_of self.old.shelf other }
+        ensures others { (other : List ℕ) → other ≢ name → content_of self.new.shelf other
+            ≡ content_of self.old.shelf other }
         ensures err { OnErr result (self.new ≡ self.old) }
     {
         self.shelf.add(name, bytes)
@@ -172,7 +175,8 @@ impl Files for SteadyFiles {
     ghost taken = { λ _. 0 };
 
     fn read(&mut self, alloc: Global, name: &str, limit: u64) -> Result<Bytes, FilesError>
-        ensures answer { IsErrOf result FilesError.NoMemory ⊎ (result ≡ answer_within (unwrap_or (content_of self.old.shelf name.now) []) limit) }
+        ensures answer { IsErrOf result FilesError.NoMemory ⊎ (result
+            ≡ answer_within (unwrap_or (content_of self.old.shelf name.now) []) limit) }
         ensures shelf { self.new.shelf ≡ self.old.shelf }
     {
         match self.shelf.get(name) {

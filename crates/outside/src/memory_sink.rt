@@ -82,8 +82,10 @@ impl Sink for MemorySink {
 
     #[tactic(auto, using(crate::proofs::Room::part_sent, crate::proofs::Room::none_sent))]
     fn put(&mut self, bytes: &[u8]) -> Result<(), SinkError>
-        ensures answer { IsErrOf result SinkError.NoMemory ⊎ (result ≡ put_answer self.old.total self.old.sent.items bytes.now) }
-        ensures sent { IsErrOf result SinkError.NoMemory ⊎ (self.new.sent.items ≡ self.old.sent.items ++ part_taken self.old.total self.old.sent.items bytes.now) }
+        ensures answer { IsErrOf result SinkError.NoMemory ⊎ (result
+            ≡ put_answer self.old.total self.old.sent.items bytes.now) }
+        ensures sent { IsErrOf result SinkError.NoMemory ⊎ (self.new.sent.items
+            ≡ self.old.sent.items ++ part_taken self.old.total self.old.sent.items bytes.now) }
         ensures kept { IsErrOf result SinkError.NoMemory → self.new.sent.items ≡ self.old.sent.items }
         ensures part { SentPart self.old.sent.items self.new.sent.items bytes.now }
         ensures rise { self.old.faults ≤ self.new.faults }

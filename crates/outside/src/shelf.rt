@@ -49,7 +49,8 @@ impl Shelf {
     /// The bytes of a name, if it is there.
     #[tactic(auto, using(crate::proofs::Contents::content_at, crate::proofs::Contents::no_content))]
     pub fn get(&self, name: &str) -> Option<&Bytes>
-        ensures { MatchOption result (content_of self.now name.now ≡ None) (λ b. content_of self.now name.now ≡ Some b.now) }
+        ensures { MatchOption result (content_of self.now name.now ≡ None)
+            (λ b. content_of self.now name.now ≡ Some b.now) }
     {
         match self.place(name) {
             Some(place) => Some(&self.entries[place].bytes),

@@ -83,7 +83,8 @@ impl Rows {
     /// Moves all of `rows` to the end, in order. They are refused as too many where there would be more than
     /// `limit` rows, and after any error both lists are as they were.
     pub fn append(&mut self, alloc: Global, rows: &mut List<Row>, limit: u32) -> Result<(), Fail>
-        ensures too_many { IsErrOf result (Fail.Refused (Refusal.TooMany OfRows limit)) ↔ (limit < length self.old + length rows.old) }
+        ensures too_many { IsErrOf result (Fail.Refused (Refusal.TooMany OfRows limit))
+            ↔ (limit < length self.old + length rows.old) }
         ensures memory { length self.old + length rows.old ≤ limit → IfErr result (λ why. why ≡ Want) }
         ensures ok { OnOk result (self.new ≡ self.old ++ rows.old) }
         ensures moved { OnOk result (rows.new ≡ []) }
@@ -125,84 +126,5 @@ impl Rows {
         ensures { self.new ≡ take len self.old }
     {
         self.rows.truncate(len as usize);
-    }
-}
-
-#[cfg(test)]
-mod tests {
-    use super::*;
-    use beas_core::{List, Value};
-    use std::marker::Brand;
-    use std::sync::ledger::Blank;
-    use std::test::Fail as Failed;
-
-    fn read_second<L: Ledger>(rows: &Rows, blank: Blank) -> i64
-        requires name { blank.name ≡ L.name }
-        requires parts { blank.parts ≡ L.parts }
-        requires some { 0 < blank.parts }
-        requires two { 1 < length rows.now }
-    {
-        let mut steps = Steps::<L>::start(blank);
-        match rows.row(1, &mut steps).as_slice() {
-            [Value::Int(number)] => *number,
-            _ => 0,
-        }
-    }
-
-    #[test]
-    fn keeps_rows_up_to_the_limit(rt: HostRuntime) -> Result<(), Failed> {
-        let alloc = rt.alloc();
-        let mut rows = Rows::new(alloc);
-        for number in [10_i64, 20, 30] {
-            let mut row = List::new(alloc);
-            row.push(Value::Int(number))?;
-            assert_eq!(rt; taken(rows.push(row, 2))?, number < 30);
-        }
-        assert_eq!(rt; rows.len(), 2);
-        assert_eq!(rt; second(&rows), 20);
-        Ok(())
-    }
-
-    fn second(rows: &Rows) -> i64
-        requires { 1 < length rows.now }
-    {
-        read_second::<Brand>(rows, Blank::new(1))
-    }
-
-    fn taken(outcome: Result<(), Fail>) -> Result<bool, Failed> {
-        match outcome {
-            Ok(()) => Ok(true),
-            Err(Fail::Refused(_)) => Ok(false),
-            Err(why) => Err(Failed::from(why)),
-        }
-    }
-
-    fn numbered(alloc: Global, number: i64) -> Result<Row, Failed> {
-        let mut row = List::new(alloc);
-        row.push(Value::Int(number))?;
-        Ok(row)
-    }
-
-    #[test]
-    fn moves_swaps_and_drops_rows(rt: HostRuntime) -> Result<(), Failed> {
-        let alloc = rt.alloc();
-        let mut rows = Rows::new(alloc);
-        let mut more = List::new(alloc);
-        for number in [10_i64, 20, 30, 40] {
-            more.push(numbered(alloc, number)?)?;
-        }
-        assert!(rt; !taken(rows.append(alloc, &mut more, 3))?);
-        assert_eq!(rt; more.len(), 4);
-        assert!(rt; taken(rows.append(alloc, &mut more, 4))?);
-        assert!(rt; more.is_empty());
-        assert_eq!(rt; rows.len(), 4);
-        rows.swap(1, 3);
-        assert_eq!(rt; rows.len(), 4);
-        rows.remove(0);
-        assert_eq!(rt; rows.len(), 3);
-        rows.truncate(2);
-        assert_eq!(rt; rows.len(), 2);
-        assert_eq!(rt; second(&rows), 30);
-        Ok(())
     }
 }

@@ -7,7 +7,8 @@ pub returns-in-Some-clause-others : goal.returns-in-Some-clause-others
 returns-in-Some-clause-others c =
     let is : Some c.in-Some.place ≡ place_of c.self.inside.entries.items c.args.name = grind arith in
     λ other differs.
-    let kept = content_set_other c.self.inside.entries.items c.args.name other (record { name = c.args.name; bytes = c.args.bytes }) c.in-Some.place is refl differs in
+    let kept = content_set_other c.self.inside.entries.items c.args.name other (record { name = c.args.name; bytes = c.args.bytes }) c.in-Some.place is refl
+    differs in
     cc
 
 pub returns-in_ok-push-in-None-clause-added : goal.returns-in_ok-push-in-None-clause-added
