@@ -35,7 +35,8 @@ dropped h q o p e = ap (λ r. unwrap_or r []) e ∙ by (nat_eq h q)
     by false = refl
 
 -- an edit read the other way
-turned : (h : ℕ) (old new : List (ℕ × List Tally)) (less more : List Tally) → bucket_at old h ≡ more → ((q : ℕ) → bucket_at new q ≡ cond (nat_eq h q) less (bucket_at old q))
+turned : (h : ℕ) (old new : List (ℕ × List Tally)) (less more : List Tally) → bucket_at old h ≡ more
+    → ((q : ℕ) → bucket_at new q ≡ cond (nat_eq h q) less (bucket_at old q))
     → (q : ℕ) → bucket_at old q ≡ cond (nat_eq h q) more (bucket_at new q)
 turned h old new less more was now q = by (nat_eq h q) refl
   where
@@ -43,7 +44,8 @@ turned h old new less more was now q = by (nat_eq h q) refl
     by true e = ap (bucket_at old) (sym (eqb-true h q e)) ∙ was
     by false e = sym (now q ∙ ap (λ b. cond b less (bucket_at old q)) e)
 
-now_here : (h : ℕ) (old new : List (ℕ × List Tally)) (less : List Tally) → ((q : ℕ) → bucket_at new q ≡ cond (nat_eq h q) less (bucket_at old q)) → bucket_at new h ≡ less
+now_here : (h : ℕ) (old new : List (ℕ × List Tally)) (less : List Tally) → ((q : ℕ) → bucket_at new q ≡ cond (nat_eq h q) less (bucket_at old q))
+    → bucket_at new h ≡ less
 now_here h old new less now = now h ∙ ap (λ b. cond b less (bucket_at old h)) (eq-eqb h h refl)
 
 module _ (access : Access) (n total : ℕ) (few many : List (ℕ × List Tally)) (row : List Value) where
@@ -85,7 +87,8 @@ module _ (access : Access) (n total : ℕ) (few many : List (ℕ × List Tally))
     tuple_hash : h ≡ hash_of (take (length access.key) (tuple_of access row))
     tuple_hash = hash ∙ ap hash_of (sym (take_tuple access row))
 
-    pub added_to : (less more : List Tally) → IsStored n (length access.key) few total → lookup (nat_eq h) few ≡ Some less → many ≡ set_value (nat_eq h) few more → IsDistinct nat_eq (keys_of many)
+    pub added_to : (less more : List Tally) → IsStored n (length access.key) few total → lookup (nat_eq h) few ≡ Some less
+        → many ≡ set_value (nat_eq h) few more → IsDistinct nat_eq (keys_of many)
         → ((q : ℕ) → lookup (nat_eq q) many ≡ cond (nat_eq h q) (Some more) (lookup (nat_eq q) few)) → IsOneMore less more (tuple_of access row) → IsAdded
     added_to less more s found is unique now m =
         let w = length access.key in
@@ -96,7 +99,8 @@ module _ (access : Access) (n total : ℕ) (few many : List (ℕ × List Tally))
               (λ q. updated h q more (lookup (nat_eq q) few) (lookup (nat_eq q) many) (now q)));
         }
 
-    pub added_new : (more : List Tally) → IsStored n (length access.key) few total → lookup (nat_eq h) few ≡ None → many ≡ few ++ (h, more) ∷ [] → IsDistinct nat_eq (keys_of many)
+    pub added_new : (more : List Tally) → IsStored n (length access.key) few total → lookup (nat_eq h) few ≡ None → many ≡ few ++ (h, more) ∷ []
+        → IsDistinct nat_eq (keys_of many)
         → ((q : ℕ) → lookup (nat_eq q) many ≡ cond (nat_eq h q) (Some more) (lookup (nat_eq q) few)) → IsOneMore [] more (tuple_of access row) → IsAdded
     added_new more s absent is unique now m =
         let w = length access.key in
@@ -107,8 +111,10 @@ module _ (access : Access) (n total : ℕ) (few many : List (ℕ × List Tally))
               (λ q. updated h q more (lookup (nat_eq q) few) (lookup (nat_eq q) many) (now q)));
         }
 
-    pub removed_from : (less more : List Tally) → IsStored n (length access.key) many (total + 1) → lookup (nat_eq h) many ≡ Some more → few ≡ set_value (nat_eq h) many less → IsDistinct nat_eq (keys_of few)
-        → ((q : ℕ) → lookup (nat_eq q) few ≡ cond (nat_eq h q) (Some less) (lookup (nat_eq q) many)) → IsOneMore less more (tuple_of access row) → 0 < length less → IsRemoved
+    pub removed_from : (less more : List Tally) → IsStored n (length access.key) many (total + 1) → lookup (nat_eq h) many ≡ Some more
+        → few ≡ set_value (nat_eq h) many less → IsDistinct nat_eq (keys_of few)
+        → ((q : ℕ) → lookup (nat_eq q) few ≡ cond (nat_eq h q) (Some less) (lookup (nat_eq q) many)) → IsOneMore less more (tuple_of access row)
+        → 0 < length less → IsRemoved
     removed_from less more s found is unique now m some =
         let w = length access.key in
         let t = stored_less n w h total many few less more (tuple_of access row) s found is unique m some in
@@ -119,7 +125,8 @@ module _ (access : Access) (n total : ℕ) (few many : List (ℕ × List Tally))
               (turned h many few less more (ap (λ o. unwrap_or o []) found) after));
         }
 
-    pub removed_whole : (more : List Tally) → IsStored n (length access.key) many (total + 1) → lookup (nat_eq h) many ≡ Some more → few ≡ swap_remove_entry (nat_eq h) many → IsDistinct nat_eq (keys_of few)
+    pub removed_whole : (more : List Tally) → IsStored n (length access.key) many (total + 1) → lookup (nat_eq h) many ≡ Some more
+        → few ≡ swap_remove_entry (nat_eq h) many → IsDistinct nat_eq (keys_of few)
         → ((q : ℕ) → lookup (nat_eq q) few ≡ cond (nat_eq h q) None (lookup (nat_eq q) many)) → IsOneMore [] more (tuple_of access row) → IsRemoved
     removed_whole more s found is unique now m =
         let w = length access.key in
@@ -132,8 +139,10 @@ module _ (access : Access) (n total : ℕ) (few many : List (ℕ × List Tally))
         }
 
 -- a row that is among the rows is counted
-pub counted_there : (access : Access) (n total : ℕ) (entries : List (ℕ × List Tally)) (front back : List (List Value)) (row : List Value) → IsStored n (length access.key) entries total
-    → IsIndexOf (record { access = access; total = total; buckets = values_of entries }) (front ++ row ∷ back) → count_at (length access.key) entries (tuple_of access row) ≡ 0 → ⊥
+pub counted_there : (access : Access) (n total : ℕ) (entries : List (ℕ × List Tally)) (front back : List (List Value)) (row : List Value)
+    → IsStored n (length access.key) entries total
+    → IsIndexOf (record { access = access; total = total; buckets = values_of entries }) (front ++ row ∷ back)
+    → count_at (length access.key) entries (tuple_of access row) ≡ 0 → ⊥
 counted_there access n total entries front back row s is none =
     omega (
       arith,

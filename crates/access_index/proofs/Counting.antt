@@ -154,7 +154,8 @@ remove_in_order [] (suc i) o = tt
 remove_in_order (x ∷ xs) zero o = o.1
 remove_in_order (x ∷ xs) (suc i) o = (all_remove (λ y. row_cmp x y ≡ Less) xs i o.0, remove_in_order xs i o.1)
 
-remove_pass : (test : List Value → Bool) (ts : List Tally) (i : ℕ) (d : Tally) → test (get_or ts i d).tuple ≡ true → AllTuplesPass test (remove ts i) → AllTuplesPass test ts
+remove_pass : (test : List Value → Bool) (ts : List Tally) (i : ℕ) (d : Tally) → test (get_or ts i d).tuple ≡ true → AllTuplesPass test (remove ts i)
+    → AllTuplesPass test ts
 remove_pass test [] i d q a = tt
 remove_pass test (t ∷ ts) zero d q a = (q, a)
 remove_pass test (t ∷ ts) (suc i) d q a = (a.0, remove_pass test ts i d q a.1)
@@ -210,7 +211,8 @@ module _ (w : ℕ) (key x : List Value) where
       zeros true = refl
       zeros false = refl
 
-      by : (b : Bool) → same_row t.tuple x ≡ b → cond (is_key w key t) (cond (same_row t.tuple x) t.count 0) 0 ≡ cond (same_row (take w x) key) (cond (same_row t.tuple x) t.count 0) 0
+      by : (b : Bool) → same_row t.tuple x ≡ b → cond (is_key w key t) (cond (same_row t.tuple x) t.count 0) 0
+          ≡ cond (same_row (take w x) key) (cond (same_row t.tuple x) t.count 0) 0
       by true e = ap (λ u. cond (same_row (take w u) key) (cond (same_row t.tuple x) t.count 0) 0) (same_row_true t.tuple x e)
       by false e =
           ap (λ c. cond (is_key w key t) (cond c t.count 0) 0) e ∙ zeros (is_key w key t)
@@ -244,7 +246,8 @@ count_itself t = ap (λ b. if b then t.count else 0) (same_row_itself t.tuple)
 none_of_greater : (x : List Value) (ts : List Tally) → AllByRecursion (λ y. row_cmp x y ≡ Less) (tuples_in ts) → count_in ts x ≡ 0
 none_of_greater x ts a = none_counted x ts (all_over (λ y. row_cmp x y ≡ Less) (λ t. same_row t.tuple x ≡ false) (λ t l. less_not_same x t.tuple l) ts a)
 
-greater_than_all : (x y : List Value) (ts : List Tally) → row_cmp x y ≡ Less → AllByRecursion (λ z. row_cmp y z ≡ Less) (tuples_in ts) → AllByRecursion (λ z. row_cmp x z ≡ Less) (tuples_in ts)
+greater_than_all : (x y : List Value) (ts : List Tally) → row_cmp x y ≡ Less → AllByRecursion (λ z. row_cmp y z ≡ Less) (tuples_in ts)
+    → AllByRecursion (λ z. row_cmp x z ≡ Less) (tuples_in ts)
 greater_than_all x y [] l a = tt
 greater_than_all x y (t ∷ ts) l a = (row_cmp_total.trans x y t.tuple l a.0, greater_than_all x y ts l a.1)
 

@@ -30,19 +30,22 @@ length_add_new : (x : List Value) (g : List (List Value)) → (Has g x → ⊥) 
 length_add_new x [] out = omega arith
 length_add_new x (y ∷ g) out = by (row_cmp x y) refl (length_add_new x g (λ h. out (inr h)))
   where
-    by : (d : Ordering) → row_cmp x y ≡ d → length (add_in_order row_cmp x g) ≡ length g + 1 → length (by_order d (x ∷ y ∷ g) (y ∷ g) (y ∷ add_in_order row_cmp x g)) ≡ length (y ∷ g) + 1
+    by : (d : Ordering) → row_cmp x y ≡ d → length (add_in_order row_cmp x g) ≡ length g + 1
+        → length (by_order d (x ∷ y ∷ g) (y ∷ g) (y ∷ add_in_order row_cmp x g)) ≡ length (y ∷ g) + 1
     by Less e h = omega arith
     by Equal e h = absurd (out (inl (row_cmp_tells x y e)))
     by Greater e h = omega (arith, h)
 
-kept_has : (w : ℕ) (x : List Value) (ts : List Tally) (at : ℕ) (d : Tally) → at < length ts → (get_or ts at d).tuple ≡ x → Has (tuples_in (filter (is_key w (take w x)) ts)) x
+kept_has : (w : ℕ) (x : List Value) (ts : List Tally) (at : ℕ) (d : Tally) → at < length ts → (get_or ts at d).tuple ≡ x
+    → Has (tuples_in (filter (is_key w (take w x)) ts)) x
 kept_has w x [] at d l e = absurd (omega (arith, l))
 kept_has w x (t ∷ ts) zero d l e =
     subst (λ b. Has (tuples_in (cond b (t ∷ filter (is_key w (take w x)) ts) (filter (is_key w (take w x)) ts))) x)
     (sym (ap (λ u. same_row (take w u) (take w x)) e ∙ same_row_itself (take w x))) (inl (sym e))
 kept_has w x (t ∷ ts) (suc at) d l e = by (is_key w (take w x) t) (kept_has w x ts at d (omega arith) e)
   where
-    by : (b : Bool) → Has (tuples_in (filter (is_key w (take w x)) ts)) x → Has (tuples_in (cond b (t ∷ filter (is_key w (take w x)) ts) (filter (is_key w (take w x)) ts))) x
+    by : (b : Bool) → Has (tuples_in (filter (is_key w (take w x)) ts)) x
+        → Has (tuples_in (cond b (t ∷ filter (is_key w (take w x)) ts) (filter (is_key w (take w x)) ts))) x
     by true h = inr h
     by false h = h
 
@@ -50,7 +53,8 @@ has_kept : (test : Tally → Bool) (x : List Value) (ts : List Tally) → Has (t
 has_kept test x [] h = h
 has_kept test x (t ∷ ts) h = by (test t) h (has_kept test x ts)
   where
-    by : (b : Bool) → Has (tuples_in (cond b (t ∷ filter test ts) (filter test ts))) x → (Has (tuples_in (filter test ts)) x → Has (tuples_in ts) x) → Has (tuples_in (t ∷ ts)) x
+    by : (b : Bool) → Has (tuples_in (cond b (t ∷ filter test ts) (filter test ts))) x → (Has (tuples_in (filter test ts)) x → Has (tuples_in ts) x)
+        → Has (tuples_in (t ∷ ts)) x
     by true (inl e) rest = inl e
     by true (inr g) rest = inr (rest g)
     by false g rest = inr (rest g)
@@ -98,7 +102,8 @@ module _ (access : Access) (n total : ℕ) (entries : List (ℕ × List Tally)) 
       let h = subst (λ k. Has (tuples_in (filter (is_key w k) found)) x) (take_tuple access row) (kept_has w x found at d l e) in
       inl (Contains-from_has (tuples_in (tallies seen (key_of access row))) x (subst (λ ts. Has (tuples_in ts) x) (sym at_key) h))
 
-  pub would_not : (at : ℕ) → access.bound ≤ length (filter (is_key (length access.key) (key_of access row)) found) → IsGap found (tuple_of access row) at → WouldHold seen row → ⊥
+  pub would_not : (at : ℕ) → access.bound ≤ length (filter (is_key (length access.key) (key_of access row)) found) → IsGap found (tuple_of access row) at
+      → WouldHold seen row → ⊥
   would_not at l gap (inl c) =
       let x = tuple_of access row in
       gap_lacks x found at gap
@@ -108,8 +113,14 @@ module _ (access : Access) (n total : ℕ) (entries : List (ℕ × List Tally)) 
 
   pub nothing_there : lookup (nat_eq (hash_of (key_of access row))) entries ≡ None → IsTrue (nat_lt 0 access.bound) ↔ WouldHold seen row
   nothing_there none = (
-    λ t. would_by_group (omega (arith, ltb-true 0 access.bound t, ap (λ o. length (filter (is_key (length access.key) (key_of access row)) (unwrap_or o []))) none)),
-    λ would. positive access.bound (λ z. would_not 0 (omega (arith, z)) (subst (λ o. IsGap (unwrap_or o []) (tuple_of access row) 0) (sym none) empty_gap) would),
+    λ t. would_by_group (omega (
+      arith,
+      ltb-true 0 access.bound t,
+      ap (λ o. length (filter (is_key (length access.key) (key_of access row)) (unwrap_or o [])))
+          none,
+    )),
+    λ would. positive access.bound (λ z. would_not 0 (omega (arith, z)) (subst (λ o. IsGap (unwrap_or o []) (tuple_of access row) 0) (sym none) empty_gap)
+        would),
   )
     where
       empty_gap : IsGap [] (tuple_of access row) 0
@@ -122,12 +133,14 @@ module _ (access : Access) (n total : ℕ) (entries : List (ℕ × List Tally)) 
   abbrev pub Searched : Result ℕ ℕ → List Tally → List Value → Type 0
   Searched r ts x = MatchResult r (λ at. (at < length ts) × ((d : Tally) → (get_or ts at d).tuple ≡ x)) (λ at. IsGap ts x at)
 
-  pub searched : (r : Result ℕ ℕ) → Searched r found (tuple_of access row) → access.bound ≤ length (filter (is_key (length access.key) (key_of access row)) found) → IsTrue (is_ok r) ↔ WouldHold seen row
+  pub searched : (r : Result ℕ ℕ) → Searched r found (tuple_of access row)
+      → access.bound ≤ length (filter (is_key (length access.key) (key_of access row)) found) → IsTrue (is_ok r) ↔ WouldHold seen row
   searched (Ok at) m l = (λ t. would_by_tuple at (record { tuple = []; count = 0 }) m.0 (m.1 (record { tuple = []; count = 0 })), λ would. refl)
   searched (Err at) m l = (λ t. cc, λ would. absurd (would_not at l m would))
 
   -- so the constraint would hold with the row
-  pub holds_iff : (b : Bool) → (IsTrue b ↔ WouldHold seen row) → (rows : List (List Value)) → IsIndexOf seen rows → Holds rows access → IsTrue b ↔ Holds (rows ++ row ∷ []) access
+  pub holds_iff : (b : Bool) → (IsTrue b ↔ WouldHold seen row) → (rows : List (List Value)) → IsIndexOf seen rows → Holds rows access
+      → IsTrue b ↔ Holds (rows ++ row ∷ []) access
   holds_iff b exactly rows is h = (λ t. Holds-push rows access row h (fits (exactly.0 t)), λ g. back b exactly g)
     where
       tuples : tuples_in (tallies seen (key_of access row)) ≡ group_of rows access (key_of access row)
@@ -136,13 +149,16 @@ module _ (access : Access) (n total : ℕ) (entries : List (ℕ × List Tally)) 
       len : length (tallies seen (key_of access row)) ≡ length (group_of rows access (key_of access row))
       len = sym (length-map (tallies seen (key_of access row)) (λ (t : Tally). t.tuple)) ∙ ap length tuples
 
-      more : length (group_of (rows ++ row ∷ []) access (key_of access row)) ≡ length (add_in_order row_cmp (tuple_of access row) (group_of rows access (key_of access row)))
+      more : length (group_of (rows ++ row ∷ []) access (key_of access row))
+          ≡ length (add_in_order row_cmp (tuple_of access row) (group_of rows access (key_of access row)))
       more = ap length (group_push_own rows access.key access.fetched row)
 
       fits : WouldHold seen row → length (group_of (rows ++ row ∷ []) access (key_of access row)) ≤ access.bound
       fits (inl c) =
-          let there = subst (λ ts. Has ts (tuple_of access row)) tuples (Has-from_contains (tuples_in (tallies seen (key_of access row))) (tuple_of access row) c) in
-          let known = ap length (add_known row_cmp_total row_cmp_tells (tuple_of access row) (group_of rows access (key_of access row)) (group_in_order access rows (key_of access row) (key_of access row)) there) in
+          let there = subst (λ ts. Has ts (tuple_of access row)) tuples
+          (Has-from_contains (tuples_in (tallies seen (key_of access row))) (tuple_of access row) c) in
+          let known = ap length (add_known row_cmp_total row_cmp_tells (tuple_of access row) (group_of rows access (key_of access row))
+          (group_in_order access rows (key_of access row) (key_of access row)) there) in
           let room = h (key_of access row) in
           omega (arith, more, known, room)
       fits (inr s) = omega (arith, more, s, len, length-add-le row_cmp_total row_cmp_tells (tuple_of access row) (group_of rows access (key_of access row)))
@@ -152,7 +168,8 @@ module _ (access : Access) (n total : ℕ) (entries : List (ℕ × List Tally)) 
       back false e g =
           let room = g (key_of access row) in
           let new = length_add_new (tuple_of access row) (group_of rows access (key_of access row))
-          (λ there. wrong (e.1 (inl (Contains-from_has (tuples_in (tallies seen (key_of access row))) (tuple_of access row) (subst (λ ts. Has ts (tuple_of access row)) (sym tuples) there))))) in
+          (λ there. wrong (e.1 (inl (Contains-from_has (tuples_in (tallies seen (key_of access row))) (tuple_of access row)
+          (subst (λ ts. Has ts (tuple_of access row)) (sym tuples) there))))) in
           absurd (wrong (e.1 (inr (omega (arith, more, new, room, len)))))
         where
           wrong : IsTrue false → ⊥
@@ -163,7 +180,8 @@ pub record Told (b : Bool) (self : Index) (row : List Value) : Type 0 where
   pub exactly : IsTrue b ↔ WouldHold self row
   pub holds : (rows : List (List Value)) → IsIndexOf self rows → Holds rows self.access → IsTrue b ↔ Holds (rows ++ row ∷ []) self.access
 
-pub told : (access : Access) (n total : ℕ) (entries : List (ℕ × List Tally)) (stored : IsStored n (length access.key) entries total) (row : List Value) (self : Index)
+pub told : (access : Access) (n total : ℕ) (entries : List (ℕ × List Tally)) (stored : IsStored n (length access.key) entries total) (row : List Value)
+    (self : Index)
     → seen access n total entries stored row ≡ self → (b : Bool) → (IsTrue b ↔ WouldHold (seen access n total entries stored row) row) → Told b self row
 told access n total entries stored row self e b exactly =
     subst (λ s. Told b s row) e (record { exactly = exactly; holds = holds_iff access n total entries stored row b exactly })
@@ -206,7 +224,8 @@ pub none_from : {X : Type 0} (o : Option X) → false ≡ is_some o → o ≡ No
 none_from None e = refl
 none_from (Some x) e = cc
 
-module _ (buckets : List (List Tally)) (index from len : ℕ) (ts : List Tally) (found : Found) (small : from < 4294967296) (there : slice_get buckets index ≡ Some ts)
+module _ (buckets : List (List Tally)) (index from len : ℕ) (ts : List Tally) (found : Found) (small : from < 4294967296)
+    (there : slice_get buckets index ≡ Some ts)
     (place_is : found.place ≡ index * 4294967296 + from) (len_is : found.len ≡ len) where
   lying : drop (found.place % 4294967296) (tuples_in (get_or buckets (found.place / 4294967296) [])) ≡ tuples_in (drop from ts)
   lying =
@@ -216,17 +235,29 @@ module _ (buckets : List (List Tally)) (index from len : ℕ) (ts : List Tally) 
       ∙ ap (λ n. drop from (tuples_in (get_or buckets n []))) p.0
       ∙ ap (λ us. drop from (tuples_in us)) (at_place buckets index ts [] there) ∙ tuples_drop from ts
 
-  pub members_are : take found.len (drop (found.place % 4294967296) (tuples_in (get_or buckets (found.place / 4294967296) []))) ≡ tuples_in (take len (drop from ts))
-  members_are = ap (λ n. take n (drop (found.place % 4294967296) (tuples_in (get_or buckets (found.place / 4294967296) [])))) len_is ∙ ap (take len) lying ∙ tuples_take len (drop from ts)
+  pub members_are : take found.len (drop (found.place % 4294967296) (tuples_in (get_or buckets (found.place / 4294967296) [])))
+      ≡ tuples_in (take len (drop from ts))
+  members_are = ap (λ n. take n (drop (found.place % 4294967296) (tuples_in (get_or buckets (found.place / 4294967296) [])))) len_is ∙ ap (take len) lying
+      ∙ tuples_take len (drop from ts)
 
-  pub members_len : from + len ≤ length ts → found.len ≡ length (take found.len (drop (found.place % 4294967296) (tuples_in (get_or buckets (found.place / 4294967296) []))))
+  pub members_len : from + len ≤ length ts → found.len ≡ length
+      (take found.len (drop (found.place % 4294967296) (tuples_in (get_or buckets (found.place / 4294967296) []))))
   members_len within =
-      omega (arith, within, len_is, ap length members_are, length-map (take len (drop from ts)) (λ (t : Tally). t.tuple), length-take len (drop from ts), length-drop from ts)
+      omega (
+        arith,
+        within,
+        len_is,
+        ap length members_are,
+        length-map (take len (drop from ts)) (λ (t : Tally). t.tuple),
+        length-take len (drop from ts),
+        length-drop from ts,
+      )
 
   pub members_stand : from + len ≤ length ts → found.len ≤ length (drop (found.place % 4294967296) (tuples_in (get_or buckets (found.place / 4294967296) [])))
   members_stand within = omega (arith, within, len_is, ap length lying, length-map (drop from ts) (λ (t : Tally). t.tuple), length-drop from ts)
 
-pub probed : (access : Access) (n total : ℕ) (entries : List (ℕ × List Tally)) (stored : IsStored n (length access.key) entries total) (rows : List (List Value)) (key : List Value) (ts : List Tally)
+pub probed : (access : Access) (n total : ℕ) (entries : List (ℕ × List Tally)) (stored : IsStored n (length access.key) entries total)
+    (rows : List (List Value)) (key : List Value) (ts : List Tally)
     → IsIndexOf (record { access = access; total = total; buckets = values_of entries }) rows → ts ≡ bucket_at entries (hash_of key)
     → tuples_in (filter (is_key (length access.key) key) ts) ≡ group_of rows access key
 probed access n total entries stored rows key ts is e =
@@ -234,16 +265,19 @@ probed access n total entries stored rows key ts is e =
     ∙ ap tuples_in (sym (own access n total entries stored rows key) ∙ is.tallies_are key) ∙ group_tuples access rows key
 
 -- a tuple of a probe
-pub member_at : (buckets : List (List Tally)) (found : Found) (ts : List Tally) (i : ℕ) (d : Tally) → slice_get buckets (found.place / 4294967296) ≡ Some ts → i < found.len
+pub member_at : (buckets : List (List Tally)) (found : Found) (ts : List Tally) (i : ℕ) (d : Tally) → slice_get buckets (found.place / 4294967296) ≡ Some ts
+    → i < found.len
     → (found.place % 4294967296) + i < length ts
-    → get_or (take found.len (drop (found.place % 4294967296) (tuples_in (get_or buckets (found.place / 4294967296) [])))) i [] ≡ (get_or ts ((found.place % 4294967296) + i) d).tuple
+    → get_or (take found.len (drop (found.place % 4294967296) (tuples_in (get_or buckets (found.place / 4294967296) [])))) i []
+    ≡ (get_or ts ((found.place % 4294967296) + i) d).tuple
 member_at buckets found ts i d there l within =
     get_or-take found.len (drop (found.place % 4294967296) (tuples_in (get_or buckets (found.place / 4294967296) []))) i [] l
     ∙ get_or-drop (found.place % 4294967296) (tuples_in (get_or buckets (found.place / 4294967296) [])) i []
     ∙ ap (λ us. get_or (tuples_in us) ((found.place % 4294967296) + i) []) (at_place buckets (found.place / 4294967296) ts [] there)
     ∙ get_or-map (λ (t : Tally). t.tuple) ts ((found.place % 4294967296) + i) d [] within
 
-pub bucket_at_place : (n w : ℕ) (entries : List (ℕ × List Tally)) (i : ℕ) (ts : List Tally) → AllByRecursion (λ e. IsBucket n w e.0 e.1) entries → slice_get (values_of entries) i ≡ Some ts → (h : ℕ) × IsBucket n w h ts
+pub bucket_at_place : (n w : ℕ) (entries : List (ℕ × List Tally)) (i : ℕ) (ts : List Tally) → AllByRecursion (λ e. IsBucket n w e.0 e.1) entries
+    → slice_get (values_of entries) i ≡ Some ts → (h : ℕ) × IsBucket n w h ts
 bucket_at_place n w [] i ts a e = cc
 bucket_at_place n w (e ∷ es) zero ts a f = let same : e.1 ≡ ts = cc in (e.0, subst (λ us. IsBucket n w e.0 us) same a.0)
 bucket_at_place n w (e ∷ es) (suc i) ts a f = bucket_at_place n w es i ts a.1 f
@@ -269,10 +303,23 @@ best_same w ts i best a b before some l is own alike = record { above = above; r
         which false e =
             let n : k ≡ i = omega (arith, m, ltb-false k i e) in
             let here = ap (λ j. get_or ts j d) n ∙ get_or_default ts i d b l ∙ sym own in
-            omega (arith, before.above (i - 1) a (omega arith), ap (group_len w ts) (sym is), ap (group_len w ts) here, ap (λ x. length (filter (is_key w x) ts)) alike)
+            omega (
+              arith,
+              before.above (i - 1) a (omega arith),
+              ap (group_len w ts) (sym is),
+              ap (group_len w ts) here,
+              ap
+                  (λ x. length (filter (is_key w x) ts)) alike,
+            )
 
-pub best_more : (w : ℕ) (ts : List Tally) (i best len : ℕ) (b : Tally) → IsBest w ts i best → i < length ts → b ≡ get_or ts i b → len ≡ group_len w ts b → len ≤ length ts → IsBest w ts (i + 1) (max len best)
-best_more w ts i best len b before l own is few = record { above = above; reached = which (nat_lt len best) refl; within = let v = before.within in omega arith }
+pub best_more : (w : ℕ) (ts : List Tally) (i best len : ℕ) (b : Tally) → IsBest w ts i best → i < length ts → b ≡ get_or ts i b → len ≡ group_len w ts b
+    → len ≤ length ts → IsBest w ts (i + 1) (max len best)
+best_more w ts i best len b before l own is few = record {
+  above = above;
+  reached = which (nat_lt len best) refl;
+  within = let v = before.within in
+      omega arith;
+}
   where
     above : (k : ℕ) (d : Tally) → k < i + 1 → group_len w ts (get_or ts k d) ≤ max len best
     above k d m = by (nat_lt k i) refl
@@ -293,15 +340,18 @@ best_more w ts i best len b before l own is few = record { above = above; reache
         inr (record { key = take w b.tuple; is = sym m ∙ is })
 
 -- a group that is found by the tuple where it begins
-pub found_len : (w : ℕ) (ts : List Tally) (key x : List Value) (from len : ℕ) → key ≡ take w x → from + len ≤ length ts → take len (drop from ts) ≡ filter (is_key w key) ts
+pub found_len : (w : ℕ) (ts : List Tally) (key x : List Value) (from len : ℕ) → key ≡ take w x → from + len ≤ length ts
+    → take len (drop from ts) ≡ filter (is_key w key) ts
     → (len ≡ length (filter (is_key w (take w x)) ts)) × (len ≤ length ts)
 found_len w ts key x from len e within members = (
   omega (arith, within, ap length members, length-take len (drop from ts), length-drop from ts, ap (λ k. length (filter (is_key w k) ts)) e),
   omega (arith, within),
 )
 
-pub stand_within : (buckets : List (List Tally)) (found : Found) (ts : List Tally) (i : ℕ) → slice_get buckets (found.place / 4294967296) ≡ Some ts → i < found.len
-    → found.len ≤ length (drop (found.place % 4294967296) (tuples_in (get_or buckets (found.place / 4294967296) []))) → (found.place % 4294967296) + i < length ts
+pub stand_within : (buckets : List (List Tally)) (found : Found) (ts : List Tally) (i : ℕ) → slice_get buckets (found.place / 4294967296) ≡ Some ts
+    → i < found.len
+    → found.len ≤ length (drop (found.place % 4294967296) (tuples_in (get_or buckets (found.place / 4294967296) [])))
+    → (found.place % 4294967296) + i < length ts
 stand_within buckets found ts i there l stands =
     omega (
       arith,
@@ -313,7 +363,9 @@ stand_within buckets found ts i there l stands =
     )
 
 -- a tuple that is in no bucket
-pub absent_count : (access : Access) (entries : List (ℕ × List Tally)) (row : List Value) (ts : List Tally) → ts ≡ bucket_at entries (hash_of (key_of access row)) → count_in ts (tuple_of access row) ≡ 0
+pub absent_count : (access : Access) (entries : List (ℕ × List Tally)) (row : List Value) (ts : List Tally)
+    → ts ≡ bucket_at entries (hash_of (key_of access row)) → count_in ts (tuple_of access row) ≡ 0
     → count_at (length access.key) entries (tuple_of access row) ≡ 0
 absent_count access entries row ts e none =
-    ap (λ k. count_in (bucket_at entries (hash_of k)) (tuple_of access row)) (take_tuple access row) ∙ ap (λ us. count_in us (tuple_of access row)) (sym e) ∙ none
+    ap (λ k. count_in (bucket_at entries (hash_of k)) (tuple_of access row)) (take_tuple access row) ∙ ap (λ us. count_in us (tuple_of access row)) (sym e)
+    ∙ none

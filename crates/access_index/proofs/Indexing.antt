@@ -32,11 +32,13 @@ module _ (access : Access) where
       ap (take (length access.key)) (project-append access.key access.fetched row)
       ∙ take_at (project access.key row) (project access.fetched row) (length access.key) (length-project access.key row)
 
-  with_cons : (row : List Value) (rows : List (List Value)) (x : List Value) → rows_with access (row ∷ rows) x ≡ one_if (same_row (tuple_of access row) x) + rows_with access rows x
+  with_cons : (row : List Value) (rows : List (List Value)) (x : List Value)
+      → rows_with access (row ∷ rows) x ≡ one_if (same_row (tuple_of access row) x) + rows_with access rows x
   with_cons row rows x = sum_by-cons (λ r. cond (same_row (tuple_of access r) x) 1 0) row rows
 
   -- one row more, wherever it stands
-  pub with_more : (front back : List (List Value)) (row x : List Value) → rows_with access (front ++ row ∷ back) x ≡ rows_with access (front ++ back) x + one_if (same_row (tuple_of access row) x)
+  pub with_more : (front back : List (List Value)) (row x : List Value)
+      → rows_with access (front ++ row ∷ back) x ≡ rows_with access (front ++ back) x + one_if (same_row (tuple_of access row) x)
   with_more front back row x =
       let f : List Value → ℕ = λ r. cond (same_row (tuple_of access r) x) 1 0 in
       omega (arith, sum_by-append f front (row ∷ back), sum_by-append f front back, with_cons row back x)
@@ -69,14 +71,16 @@ module _ (access : Access) where
         let own : same_row (project access.key r.0) key ≡ true =
         ap (λ y. same_row y key) (sym (take_tuple r.0) ∙ ap (take (length access.key)) (sym r.2) ∙ k) ∙ same_row_itself key in
         subst (Has (group_of rows access key)) (sym r.2)
-        (Has-distinct row_cmp_total row_cmp_tells (map (project (member_columns access)) (filter (λ row. same_row (project access.key row) key) rows)) (tuple_of access r.0)
+        (Has-distinct row_cmp_total row_cmp_tells (map (project (member_columns access)) (filter (λ row. same_row (project access.key row) key) rows))
+        (tuple_of access r.0)
         (Has-map (project (member_columns access)) (filter (λ row. same_row (project access.key row) key) rows) r.0
         (Has-filter (λ row. same_row (project access.key row) key) rows r.0 r.1 own)))
 
     tuple_has : Has (group_of rows access key) x → (1 ≤ rows_with access rows x) × (take (length access.key) x ≡ key)
     tuple_has h =
         let r = Has-from_map (project (member_columns access)) (filter (λ row. same_row (project access.key row) key) rows) x
-        (Has-from_distinct row_cmp_total row_cmp_tells (map (project (member_columns access)) (filter (λ row. same_row (project access.key row) key) rows)) x h) in
+        (Has-from_distinct row_cmp_total row_cmp_tells (map (project (member_columns access)) (filter (λ row. same_row (project access.key row) key) rows)) x h)
+        in
         let f = Has-from_filter (λ row. same_row (project access.key row) key) rows r.0 r.1 in (
           subst (λ y. 1 ≤ rows_with access rows y) (sym r.2) (counted_row rows r.0 f.0),
           ap (take (length access.key)) r.2 ∙ take_tuple r.0 ∙ same_row_true (project access.key r.0) key f.1,
@@ -103,14 +107,17 @@ module _ (access : Access) where
         omega (arith, here, count_has g o.1 h, sum_by-cons (count_for x) (tallied access rows y) (map (tallied access rows) g))
 
     pub group_in_order : IsInOrder row_cmp (group_of rows access key)
-    group_in_order = IsInOrder-distinct row_cmp_total row_cmp_tells (map (project (member_columns access)) (filter (λ row. same_row (project access.key row) key) rows))
+    group_in_order = IsInOrder-distinct row_cmp_total row_cmp_tells
+        (map (project (member_columns access)) (filter (λ row. same_row (project access.key row) key) rows))
 
     index_count : count_in (index_of access rows key) x ≡ cond (same_row (take (length access.key) x) key) (rows_with access rows x) 0
     index_count = by (same_row (take (length access.key) x) key) refl (rows_with access rows x) refl
       where
-        by : (b : Bool) → same_row (take (length access.key) x) key ≡ b → (n : ℕ) → rows_with access rows x ≡ n → count_in (index_of access rows key) x ≡ cond b (rows_with access rows x) 0
+        by : (b : Bool) → same_row (take (length access.key) x) key ≡ b → (n : ℕ) → rows_with access rows x ≡ n
+            → count_in (index_of access rows key) x ≡ cond b (rows_with access rows x) 0
         by true e zero z = count_lacks (group_of rows access key) (λ h. let t = tuple_has h in let one = t.0 in omega (arith, one, z)) ∙ sym z
-        by true e (suc n) z = count_has (group_of rows access key) group_in_order (has_tuple (omega (arith, z)) (same_row_true (take (length access.key) x) key e))
+        by true e (suc n) z = count_has (group_of rows access key) group_in_order
+            (has_tuple (omega (arith, z)) (same_row_true (take (length access.key) x) key e))
         by false e n z =
             count_lacks (group_of rows access key)
             (λ h. let t = tuple_has h in let s = ap (λ y. same_row y key) (t.1) ∙ same_row_itself key in let f = sym e ∙ s in cc)
@@ -123,7 +130,8 @@ module _ (access : Access) where
   pub group_tuples : (rows : List (List Value)) (key : List Value) → tuples_in (index_of access rows key) ≡ group_of rows access key
   group_tuples rows key = tuples_of_map rows (group_of rows access key)
 
-  counted_map : (rows : List (List Value)) (key : List Value) (g : List (List Value)) → ((x : List Value) → Has g x → Has (group_of rows access key) x) → AllCounted (map (tallied access rows) g)
+  counted_map : (rows : List (List Value)) (key : List Value) (g : List (List Value)) → ((x : List Value) → Has g x → Has (group_of rows access key) x)
+      → AllCounted (map (tallied access rows) g)
   counted_map rows key [] f = tt
   counted_map rows key (y ∷ g) f = (let t = tuple_has rows key y (f y (inl refl)) in t.0, counted_map rows key g (λ x h. f x (inr h)))
 
@@ -131,11 +139,13 @@ filter_in_order : (test : Tally → Bool) (ts : List Tally) → IsInOrder row_cm
 filter_in_order test [] o = tt
 filter_in_order test (t ∷ ts) o = by (test t) (filter_in_order test ts o.1)
   where
-    above : (us : List Tally) → AllByRecursion (λ y. row_cmp t.tuple y ≡ Less) (tuples_in us) → AllByRecursion (λ y. row_cmp t.tuple y ≡ Less) (tuples_in (filter test us))
+    above : (us : List Tally) → AllByRecursion (λ y. row_cmp t.tuple y ≡ Less) (tuples_in us)
+        → AllByRecursion (λ y. row_cmp t.tuple y ≡ Less) (tuples_in (filter test us))
     above [] a = tt
     above (u ∷ us) a = which (test u) (above us a.1)
       where
-        which : (b : Bool) → AllByRecursion (λ y. row_cmp t.tuple y ≡ Less) (tuples_in (filter test us)) → AllByRecursion (λ y. row_cmp t.tuple y ≡ Less) (tuples_in (cond b (u ∷ filter test us) (filter test us)))
+        which : (b : Bool) → AllByRecursion (λ y. row_cmp t.tuple y ≡ Less) (tuples_in (filter test us))
+            → AllByRecursion (λ y. row_cmp t.tuple y ≡ Less) (tuples_in (cond b (u ∷ filter test us) (filter test us)))
         which true rest = (a.0, rest)
         which false rest = rest
 
@@ -151,49 +161,52 @@ filter_counted test (t ∷ ts) a = by (test t) (filter_counted test ts a.1)
     by true rest = (a.0, rest)
     by false rest = rest
 
-module _ (access : Access) (n total : ℕ) (entries : List (ℕ × List Tally)) (stored : IsStored n (length access.key) entries total) (rows : List (List Value)) where
-  abbrev pub index_seen : Index
-  index_seen = record { access = access; total = total; buckets = values_of entries }
+module _ (access : Access) (n total : ℕ) (entries : List (ℕ × List Tally)) (stored : IsStored n (length access.key) entries total) (rows : List (List Value))
+  where
+    abbrev pub index_seen : Index
+    index_seen = record { access = access; total = total; buckets = values_of entries }
 
-  pub own : (key : List Value) → tallies index_seen key ≡ filter (is_key (length access.key) key) (bucket_at entries (hash_of key))
-  own key = own_bucket n (length access.key) key entries stored.distinct stored.buckets
+    pub own : (key : List Value) → tallies index_seen key ≡ filter (is_key (length access.key) key) (bucket_at entries (hash_of key))
+    own key = own_bucket n (length access.key) key entries stored.distinct stored.buckets
 
-  pub counts_of_index : IsIndexOf index_seen rows → (x : List Value) → count_at (length access.key) entries x ≡ rows_with access rows x
-  counts_of_index is x =
-      let w = length access.key in
-      let key = take w x in
-      let whole : (m : ℕ) → cond (same_row key key) m 0 ≡ m = λ m. ap (λ b. cond b m 0) (same_row_itself key) in
-      sym (whole (count_at w entries x)) ∙ sym (count_kept w key x (bucket_at entries (hash_of key)))
-      ∙ ap (λ ts. count_in ts x) (sym (own key) ∙ is.tallies_are key)
-      ∙ index_count access rows key x ∙ whole (rows_with access rows x)
+    pub counts_of_index : IsIndexOf index_seen rows → (x : List Value) → count_at (length access.key) entries x ≡ rows_with access rows x
+    counts_of_index is x =
+        let w = length access.key in
+        let key = take w x in
+        let whole : (m : ℕ) → cond (same_row key key) m 0 ≡ m = λ m. ap (λ b. cond b m 0) (same_row_itself key) in
+        sym (whole (count_at w entries x)) ∙ sym (count_kept w key x (bucket_at entries (hash_of key)))
+        ∙ ap (λ ts. count_in ts x) (sym (own key) ∙ is.tallies_are key)
+        ∙ index_count access rows key x ∙ whole (rows_with access rows x)
 
-  in_order_at : (h : ℕ) → IsInOrder row_cmp (tuples_in (bucket_at entries h)) × AllCounted (bucket_at entries h)
-  in_order_at h = by (lookup (nat_eq h) entries) refl
-    where
-      by : (o : Option (List Tally)) → lookup (nat_eq h) entries ≡ o → IsInOrder row_cmp (tuples_in (unwrap_or o [])) × AllCounted (unwrap_or o [])
-      by None e = (tt, tt)
-      by (Some ts) e = let b = found_bucket n (length access.key) h entries ts stored.buckets e in (b.ordered, b.counted)
+    in_order_at : (h : ℕ) → IsInOrder row_cmp (tuples_in (bucket_at entries h)) × AllCounted (bucket_at entries h)
+    in_order_at h = by (lookup (nat_eq h) entries) refl
+      where
+        by : (o : Option (List Tally)) → lookup (nat_eq h) entries ≡ o → IsInOrder row_cmp (tuples_in (unwrap_or o [])) × AllCounted (unwrap_or o [])
+        by None e = (tt, tt)
+        by (Some ts) e = let b = found_bucket n (length access.key) h entries ts stored.buckets e in (b.ordered, b.counted)
 
-  pub index_of_counts : ((x : List Value) → count_at (length access.key) entries x ≡ rows_with access rows x) → total ≡ length rows → IsIndexOf index_seen rows
-  index_of_counts counts len = record { tallies_are = at; total_is = len }
-    where
-      at : (key : List Value) → tallies index_seen key ≡ index_of access rows key
-      at key =
-          let w = length access.key in
-          let b = bucket_at entries (hash_of key) in
-          own key
-          ∙ same_counts (filter (is_key w key) b) (index_of access rows key) (filter_in_order (is_key w key) b (in_order_at (hash_of key)).0)
-          (subst (IsInOrder row_cmp) (sym (group_tuples access rows key)) (group_in_order access rows key key))
-          (filter_counted (is_key w key) b (in_order_at (hash_of key)).1) (counted_map access rows key (group_of rows access key) (λ x h. h))
-          (λ x. count_kept w key x b ∙ alike x (same_row (take w x) key) refl ∙ sym (index_count access rows key x))
-        where
-          alike : (x : List Value) (c : Bool) → same_row (take (length access.key) x) key ≡ c
-              → cond (same_row (take (length access.key) x) key) (count_in (bucket_at entries (hash_of key)) x) 0 ≡ cond (same_row (take (length access.key) x) key) (rows_with access rows x) 0
-          alike x true e =
-              ap (λ m. cond (same_row (take (length access.key) x) key) m 0)
-              (ap (λ k. count_in (bucket_at entries (hash_of k)) x) (sym (same_row_true (take (length access.key) x) key e)) ∙ counts x)
-          alike x false e =
-              ap (λ b. cond b (count_in (bucket_at entries (hash_of key)) x) 0) e ∙ sym (ap (λ b. cond b (rows_with access rows x) 0) e)
+    pub index_of_counts : ((x : List Value) → count_at (length access.key) entries x ≡ rows_with access rows x) → total ≡ length rows
+        → IsIndexOf index_seen rows
+    index_of_counts counts len = record { tallies_are = at; total_is = len }
+      where
+        at : (key : List Value) → tallies index_seen key ≡ index_of access rows key
+        at key =
+            let w = length access.key in
+            let b = bucket_at entries (hash_of key) in
+            own key
+            ∙ same_counts (filter (is_key w key) b) (index_of access rows key) (filter_in_order (is_key w key) b (in_order_at (hash_of key)).0)
+            (subst (IsInOrder row_cmp) (sym (group_tuples access rows key)) (group_in_order access rows key key))
+            (filter_counted (is_key w key) b (in_order_at (hash_of key)).1) (counted_map access rows key (group_of rows access key) (λ x h. h))
+            (λ x. count_kept w key x b ∙ alike x (same_row (take w x) key) refl ∙ sym (index_count access rows key x))
+          where
+            alike : (x : List Value) (c : Bool) → same_row (take (length access.key) x) key ≡ c
+                → cond (same_row (take (length access.key) x) key) (count_in (bucket_at entries (hash_of key)) x) 0
+                ≡ cond (same_row (take (length access.key) x) key) (rows_with access rows x) 0
+            alike x true e =
+                ap (λ m. cond (same_row (take (length access.key) x) key) m 0)
+                (ap (λ k. count_in (bucket_at entries (hash_of k)) x) (sym (same_row_true (take (length access.key) x) key e)) ∙ counts x)
+            alike x false e =
+                ap (λ b. cond b (count_in (bucket_at entries (hash_of key)) x) 0) e ∙ sym (ap (λ b. cond b (rows_with access rows x) 0) e)
 
 -- in whatever order the rows stand
 module _ (access : Access) (xs ys : List (List Value)) (same : IsPermutation xs ys) where
@@ -237,7 +250,8 @@ greatest_of_none w buckets = record { above = λ k bucket l e. absurd (omega (ar
 within_more : (w : ℕ) (bucket : List Tally) (m n : ℕ) → m ≤ n → AllAtMost w bucket m → AllAtMost w bucket n
 within_more w bucket m n l a k d h = omega (arith, a k d h, l)
 
-pub greatest_of_more : (w : ℕ) (buckets : List (List Tally)) (i best here : ℕ) (bucket : List Tally) → IsGreatestUpTo w buckets i best → slice_get buckets i ≡ Some bucket
+pub greatest_of_more : (w : ℕ) (buckets : List (List Tally)) (i best here : ℕ) (bucket : List Tally) → IsGreatestUpTo w buckets i best
+    → slice_get buckets i ≡ Some bucket
     → IsBest w bucket (length bucket) here → IsGreatestUpTo w buckets (i + 1) (max here best)
 greatest_of_more w buckets i best here bucket g there own = record { above = all; reached = by (nat_lt here best) refl }
   where
@@ -253,7 +267,11 @@ greatest_of_more w buckets i best here bucket g there own = record { above = all
             subst (λ ts. AllAtMost w ts (max here best)) (sym same) (within_more w bucket here (max here best) (omega arith) own.above)
 
     raised : here ≡ max here best → (max here best ≡ 0) ⊎ IsReachedIn w buckets (max here best)
-    raised m = elim own.reached [ inl z ↦ inl (sym m ∙ z) | inr r ↦ inr (subst (IsReachedIn w buckets) m (record { place = i; bucket = bucket; there = there; group = r })) ]
+    raised m = elim own.reached [
+      | inl z ↦ inl (sym m ∙ z)
+      | inr r ↦ inr
+          (subst (IsReachedIn w buckets) m (record { place = i; bucket = bucket; there = there; group = r }))
+    ]
 
     kept : best ≡ max here best → (max here best ≡ 0) ⊎ IsReachedIn w buckets (max here best)
     kept m = elim g.reached [ inl z ↦ inl (sym m ∙ z) | inr r ↦ inr (subst (IsReachedIn w buckets) m r) ]
@@ -262,7 +280,8 @@ greatest_of_more w buckets i best here bucket g there own = record { above = all
     by true h = kept (omega (arith, ltb-true here best h))
     by false h = raised (omega (arith, ltb-false here best h))
 
-part_of_all : (test : Tally → Bool) (buckets : List (List Tally)) (i : ℕ) (bucket : List Tally) → slice_get buckets i ≡ Some bucket → length (filter test bucket) ≤ length (flat_map (filter test) buckets)
+part_of_all : (test : Tally → Bool) (buckets : List (List Tally)) (i : ℕ) (bucket : List Tally) → slice_get buckets i ≡ Some bucket
+    → length (filter test bucket) ≤ length (flat_map (filter test) buckets)
 part_of_all test [] i bucket e = cc
 part_of_all test (b ∷ bs) zero bucket e =
     let same : b ≡ bucket = cc in omega (arith, length-append (filter test b) (flat_map (filter test) bs), ap (λ ts. length (filter test ts)) same)
@@ -273,7 +292,8 @@ kept_member : (test : Tally → Bool) (ts : List Tally) → 0 < length (filter t
 kept_member test [] l = absurd (omega (arith, l))
 kept_member test (t ∷ ts) l = by (test t) refl l (kept_member test ts)
   where
-    by : (b : Bool) → test t ≡ b → 0 < length (cond b (t ∷ filter test ts) (filter test ts)) → (0 < length (filter test ts) → (k : ℕ) × (k < length ts) × ((d : Tally) → test (get_or ts k d) ≡ true))
+    by : (b : Bool) → test t ≡ b → 0 < length (cond b (t ∷ filter test ts) (filter test ts))
+        → (0 < length (filter test ts) → (k : ℕ) × (k < length ts) × ((d : Tally) → test (get_or ts k d) ≡ true))
         → (k : ℕ) × (k < length (t ∷ ts)) × ((d : Tally) → test (get_or (t ∷ ts) k d) ≡ true)
     by true e h rest = (0, omega arith, λ d. e)
     by false e h rest = let r = rest h in (suc r.0, let l = r.1 in omega arith, r.2)
@@ -283,11 +303,13 @@ module _ (access : Access) (n total : ℕ) (entries : List (ℕ × List Tally)) 
   len_of_group : (key : List Value) → length (tallies (index_seen access n total entries stored rows) key) ≡ length (group_of rows access key)
   len_of_group key = ap length (is.tallies_are key) ∙ length-map (group_of rows access key) (tallied access rows)
 
-  bucket_len : (best : ℕ) → IsGreatestUpTo (length access.key) (values_of entries) (length (values_of entries)) best → (key : List Value) → length (group_of rows access key) ≤ best
+  bucket_len : (best : ℕ) → IsGreatestUpTo (length access.key) (values_of entries) (length (values_of entries)) best → (key : List Value)
+      → length (group_of rows access key) ≤ best
   bucket_len best g key =
       omega (arith, sym (len_of_group key), ap length (own access n total entries stored rows key), by (lookup (nat_eq (hash_of key)) entries) refl)
     where
-      some : (bucket : List Tally) → lookup (nat_eq (hash_of key)) entries ≡ Some bucket → (m : ℕ) → length (filter (is_key (length access.key) key) bucket) ≡ m → length (filter (is_key (length access.key) key) bucket) ≤ best
+      some : (bucket : List Tally) → lookup (nat_eq (hash_of key)) entries ≡ Some bucket → (m : ℕ) → length (filter (is_key (length access.key) key) bucket) ≡ m
+          → length (filter (is_key (length access.key) key) bucket) ≤ best
       some bucket e zero z = omega (arith, z)
       some bucket e (suc m) z =
           let p = place_of (hash_of key) entries bucket e in
@@ -302,7 +324,8 @@ module _ (access : Access) (n total : ℕ) (entries : List (ℕ × List Tally)) 
       by None e = omega arith
       by (Some bucket) e = some bucket e (length (filter (is_key (length access.key) key) bucket)) refl
 
-  pub greatest_is : (best : ℕ) → IsGreatestUpTo (length access.key) (values_of entries) (length (values_of entries)) best → best ≡ greatest rows access.key access.fetched
+  pub greatest_is : (best : ℕ) → IsGreatestUpTo (length access.key) (values_of entries) (length (values_of entries)) best
+      → best ≡ greatest rows access.key access.fetched
   greatest_is best g =
       let above = greatest-from_Holds rows (record access { bound = best }) (bucket_len best g) in
       omega (arith, above, below g.reached)

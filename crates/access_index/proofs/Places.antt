@@ -57,7 +57,8 @@ none_kept : {T : Type 0} (test : T → Bool) (ts : List T) → AllByRecursion (�
 none_kept test [] a = refl
 none_kept test (t ∷ ts) a = ap (λ b. cond b (t ∷ filter test ts) (filter test ts)) a.0 ∙ none_kept test ts a.1
 
-pub all_over : (P : List Value → Type 0) (Q : Tally → Type 0) → ((t : Tally) → P t.tuple → Q t) → (ts : List Tally) → AllByRecursion P (tuples_in ts) → AllByRecursion Q ts
+pub all_over : (P : List Value → Type 0) (Q : Tally → Type 0) → ((t : Tally) → P t.tuple → Q t) → (ts : List Tally) → AllByRecursion P (tuples_in ts)
+    → AllByRecursion Q ts
 all_over P Q f [] a = tt
 all_over P Q f (t ∷ ts) a = (f t a.0, all_over P Q f ts a.1)
 
@@ -105,13 +106,16 @@ module _ (w : ℕ) (key : List Value) where
     pub members : take (end - from) (drop from ts) ≡ filter (is_key w key) ts
 
   module _ (t : Tally) (ts : List Tally) where
-    less_is : (d : Ordering) → key_order w key t ≡ d → length (filter starts_after (t ∷ ts)) ≡ length (cond (is_lt d) (t ∷ filter starts_after ts) (filter starts_after ts))
+    less_is : (d : Ordering) → key_order w key t ≡ d → length (filter starts_after (t ∷ ts))
+        ≡ length (cond (is_lt d) (t ∷ filter starts_after ts) (filter starts_after ts))
     less_is d e = ap (λ o. length (cond (is_lt o) (t ∷ filter starts_after ts) (filter starts_after ts))) e
 
-    at_most_is : (d : Ordering) → key_order w key t ≡ d → length (filter ends_after (t ∷ ts)) ≡ length (cond (is_le d) (t ∷ filter ends_after ts) (filter ends_after ts))
+    at_most_is : (d : Ordering) → key_order w key t ≡ d → length (filter ends_after (t ∷ ts))
+        ≡ length (cond (is_le d) (t ∷ filter ends_after ts) (filter ends_after ts))
     at_most_is d e = ap (λ o. length (cond (is_le o) (t ∷ filter ends_after ts) (filter ends_after ts))) e
 
-    equal_is : (d : Ordering) → key_order w key t ≡ d → filter (is_key w key) (t ∷ ts) ≡ cond (is_eq d) (t ∷ filter (is_key w key) ts) (filter (is_key w key) ts)
+    equal_is : (d : Ordering) → key_order w key t ≡ d → filter (is_key w key) (t ∷ ts)
+        ≡ cond (is_eq d) (t ∷ filter (is_key w key) ts) (filter (is_key w key) ts)
     equal_is d e = ap (λ o. cond (is_eq o) (t ∷ filter (is_key w key) ts) (filter (is_key w key) ts)) e
 
     moved : (from end first last : ℕ) → first ≡ suc from → last ≡ suc end → take (last - first) (drop first (t ∷ ts)) ≡ take (end - from) (drop from ts)
@@ -119,7 +123,8 @@ module _ (w : ℕ) (key : List Value) where
         let d : last - first ≡ end - from = omega arith in
         ap (λ n. take n (drop first (t ∷ ts))) d ∙ ap (λ n. take (end - from) (drop n (t ∷ ts))) f
 
-    opened : (from end first last : ℕ) → from ≡ 0 → first ≡ 0 → last ≡ suc end → take (last - first) (drop first (t ∷ ts)) ≡ t ∷ take (end - from) (drop from ts)
+    opened : (from end first last : ℕ) → from ≡ 0 → first ≡ 0 → last ≡ suc end
+        → take (last - first) (drop first (t ∷ ts)) ≡ t ∷ take (end - from) (drop from ts)
     opened from end first last z f l =
         let d : last - first ≡ suc end = omega arith in
         let e : end ≡ end - from = omega arith in
@@ -130,13 +135,15 @@ module _ (w : ℕ) (key : List Value) where
     nothing first last l = let d : last - first ≡ 0 = omega arith in ap (λ n. take n (drop first (t ∷ ts))) d
 
     grown : (d : Ordering) → key_order w key t ≡ d → Parted starts_after (t ∷ ts) → Parted ends_after (t ∷ ts)
-        → IsStretch ts (length (filter starts_after ts)) (length (filter ends_after ts)) → IsStretch (t ∷ ts) (length (filter starts_after (t ∷ ts))) (length (filter ends_after (t ∷ ts)))
+        → IsStretch ts (length (filter starts_after ts)) (length (filter ends_after ts))
+        → IsStretch (t ∷ ts) (length (filter starts_after (t ∷ ts))) (length (filter ends_after (t ∷ ts)))
     grown Less e p q s =
         let l = less_is Less e in let m = at_most_is Less e in let o = s.ordered in let v = s.within in
         record {
           ordered = omega (arith, l, m, o);
           within = omega (arith, m, v);
-          members = moved (length (filter starts_after ts)) (length (filter ends_after ts)) (length (filter starts_after (t ∷ ts))) (length (filter ends_after (t ∷ ts))) l m
+          members = moved (length (filter starts_after ts)) (length (filter ends_after ts)) (length (filter starts_after (t ∷ ts)))
+              (length (filter ends_after (t ∷ ts))) l m
               ∙ s.members ∙ sym (equal_is Less e);
         }
     grown Equal e p q s =
@@ -145,7 +152,8 @@ module _ (w : ℕ) (key : List Value) where
         record {
           ordered = omega (arith, l, m, o);
           within = omega (arith, m, v);
-          members = opened (length (filter starts_after ts)) (length (filter ends_after ts)) (length (filter starts_after (t ∷ ts))) (length (filter ends_after (t ∷ ts))) z (l ∙ z) m
+          members = opened (length (filter starts_after ts)) (length (filter ends_after ts)) (length (filter starts_after (t ∷ ts)))
+              (length (filter ends_after (t ∷ ts))) z (l ∙ z) m
               ∙ ap (λ us. t ∷ us) s.members ∙ sym (equal_is Equal e);
         }
     grown Greater e p q s =
@@ -155,7 +163,8 @@ module _ (w : ℕ) (key : List Value) where
         record {
           ordered = omega (arith, l, m, o);
           within = omega (arith, m, v);
-          members = nothing (length (filter starts_after (t ∷ ts))) (length (filter ends_after (t ∷ ts))) (m ∙ z) ∙ sym (equal_none ts none) ∙ sym (equal_is Greater e);
+          members = nothing (length (filter starts_after (t ∷ ts))) (length (filter ends_after (t ∷ ts))) (m ∙ z) ∙ sym (equal_none ts none)
+              ∙ sym (equal_is Greater e);
         }
 
   stretch : (ts : List Tally) → Parted starts_after ts → Parted ends_after ts → IsStretch ts (length (filter starts_after ts)) (length (filter ends_after ts))
@@ -166,7 +175,8 @@ module _ (w : ℕ) (key : List Value) where
   stretch_of ts o = stretch ts (less_parted ts o) (at_most_parted ts o)
 
   -- the same by the places that a search gives
-  pub stretched : (ts : List Tally) (from end : ℕ) → IsInOrder row_cmp (tuples_in ts) → from ≡ length (filter starts_after ts) → end ≡ length (filter ends_after ts)
+  pub stretched : (ts : List Tally) (from end : ℕ) → IsInOrder row_cmp (tuples_in ts) → from ≡ length (filter starts_after ts)
+      → end ≡ length (filter ends_after ts)
       → take (end - from) (drop from ts) ≡ filter (is_key w key) ts
   stretched ts from end o f e =
       ap (λ n. take (end - n) (drop n ts)) f
@@ -211,7 +221,8 @@ module _ (x : List Value) where
       by true e h rest = rest (omega arith)
       by false e h rest = absurd (omega (arith, h, ap length (p.0 e)))
 
-  rest_fails : (ts : List Tally) (k : ℕ) (d : Tally) → Parted stands_before ts → length (filter stands_before ts) ≤ k → k < length ts → stands_before (get_or ts k d) ≡ false
+  rest_fails : (ts : List Tally) (k : ℕ) (d : Tally) → Parted stands_before ts → length (filter stands_before ts) ≤ k → k < length ts
+      → stands_before (get_or ts k d) ≡ false
   rest_fails [] k d p h l = absurd (omega (arith, l))
   rest_fails (t ∷ ts) zero d p h l = by (stands_before t) refl h
     where
@@ -225,11 +236,13 @@ module _ (x : List Value) where
       by true e g rest = rest (omega arith)
       by false e g rest = rest (omega (arith, ap length (p.0 e)))
 
-  pub in_order_at : (ts : List Tally) (i j : ℕ) (d : Tally) → IsInOrder row_cmp (tuples_in ts) → i < j → j < length ts → row_cmp (get_or ts i d).tuple (get_or ts j d).tuple ≡ Less
+  pub in_order_at : (ts : List Tally) (i j : ℕ) (d : Tally) → IsInOrder row_cmp (tuples_in ts) → i < j → j < length ts
+      → row_cmp (get_or ts i d).tuple (get_or ts j d).tuple ≡ Less
   in_order_at [] i j d o l m = absurd (omega (arith, m))
   in_order_at (t ∷ ts) i zero d o l m = absurd (omega (arith, l))
   in_order_at (t ∷ ts) zero (suc j) d o l m =
-      all_at (λ u. row_cmp t.tuple u.tuple ≡ Less) ts j d (omega arith) (all_over (λ y. row_cmp t.tuple y ≡ Less) (λ u. row_cmp t.tuple u.tuple ≡ Less) (λ u h. h) ts o.0)
+      all_at (λ u. row_cmp t.tuple u.tuple ≡ Less) ts j d (omega arith)
+      (all_over (λ y. row_cmp t.tuple y ≡ Less) (λ u. row_cmp t.tuple u.tuple ≡ Less) (λ u h. h) ts o.0)
   in_order_at (t ∷ ts) (suc i) (suc j) d o l m = in_order_at ts i j d o.1 (omega arith) (omega arith)
 
   pub gap_at : (ts : List Tally) (at : ℕ) → IsInOrder row_cmp (tuples_in ts) → at ≡ length (filter stands_before ts)

@@ -54,7 +54,8 @@ module _ (n w : ℕ) (key : List Value) where
       → flat_map (filter (is_key w key)) (values_of entries) ≡ []
   none_elsewhere [] a o = refl
   none_elsewhere (e ∷ es) a o =
-      ap (λ found. found ++ flat_map (filter (is_key w key)) (values_of es)) (no_member w e.0 key e.1 (not_here e.0 o.0) (a.0).hashed) ∙ none_elsewhere es a.1 o.1
+      ap (λ found. found ++ flat_map (filter (is_key w key)) (values_of es)) (no_member w e.0 key e.1 (not_here e.0 o.0) (a.0).hashed)
+      ∙ none_elsewhere es a.1 o.1
 
   -- a group lies in the bucket of its key's hash
   pub own_bucket : (entries : List (ℕ × List Tally)) → IsDistinct nat_eq (keys_of entries) → AllByRecursion (λ e. IsBucket n w e.0 e.1) entries
@@ -69,7 +70,8 @@ module _ (n w : ℕ) (key : List Value) where
 
       by : (b : Bool) → nat_eq (hash_of key) e.0 ≡ b
           → flat_map (filter (is_key w key)) (values_of es) ≡ filter (is_key w key) (unwrap_or (lookup (nat_eq (hash_of key)) es) [])
-          → filter (is_key w key) e.1 ++ flat_map (filter (is_key w key)) (values_of es) ≡ filter (is_key w key) (unwrap_or (cond b (Some e.1) (lookup (nat_eq (hash_of key)) es)) [])
+          → filter (is_key w key) e.1 ++ flat_map (filter (is_key w key)) (values_of es)
+          ≡ filter (is_key w key) (unwrap_or (cond b (Some e.1) (lookup (nat_eq (hash_of key)) es)) [])
       by true h rest =
           ap (λ found. filter (is_key w key) e.1 ++ found) (none_elsewhere es a.1 (apart (keys_of es) (eqb-true (hash_of key) e.0 h) d.0))
           ∙ append-nil (filter (is_key w key) e.1)
@@ -78,11 +80,13 @@ module _ (n w : ℕ) (key : List Value) where
 
 module _ (n w h : ℕ) where
   -- what holds of the bucket that a look-up finds
-  pub found_bucket : (entries : List (ℕ × List Tally)) (ts : List Tally) → AllByRecursion (λ e. IsBucket n w e.0 e.1) entries → lookup (nat_eq h) entries ≡ Some ts → IsBucket n w h ts
+  pub found_bucket : (entries : List (ℕ × List Tally)) (ts : List Tally) → AllByRecursion (λ e. IsBucket n w e.0 e.1) entries
+      → lookup (nat_eq h) entries ≡ Some ts → IsBucket n w h ts
   found_bucket [] ts a e = cc
   found_bucket (e ∷ es) ts a f = by (nat_eq h e.0) refl f (found_bucket es ts a.1)
     where
-      by : (b : Bool) → nat_eq h e.0 ≡ b → cond b (Some e.1) (lookup (nat_eq h) es) ≡ Some ts → (lookup (nat_eq h) es ≡ Some ts → IsBucket n w h ts) → IsBucket n w h ts
+      by : (b : Bool) → nat_eq h e.0 ≡ b → cond b (Some e.1) (lookup (nat_eq h) es) ≡ Some ts → (lookup (nat_eq h) es ≡ Some ts → IsBucket n w h ts)
+          → IsBucket n w h ts
       by true q g rest =
           let same : e.1 ≡ ts = cc in
           subst (λ us. IsBucket n w h us) same (subst (λ k. IsBucket n w k e.1) (sym (eqb-true h e.0 q)) a.0)
@@ -99,7 +103,8 @@ module _ (n w h : ℕ) where
       by false q rest = (a.0, rest)
 
   -- a bucket with a tuple more or less
-  pub more_bucket : (less more : List Tally) (tuple : List Value) → IsOneMore less more tuple → n ≡ length tuple → h ≡ hash_of (take w tuple) → IsBucket n w h less → IsBucket n w h more
+  pub more_bucket : (less more : List Tally) (tuple : List Value) → IsOneMore less more tuple → n ≡ length tuple → h ≡ hash_of (take w tuple)
+      → IsBucket n w h less → IsBucket n w h more
   more_bucket less more tuple m wide hash b = record {
     ordered = m.more_ordered;
     wide = m.added (is_wide n) (eq-eqb n (length tuple) wide) b.wide;
@@ -131,7 +136,8 @@ count_after w h old new less more tuple x hash m was now = by (nat_eq h (hash_of
 abbrev pub entries_sum : List (ℕ × List Tally) → ℕ
 entries_sum entries = sum_by (λ e. counts_in e.1) entries
 
-set_sum : (h : ℕ) (es : List (ℕ × List Tally)) (ts us : List Tally) → lookup (nat_eq h) es ≡ Some ts → entries_sum (set_value (nat_eq h) es us) + counts_in ts ≡ entries_sum es + counts_in us
+set_sum : (h : ℕ) (es : List (ℕ × List Tally)) (ts us : List Tally) → lookup (nat_eq h) es ≡ Some ts
+    → entries_sum (set_value (nat_eq h) es us) + counts_in ts ≡ entries_sum es + counts_in us
 set_sum h [] ts us e = cc
 set_sum h (e ∷ es) ts us f = by (nat_eq h e.0) f (set_sum h es ts us)
   where
@@ -144,8 +150,10 @@ set_sum h (e ∷ es) ts us f = by (nat_eq h e.0) f (set_sum h es ts us)
     by false g rest = omega (arith, rest g, sum_by-cons (λ d. counts_in d.1) e (set_value (nat_eq h) es us), sum_by-cons (λ d. counts_in d.1) e es)
 
 -- a bucket with a tuple more
-pub stored_more : (n w h total : ℕ) (old new : List (ℕ × List Tally)) (less more : List Tally) (tuple : List Value) → IsStored n w old total → lookup (nat_eq h) old ≡ Some less
-    → new ≡ set_value (nat_eq h) old more → IsDistinct nat_eq (keys_of new) → n ≡ length tuple → h ≡ hash_of (take w tuple) → IsOneMore less more tuple → IsStored n w new (total + 1)
+pub stored_more : (n w h total : ℕ) (old new : List (ℕ × List Tally)) (less more : List Tally) (tuple : List Value) → IsStored n w old total
+    → lookup (nat_eq h) old ≡ Some less
+    → new ≡ set_value (nat_eq h) old more → IsDistinct nat_eq (keys_of new) → n ≡ length tuple → h ≡ hash_of (take w tuple) → IsOneMore less more tuple
+    → IsStored n w new (total + 1)
 stored_more n w h total old new less more tuple s found is unique wide hash m = record {
   distinct = unique;
   buckets = subst (λ es. AllByRecursion (λ e. IsBucket n w e.0 e.1) es) (sym is)
@@ -154,7 +162,8 @@ stored_more n w h total old new less more tuple s found is unique wide hash m = 
 }
 
 -- a bucket with a tuple less, which keeps another
-pub stored_less : (n w h total : ℕ) (old new : List (ℕ × List Tally)) (less more : List Tally) (tuple : List Value) → IsStored n w old (total + 1) → lookup (nat_eq h) old ≡ Some more
+pub stored_less : (n w h total : ℕ) (old new : List (ℕ × List Tally)) (less more : List Tally) (tuple : List Value) → IsStored n w old (total + 1)
+    → lookup (nat_eq h) old ≡ Some more
     → new ≡ set_value (nat_eq h) old less → IsDistinct nat_eq (keys_of new) → IsOneMore less more tuple → 0 < length less → IsStored n w new total
 stored_less n w h total old new less more tuple s found is unique m some =
     let b = found_bucket n w h old more s.buckets found in
@@ -172,7 +181,8 @@ stored_less n w h total old new less more tuple s found is unique m some =
     }
 
 -- a bucket that is new
-pub stored_new : (n w h total : ℕ) (old new : List (ℕ × List Tally)) (more : List Tally) (tuple : List Value) → IsStored n w old total → new ≡ old ++ (h, more) ∷ []
+pub stored_new : (n w h total : ℕ) (old new : List (ℕ × List Tally)) (more : List Tally) (tuple : List Value) → IsStored n w old total
+    → new ≡ old ++ (h, more) ∷ []
     → IsDistinct nat_eq (keys_of new) → n ≡ length tuple → h ≡ hash_of (take w tuple) → IsOneMore [] more tuple → IsStored n w new (total + 1)
 stored_new n w h total old new more tuple s is unique wide hash m =
     let b : IsBucket n w h more = record {
@@ -184,8 +194,17 @@ stored_new n w h total old new more tuple s is unique wide hash m =
     } in
     record {
       distinct = unique;
-      buckets = subst (λ es. AllByRecursion (λ e. IsBucket n w e.0 e.1) es) (sym is) (all_append (λ e. IsBucket n w e.0 e.1) old ((h, more) ∷ []) s.buckets (b, tt));
-      total_is = omega (arith, s.total_is, ap entries_sum is, sum_by-append (λ e. counts_in e.1) old ((h, more) ∷ []), m.sum, sum_by-cons (λ (e : ℕ × List Tally). counts_in e.1) (h, more) []);
+      buckets = subst (λ es. AllByRecursion (λ e. IsBucket n w e.0 e.1) es) (sym is)
+          (all_append (λ e. IsBucket n w e.0 e.1) old ((h, more) ∷ []) s.buckets (b, tt));
+      total_is = omega (
+        arith,
+        s.total_is,
+        ap entries_sum is,
+        sum_by-append (λ e. counts_in e.1) old ((h, more) ∷ []),
+        m.sum,
+        sum_by-cons
+            (λ (e : ℕ × List Tally). counts_in e.1) (h, more) [],
+      );
     }
 
 -- a bucket that goes with its last tuple
@@ -209,7 +228,8 @@ place_of h es ts e = by (position (nat_eq h) (keys_of es)) refl
         let f = Found-position (nat_eq h) es i p in
         (i, record { position_is = p; within = f.within; bucket_is = λ d. value_at es i ts d (sym f.value ∙ e); value_is = sym f.value ∙ e })
 
-pub stored_gone : (n w h total : ℕ) (old new : List (ℕ × List Tally)) (more : List Tally) (tuple : List Value) → IsStored n w old (total + 1) → lookup (nat_eq h) old ≡ Some more
+pub stored_gone : (n w h total : ℕ) (old new : List (ℕ × List Tally)) (more : List Tally) (tuple : List Value) → IsStored n w old (total + 1)
+    → lookup (nat_eq h) old ≡ Some more
     → new ≡ swap_remove_entry (nat_eq h) old → IsDistinct nat_eq (keys_of new) → IsOneMore [] more tuple → IsStored n w new total
 stored_gone n w h total old new more tuple s found is unique m =
     let p = place_of h old more found in
@@ -222,7 +242,8 @@ stored_gone n w h total old new more tuple s found is unique m =
       distinct = unique;
       buckets = subst (λ es. AllByRecursion (λ b. IsBucket n w b.0 b.1) es) (sym e)
           (all_take (λ b. IsBucket n w b.0 b.1) (length old - 1) (set old p.0 (get_or old (length old - 1) d))
-          (all_set (λ b. IsBucket n w b.0 b.1) old p.0 (get_or old (length old - 1) d) s.buckets (all_at (λ b. IsBucket n w b.0 b.1) old (length old - 1) d last s.buckets)));
+          (all_set (λ b. IsBucket n w b.0 b.1) old p.0 (get_or old (length old - 1) d) s.buckets
+          (all_at (λ b. IsBucket n w b.0 b.1) old (length old - 1) d last s.buckets)));
       total_is = omega (arith, s.total_is, ap entries_sum e, sum_by-swap_remove (λ b. counts_in b.1) old p.0 d within, ap counts_in (at.bucket_is d), m.sum);
     }
 
@@ -247,13 +268,15 @@ few_buckets n w total entries s = omega (arith, s.total_is, le entries s.buckets
         omega (arith, some, tuples_within e.1 (a.0).counted, le es a.1, sum_by-cons (λ (d : ℕ × List Tally). counts_in d.1) e es)
 
 -- and none has more
-pub bucket_within : (n w h total : ℕ) (entries : List (ℕ × List Tally)) (ts : List Tally) → IsStored n w entries total → lookup (nat_eq h) entries ≡ Some ts → counts_in ts ≤ total
+pub bucket_within : (n w h total : ℕ) (entries : List (ℕ × List Tally)) (ts : List Tally) → IsStored n w entries total → lookup (nat_eq h) entries ≡ Some ts
+    → counts_in ts ≤ total
 bucket_within n w h total entries ts s e = omega (arith, s.total_is, le entries e)
   where
     le : (es : List (ℕ × List Tally)) → lookup (nat_eq h) es ≡ Some ts → counts_in ts ≤ entries_sum es
     le [] f = cc
     le (d ∷ es) f = by (nat_eq h d.0) f (le es)
       where
-        by : (b : Bool) → cond b (Some d.1) (lookup (nat_eq h) es) ≡ Some ts → (lookup (nat_eq h) es ≡ Some ts → counts_in ts ≤ entries_sum es) → counts_in ts ≤ entries_sum (d ∷ es)
+        by : (b : Bool) → cond b (Some d.1) (lookup (nat_eq h) es) ≡ Some ts → (lookup (nat_eq h) es ≡ Some ts → counts_in ts ≤ entries_sum es)
+            → counts_in ts ≤ entries_sum (d ∷ es)
         by true g rest = let same : d.1 ≡ ts = cc in omega (arith, ap counts_in same, sum_by-cons (λ (b : ℕ × List Tally). counts_in b.1) d es)
         by false g rest = omega (arith, rest g, sum_by-cons (λ (b : ℕ × List Tally). counts_in b.1) d es)

@@ -83,7 +83,8 @@ impl<W: Values> Before<Tally> for TuplePlace<'_, W> {
 pub fn group_in<W: Values>(bucket: &Bucket, key: &W, width: usize) -> Stretch
     requires { IsInOrder row_cmp (tuples_in bucket.now) }
     ensures within { result.from + result.len ≤ length bucket.now }
-    ensures members { take result.len (drop result.from bucket.now) ≡ filter (is_key width (W.list key.now)) bucket.now }
+    ensures members { take result.len (drop result.from bucket.now)
+        ≡ filter (is_key width (W.list key.now)) bucket.now }
 {
     let from = bucket.place_of(&KeyStart { key, width });
     let end = bucket.place_of(&KeyEnd { key, width });

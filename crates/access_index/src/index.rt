@@ -158,6 +158,7 @@ impl AccessIndex {
         ensures { (rows : List (List Cell)) → IsIndexOf self.now rows
             → result ≡ greatest rows self.now.access.key self.now.access.fetched }
     {
+        // Read for what its type tells: there are fewer than 2^32 rows, and so fewer tuples in each bucket.
         let _in_range = self.total;
         let mut best = 0;
         for i in 0..self.buckets.len() {
@@ -331,6 +332,8 @@ impl AccessIndex {
         ensures stands { stands_at self.now result }
         ensures cost { steps.new ≡ steps.old + max 1 result.len }
     {
+        // Read for what its type tells: there are fewer than 2^32 rows, and so fewer buckets and fewer tuples in each,
+        // whose two numbers fit one place of 64 bits.
         let _in_range = self.total;
         let wanted = Given { values: key };
         let index = match self.buckets.get_index_of(&hash_values(&wanted)) {

@@ -75,7 +75,8 @@ fn take_up(
     requires waiting { waiting.old ≡ replicate block.now.count [] }
     requires ready { ready.old ≡ [] }
     ensures { OnOk result
-        (AreCounted block.now (map seen uses.now) (replicate block.now.count false) missing.new.items waiting.new ready.new) }
+        (AreCounted block.now (map seen uses.now) (replicate block.now.count false) missing.new.items waiting.new
+        ready.new) }
 {
     for (number, found) in uses.iter().enumerate() {
         let columns = found.access.key.len();

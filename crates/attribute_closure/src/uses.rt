@@ -23,7 +23,8 @@ fn push_uses<'a>(
 ) -> Result<(), NoMemory>
     ensures { OnOk result (map seen found.new
         ≡ map seen found.old
-        ++ map (λ access. record { atom = atom; access = access }) (filter (λ access. access.table.0 == table.0) accesses.now)) }
+        ++ map (λ access. record { atom = atom; access = access })
+        (filter (λ access. access.table.0 == table.0) accesses.now)) }
 {
     for access in accesses {
         if access.table.0 == table.0 {

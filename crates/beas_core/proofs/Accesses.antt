@@ -45,7 +45,8 @@ pub is_live-append : (accesses more : List Access) (id : AccessId) → is_live a
 is_live-append [] more id live = cc
 is_live-append (a ∷ accesses) more id live = by (a.id.0 == id.0) live (is_live-append accesses more id)
   where
-    by : (b : Bool) → (b || is_live accesses id) ≡ true → (is_live accesses id ≡ true → is_live (accesses ++ more) id ≡ true) → (b || is_live (accesses ++ more) id) ≡ true
+    by : (b : Bool) → (b || is_live accesses id) ≡ true → (is_live accesses id ≡ true → is_live (accesses ++ more) id ≡ true)
+        → (b || is_live (accesses ++ more) id) ≡ true
     by true l rest = refl
     by false l rest = rest l
 
@@ -53,7 +54,8 @@ pub access_in-append : (accesses more : List Access) (id : AccessId) → is_live
 access_in-append [] more id live = cc
 access_in-append (a ∷ accesses) more id live = by (a.id.0 == id.0) refl live (access_in-append accesses more id)
   where
-    by : (b : Bool) → (a.id.0 == id.0) ≡ b → (b || is_live accesses id) ≡ true → (is_live accesses id ≡ true → access_in (accesses ++ more) id ≡ access_in accesses id)
+    by : (b : Bool) → (a.id.0 == id.0) ≡ b → (b || is_live accesses id) ≡ true
+        → (is_live accesses id ≡ true → access_in (accesses ++ more) id ≡ access_in accesses id)
         → access_in (a ∷ accesses ++ more) id ≡ access_in (a ∷ accesses) id
     by true e l rest = access_in-first a (accesses ++ more) id e ∙ sym (access_in-first a accesses id e)
     by false e l rest = access_in-rest a (accesses ++ more) id e ∙ rest l ∙ sym (access_in-rest a accesses id e)

@@ -30,6 +30,7 @@ whole : {X : Type 0} (E F : X → X → Bool) → ((x y : X) → E x y ≡ F x y
 whole E F e [] = refl
 whole E F e (x ∷ xs) = from E F e x xs
 
-pub distinct_from_sort : (xs ys zs : List (List Value)) → IsPermutation xs ys → IsSorted row_cmp ys → IsFiltered (DiffersFromLast row_eq) [] ys zs → zs ≡ distinct row_cmp xs
+pub distinct_from_sort : (xs ys zs : List (List Value)) → IsPermutation xs ys → IsSorted row_cmp ys → IsFiltered (DiffersFromLast row_eq) [] ys zs
+    → zs ≡ distinct row_cmp xs
 distinct_from_sort xs ys zs p s f =
     dedup_is row_eq ys zs f ∙ whole row_eq (eq_by_cmp row_cmp) (lists_ties value_cmp (λ x y. refl)) ys ∙ distinct_by_sort row_cmp_total row_cmp_tells xs ys p s

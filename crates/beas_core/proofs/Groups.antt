@@ -61,7 +61,8 @@ pub group_is_filter : (rows : List (List Value)) (key fetched : List ColumnId) (
     → group rows key fetched value ≡ filter (begins value) (distinct row_cmp (map (project (key ++ fetched)) rows))
 group_is_filter rows key fetched value l =
     ap (λ kept. distinct row_cmp (map (project (key ++ fetched)) kept))
-    (filter_agree (λ row. same_row (project key row) value) (λ row. begins value (project (key ++ fetched) row)) (λ row. begins_project key fetched row value l) rows)
+    (filter_agree (λ row. same_row (project key row) value) (λ row. begins value (project (key ++ fetched) row)) (λ row. begins_project key fetched row value l)
+    rows)
     ∙ ap (distinct row_cmp) (sym (filter-map (begins value) (project (key ++ fetched)) rows))
     ∙ sym (distinct-filter row_cmp_total row_cmp_tells (begins value) (map (project (key ++ fetched)) rows))
 
@@ -73,7 +74,8 @@ pub group_push_own : (rows : List (List Value)) (key fetched : List ColumnId) (r
     → group (rows ++ row ∷ []) key fetched (project key row) ≡ add_in_order row_cmp (project (key ++ fetched) row) (group rows key fetched (project key row))
 group_push_own rows key fetched row =
     let kept = filter (λ r. same_row (project key r) (project key row)) rows in
-    ap (λ k. distinct row_cmp (map (project (key ++ fetched)) k)) (filter_push (λ r. same_row (project key r) (project key row)) rows row true (same_row_itself (project key row)))
+    ap (λ k. distinct row_cmp (map (project (key ++ fetched)) k))
+    (filter_push (λ r. same_row (project key r) (project key row)) rows row true (same_row_itself (project key row)))
     ∙ ap (distinct row_cmp) (map-append (project (key ++ fetched)) kept (row ∷ []))
     ∙ distinct_push row_cmp_total row_cmp_tells (map (project (key ++ fetched)) kept) (project (key ++ fetched) row)
 
@@ -89,8 +91,10 @@ pub Holds-push : (rows : List (List Value)) (access : Access) (row : List Value)
 Holds-push rows access row h fits value = by (same_row (project access.key row) value) refl
   where
     by : (b : Bool) → same_row (project access.key row) value ≡ b → length (group_of (rows ++ row ∷ []) access value) ≤ access.bound
-    by true e = let P : List Value → Type 0 = λ v. length (group_of (rows ++ row ∷ []) access v) ≤ access.bound in subst P (same_row_true (project access.key row) value e) fits
-    by false e = let P : List (List Value) → Type 0 = λ g. length g ≤ access.bound in subst P (sym (group_push_other rows access.key access.fetched row value e)) (h value)
+    by true e = let P : List Value → Type 0 = λ v. length (group_of (rows ++ row ∷ []) access v) ≤ access.bound in
+        subst P (same_row_true (project access.key row) value e) fits
+    by false e = let P : List (List Value) → Type 0 = λ g. length g ≤ access.bound in
+        subst P (sym (group_push_other rows access.key access.fetched row value e)) (h value)
 
 pub Holds-nil : (access : Access) → Holds [] access
 Holds-nil access value = omega arith
@@ -119,7 +123,8 @@ some_or_none {A} p (x ∷ xs) = by (p x) refl (some_or_none p xs)
     by false e (inl n) = inl n
     by false e (inr r) = inr (r.0, inr r.1, r.2)
 
-pub group_le-greatest : (rows : List (List Value)) (key fetched : List ColumnId) (value : List Value) → length (group rows key fetched value) ≤ greatest rows key fetched
+pub group_le-greatest : (rows : List (List Value)) (key fetched : List ColumnId) (value : List Value)
+    → length (group rows key fetched value) ≤ greatest rows key fetched
 group_le-greatest rows key fetched value = elim (some_or_none (λ row. same_row (project key row) value) rows) [
   | inl n ↦ let e = ap (λ kept. length (distinct row_cmp (map (project (key ++ fetched)) kept))) n in omega arith
   | inr r ↦ let P : List Value → Type 0 = λ v. length (group rows key fetched v) ≤ greatest rows key fetched in

@@ -25,7 +25,8 @@ pub all_continue-folded : (text : List ℕ) → list_all continues_word text ≡
 all_continue-folded [] h = refl
 all_continue-folded (b ∷ bs) h =
     let parts = and_parts (continues_word b) (list_all continues_word bs) h in
-    and_from (continues_word (to_ascii_lowercase b)) (list_all continues_word (map to_ascii_lowercase bs)) (continues-folded b parts.0) (all_continue-folded bs parts.1)
+    and_from (continues_word (to_ascii_lowercase b)) (list_all continues_word (map to_ascii_lowercase bs)) (continues-folded b parts.0)
+    (all_continue-folded bs parts.1)
 
 no_capitals-folded : (text : List ℕ) → list_any is_ascii_uppercase (map to_ascii_lowercase text) ≡ false
 no_capitals-folded [] = refl
@@ -37,7 +38,8 @@ pub folded-itself : (text : List ℕ) → list_any is_ascii_uppercase text ≡ f
 folded-itself [] h = refl
 folded-itself (b ∷ bs) h = by (is_ascii_uppercase b) refl h (folded-itself bs)
   where
-    by : (c : Bool) → is_ascii_uppercase b ≡ c → (c || list_any is_ascii_uppercase bs) ≡ false → (list_any is_ascii_uppercase bs ≡ false → str_to_ascii_lowercase bs ≡ bs)
+    by : (c : Bool) → is_ascii_uppercase b ≡ c → (c || list_any is_ascii_uppercase bs) ≡ false
+        → (list_any is_ascii_uppercase bs ≡ false → str_to_ascii_lowercase bs ≡ bs)
         → str_to_ascii_lowercase (b ∷ bs) ≡ b ∷ bs
     by true e g rest = cc
     by false e g rest = rw (folded-no_capital b e) (ap (λ more. b ∷ more) (rest g))
@@ -50,8 +52,10 @@ is_word-folded : (text : List ℕ) → is_word text ≡ true → is_word (str_to
 is_word-folded text h =
     let first = and_parts (begins_word (get_or text 0 0) && list_all continues_word text) (nat_le (length text) 64) h in
     let rest = and_parts (begins_word (get_or text 0 0)) (list_all continues_word text) first.0 in
-    and_from (begins_word (get_or (str_to_ascii_lowercase text) 0 0) && list_all continues_word (str_to_ascii_lowercase text)) (nat_le (length (str_to_ascii_lowercase text)) 64)
-    (and_from (begins_word (get_or (str_to_ascii_lowercase text) 0 0)) (list_all continues_word (str_to_ascii_lowercase text)) (word_begins text rest.0) (all_continue-folded text rest.1))
+    and_from (begins_word (get_or (str_to_ascii_lowercase text) 0 0) && list_all continues_word (str_to_ascii_lowercase text))
+    (nat_le (length (str_to_ascii_lowercase text)) 64)
+    (and_from (begins_word (get_or (str_to_ascii_lowercase text) 0 0)) (list_all continues_word (str_to_ascii_lowercase text)) (word_begins text rest.0)
+    (all_continue-folded text rest.1))
     (ap (λ n. nat_le n 64) (length-map text to_ascii_lowercase) ∙ first.1)
 
 -- what an identifier becomes in lower case is a name

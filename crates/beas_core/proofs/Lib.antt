@@ -2,7 +2,6 @@ pub mod Accesses
 pub mod DistinctRows
 pub mod Groups
 pub mod Identifiers
-pub mod InTuples
 pub mod Sets
 pub mod TupleOrder
 pub mod ValueOrder

@@ -72,7 +72,8 @@ pub Has-from_filter : {K : Type 0} (p : K → Bool) (xs : List K) (y : K) → Ha
 Has-from_filter p [] y h = absurd h
 Has-from_filter {K} p (x ∷ xs) y h = by (p x) refl h (Has-from_filter p xs y)
   where
-    by : (b : Bool) → p x ≡ b → Has (cond b (x ∷ filter p xs) (filter p xs)) y → (Has (filter p xs) y → (Has xs y) × (p y ≡ true)) → (Has (x ∷ xs) y) × (p y ≡ true)
+    by : (b : Bool) → p x ≡ b → Has (cond b (x ∷ filter p xs) (filter p xs)) y → (Has (filter p xs) y → (Has xs y) × (p y ≡ true))
+        → (Has (x ∷ xs) y) × (p y ≡ true)
     by true e (inl d) rest = (inl d, ap p d ∙ e)
     by true e (inr g) rest = let r = rest g in (inr r.0, r.1)
     by false e g rest = let r = rest g in (inr r.0, r.1)
@@ -158,7 +159,8 @@ module _ {K : Type 0} {cmp : K → K → Ordering} (o : IsTotalOrder cmp) (tells
   Has-added_cases k [] y (inr h) = absurd h
   Has-added_cases k (x ∷ xs) y h = by (cmp k x) h (Has-added_cases k xs y)
     where
-      by : (d : Ordering) → Has (by_order d (k ∷ x ∷ xs) (x ∷ xs) (x ∷ add_in_order cmp k xs)) y → (Has (add_in_order cmp k xs) y → (y ≡ k) ⊎ Has xs y) → (y ≡ k) ⊎ Has (x ∷ xs) y
+      by : (d : Ordering) → Has (by_order d (k ∷ x ∷ xs) (x ∷ xs) (x ∷ add_in_order cmp k xs)) y → (Has (add_in_order cmp k xs) y → (y ≡ k) ⊎ Has xs y)
+          → (y ≡ k) ⊎ Has (x ∷ xs) y
       by Less (inl e) rest = inl e
       by Less (inr g) rest = inr g
       by Equal g rest = inr g
@@ -282,7 +284,8 @@ module _ {K : Type 0} {cmp : K → K → Ordering} (o : IsTotalOrder cmp) (tells
   length-add-le k [] = omega arith
   length-add-le k (x ∷ xs) = by (cmp k x) (length-add-le k xs)
     where
-      by : (d : Ordering) → length (add_in_order cmp k xs) ≤ length xs + 1 → length (by_order d (k ∷ x ∷ xs) (x ∷ xs) (x ∷ add_in_order cmp k xs)) ≤ length (x ∷ xs) + 1
+      by : (d : Ordering) → length (add_in_order cmp k xs) ≤ length xs + 1
+          → length (by_order d (k ∷ x ∷ xs) (x ∷ xs) (x ∷ add_in_order cmp k xs)) ≤ length (x ∷ xs) + 1
       by Less h = omega arith
       by Equal h = omega arith
       by Greater h = omega arith
@@ -302,7 +305,8 @@ module _ {K : Type 0} {cmp : K → K → Ordering} (o : IsTotalOrder cmp) (tells
 
   -- a list that is sorted, with equal neighbours merged, is the set
   pub distinct-dedup : (xs : List K) → IsSorted cmp xs → dedup (eq_by_cmp cmp) xs ≡ distinct cmp xs
-  distinct-dedup xs s = distinct_is xs (dedup (eq_by_cmp cmp) xs) (IsInOrder-from_strict cmp (dedup (eq_by_cmp cmp) xs) (IsStrictlySortedBy-dedup o (λ x y. refl) xs s))
+  distinct-dedup xs s = distinct_is xs (dedup (eq_by_cmp cmp) xs)
+      (IsInOrder-from_strict cmp (dedup (eq_by_cmp cmp) xs) (IsStrictlySortedBy-dedup o (λ x y. refl) xs s))
       (λ y. (
         λ g. Has-from_contains xs y (Contains-from_dedup (eq_by_cmp cmp) xs y (Contains-from_has (dedup (eq_by_cmp cmp) xs) y g)),
         λ g. Has-from_contains (dedup (eq_by_cmp cmp) xs) y (Contains-dedup (eq_by_cmp_equiv o) same_from_eq xs y (Contains-from_has xs y g)),
@@ -320,7 +324,8 @@ module _ {K : Type 0} {cmp : K → K → Ordering} (o : IsTotalOrder cmp) (tells
   distinct_by_sort xs ys p s = distinct-dedup ys s ∙ distinct_permutation xs ys p
 
 -- a map may be taken of the distinct members alone
-pub distinct-map : {J K : Type 0} {cmp : K → K → Ordering} {below : J → J → Ordering} → IsTotalOrder cmp → TellsApart cmp → IsTotalOrder below → TellsApart below
+pub distinct-map : {J K : Type 0} {cmp : K → K → Ordering} {below : J → J → Ordering} → IsTotalOrder cmp → TellsApart cmp → IsTotalOrder below
+    → TellsApart below
     → (f : J → K) (xs : List J) → distinct cmp (map f (distinct below xs)) ≡ distinct cmp (map f xs)
 distinct-map {J} {K} {cmp} {below} o tells q apart f xs = distinct_same o tells (map f (distinct below xs)) (map f xs) (λ y. (there y, back y))
   where
@@ -328,4 +333,5 @@ distinct-map {J} {K} {cmp} {below} o tells q apart f xs = distinct_same o tells 
     there y h = let r = Has-from_map f (distinct below xs) y h in subst (Has (map f xs)) (sym r.2) (Has-map f xs r.0 (Has-from_distinct q apart xs r.0 r.1))
 
     back : (y : K) → Has (map f xs) y → Has (map f (distinct below xs)) y
-    back y h = let r = Has-from_map f xs y h in subst (Has (map f (distinct below xs))) (sym r.2) (Has-map f (distinct below xs) r.0 (Has-distinct q apart xs r.0 r.1))
+    back y h = let r = Has-from_map f xs y h in subst (Has (map f (distinct below xs))) (sym r.2)
+        (Has-map f (distinct below xs) r.0 (Has-distinct q apart xs r.0 r.1))

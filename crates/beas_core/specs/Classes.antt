@@ -60,7 +60,8 @@ used_places block =
 
 abbrev pub needed_columns : Block → ℕ → ℕ → List ColumnId
 needed_columns block atom width =
-    map (λ c. record { 0 = c }) (filter (λ c. list_any (same_place (record { atom = atom; column = record { 0 = c } })) (used_places block)) (range_with_len 0 width))
+    map (λ c. record { 0 = c }) (filter (λ c. list_any (same_place (record { atom = atom; column = record { 0 = c } })) (used_places block))
+    (range_with_len 0 width))
 
 unfoldable pub normal_of : Block → Normal
 normal_of block = record {

@@ -54,7 +54,8 @@ start_classes normal is_guided = if is_guided then with_classes (constant_classe
 
 abbrev pub uses : Normal → List Access → List Use
 uses normal accesses =
-    flat_map (λ a. map (λ access. record { atom = a.0; access = access }) (filter (λ access. access.table.0 == a.1.table.0) accesses)) (enumerate_from 0 normal.atoms)
+    flat_map (λ a. map (λ access. record { atom = a.0; access = access }) (filter (λ access. access.table.0 == a.1.table.0) accesses))
+    (enumerate_from 0 normal.atoms)
 
 abbrev pub key_classes : Normal → Use → List ℕ
 key_classes normal u = map (class_at normal u.atom) u.access.key
@@ -83,7 +84,8 @@ abbrev pub Within : ClassSet → ClassSet → Type 0
 Within small large = (c : ℕ) → IsTrue (has small c) → IsTrue (has large c)
 
 abbrev pub IsClosed : Normal → List Access → ClassSet → Type 0
-IsClosed normal accesses set = (u : Use) → Contains (uses normal accesses) u → IsTrue (holds_classes set (key_classes normal u)) → IsTrue (holds_classes set (fetched_classes normal u))
+IsClosed normal accesses set = (u : Use) → Contains (uses normal accesses) u → IsTrue (holds_classes set (key_classes normal u))
+    → IsTrue (holds_classes set (fetched_classes normal u))
 
 pub record IsLeastClosed (normal : Normal) (accesses : List Access) (start set : ClassSet) : Type 0 where
   pub from_start : Within start set

@@ -18,7 +18,8 @@ use Rattle.beas_core.specs.Coverage.{with_classes, class_at, uses, key_classes, 
 
 -- the constraint with this id, and one that fetches nothing where there is none
 unfoldable pub access_in : List Access → AccessId → Access
-access_in accesses id = unwrap_or (find (λ a. a.id.0 == id.0) accesses) (record { id = id; name = []; table = record { 0 = 0 }; key = []; fetched = []; bound = 0 })
+access_in accesses id = unwrap_or (find (λ a. a.id.0 == id.0) accesses)
+    (record { id = id; name = []; table = record { 0 = 0 }; key = []; fetched = []; bound = 0 })
 
 abbrev pub is_live : List Access → AccessId → Bool
 is_live accesses id = list_any (λ a. a.id.0 == id.0) accesses
@@ -103,7 +104,8 @@ abbrev pub adding_steps : ℕ → Normal → List Access → ClassSet → Option
 adding_steps zero normal accesses set = if is_covered normal accesses set then Some [] else None
 adding_steps (suc n) normal accesses set =
     if is_covered normal accesses set then Some []
-    else then_step (least_bound (enabled_uses normal accesses set)) None (λ u. option_map (λ steps. step_of normal set u ∷ steps) (adding_steps n normal accesses (with_use normal set u)))
+    else then_step (least_bound (enabled_uses normal accesses set)) None
+    (λ u. option_map (λ steps. step_of normal set u ∷ steps) (adding_steps n normal accesses (with_use normal set u)))
 
 -- then, for each atom in order that no step serves: the use of least bound that serves it
 abbrev pub serving_steps : Normal → List Access → List DStep → ClassSet → List ℕ → List DStep

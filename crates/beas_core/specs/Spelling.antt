@@ -41,4 +41,5 @@ abbrev pub name_of : List ℕ → Option (List ℕ)
 name_of text = if is_word text && not (is_reserved (str_to_ascii_lowercase text)) then Some (str_to_ascii_lowercase text) else None
 
 abbrev pub limit_in : List ℕ → Option ℕ
-limit_in digits = if list_all is_ascii_digit digits && nat_le 1 (digits_value 10 digits) && nat_le (digits_value 10 digits) 4294967295 then Some (digits_value 10 digits) else None
+limit_in digits = if list_all is_ascii_digit digits && nat_le 1 (digits_value 10 digits) && nat_le (digits_value 10 digits) 4294967295 then Some
+    (digits_value 10 digits) else None

@@ -37,10 +37,12 @@ stacked (inr sign ∷ rest) [] = []
 stacked-postfix : (t : QueryTree) (rest : List (Block ⊎ Bool)) (stack : List QueryTree) → stacked (postfix t ++ rest) stack ≡ stacked rest (t ∷ stack)
 stacked-postfix (Single b) rest stack = refl
 stacked-postfix (Either l r) rest stack =
-    ap (λ ts. stacked ts stack) (append_assoc (postfix l) (postfix r ++ inr true ∷ []) rest ∙ ap (λ ts. postfix l ++ ts) (append_assoc (postfix r) (inr true ∷ []) rest))
+    ap (λ ts. stacked ts stack) (append_assoc (postfix l) (postfix r ++ inr true ∷ []) rest
+    ∙ ap (λ ts. postfix l ++ ts) (append_assoc (postfix r) (inr true ∷ []) rest))
     ∙ stacked-postfix l (postfix r ++ (inr true ∷ rest)) stack ∙ stacked-postfix r (inr true ∷ rest) (l ∷ stack)
 stacked-postfix (Minus l r) rest stack =
-    ap (λ ts. stacked ts stack) (append_assoc (postfix l) (postfix r ++ inr false ∷ []) rest ∙ ap (λ ts. postfix l ++ ts) (append_assoc (postfix r) (inr false ∷ []) rest))
+    ap (λ ts. stacked ts stack) (append_assoc (postfix l) (postfix r ++ inr false ∷ []) rest
+    ∙ ap (λ ts. postfix l ++ ts) (append_assoc (postfix r) (inr false ∷ []) rest))
     ∙ stacked-postfix l (postfix r ++ (inr false ∷ rest)) stack ∙ stacked-postfix r (inr false ∷ rest) (l ∷ stack)
 
 alone : (t : QueryTree) → stacked (postfix t) [] ≡ t ∷ []

@@ -81,7 +81,8 @@ output_row normal set valuation = map (λ p. value_of (as_bindings set valuation
 
 unfoldable pub answers_of : TableRows → Normal → List Access → Guide → List DStep → List Row
 answers_of rows normal accesses guide steps =
-    distinct row_cmp (map (output_row normal (bound_after normal accesses (start_classes normal (is_some guide)) steps)) (valuations rows normal accesses guide steps))
+    distinct row_cmp (map (output_row normal (bound_after normal accesses (start_classes normal (is_some guide)) steps))
+    (valuations rows normal accesses guide steps))
 
 -- of a block by itself
 abbrev pub own_valuations : TableRows → Normal → List Access → List DStep → List Row

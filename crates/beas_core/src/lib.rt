@@ -32,5 +32,5 @@ pub use schema::{Access, AccessId, AccessSpec, ColType, Column, ColumnId, TableI
 pub use spelling::{begins_word, continues_word, is_name, is_reserved, limit_of};
 pub use steps::Steps;
 pub use text::{Bytes, Text};
-pub use tuples::{compare_projected, project_row, sort_distinct, tuple_of, value_in_tuple};
+pub use tuples::{compare_projected, project_row, sort_distinct, tuple_of};
 pub use value::Value;

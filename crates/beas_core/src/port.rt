@@ -89,7 +89,8 @@ pub trait AccessPort {
         requires width { length key.now ≡ length (access_in (accesses self.now) id).key }
         ensures access { result.access ≡ id }
         ensures members { members self.now result
-            ≡ group_of (rows self.now (access_in (accesses self.now) id).table) (access_in (accesses self.now) id) key.now }
+            ≡ group_of (rows self.now (access_in (accesses self.now) id).table) (access_in (accesses self.now) id)
+            key.now }
         ensures len { result.len ≡ length (members self.now result) }
         ensures stands { stands self.now result }
         ensures bounded { result.len ≤ (access_in (accesses self.now) id).bound }
@@ -102,5 +103,6 @@ pub trait AccessPort {
         requires member { i < hits.now.len }
         requires column { IsTrue (has_column (member_columns (access_in (accesses self.now) hits.now.access)) column) }
         ensures { result.now
-            ≡ value_in (member_columns (access_in (accesses self.now) hits.now.access)) (slice_index_or (members self.now hits.now) i []) column };
+            ≡ value_in (member_columns (access_in (accesses self.now) hits.now.access))
+            (slice_index_or (members self.now hits.now) i []) column };
 }

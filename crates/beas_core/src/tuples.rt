@@ -1,9 +1,8 @@
 // Tuples: a row's values in some columns, and rows as a set.
-ghost use Rattle.std.specs.Prelude.{◌≡◌, ◌<◌, ◌++◌, ◌==◌, length, All, IfOk, OnOk, IsTrue};
-ghost use Rattle.std.specs.List.{position_or_len};
+ghost use Rattle.std.specs.Prelude.{◌≡◌, ◌<◌, ◌++◌, length, All, IfOk, OnOk};
 ghost use Rattle.beas_core.specs.Order.{row_cmp};
 ghost use Rattle.beas_core.specs.Sets.{distinct};
-ghost use Rattle.beas_core.specs.Groups.{project, member_columns, has_column, value_in};
+ghost use Rattle.beas_core.specs.Groups.{project, member_columns};
 
 use crate::duplicate::Duplicate;
 use crate::errors::NoMemory;
@@ -78,32 +77,5 @@ pub fn compare_projected(tuple: &[Value], columns: &[ColumnId], row: &[Value]) -
         Ordering::Greater
     } else {
         Ordering::Equal
-    }
-}
-
-/// Where a column first stands among some, or their number.
-fn place_in(columns: &[ColumnId], column: ColumnId) -> usize
-    ensures { result ≡ position_or_len (λ c. c.0 == column.0) columns.now }
-{
-    for (at, other) in columns.iter().enumerate() {
-        if other.0 == column.0 {
-            return at;
-        }
-    }
-    columns.len()
-}
-
-/// A column's value in a tuple over the columns of a constraint.
-pub fn value_in_tuple<'a>(access: &Access, tuple: &'a [Value], column: ColumnId) -> &'a Value
-    requires width { length tuple.now ≡ length (member_columns access.now) }
-    requires there { IsTrue (has_column (member_columns access.now) column) }
-    ensures { result.now ≡ value_in (member_columns access.now) tuple.now column }
-{
-    let (key, fetched) = tuple.split_at(access.key.len());
-    let at = place_in(access.key.as_slice(), column);
-    if at < key.len() {
-        &key[at]
-    } else {
-        &fetched[place_in(access.fetched.as_slice(), column)]
     }
 }

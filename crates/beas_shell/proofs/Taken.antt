@@ -8,14 +8,16 @@ pub consumes_none : (source : Option (List ℕ)) → Consumes source source []
 consumes_none None = tt
 consumes_none (Some left) = refl
 
-consumes_both : (source middle rest : Option (List ℕ)) (before part : List ℕ) → Consumes source middle before → Consumes middle rest part → Consumes source rest (before ++ part)
+consumes_both : (source middle rest : Option (List ℕ)) (before part : List ℕ) → Consumes source middle before → Consumes middle rest part
+    → Consumes source rest (before ++ part)
 consumes_both None middle rest before part first second = tt
 consumes_both (Some left) None rest before part first second = absurd first
 consumes_both (Some left) (Some more) None before part first second = absurd second
 consumes_both (Some left) (Some more) (Some last) before part first second = rw (first, second) (sym (append_assoc before part last))
 
 -- one more piece
-pub consumes_more : (source middle rest : Option (List ℕ)) (before now : List ℕ) → Consumes source middle before → Took middle rest before now → Consumes source rest now
+pub consumes_more : (source middle rest : Option (List ℕ)) (before now : List ℕ) → Consumes source middle before → Took middle rest before now
+    → Consumes source rest now
 consumes_more source middle rest before now first took =
     rw took.grown (consumes_both source middle rest before took.part first took.consumed)
 
@@ -26,7 +28,8 @@ whole_at_end (Some left) None bytes taken end = absurd taken
 whole_at_end (Some left) (Some more) bytes taken end = sym (taken ∙ ap (λ xs. bytes ++ xs) end ∙ append-nil bytes)
 
 -- what is too long for the bytes so far is too long in all
-pub too_long_in_all : (limit : ℕ) (source rest : Option (List ℕ)) (bytes : List ℕ) → Consumes source rest bytes → TooLongFor limit rest bytes → IfSome source (λ left. limit < length left)
+pub too_long_in_all : (limit : ℕ) (source rest : Option (List ℕ)) (bytes : List ℕ) → Consumes source rest bytes → TooLongFor limit rest bytes
+    → IfSome source (λ left. limit < length left)
 too_long_in_all limit None rest bytes taken long = tt
 too_long_in_all limit (Some left) None bytes taken long = absurd taken
 too_long_in_all limit (Some left) (Some more) bytes taken long = rw (taken, length-append bytes more) long
@@ -48,6 +51,7 @@ consumes_kept (Some left) (Some more) None part first second = absurd second
 consumes_kept (Some left) (Some more) (Some last) part first second = sym first ∙ second
 
 -- a read after those that took nothing
-pub keeps_consumes : {E : Type 0} (source middle rest : Option (List ℕ)) (r : Result ℕ E) (room : List ℕ) → Keeps source middle → ReadConsumes middle rest r room → ReadConsumes source rest r room
+pub keeps_consumes : {E : Type 0} (source middle rest : Option (List ℕ)) (r : Result ℕ E) (room : List ℕ) → Keeps source middle
+    → ReadConsumes middle rest r room → ReadConsumes source rest r room
 keeps_consumes source middle rest (Ok count) room first second = (consumes_kept source middle rest (take count room) first second.0, second.1)
 keeps_consumes source middle rest (Err why) room first second = keeps_both source middle rest first second

@@ -39,7 +39,8 @@ fn words_of(rt: &HostRuntime) -> io::Result<Vec<String>> {
     Ok(words)
 }
 
-/// Runs what the words ask for, over a session without tables, the system's files and streams, and one counter of reads.
+/// Runs what the words ask for, over a session without tables, the system's files and streams, and one counter of
+/// reads.
 fn start<L: Ledger>(rt: &HostRuntime, blank: Blank) -> u8
     requires name { blank.name ≡ L.name }
     requires parts { blank.parts ≡ L.parts }

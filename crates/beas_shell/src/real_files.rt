@@ -82,14 +82,18 @@ impl ReadCounts {
         requires limit { limit < 2 ^ 64 - 1 }
         requires some { 0 < length piece.old }
         requires room { length bytes.old.items ≤ limit }
-        ensures took { IfOk result (λ _. Took (S.remaining source.old) (S.remaining source.new) bytes.old.items bytes.new.items) }
+        ensures took { IfOk result (λ _. Took (S.remaining source.old) (S.remaining source.new) bytes.old.items
+            bytes.new.items) }
         ensures more { result ≡ Ok Turn.More → length bytes.old.items < length bytes.new.items }
         ensures end { result ≡ Ok Turn.End → IsAtEnd (S.remaining source.new) }
         ensures fits { IfOk result (λ _. length bytes.new.items ≤ limit) }
-        ensures counted { IfOk result (λ _. self.new.taken ≡ min (self.old.taken + length bytes.new.items - length bytes.old.items) (2 ^ 64 - 1)) }
+        ensures counted { IfOk result (λ _. self.new.taken ≡ min
+            (self.old.taken + length bytes.new.items - length bytes.old.items) (2 ^ 64 - 1)) }
         ensures limit { (l : ℕ) → IsErrOf result (FilesError.TooLong l) → l ≡ limit }
-        ensures all_taken { (l : ℕ) → IsErrOf result (FilesError.TooLong l) → self.new.taken ≡ min (self.old.taken + limit + 1 - length bytes.old.items) (2 ^ 64 - 1) }
-        ensures too_long { (l : ℕ) → IsErrOf result (FilesError.TooLong l) → TooLongFor limit (S.remaining source.old) bytes.old.items }
+        ensures all_taken { (l : ℕ) → IsErrOf result (FilesError.TooLong l)
+            → self.new.taken ≡ min (self.old.taken + limit + 1 - length bytes.old.items) (2 ^ 64 - 1) }
+        ensures too_long { (l : ℕ) → IsErrOf result (FilesError.TooLong l)
+            → TooLongFor limit (S.remaining source.old) bytes.old.items }
         ensures least { self.old.taken ≤ self.new.taken }
         ensures most { self.new.taken + length bytes.old.items ≤ self.old.taken + limit + 1 }
         ensures failed { IsErrOf result FilesError.Failed → self.new.faults ≡ min (self.old.faults + 1) (2 ^ 64 - 1) }
@@ -120,8 +124,10 @@ impl ReadCounts {
         ensures fits { IfOk result (λ bytes. length bytes ≤ limit) }
         ensures counted { IfOk result (λ bytes. self.new.taken ≡ min (self.old.taken + length bytes) (2 ^ 64 - 1)) }
         ensures limit { (l : ℕ) → IsErrOf result (FilesError.TooLong l) → l ≡ limit }
-        ensures all_taken { (l : ℕ) → IsErrOf result (FilesError.TooLong l) → self.new.taken ≡ min (self.old.taken + limit + 1) (2 ^ 64 - 1) }
-        ensures too_long { (l : ℕ) → IsErrOf result (FilesError.TooLong l) → IfSome (S.remaining source.old) (λ left. limit < length left) }
+        ensures all_taken { (l : ℕ) → IsErrOf result (FilesError.TooLong l)
+            → self.new.taken ≡ min (self.old.taken + limit + 1) (2 ^ 64 - 1) }
+        ensures too_long { (l : ℕ) → IsErrOf result (FilesError.TooLong l)
+            → IfSome (S.remaining source.old) (λ left. limit < length left) }
         ensures least { self.old.taken ≤ self.new.taken }
         ensures most { self.new.taken ≤ self.old.taken + limit + 1 }
         ensures failed { IsErrOf result FilesError.Failed → self.new.faults ≡ min (self.old.faults + 1) (2 ^ 64 - 1) }
@@ -149,13 +155,16 @@ impl ReadCounts {
         limit: u64,
     ) -> Result<Bytes, FilesError>
         requires { limit < 2 ^ 64 - 1 }
-        ensures memory { IfErr opened (λ error. error_kind error ≡ ErrorKind.OutOfMemory → result ≡ Err FilesError.NoMemory) }
-        ensures not_opened { IfErr opened (λ error. error_kind error ≢ ErrorKind.OutOfMemory → result ≡ Err FilesError.Failed) }
+        ensures memory { IfErr opened (λ error. error_kind error ≡ ErrorKind.OutOfMemory
+            → result ≡ Err FilesError.NoMemory) }
+        ensures not_opened { IfErr opened (λ error. error_kind error ≢ ErrorKind.OutOfMemory
+            → result ≡ Err FilesError.Failed) }
         ensures ok { IfOk opened (λ source. IfOk result (λ bytes. IfSome (S.remaining source) (λ left. bytes ≡ left))) }
         ensures fits { IfOk result (λ bytes. length bytes ≤ limit) }
         ensures counted { IfOk result (λ bytes. self.new.taken ≡ min (self.old.taken + length bytes) (2 ^ 64 - 1)) }
         ensures limit { (l : ℕ) → IsErrOf result (FilesError.TooLong l) → l ≡ limit }
-        ensures all_taken { (l : ℕ) → IsErrOf result (FilesError.TooLong l) → self.new.taken ≡ min (self.old.taken + limit + 1) (2 ^ 64 - 1) }
+        ensures all_taken { (l : ℕ) → IsErrOf result (FilesError.TooLong l)
+            → self.new.taken ≡ min (self.old.taken + limit + 1) (2 ^ 64 - 1) }
         ensures least { self.old.taken ≤ self.new.taken }
         ensures most { self.new.taken ≤ self.old.taken + limit + 1 }
         ensures failed { IsErrOf result FilesError.Failed → self.new.faults ≡ min (self.old.faults + 1) (2 ^ 64 - 1) }
@@ -198,8 +207,10 @@ fn room_for_a_piece(alloc: Global) -> Result<Vec<u8>, FilesError>
 
 /// Adds a piece after the bytes, which are more than the limit then or not.
 fn add_piece(bytes: &mut Vec<u8>, piece: &[u8], limit: u64) -> Result<Turn, FilesError>
-    ensures ok { IfOk result (λ turn. (turn ≡ Turn.More) × (bytes.new.items ≡ bytes.old.items ++ piece.now) × (length bytes.new.items ≤ limit)) }
-    ensures too_long { (l : ℕ) → IsErrOf result (FilesError.TooLong l) → (l ≡ limit) × (limit < length bytes.old.items + length piece.now) }
+    ensures ok { IfOk result (λ turn. (turn ≡ Turn.More) × (bytes.new.items ≡ bytes.old.items ++ piece.now)
+        × (length bytes.new.items ≤ limit)) }
+    ensures too_long { (l : ℕ) → IsErrOf result (FilesError.TooLong l)
+        → (l ≡ limit) × (limit < length bytes.old.items + length piece.now) }
     ensures failed { IsErrOf result FilesError.Failed → ⊥ }
 {
     if bytes.extend_from_slice(piece).is_err() {
@@ -243,12 +254,15 @@ impl<R: rt::Files> Files for RealFiles<'_, R> {
     fn read(&mut self, alloc: Global, name: &str, limit: u64) -> Result<Bytes, FilesError>
         requires { limit < 2 ^ 64 - 1 }
         ensures fits { IfOk result (λ bytes. length bytes ≤ limit) }
-        ensures counted { IfOk result (λ bytes. self.new.counts.taken ≡ min (self.old.counts.taken + length bytes) (2 ^ 64 - 1)) }
+        ensures counted { IfOk result (λ bytes. self.new.counts.taken
+            ≡ min (self.old.counts.taken + length bytes) (2 ^ 64 - 1)) }
         ensures limit { (l : ℕ) → IsErrOf result (FilesError.TooLong l) → l ≡ limit }
-        ensures all_taken { (l : ℕ) → IsErrOf result (FilesError.TooLong l) → self.new.counts.taken ≡ min (self.old.counts.taken + limit + 1) (2 ^ 64 - 1) }
+        ensures all_taken { (l : ℕ) → IsErrOf result (FilesError.TooLong l)
+            → self.new.counts.taken ≡ min (self.old.counts.taken + limit + 1) (2 ^ 64 - 1) }
         ensures least { self.old.counts.taken ≤ self.new.counts.taken }
         ensures most { self.new.counts.taken ≤ self.old.counts.taken + limit + 1 }
-        ensures failed { IsErrOf result FilesError.Failed → self.new.counts.faults ≡ min (self.old.counts.faults + 1) (2 ^ 64 - 1) }
+        ensures failed { IsErrOf result FilesError.Failed → self.new.counts.faults
+            ≡ min (self.old.counts.faults + 1) (2 ^ 64 - 1) }
         ensures same { (IsErrOf result FilesError.Failed → ⊥) → self.new.counts.faults ≡ self.old.counts.faults }
         ensures rise { self.old.counts.faults ≤ self.new.counts.faults }
     {

@@ -42,10 +42,12 @@ impl<W: Write> RealSink<W> {
         requires { 0 < length bytes.now }
         ensures some { IfOk result (λ count. 0 < count) }
         ensures within { IfOk result (λ count. count ≤ length bytes.now) }
-        ensures sent { IfOk result (λ count. Appends (W.contents self.old.writer) (W.contents self.new.writer) (take count bytes.now)) }
+        ensures sent { IfOk result (λ count. Appends (W.contents self.old.writer) (W.contents self.new.writer)
+            (take count bytes.now)) }
         ensures kept { OnErr result (Keeps (W.contents self.old.writer) (W.contents self.new.writer)) }
         ensures no_fault { OnOk result (self.new.faults ≡ self.old.faults) }
-        ensures failed { OnErr result ((result ≡ Err SinkError.Failed) × (self.new.faults ≡ min (self.old.faults + 1) (2 ^ 64 - 1))) }
+        ensures failed { OnErr result ((result ≡ Err SinkError.Failed)
+            × (self.new.faults ≡ min (self.old.faults + 1) (2 ^ 64 - 1))) }
     {
         match write_some(&mut self.writer, bytes) {
             Ok(0) => Err(self.fail()),
@@ -82,7 +84,8 @@ impl<W: Write> Sink for RealSink<W> {
         ensures ok { OnOk result (Appends (W.contents self.old.writer) (W.contents self.new.writer) bytes.now) }
         ensures part { GavePart (W.contents self.old.writer) (W.contents self.new.writer) bytes.now }
         ensures no_fault { OnOk result (self.new.faults ≡ self.old.faults) }
-        ensures failed { OnErr result ((result ≡ Err SinkError.Failed) × (self.new.faults ≡ min (self.old.faults + 1) (2 ^ 64 - 1))) }
+        ensures failed { OnErr result ((result ≡ Err SinkError.Failed)
+            × (self.new.faults ≡ min (self.old.faults + 1) (2 ^ 64 - 1))) }
         ensures rise { self.old.faults ≤ self.new.faults }
     {
         let mut rest = bytes;

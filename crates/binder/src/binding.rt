@@ -80,7 +80,7 @@ fn look_up_all(
     Ok(found)
 }
 
-/// That no block has a place of a kind.
+/// Refuses the first place of a kind in these blocks, if there is one.
 fn refuse_kind(
     alloc: Global,
     kind: Kind,
@@ -98,7 +98,8 @@ fn refuse_kind(
     Ok(())
 }
 
-/// That no block has a place of any of these kinds.
+/// Refuses the first place of these kinds in these blocks, if there is one: all places of a kind come before those of
+/// the next.
 fn refuse_kinds(
     alloc: Global,
     kinds: &[Kind],
@@ -126,7 +127,8 @@ fn shape_of(blocks: &[LookedUp]) -> &[ColType]
     }
 }
 
-/// That blocks with their names looked up have no place of any kind.
+/// Refuses the first place of any of the kinds in blocks with their names looked up, if there is one, kind by kind in
+/// their order.
 #[tactic(auto, unfolding(crate::specs::Binding::looked_refusals))]
 fn refuse_all(alloc: Global, limits: &Limits, blocks: &[LookedUp]) -> Result<(), Fail>
     requires blocks { length blocks.now < 2 ^ 32 }
@@ -197,10 +199,11 @@ fn looked_up_blocks(
     look_up_all(alloc, catalogue, &blocks)
 }
 
-/// What is true of each catalogue.
+/// Tells what is true of each catalogue. The call is there for its clause, so it changes and returns nothing.
 pub fn is_sound(catalogue: &Catalogue)
     ensures { SchemaIsSound catalogue.now }
 {
+    // Asked for what its clauses tell: the catalogue is sound.
     let _accesses = catalogue.accesses();
 }
 

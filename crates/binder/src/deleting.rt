@@ -53,7 +53,8 @@ fn look_up(
     })
 }
 
-/// That a block has no place of any of these kinds.
+/// Refuses the first place of these kinds in a block, if there is one: all places of a kind come before those of the
+/// next.
 fn refuse_kinds(
     alloc: Global,
     kinds: &[Kind],

@@ -1,4 +1,12 @@
 //! Names become places: queries, the rows of an INSERT and the conditions of a DELETE are bound to a catalogue.
+//!
+//! The contracts speak in `specs/Binding`: why something is refused, and what it is bound to where it isn't. This
+//! stands on `Meanings`, what a name stands for, `LookedUp`, blocks with their names looked up, and `Refusing`, the
+//! places of each kind of refusal in their order.
+//!
+//! Scripts test it (`script_cases/data`), and so do sessions with lowered limits (`limit_cases/data`) and drawn queries
+//! (`query_cases`). It doesn't promise that a query is covered, nor that the rows of an INSERT fit their table, since
+//! it looks at their literals alone, nor that it says `NoMemory` only where memory ran out.
 #![tactic(auto)]
 
 mod binding;

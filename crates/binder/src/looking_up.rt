@@ -14,7 +14,7 @@ use catalogue::Catalogue;
 use sql_tree::{BlockTree, ColumnRef, Cond, FromItem};
 use std::alloc::Global;
 
-/// That there is a table with this name.
+/// Refuses a name that no table has.
 #[tactic(auto, unfolding(crate::specs::Refusing::unknown_table))]
 pub fn want_table(alloc: Global, catalogue: &Catalogue, name: &Name) -> Result<(), Fail>
     ensures { Tells result (unknown_table catalogue.now name.now) }
@@ -27,7 +27,7 @@ pub fn want_table(alloc: Global, catalogue: &Catalogue, name: &Name) -> Result<(
     }
 }
 
-/// That there are the tables of a block.
+/// Refuses the first of a block's table names that no table has.
 pub fn want_tables(alloc: Global, catalogue: &Catalogue, items: &[FromItem]) -> Result<(), Fail>
     ensures { Tells result (flat_map (λ item. unknown_table catalogue.now item.table) items.now) }
 {
@@ -52,6 +52,7 @@ fn atom_of(catalogue: &Catalogue, item: &FromItem) -> Atom
     }
 }
 
+/// The atoms of a block. A name that no table has would stand for table 0, but callers have refused it before.
 pub fn atoms_of(
     alloc: Global,
     catalogue: &Catalogue,
@@ -80,6 +81,7 @@ fn meanings_of(
     Ok(meanings)
 }
 
+/// Conditions with what their sides stand for. No name is refused here.
 pub fn conditions_of(
     alloc: Global,
     scope: &Scope,

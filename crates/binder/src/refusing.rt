@@ -10,7 +10,7 @@ use crate::scope::copy_of;
 use beas_core::{ColType, Counted, Duplicate, Fail, Limits, Refusal, Text, Value};
 use std::alloc::Global;
 
-/// That something isn't so.
+/// Refuses for this reason where the flag is set.
 fn refuse_if(failing: bool, why: Refusal) -> Result<(), Fail>
     ensures { Tells result (refused_if failing why) }
 {
@@ -55,7 +55,7 @@ fn refuse_number(alloc: Global, meaning: &Meaning) -> Result<(), Fail>
     }
 }
 
-/// That a text has at most so many bytes.
+/// Refuses a text of more than `limit` bytes.
 pub fn refuse_text(limit: u32, text: &Text) -> Result<(), Fail>
     ensures { Tells result (refused_if (nat_lt limit (length text.now)) (Refusal.TextTooLong limit)) }
 {
@@ -72,7 +72,7 @@ fn refuse_long(limit: u32, meaning: &Meaning) -> Result<(), Fail>
     }
 }
 
-/// That what a ref or a literal stands for has no flaw of a kind.
+/// Refuses what a ref or a literal stands for where it has this flaw.
 #[tactic(auto, unfolding(crate::specs::Refusing::flaws))]
 pub fn refuse_meaning(alloc: Global, flaw: Flaw, limit: u32, meaning: &Meaning) -> Result<(), Fail>
     ensures { Tells result (flaws flaw limit meaning.now) }
@@ -210,7 +210,8 @@ fn too_many(what: Counted, limit: u16) -> Refusal
     }
 }
 
-/// That a block has no place of a kind.
+/// Refuses the first place of a kind in a block, if there is one. `number` is the block's, counted from 1, and `shape`
+/// has the types of the outputs of the first block.
 #[tactic(auto, unfolding(crate::specs::Refusing::places))]
 pub fn refuse_block(
     alloc: Global,

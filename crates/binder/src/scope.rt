@@ -21,7 +21,9 @@ use std::collections::HashMap;
 /// The atoms of a block by alias, and its columns by name.
 #[derive(Drop)]
 pub struct Scope<'a> {
+    /// For each alias its atom with that atom's columns.
     pub atoms: HashMap<&'a str, AtomColumns<'a>>,
+    /// For each name of a column, over all atoms, the one column that has it, or that there are several.
     pub columns: HashMap<&'a str, Found>,
 }
 

@@ -18,19 +18,23 @@ not_same a b h = by (a == b) refl
 
 head_is : (a : Access) (accesses : List Access) (id : AccessId) → a.id.0 ≡ id.0 → access_in (a ∷ accesses) id ≡ a
 unfolding access_in
-head_is a accesses id e = ap (λ b. unwrap_or (cond b (Some a) (find (λ c. c.id.0 == id.0) accesses)) (record { id = id; name = []; table = record { 0 = 0 }; key = []; fetched = []; bound = 0 })) (eq-eqb a.id.0 id.0 e)
+head_is a accesses id e = ap (λ b. unwrap_or (cond b (Some a) (find (λ c. c.id.0 == id.0) accesses))
+    (record { id = id; name = []; table = record { 0 = 0 }; key = []; fetched = []; bound = 0 })) (eq-eqb a.id.0 id.0 e)
 
 head_is_not : (a : Access) (accesses : List Access) (id : AccessId) → a.id.0 ≢ id.0 → access_in (a ∷ accesses) id ≡ access_in accesses id
 unfolding access_in
-head_is_not a accesses id h = ap (λ b. unwrap_or (cond b (Some a) (find (λ c. c.id.0 == id.0) accesses)) (record { id = id; name = []; table = record { 0 = 0 }; key = []; fetched = []; bound = 0 })) (not_same a.id.0 id.0 h)
+head_is_not a accesses id h = ap (λ b. unwrap_or (cond b (Some a) (find (λ c. c.id.0 == id.0) accesses))
+    (record { id = id; name = []; table = record { 0 = 0 }; key = []; fetched = []; bound = 0 })) (not_same a.id.0 id.0 h)
 
 one_more : (accesses : List Access) (i : ℕ) (d : Access) → i < length accesses → drop i accesses ≡ get_or accesses i d ∷ drop (i + 1) accesses
 one_more accesses i d l = drop-cons accesses i d l ∙ ap (λ k. get_or accesses i d ∷ drop k accesses) (sym (add-one i))
 
-pub found_here : (accesses : List Access) (id : AccessId) (i : ℕ) (d : Access) → i < length accesses → (get_or accesses i d).id.0 ≡ id.0 → access_in (drop i accesses) id ≡ get_or accesses i d
+pub found_here : (accesses : List Access) (id : AccessId) (i : ℕ) (d : Access) → i < length accesses → (get_or accesses i d).id.0 ≡ id.0
+    → access_in (drop i accesses) id ≡ get_or accesses i d
 found_here accesses id i d l e = ap (λ xs. access_in xs id) (one_more accesses i d l) ∙ head_is (get_or accesses i d) (drop (i + 1) accesses) id e
 
-pub found_later : (accesses : List Access) (id : AccessId) (i : ℕ) (d : Access) → i < length accesses → (get_or accesses i d).id.0 ≢ id.0 → access_in (drop i accesses) id ≡ access_in (drop (i + 1) accesses) id
+pub found_later : (accesses : List Access) (id : AccessId) (i : ℕ) (d : Access) → i < length accesses → (get_or accesses i d).id.0 ≢ id.0
+    → access_in (drop i accesses) id ≡ access_in (drop (i + 1) accesses) id
 found_later accesses id i d l h = ap (λ xs. access_in xs id) (one_more accesses i d l) ∙ head_is_not (get_or accesses i d) (drop (i + 1) accesses) id h
 
 pub found_nowhere : (accesses : List Access) (id : AccessId) (i : ℕ) → length accesses ≤ i → (access_in (drop i accesses) id).bound ≡ 0
@@ -40,7 +44,8 @@ found_nowhere accesses id i l = ap (λ xs. (access_in xs id).bound) (drop_all i 
 rest_of : (a : Access) (accesses : List Access) → EachIdOnce (a ∷ accesses) → EachIdOnce accesses
 rest_of a accesses h i j d l m = h (suc i) (suc j) d (omega arith) (omega arith)
 
-pub found_at : (accesses : List Access) (id : AccessId) (i : ℕ) (d : Access) → EachIdOnce accesses → i < length accesses → (get_or accesses i d).id.0 ≡ id.0 → access_in accesses id ≡ get_or accesses i d
+pub found_at : (accesses : List Access) (id : AccessId) (i : ℕ) (d : Access) → EachIdOnce accesses → i < length accesses → (get_or accesses i d).id.0 ≡ id.0
+    → access_in accesses id ≡ get_or accesses i d
 found_at [] id i d once l e = absurd (omega (arith, l))
 found_at (a ∷ accesses) id zero d once l e = head_is a accesses id e
 found_at (a ∷ accesses) id (suc i) d once l e =

@@ -10,7 +10,8 @@ one_more : (steps : List DStep) (i : ℕ) (d : DStep) → i < length steps → d
 one_more steps i d l = drop-cons steps i d l ∙ ap (λ k. get_or steps i d ∷ drop k steps) (sym (add-one i))
 
 pub announced_step : (accesses : List Access) (steps : List DStep) (b i : ℕ) (d : DStep) → i < length steps
-    → announced accesses b (drop i steps) ≡ b * (access_in accesses (get_or steps i d).access).bound + announced accesses (size_after accesses b (get_or steps i d)) (drop (i + 1) steps)
+    → announced accesses b (drop i steps) ≡ b * (access_in accesses (get_or steps i d).access).bound + announced accesses
+    (size_after accesses b (get_or steps i d)) (drop (i + 1) steps)
 announced_step accesses steps b i d l = ap (announced accesses b) (one_more steps i d l)
 
 pub last_step : (accesses : List Access) (steps : List DStep) (b i : ℕ) (d : DStep) → i < length steps

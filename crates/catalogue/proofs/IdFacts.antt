@@ -32,12 +32,14 @@ parted accesses id rise i j d l h e =
     ]
 
 -- one with this id, wherever it stands, is the one that is found
-pub located_at : (accesses : List Access) (id : AccessId) (k : ℕ) (e : Access) → IdsRise accesses → k < length accesses → (get_or accesses k e).id.0 ≡ id.0 → Located accesses id k
+pub located_at : (accesses : List Access) (id : AccessId) (k : ℕ) (e : Access) → IdsRise accesses → k < length accesses → (get_or accesses k e).id.0 ≡ id.0
+    → Located accesses id k
 located_at accesses id k e rise h s =
     let found : find (λ a. a.id.0 == id.0) accesses ≡ Some (get_or accesses k e) =
     find_first (λ a. a.id.0 == id.0) accesses k e h (eq-eqb (get_or accesses k e).id.0 id.0 s)
     (λ j l. ne_eqb (get_or accesses j e).id.0 id.0 (λ q. absurd (omega (arith, rise j k e l h, q, s)))) in
-    let is : access_with_id accesses id ≡ get_or accesses k e = ap (λ o. unwrap_or o (record { id = id; name = []; table = record { 0 = 0 }; key = []; fetched = []; bound = 0 })) found in
+    let is : access_with_id accesses id ≡ get_or accesses k e = ap
+    (λ o. unwrap_or o (record { id = id; name = []; table = record { 0 = 0 }; key = []; fetched = []; bound = 0 })) found in
     record { within = h; found = λ d. get_or_default accesses k d e h ∙ sym is; has_id = ap (λ a. a.id.0) is ∙ s }
 
 pub located : (accesses : List Access) (id : AccessId) (place : ℕ) → IdsRise accesses → list_any (λ a. a.id.0 == id.0) accesses ≡ true

@@ -45,22 +45,26 @@ access_stays schema table a s = record {
 pub sound_with_table : (schema : Schema) (table : TableSchema) → MayMakeTable schema table → SchemaIsSound schema → SchemaIsSound (with schema table)
 sound_with_table schema table may s =
     let others : All (λ t. bytes_eq t.name table.name ≡ false) schema.tables =
-    position_none (λ t. bytes_eq t.name table.name) schema.tables (none_from_map (λ (i : ℕ). let id : TableId = record { 0 = i } in id) (position (λ t. bytes_eq t.name table.name) schema.tables) may.free) in
+    position_none (λ t. bytes_eq t.name table.name) schema.tables
+    (none_from_map (λ (i : ℕ). let id : TableId = record { 0 = i } in id) (position (λ t. bytes_eq t.name table.name) schema.tables) may.free) in
     record {
       few_tables = omega (arith, may.room, length-append schema.tables (table ∷ []));
       few_created = s.few_created;
       tables = All-push TableIsSound schema.tables table s.tables may.sound;
-      table_names_once = all_pairs_push (λ t u. t.name ≢ u.name) schema.tables table s.table_names_once (λ k d l. other_name (get_or schema.tables k d).name table.name (others k d l));
+      table_names_once = all_pairs_push (λ t u. t.name ≢ u.name) schema.tables table s.table_names_once
+          (λ k d l. other_name (get_or schema.tables k d).name table.name (others k d l));
       accesses = λ k d l. access_stays schema table (get_or schema.accesses k d) (s.accesses k d l);
       access_names_once = s.access_names_once;
       ids_rise = s.ids_rise;
     }
 
-pub kept_with_table : (schema : Schema) (table : TableSchema) (tn tn' ai : List ℕ → Option ℕ) (bt : List (List AccessId)) → MayMakeTable schema table → IsKept schema tn ai bt
+pub kept_with_table : (schema : Schema) (table : TableSchema) (tn tn' ai : List ℕ → Option ℕ) (bt : List (List AccessId)) → MayMakeTable schema table
+    → IsKept schema tn ai bt
     → ((q : List ℕ) → tn' q ≡ cond (bytes_eq table.name q) (Some (length schema.tables)) (tn q)) → IsKept (with schema table) tn' ai (bt ++ [] ∷ [])
 kept_with_table schema table tn tn' ai bt may k names = record {
   sound = sound_with_table schema table may k.sound;
-  tables_by_name = λ q. names q ∙ ap (cond (bytes_eq table.name q) (Some (length schema.tables))) (k.tables_by_name q) ∙ by q (bytes_eq table.name q) refl ∙ sym (position-push (λ t. bytes_eq t.name q) schema.tables table);
+  tables_by_name = λ q. names q ∙ ap (cond (bytes_eq table.name q) (Some (length schema.tables))) (k.tables_by_name q) ∙ by q (bytes_eq table.name q) refl
+      ∙ sym (position-push (λ t. bytes_eq t.name q) schema.tables table);
   accesses_by_name = k.accesses_by_name;
   table_count = length-append bt ([] ∷ []) ∙ ap (λ n. n + 1) k.table_count ∙ sym (length-append schema.tables (table ∷ []));
   ids_by_table = ids;
@@ -89,7 +93,8 @@ kept_with_table schema table tn tn' ai bt may k names = record {
 none_named : (schema : Schema) (name : List ℕ) → has_access schema name ≡ false → find (access_has_name name) schema.accesses ≡ None
 none_named schema name e = none_from_is_some (find (access_has_name name) schema.accesses) (is_some-find (access_has_name name) schema.accesses ∙ e)
 
-pub sound_with_access : (schema : Schema) (access : Access) → MayMakeAccess schema access → SchemaIsSound schema → SchemaIsSound (schema_with_access schema access)
+pub sound_with_access : (schema : Schema) (access : Access) → MayMakeAccess schema access → SchemaIsSound schema
+    → SchemaIsSound (schema_with_access schema access)
 sound_with_access schema access may s =
     let others = find_none (access_has_name access.name) schema.accesses (none_named schema access.name may.free) in
     let own : AccessIsSound (schema_with_access schema access) access = record { table = may.table; form = may.form; id = omega (arith, may.id) } in
@@ -105,7 +110,8 @@ sound_with_access schema access may s =
       ids_rise = all_pairs_push (λ a b. a.id.0 < b.id.0) schema.accesses access s.ids_rise (λ k d l. omega (arith, (s.accesses k d l).id, may.id));
     }
 
-pub kept_with_access : (schema : Schema) (access : Access) (tn ai ai' : List ℕ → Option ℕ) (bt : List (List AccessId)) → MayMakeAccess schema access → IsKept schema tn ai bt
+pub kept_with_access : (schema : Schema) (access : Access) (tn ai ai' : List ℕ → Option ℕ) (bt : List (List AccessId)) → MayMakeAccess schema access
+    → IsKept schema tn ai bt
     → ((q : List ℕ) → ai' q ≡ cond (bytes_eq access.name q) (Some access.id.0) (ai q))
     → IsKept (schema_with_access schema access) tn ai' (set bt access.table.0 (get_or bt access.table.0 [] ++ access.id ∷ []))
 kept_with_access schema access tn ai ai' bt may k names = record {
@@ -133,7 +139,8 @@ kept_with_access schema access tn ai ai' bt may k names = record {
         ap (map (λ a. a.id)) (filter-append (λ a. a.table.0 == n) schema.accesses (access ∷ []))
         ∙ map-append (λ a. a.id) (filter (λ a. a.table.0 == n) schema.accesses) (cond (access.table.0 == n) (access ∷ []) [])
 
-    ids : (n : ℕ) → n < length bt → get_or (set bt access.table.0 (get_or bt access.table.0 [] ++ access.id ∷ [])) n [] ≡ ids_on (schema.accesses ++ access ∷ []) n
+    ids : (n : ℕ) → n < length bt → get_or (set bt access.table.0 (get_or bt access.table.0 [] ++ access.id ∷ [])) n []
+        ≡ ids_on (schema.accesses ++ access ∷ []) n
     ids n h = elim (cases_eq n access.table.0) [
       | inl s ↦ let l : access.table.0 < length bt = omega (arith, h, s) in
           ap (λ m. get_or (set bt access.table.0 (get_or bt access.table.0 [] ++ access.id ∷ [])) m []) s
@@ -154,16 +161,19 @@ pub record IsDropped (accesses : List Access) (name : List ℕ) (id : AccessId) 
   pub has_name : dropped.name ≡ name
   pub has_id : dropped.id.0 ≡ id.0
 
-named_once : (schema : Schema) (name : List ℕ) (id : AccessId) (place : ℕ) (dropped : Access) → SchemaIsSound schema → IsDropped schema.accesses name id place dropped
+named_once : (schema : Schema) (name : List ℕ) (id : AccessId) (place : ℕ) (dropped : Access) → SchemaIsSound schema
+    → IsDropped schema.accesses name id place dropped
     → (k : ℕ) (d : Access) → k < length schema.accesses → k ≢ place → access_has_name name (get_or schema.accesses k d) ≡ false
 named_once schema name id place dropped s is k d l n = false_from_ne_true (access_has_name name (get_or schema.accesses k d)) (λ e.
-    let same : (get_or schema.accesses k d).name ≡ (get_or schema.accesses place d).name = same_name (get_or schema.accesses k d).name name e ∙ sym is.has_name ∙ ap (λ a. a.name) (sym (is.at d)) in
+    let same : (get_or schema.accesses k d).name ≡ (get_or schema.accesses place d).name = same_name (get_or schema.accesses k d).name name e ∙ sym is.has_name
+    ∙ ap (λ a. a.name) (sym (is.at d)) in
     elim (cases_order k place) [
       | inl q ↦ n q
       | inr t ↦ elim t [ inl b ↦ s.access_names_once k place d b is.within same | inr b ↦ s.access_names_once place k d b l (sym same) ]
     ])
 
-ids_once : (schema : Schema) (name : List ℕ) (id : AccessId) (place : ℕ) (dropped : Access) → SchemaIsSound schema → IsDropped schema.accesses name id place dropped
+ids_once : (schema : Schema) (name : List ℕ) (id : AccessId) (place : ℕ) (dropped : Access) → SchemaIsSound schema
+    → IsDropped schema.accesses name id place dropped
     → All (λ a. (a.id.0 == id.0) ≡ access_has_name name a) schema.accesses
 ids_once schema name id place dropped s is k d l = elim (cases_eq k place) [
   | inl q ↦
@@ -171,12 +181,14 @@ ids_once schema name id place dropped s is k d l = elim (cases_eq k place) [
       eq-eqb (get_or schema.accesses k d).id.0 id.0 (ap (λ a. a.id.0) here ∙ is.has_id)
       ∙ sym ((bytes_eq-Decides (get_or schema.accesses k d).name name).1 (ap (λ a. a.name) here ∙ is.has_name))
   | inr n ↦
-      ne_eqb (get_or schema.accesses k d).id.0 id.0 (λ e. n (one_place (λ a. a.id.0) schema.accesses k place d s.ids_rise l is.within (e ∙ sym is.has_id ∙ ap (λ a. a.id.0) (sym (is.at d)))))
+      ne_eqb (get_or schema.accesses k d).id.0 id.0 (λ e. n (one_place (λ a. a.id.0) schema.accesses k place d s.ids_rise l is.within
+      (e ∙ sym is.has_id ∙ ap (λ a. a.id.0) (sym (is.at d)))))
       ∙ sym (named_once schema name id place dropped s is k d l n)
 ]
 
 -- the filter by name takes out the one place
-pub without_is_remove : (schema : Schema) (name : List ℕ) (id : AccessId) (place : ℕ) (dropped : Access) → SchemaIsSound schema → IsDropped schema.accesses name id place dropped
+pub without_is_remove : (schema : Schema) (name : List ℕ) (id : AccessId) (place : ℕ) (dropped : Access) → SchemaIsSound schema
+    → IsDropped schema.accesses name id place dropped
     → filter (λ a. not (access_has_name name a)) schema.accesses ≡ remove schema.accesses place
 without_is_remove schema name id place dropped s is =
     filter_but_one (access_has_name name) schema.accesses place dropped is.within
@@ -197,23 +209,30 @@ sound_without schema name s = record {
 
 -- the ids of the constraints that are left
 ids_left : (p : Access → Bool) (id table : ℕ) (xs : List Access) → All (λ a. (a.id.0 == id) ≡ p a) xs
-    → filter (λ i. not (i.0 == id)) (map (λ a. a.id) (filter (λ a. a.table.0 == table) xs)) ≡ map (λ a. a.id) (filter (λ a. a.table.0 == table) (filter (λ a. not (p a)) xs))
+    → filter (λ i. not (i.0 == id)) (map (λ a. a.id) (filter (λ a. a.table.0 == table) xs))
+    ≡ map (λ a. a.id) (filter (λ a. a.table.0 == table) (filter (λ a. not (p a)) xs))
 ids_left p id table [] h = refl
 ids_left p id table (x ∷ xs) h = by (x.table.0 == table) refl (p x) refl (ids_left p id table xs (λ k d l. h (suc k) d (omega arith)))
   where
     by : (t : Bool) → (x.table.0 == table) ≡ t → (b : Bool) → p x ≡ b
-        → filter (λ i. not (i.0 == id)) (map (λ a. a.id) (filter (λ a. a.table.0 == table) xs)) ≡ map (λ a. a.id) (filter (λ a. a.table.0 == table) (filter (λ a. not (p a)) xs))
+        → filter (λ i. not (i.0 == id)) (map (λ a. a.id) (filter (λ a. a.table.0 == table) xs))
+        ≡ map (λ a. a.id) (filter (λ a. a.table.0 == table) (filter (λ a. not (p a)) xs))
         → filter (λ i. not (i.0 == id)) (map (λ a. a.id) (cond t (x ∷ filter (λ a. a.table.0 == table) xs) (filter (λ a. a.table.0 == table) xs)))
         ≡ map (λ a. a.id) (filter (λ a. a.table.0 == table) (cond (not b) (x ∷ filter (λ a. not (p a)) xs) (filter (λ a. not (p a)) xs)))
-    by true t true b g = ap (λ c. cond (not c) (x.id ∷ filter (λ i. not (i.0 == id)) (map (λ a. a.id) (filter (λ a. a.table.0 == table) xs))) (filter (λ i. not (i.0 == id)) (map (λ a. a.id) (filter (λ a. a.table.0 == table) xs)))) (h 0 x (omega arith) ∙ b) ∙ g
+    by true t true b g = ap (λ c. cond (not c) (x.id ∷ filter (λ i. not (i.0 == id)) (map (λ a. a.id) (filter (λ a. a.table.0 == table) xs)))
+        (filter (λ i. not (i.0 == id)) (map (λ a. a.id) (filter (λ a. a.table.0 == table) xs)))) (h 0 x (omega arith) ∙ b) ∙ g
     by true t false b g =
-        ap (λ c. cond (not c) (x.id ∷ filter (λ i. not (i.0 == id)) (map (λ a. a.id) (filter (λ a. a.table.0 == table) xs))) (filter (λ i. not (i.0 == id)) (map (λ a. a.id) (filter (λ a. a.table.0 == table) xs)))) (h 0 x (omega arith) ∙ b)
+        ap (λ c. cond (not c) (x.id ∷ filter (λ i. not (i.0 == id)) (map (λ a. a.id) (filter (λ a. a.table.0 == table) xs)))
+        (filter (λ i. not (i.0 == id)) (map (λ a. a.id) (filter (λ a. a.table.0 == table) xs)))) (h 0 x (omega arith) ∙ b)
         ∙ ap (λ is. x.id ∷ is) g
-        ∙ sym (ap (λ c. map (λ a. a.id) (cond c (x ∷ filter (λ a. a.table.0 == table) (filter (λ a. not (p a)) xs)) (filter (λ a. a.table.0 == table) (filter (λ a. not (p a)) xs)))) t)
+        ∙ sym (ap (λ c. map (λ a. a.id) (cond c (x ∷ filter (λ a. a.table.0 == table) (filter (λ a. not (p a)) xs))
+        (filter (λ a. a.table.0 == table) (filter (λ a. not (p a)) xs)))) t)
     by false t true b g = g
-    by false t false b g = g ∙ sym (ap (λ c. map (λ a. a.id) (cond c (x ∷ filter (λ a. a.table.0 == table) (filter (λ a. not (p a)) xs)) (filter (λ a. a.table.0 == table) (filter (λ a. not (p a)) xs)))) t)
+    by false t false b g = g ∙ sym (ap (λ c. map (λ a. a.id)
+        (cond c (x ∷ filter (λ a. a.table.0 == table) (filter (λ a. not (p a)) xs)) (filter (λ a. a.table.0 == table) (filter (λ a. not (p a)) xs)))) t)
 
-pub kept_without_access : (schema : Schema) (name : List ℕ) (id : AccessId) (place : ℕ) (dropped : Access) (tn ai ai' : List ℕ → Option ℕ) (bt : List (List AccessId))
+pub kept_without_access : (schema : Schema) (name : List ℕ) (id : AccessId) (place : ℕ) (dropped : Access) (tn ai ai' : List ℕ → Option ℕ)
+    (bt : List (List AccessId))
     → IsDropped schema.accesses name id place dropped → IsKept schema tn ai bt → ((q : List ℕ) → ai' q ≡ cond (bytes_eq name q) None (ai q))
     → IsKept (schema_without_access schema name) tn ai' (set bt dropped.table.0 (filter (λ i. not (i.0 == id.0)) (get_or bt dropped.table.0 [])))
 kept_without_access schema name id place dropped tn ai ai' bt is k names = record {
@@ -227,7 +246,8 @@ kept_without_access schema name id place dropped tn ai ai' bt is k names = recor
     by : (q : List ℕ) (b : Bool) → bytes_eq name q ≡ b
         → cond (bytes_eq name q) None (id_of_access_named schema.accesses q) ≡ id_of_access_named (filter (λ a. not (access_has_name name a)) schema.accesses) q
     by q true e = rw e (sym (ap (option_map (λ a. a.id.0))
-        (subst (λ n. find (access_has_name n) (filter (λ a. not (access_has_name name a)) schema.accesses) ≡ None) (same_name name q e) (find_filtered (access_has_name name) schema.accesses))))
+        (subst (λ n. find (access_has_name n) (filter (λ a. not (access_has_name name a)) schema.accesses) ≡ None) (same_name name q e)
+        (find_filtered (access_has_name name) schema.accesses))))
     by q false e = rw e (sym (ap (option_map (λ a. a.id.0)) (find_skips (access_has_name name) (access_has_name q) schema.accesses
         (λ a t. ap (λ n. bytes_eq n q) (same_name a.name name t) ∙ e))))
 
@@ -252,8 +272,10 @@ kept_without_access schema name id place dropped tn ai ai' bt is k names = recor
     ]
 
 -- the constraint with this name is the one with this id
-pub dropped_at : (schema : Schema) (name : List ℕ) (id : AccessId) (place : ℕ) (dropped : Access) → SchemaIsSound schema → id_of_access_named schema.accesses name ≡ Some id.0
-    → place < length schema.accesses → ((d : Access) → get_or schema.accesses place d ≡ dropped) → dropped.id.0 ≡ id.0 → IsDropped schema.accesses name id place dropped
+pub dropped_at : (schema : Schema) (name : List ℕ) (id : AccessId) (place : ℕ) (dropped : Access) → SchemaIsSound schema
+    → id_of_access_named schema.accesses name ≡ Some id.0
+    → place < length schema.accesses → ((d : Access) → get_or schema.accesses place d ≡ dropped) → dropped.id.0 ≡ id.0
+    → IsDropped schema.accesses name id place dropped
 dropped_at schema name id place dropped s e within at has_id =
     let m = some_from_map (λ a. a.id.0) (find (access_has_name name) schema.accesses) id.0 e in
     let f = find_some (access_has_name name) schema.accesses m.0 m.1 in
@@ -262,7 +284,8 @@ dropped_at schema name id place dropped s e within at has_id =
     let same : m.0 ≡ dropped = sym (f.at dropped) ∙ ap (λ j. get_or schema.accesses j dropped) here ∙ at dropped in
     record { within = within; at = at; has_name = ap (λ a. a.name) (sym same) ∙ same_name m.0.name name f.passes; has_id = has_id }
 
-pub live_where_named : (accesses : List Access) (name : List ℕ) (id : AccessId) → id_of_access_named accesses name ≡ Some id.0 → list_any (λ a. a.id.0 == id.0) accesses ≡ true
+pub live_where_named : (accesses : List Access) (name : List ℕ) (id : AccessId) → id_of_access_named accesses name ≡ Some id.0
+    → list_any (λ a. a.id.0 == id.0) accesses ≡ true
 live_where_named accesses name id e =
     let m = some_from_map (λ a. a.id.0) (find (access_has_name name) accesses) id.0 e in
     let f = find_some (access_has_name name) accesses m.0 m.1 in
@@ -276,5 +299,6 @@ pub dropped_here : (schema : Schema) (name : List ℕ) (id : AccessId) (place : 
 dropped_here schema name id place dropped lent items s e l i within found has_id is =
     let inside : place < length schema.accesses = subst (λ (xs : List Access). place < length xs) l within in
     let at = λ (d : Access). get_or_default schema.accesses place d dropped inside ∙ ap (λ xs. get_or xs place dropped) (sym i) ∙ sym is in
-    let own : dropped.id.0 ≡ id.0 = ap (λ a. a.id.0) (sym (at dropped)) ∙ ap (λ xs. (get_or xs place dropped).id.0) (sym l) ∙ ap (λ a. a.id.0) (found dropped) ∙ has_id in
+    let own : dropped.id.0 ≡ id.0 = ap (λ a. a.id.0) (sym (at dropped)) ∙ ap (λ xs. (get_or xs place dropped).id.0) (sym l) ∙ ap (λ a. a.id.0) (found dropped)
+    ∙ has_id in
     dropped_at schema name id place dropped s e inside at own

@@ -90,7 +90,8 @@ pub filter_skips : {X : Type 0} (p r : X → Bool) (xs : List X) → All (λ x. 
 filter_skips p r [] h = refl
 filter_skips {X} p r (x ∷ xs) h = by (p x) refl (filter_skips p r xs (λ k d l. h (suc k) d (omega arith)))
   where
-    by : (b : Bool) → p x ≡ b → filter r (filter (λ y. not (p y)) xs) ≡ filter r xs → filter r (cond (not b) (x ∷ filter (λ y. not (p y)) xs) (filter (λ y. not (p y)) xs)) ≡ filter r (x ∷ xs)
+    by : (b : Bool) → p x ≡ b → filter r (filter (λ y. not (p y)) xs) ≡ filter r xs
+        → filter r (cond (not b) (x ∷ filter (λ y. not (p y)) xs) (filter (λ y. not (p y)) xs)) ≡ filter r (x ∷ xs)
     by true t g = g ∙ sym (ap (λ c. cond c (x ∷ filter r xs) (filter r xs)) (h 0 x (omega arith) t))
     by false t g = ap (λ ys. cond (r x) (x ∷ ys) ys) g
 
@@ -98,7 +99,8 @@ pub find_skips : {X : Type 0} (p r : X → Bool) (xs : List X) → ((x : X) → 
 find_skips p r [] h = refl
 find_skips {X} p r (x ∷ xs) h = by (p x) refl (find_skips p r xs h)
   where
-    by : (b : Bool) → p x ≡ b → find r (filter (λ y. not (p y)) xs) ≡ find r xs → find r (cond (not b) (x ∷ filter (λ y. not (p y)) xs) (filter (λ y. not (p y)) xs)) ≡ find r (x ∷ xs)
+    by : (b : Bool) → p x ≡ b → find r (filter (λ y. not (p y)) xs) ≡ find r xs
+        → find r (cond (not b) (x ∷ filter (λ y. not (p y)) xs) (filter (λ y. not (p y)) xs)) ≡ find r (x ∷ xs)
     by true t g = g ∙ sym (ap (λ c. cond c (Some x) (find r xs)) (h x t))
     by false t g = ap (λ o. cond (r x) (Some x) o) g
 
@@ -106,7 +108,8 @@ pub find_filtered : {X : Type 0} (p : X → Bool) (xs : List X) → find p (filt
 find_filtered p [] = refl
 find_filtered {X} p (x ∷ xs) = by (p x) refl (find_filtered p xs)
   where
-    by : (b : Bool) → p x ≡ b → find p (filter (λ y. not (p y)) xs) ≡ None → find p (cond (not b) (x ∷ filter (λ y. not (p y)) xs) (filter (λ y. not (p y)) xs)) ≡ None
+    by : (b : Bool) → p x ≡ b → find p (filter (λ y. not (p y)) xs) ≡ None
+        → find p (cond (not b) (x ∷ filter (λ y. not (p y)) xs) (filter (λ y. not (p y)) xs)) ≡ None
     by true t g = g
     by false t g = ap (λ c. cond c (Some x) (find p (filter (λ y. not (p y)) xs))) t ∙ g
 
@@ -116,13 +119,15 @@ position_from-push p i [] y = ap (λ n. cond (p y) (Some n) None) (omega arith)
 position_from-push {X} p i (x ∷ xs) y = by (p x) (position_from-push p (i + 1) xs y)
   where
     by : (b : Bool) → position_from p (i + 1) (xs ++ y ∷ []) ≡ option_or (position_from p (i + 1) xs) (cond (p y) (Some ((i + 1) + length xs)) None)
-        → cond b (Some i) (position_from p (i + 1) (xs ++ y ∷ [])) ≡ option_or (cond b (Some i) (position_from p (i + 1) xs)) (cond (p y) (Some (i + length (x ∷ xs))) None)
+        → cond b (Some i) (position_from p (i + 1) (xs ++ y ∷ []))
+        ≡ option_or (cond b (Some i) (position_from p (i + 1) xs)) (cond (p y) (Some (i + length (x ∷ xs))) None)
     by true g = refl
     by false g =
         let n : (i + 1) + length xs ≡ i + length (x ∷ xs) = omega arith in
         g ∙ ap (λ m. option_or (position_from p (i + 1) xs) (cond (p y) (Some m) None)) n
 
-pub position-push : {X : Type 0} (p : X → Bool) (xs : List X) (y : X) → position p (xs ++ y ∷ []) ≡ option_or (position p xs) (cond (p y) (Some (length xs)) None)
+pub position-push : {X : Type 0} (p : X → Bool) (xs : List X) (y : X)
+    → position p (xs ++ y ∷ []) ≡ option_or (position p xs) (cond (p y) (Some (length xs)) None)
 position-push p xs y =
     position_from-zero p (xs ++ y ∷ []) ∙ position_from-push p 0 xs y
     ∙ ap (λ n. option_or (position_from p 0 xs) (cond (p y) (Some n) None)) (zero-add (length xs))

@@ -39,10 +39,12 @@ none_from_is_some' (Some x) e = cc
 pub names_differ : (names : List (List ℕ)) → first_repeated names ≡ None → AllPairs (λ a b. a ≢ b) names
 names_differ names e i j d b h same =
     let entries = enumerate_from 0 names in
-    let stood = find_none (λ n. list_any (bytes_eq n.1) (take n.0 names)) entries (none_from_map (λ n. n.1) (find (λ n. list_any (bytes_eq n.1) (take n.0 names)) entries) e) in
+    let stood = find_none (λ n. list_any (bytes_eq n.1) (take n.0 names)) entries
+    (none_from_map (λ n. n.1) (find (λ n. list_any (bytes_eq n.1) (take n.0 names)) entries) e) in
     let long : j < length entries = omega (arith, h, length-enumerate_from 0 names) in
     let none : list_any (bytes_eq (get_or names j d)) (take j names) ≡ false =
-    ap (λ n. list_any (bytes_eq n.1) (take n.0 names)) (sym (get_or-enumerate_from 0 names j (0, d) h ∙ ap (λ m. (m, get_or names j d)) (zero-add j))) ∙ stood j (0, d) long in
+    ap (λ n. list_any (bytes_eq n.1) (take n.0 names)) (sym (get_or-enumerate_from 0 names j (0, d) h ∙ ap (λ m. (m, get_or names j d)) (zero-add j)))
+    ∙ stood j (0, d) long in
     let within : i < length (take j names) = omega (arith, b, h, length-take j names) in
     let there : get_or (take j names) i d ≡ get_or names j d = get_or-take j names i d b ∙ same in
     true≢false (sym (list_any_at (bytes_eq (get_or names j d)) (take j names) i d within
@@ -84,7 +86,8 @@ has_column columns name e = by (nat_lt (position_or_len (λ c. bytes_eq c.name n
     place = position_or_len (λ c. bytes_eq c.name name) columns
 
     by : (b : Bool) → nat_lt (position_or_len (λ c. bytes_eq c.name name) columns) (length columns) ≡ b
-        → is_none (option_map (λ (i : ℕ). let id : ColumnId = record { 0 = i } in id) (cond b (Some (position_or_len (λ c. bytes_eq c.name name) columns)) None)) ≡ false → HasColumn columns name
+        → is_none (option_map (λ (i : ℕ). let id : ColumnId = record { 0 = i } in id)
+        (cond b (Some (position_or_len (λ c. bytes_eq c.name name) columns)) None)) ≡ false → HasColumn columns name
     by true t f = record {
       within = ltb-true (position_or_len (λ c. bytes_eq c.name name) columns) (length columns) t;
       named = λ d. (bytes_eq-Decides _ name).0 (position-Some (λ c. bytes_eq c.name name) columns (position_or_len (λ c. bytes_eq c.name name) columns) d
@@ -92,12 +95,15 @@ has_column columns name e = by (nat_lt (position_or_len (λ c. bytes_eq c.name n
     }
     by false t f = absurd (true≢false f)
 
-known : (columns : List Column) (names : List (List ℕ)) → unknown_column columns names ≡ None → (i : ℕ) (d : List ℕ) → i < length names → HasColumn columns (get_or names i d)
-known columns names e i d h = has_column columns (get_or names i d) (find_none (no_such_column columns) names (none_from_map (UnknownColumn None) (find (no_such_column columns) names) e) i d h)
+known : (columns : List Column) (names : List (List ℕ)) → unknown_column columns names ≡ None → (i : ℕ) (d : List ℕ) → i < length names
+    → HasColumn columns (get_or names i d)
+known columns names e i d h = has_column columns (get_or names i d)
+    (find_none (no_such_column columns) names (none_from_map (UnknownColumn None) (find (no_such_column columns) names) e) i d h)
 
 ids_at : (columns : List Column) (names : List (List ℕ)) (i : ℕ) (d : ColumnId) (e : List ℕ) → i < length names
     → (get_or (column_ids columns names) i d).0 ≡ position_or_len (λ c. bytes_eq c.name (get_or names i e)) columns
-ids_at columns names i d e h = ap (λ c. c.0) (get_or-map (λ n. let id : ColumnId = record { 0 = position_or_len (λ c. bytes_eq c.name n) columns } in id) names i e d h)
+ids_at columns names i d e h = ap (λ c. c.0) (get_or-map (λ n. let id : ColumnId = record { 0 = position_or_len (λ c. bytes_eq c.name n) columns } in id) names
+    i e d h)
 
 length-ids : (columns : List Column) (names : List (List ℕ)) → length (column_ids columns names) ≡ length names
 length-ids columns names = length-map names (λ n. let id : ColumnId = record { 0 = position_or_len (λ c. bytes_eq c.name n) columns } in id)
@@ -111,7 +117,8 @@ ids_within columns names e i d h =
 no_column : Column
 no_column = record { name = []; kind = Integer }
 
-ids_once : (columns : List Column) (names : List (List ℕ)) → unknown_column columns names ≡ None → repeated_name names ≡ None → EachOnce (column_ids columns names)
+ids_once : (columns : List Column) (names : List (List ℕ)) → unknown_column columns names ≡ None → repeated_name names ≡ None
+    → EachOnce (column_ids columns names)
 ids_once columns names e r i j d b h same =
     let l : j < length names = omega (arith, h, length-ids columns names) in
     let k : i < length names = omega (arith, b, l) in
@@ -135,18 +142,22 @@ and_right false b e = absurd (true≢false (sym e))
 bound_is_some : (b : Bool) (v : ℕ) → b ≡ true → unwrap_or (if b then Some v else None) 0 ≡ v
 bound_is_some b v e = rw e
 
-known_table : (schema : Schema) (name : List ℕ) → unknown_table schema name ≡ None → (unwrap_or (table_named schema name) (record { 0 = 0 })).0 < length schema.tables
+known_table : (schema : Schema) (name : List ℕ) → unknown_table schema name ≡ None
+    → (unwrap_or (table_named schema name) (record { 0 = 0 })).0 < length schema.tables
 known_table schema name e =
     by (nat_lt (position_or_len (λ t. bytes_eq t.name name) schema.tables) (length schema.tables)) refl (not_refused _ _ e)
   where
     by : (b : Bool) → nat_lt (position_or_len (λ t. bytes_eq t.name name) schema.tables) (length schema.tables) ≡ b
-        → is_none (option_map (λ (i : ℕ). let id : TableId = record { 0 = i } in id) (cond b (Some (position_or_len (λ t. bytes_eq t.name name) schema.tables)) None)) ≡ false
-        → (unwrap_or (option_map (λ (i : ℕ). let id : TableId = record { 0 = i } in id) (cond b (Some (position_or_len (λ t. bytes_eq t.name name) schema.tables)) None)) (record { 0 = 0 })).0 < length schema.tables
+        → is_none (option_map (λ (i : ℕ). let id : TableId = record { 0 = i } in id)
+        (cond b (Some (position_or_len (λ t. bytes_eq t.name name) schema.tables)) None)) ≡ false
+        → (unwrap_or (option_map (λ (i : ℕ). let id : TableId = record { 0 = i } in id)
+        (cond b (Some (position_or_len (λ t. bytes_eq t.name name) schema.tables)) None)) (record { 0 = 0 })).0 < length schema.tables
     by true t f = ltb-true (position_or_len (λ t. bytes_eq t.name name) schema.tables) (length schema.tables) t
     by false t f = absurd (true≢false f)
 
 -- a constraint whose making isn't refused can be made
-pub may_make_access : (limits : Limits) (schema : Schema) (spec : AccessSpec) → admit_refusal limits schema spec ≡ None → 1 ≤ length spec.fetched → limits.constraints ≤ 65536
+pub may_make_access : (limits : Limits) (schema : Schema) (spec : AccessSpec) → admit_refusal limits schema spec ≡ None → 1 ≤ length spec.fetched
+    → limits.constraints ≤ 65536
     → MayMakeAccess schema (admitted schema spec)
 may_make_access limits schema spec e some few =
     let columns = columns_of_named schema spec.table in

@@ -16,7 +16,8 @@ stood_before names n = list_any (bytes_eq n.1) (take n.0 names)
 abbrev pub repeated_from : List (List ℕ) → ℕ → Option (List ℕ)
 repeated_from names i = option_map (λ n. n.1) (find (stood_before names) (drop i (enumerate_from 0 names)))
 
-at : (names : List (List ℕ)) (i : ℕ) (d : List ℕ) → i < length names → drop i (enumerate_from 0 names) ≡ (i, get_or names i d) ∷ drop (suc i) (enumerate_from 0 names)
+at : (names : List (List ℕ)) (i : ℕ) (d : List ℕ) → i < length names
+    → drop i (enumerate_from 0 names) ≡ (i, get_or names i d) ∷ drop (suc i) (enumerate_from 0 names)
 at names i d h =
     let long : i < length (enumerate_from 0 names) = rw (length-enumerate_from 0 names) h in
     drop-cons (enumerate_from 0 names) i (0, d) long

@@ -43,7 +43,8 @@ impl Model for Catalogue {
     ghost view = { λ s. record { tables = s.tables.items; accesses = s.accesses; created = s.created } };
 
     ghost invariant = { λ s. IsKept (record { tables = s.tables.items; accesses = s.accesses; created = s.created })
-        (get_by_text s.table_numbers.numbers) (get_by_text s.access_ids.numbers) (map (λ ids. ids.items) s.by_table.items) };
+        (get_by_text s.table_numbers.numbers) (get_by_text s.access_ids.numbers)
+        (map (λ ids. ids.items) s.by_table.items) };
 }
 
 impl Catalogue {
@@ -108,7 +109,8 @@ impl Catalogue {
     pub fn place(&self, id: AccessId) -> usize
         requires { IsTrue (list_any (λ a. a.id.0 == id.0) self.now.accesses) }
         ensures within { result < length self.now.accesses }
-        ensures found { (d : Constraint) → slice_index_or self.now.accesses result d ≡ access_with_id self.now.accesses id }
+        ensures found { (d : Constraint) → slice_index_or self.now.accesses result d
+            ≡ access_with_id self.now.accesses id }
         ensures has_id { (access_with_id self.now.accesses id).id.0 ≡ id.0 }
         ensures sound { SchemaIsSound self.now }
     {
@@ -263,7 +265,8 @@ impl Catalogue {
     pub fn place_named(&self, name: &Name) -> Option<usize>
         ensures named { is_some result ≡ has_access self.now name.now }
         ensures within { IfSome result (λ place. place < length self.now.accesses) }
-        ensures only { IfSome result (λ place. (schema_without_access self.now name.now).accesses ≡ list_remove self.now.accesses place) }
+        ensures only { IfSome result (λ place. (schema_without_access self.now name.now).accesses
+            ≡ list_remove self.now.accesses place) }
     {
         let id = self.access_named(name)?;
         let accesses = self.accesses.as_slice();
@@ -320,7 +323,8 @@ impl Catalogue {
         ensures table { IfOk result (λ found. table_named self.now table.now ≡ Some found.0) }
         ensures live { IfOk result (λ found. found.0.0 < length self.now.tables) }
         ensures key { IfOk result (λ found. found.1 ≡ column_ids (columns_of_named self.now table.now) key.now) }
-        ensures fetched { IfOk result (λ found. found.2 ≡ column_ids (columns_of_named self.now table.now) fetched.now) }
+        ensures fetched { IfOk result (λ found. found.2
+            ≡ column_ids (columns_of_named self.now table.now) fetched.now) }
     {
         let id = self.known_table(alloc, table)?;
         let columns = self.columns(id).as_slice();
@@ -368,7 +372,8 @@ impl Catalogue {
     }
 
     fn refuse_one_too_many(&self, limits: &Limits) -> Result<(), Fail>
-        ensures { IsRefusedAs result (refused_if (nat_le limits.now.constraints self.now.created) (Refusal.TooMany OfConstraints limits.now.constraints)) }
+        ensures { IsRefusedAs result (refused_if (nat_le limits.now.constraints self.now.created)
+            (Refusal.TooMany OfConstraints limits.now.constraints)) }
     {
         if self.created >= limits.constraints {
             return Err(Fail::Refused(Refusal::TooMany {

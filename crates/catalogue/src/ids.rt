@@ -34,7 +34,8 @@ pub fn reserve_in(lists: &mut Vec<Vec<AccessId>>, at: usize) -> Result<(), NoMem
     requires { at < vec_len lists.old }
     ensures same { map (λ ids. ids.items) lists.new.items ≡ map (λ ids. ids.items) lists.old.items }
     ensures len { vec_len lists.new ≡ vec_len lists.old }
-    ensures room { OnOk result ((d : Ids) → vec_len (slice_index_or lists.new.items at d) < vec_capacity (slice_index_or lists.new.items at d)) }
+    ensures room { OnOk result ((d : Ids) → vec_len (slice_index_or lists.new.items at d) < vec_capacity
+        (slice_index_or lists.new.items at d)) }
 {
     let ids = &mut lists[at];
     ids.reserve(1)?;
@@ -44,9 +45,11 @@ pub fn reserve_in(lists: &mut Vec<Vec<AccessId>>, at: usize) -> Result<(), NoMem
 /// Adds an id at the end of one of the lists, in the room that is there.
 pub fn push_in(lists: &mut Vec<Vec<AccessId>>, at: usize, id: AccessId)
     requires within { at < vec_len lists.old }
-    requires room { (d : Ids) → vec_len (slice_index_or lists.old.items at d) < vec_capacity (slice_index_or lists.old.items at d) }
+    requires room { (d : Ids) → vec_len (slice_index_or lists.old.items at d) < vec_capacity
+        (slice_index_or lists.old.items at d) }
     ensures { map (λ ids. ids.items) lists.new.items
-        ≡ slice_set (map (λ ids. ids.items) lists.old.items) at (slice_index_or (map (λ ids. ids.items) lists.old.items) at [] ++ id ∷ []) }
+        ≡ slice_set (map (λ ids. ids.items) lists.old.items) at
+        (slice_index_or (map (λ ids. ids.items) lists.old.items) at [] ++ id ∷ []) }
 {
     push_in_room(&mut lists[at], id);
 }
@@ -55,7 +58,8 @@ pub fn push_in(lists: &mut Vec<Vec<AccessId>>, at: usize, id: AccessId)
 pub fn remove_in(lists: &mut Vec<Vec<AccessId>>, at: usize, id: AccessId)
     requires { at < vec_len lists.old }
     ensures { map (λ ids. ids.items) lists.new.items
-        ≡ slice_set (map (λ ids. ids.items) lists.old.items) at (filter (λ i. not (i.0 == id.0)) (slice_index_or (map (λ ids. ids.items) lists.old.items) at [])) }
+        ≡ slice_set (map (λ ids. ids.items) lists.old.items) at
+        (filter (λ i. not (i.0 == id.0)) (slice_index_or (map (λ ids. ids.items) lists.old.items) at [])) }
 {
     let ids = &mut lists[at];
     ids.retain(|other| other.0 != id.0);

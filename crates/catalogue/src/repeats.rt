@@ -11,6 +11,7 @@ pub trait Named {
     /// Its name.
     ghost name_of: { Self → List ℕ };
 
+    /// The name, lent.
     fn name(&self) -> &Name
         ensures { result.now ≡ name_of self.now };
 }

@@ -44,7 +44,7 @@ args_of-parsed app words rows same faultless matched =
     let found = subst (λ (a : App). is_simple a ≡ true → rows ≡ matches_of a words) same matched beas-simple in
     ap₂ unless_faulty none (ap args_in (sym found))
 
--- a parse that fails, and not for want of memory, refuses the words
+-- a parse that fails, and not because it is out of memory, refuses the words
 pub args_of-failed : (app : App) (words : List Text) (why : Error) → app ≡ beas → (is_simple_and_free app ≡ true → HasKind (fault_of app words) why)
     → ¬ (kind_of why ≡ OutOfMemory) → args_of words ≡ None
 unfolding args_of
@@ -61,7 +61,8 @@ abbrev is_refusal : Usage → Bool
 is_refusal Refused = true
 is_refusal NoMemory = false
 
--- what becomes a refusal is no want of memory
+-- what becomes a refusal is not out of memory
 pub refused-other : (why : Error) (r : Result Args Usage) → IsErrAnd r (λ e. e ≡ NoMemory ↔ kind_of why ≡ OutOfMemory) → r ≡ Err Refused
     → ¬ (kind_of why ≡ OutOfMemory)
-refused-other why r gives refused memory = true≢false (ap is_refusal ((subst (λ r. IsErrAnd r (λ e. e ≡ NoMemory ↔ kind_of why ≡ OutOfMemory)) refused gives).1 memory))
+refused-other why r gives refused memory = true≢false (ap is_refusal
+    ((subst (λ r. IsErrAnd r (λ e. e ≡ NoMemory ↔ kind_of why ≡ OutOfMemory)) refused gives).1 memory))

@@ -43,7 +43,8 @@ fn run_asked(
     explain: bool,
 ) -> Result<Args, Usage>
     ensures taken { IfOk result (λ args.
-        run_asked (option_map (λ s. s.now) script.entry) (option_map (λ s. s.now) demo.entry) budget explain ≡ Some args) }
+        run_asked (option_map (λ s. s.now) script.entry) (option_map (λ s. s.now) demo.entry) budget explain
+        ≡ Some args) }
     ensures refused { result ≡ Err Usage.Refused
         → run_asked (option_map (λ s. s.now) script.entry) (option_map (λ s. s.now) demo.entry) budget explain ≡ None }
 {

@@ -73,7 +73,8 @@ group_same xs ys key fetched value m =
 
 greatest_same-le : (xs ys : List (List Value)) (key fetched : List ColumnId) → SameMembers xs ys → greatest xs key fetched ≤ greatest ys key fetched
 greatest_same-le xs ys key fetched m =
-    greatest-le xs key fetched (greatest ys key fetched) (λ value. omega (arith, ap length (group_same xs ys key fetched value m), group_le-greatest ys key fetched value))
+    greatest-le xs key fetched (greatest ys key fetched) (λ value. omega
+    (arith, ap length (group_same xs ys key fetched value m), group_le-greatest ys key fetched value))
 
 pub same_from_permutation : {K : Type 0} (xs ys : List K) → IsPermutation xs ys → SameMembers xs ys
 same_from_permutation xs ys p y = (

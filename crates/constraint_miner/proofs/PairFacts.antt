@@ -48,13 +48,16 @@ module _ {R : Type 0} (f g : R → List Value) (key fetched own rest : List Colu
       → map (project (own ++ rest)) (filter (λ row. same_row (project own row) value) (map f rows))
       ≡ map (project (key ++ fetched)) (filter (λ row. same_row (project key row) value) (map g rows))
   tuples_same [] value = refl
-  tuples_same (r ∷ rs) value = by (same_row (project own (f r)) value) (same_row (project key (g r)) value) (ap (λ k. same_row k value) (keys r)) (tuples_same rs value)
+  tuples_same (r ∷ rs) value = by (same_row (project own (f r)) value) (same_row (project key (g r)) value) (ap (λ k. same_row k value) (keys r))
+      (tuples_same rs value)
     where
       by : (a b : Bool) → a ≡ b
           → map (project (own ++ rest)) (filter (λ row. same_row (project own row) value) (map f rs))
           ≡ map (project (key ++ fetched)) (filter (λ row. same_row (project key row) value) (map g rs))
-          → map (project (own ++ rest)) (cond a (f r ∷ filter (λ row. same_row (project own row) value) (map f rs)) (filter (λ row. same_row (project own row) value) (map f rs)))
-          ≡ map (project (key ++ fetched)) (cond b (g r ∷ filter (λ row. same_row (project key row) value) (map g rs)) (filter (λ row. same_row (project key row) value) (map g rs)))
+          → map (project (own ++ rest)) (cond a (f r ∷ filter (λ row. same_row (project own row) value) (map f rs))
+          (filter (λ row. same_row (project own row) value) (map f rs)))
+          ≡ map (project (key ++ fetched)) (cond b (g r ∷ filter (λ row. same_row (project key row) value) (map g rs))
+          (filter (λ row. same_row (project key row) value) (map g rs)))
       by true true e h = let t = tuples r in cc
       by true false e h = cc
       by false true e h = cc
@@ -80,18 +83,21 @@ pub pair_size : {P : Type 0} (row_of : P → List Value) (tuples : List P) (rows
     → greatest (map row_of tuples) (record { 0 = 0 } ∷ []) (record { 0 = 1 } ∷ []) ≡ greatest (map (λ row. row.now) rows) (first ∷ []) (second ∷ [])
 pair_size row_of tuples rows first second e =
     ap (λ all. greatest all (record { 0 = 0 } ∷ []) (record { 0 = 1 } ∷ [])) e
-    ∙ greatest_seen (λ row. project (first ∷ second ∷ []) row.now) (λ row. row.now) (first ∷ []) (second ∷ []) (record { 0 = 0 } ∷ []) (record { 0 = 1 } ∷ []) (λ row. refl) (λ row. refl) rows
+    ∙ greatest_seen (λ row. project (first ∷ second ∷ []) row.now) (λ row. row.now) (first ∷ []) (second ∷ []) (record { 0 = 0 } ∷ []) (record { 0 = 1 } ∷ [])
+    (λ row. refl) (λ row. refl) rows
 
 pub pair_within : (rows : List (List Value)) (limit : ℕ) (first second : ColumnId) (most : ℕ) → most ≡ greatest rows (first ∷ []) (second ∷ [])
     → (first.0 == second.0) ≡ false → most ≤ limit → Some (first, second, most) ≡ pair_in rows limit first second
 pair_within rows limit first second most e n l =
     ap (λ b. cond b (Some (first, second, most)) None) (sym (le-leb most limit l))
     ∙ ap (λ m. cond (nat_le m limit) (Some (first, second, m)) None) e
-    ∙ ap (λ b. cond b None (cond (nat_le (greatest rows (first ∷ []) (second ∷ [])) limit) (Some (first, second, greatest rows (first ∷ []) (second ∷ []))) None)) (sym n)
+    ∙ ap (λ b. cond b None (cond (nat_le (greatest rows (first ∷ []) (second ∷ [])) limit) (Some (first, second, greatest rows (first ∷ []) (second ∷ [])))
+    None)) (sym n)
 
 pub pair_above : (rows : List (List Value)) (limit : ℕ) (first second : ColumnId) (most : ℕ) → most ≡ greatest rows (first ∷ []) (second ∷ [])
     → (first.0 == second.0) ≡ false → limit < most → None ≡ pair_in rows limit first second
 pair_above rows limit first second most e n l =
     ap (λ b. cond b (Some (first, second, most)) None) (sym (lt-leb most limit l))
     ∙ ap (λ m. cond (nat_le m limit) (Some (first, second, m)) None) e
-    ∙ ap (λ b. cond b None (cond (nat_le (greatest rows (first ∷ []) (second ∷ [])) limit) (Some (first, second, greatest rows (first ∷ []) (second ∷ []))) None)) (sym n)
+    ∙ ap (λ b. cond b None (cond (nat_le (greatest rows (first ∷ []) (second ∷ [])) limit) (Some (first, second, greatest rows (first ∷ []) (second ∷ [])))
+    None)) (sym n)

@@ -152,7 +152,8 @@ module _ (key fetched : List ColumnId) where
   new_tuple front before row below next differ =
       ap length (group_push_own front key fetched row)
       ∙ ap (λ g. length (add_in_order row_cmp (tuple row) g)) (sym (append-nil (members front row)))
-      ∙ ap length (add_between row_cmp_total row_cmp_tells (tuple row) (members front row) [] (all_from (λ t. row_cmp t (tuple row) ≡ Less) (members front row) less) tt)
+      ∙ ap length (add_between row_cmp_total row_cmp_tells (tuple row) (members front row) []
+      (all_from (λ t. row_cmp t (tuple row) ≡ Less) (members front row) less) tt)
       ∙ length-append (members front row) (tuple row ∷ [])
     where
       less : (t : Row) → Has (members front row) t → row_cmp t (tuple row) ≡ Less
@@ -165,7 +166,8 @@ module _ (key fetched : List ColumnId) where
       let P : List Value → Type 0 = λ k. Has (group front key fetched k) (tuple before) in
       let h = subst (Has (members front row)) tuples (subst P same (member_of_row front before last)) in
       ap length (group_push_own front key fetched row)
-      ∙ ap length (add_known row_cmp_total row_cmp_tells (tuple row) (members front row) (IsInOrder-distinct row_cmp_total row_cmp_tells (map tuple (filter (λ r. same_row (project key r) (project key row)) front))) h)
+      ∙ ap length (add_known row_cmp_total row_cmp_tells (tuple row) (members front row)
+      (IsInOrder-distinct row_cmp_total row_cmp_tells (map tuple (filter (λ r. same_row (project key r) (project key row)) front))) h)
 
   first_tuple : (front : List Row) (row : Row) → members front row ≡ [] → own front row ≡ 1
   first_tuple front row none = ap length (group_push_own front key fetched row) ∙ ap (λ g. length (add_in_order row_cmp (tuple row) g)) none
@@ -226,7 +228,11 @@ module _ (key fetched : List ColumnId) where
       let one = first_tuple [] row refl in
       goes_on rows (row ∷ []) row 1 1 record {
         last = inl refl;
-        below = λ r g. elim g [ inl e ↦ ap (λ t. is_lt (row_cmp (tuple row) (tuple t))) e ∙ ap is_lt (tied_itself row_cmp_total (tuple row)) | inr n ↦ absurd n ];
+        below = λ r g. elim g [
+          | inl e ↦ ap (λ t. is_lt (row_cmp (tuple row) (tuple t))) e
+              ∙ ap is_lt (tied_itself row_cmp_total (tuple row))
+          | inr n ↦ absurd n
+        ];
         size_is = sym one;
         most_is = let g = greatest_push [] row key fetched in omega (arith, g, one);
       } up

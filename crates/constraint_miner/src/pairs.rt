@@ -99,7 +99,8 @@ fn pairs_of(
 ) -> Result<Vec<Pair>, NoMemory>
     requires { length rows.now < 2 ^ 32 }
     ensures { IfOk result (λ found. found.items
-        ≡ flat_map (λ first. filter_map (pair_in (map (λ row. row.now) rows.now) limit first) columns.now) columns.now) }
+        ≡ flat_map
+        (λ first. filter_map (pair_in (map (λ row. row.now) rows.now) limit first) columns.now) columns.now) }
 {
     let mut tuples = Vec::with_capacity(alloc, rows.len())?;
     let mut found = Vec::new(alloc);

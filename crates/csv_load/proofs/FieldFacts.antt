@@ -98,12 +98,14 @@ ascii_from_integer field h = by (starts_with_minus field) refl ((get_or field 0 
     by : (b : Bool) → starts_with_minus field ≡ b → (p : Bool) → ((get_or field 0 0) == 43) ≡ p → IsAscii field
     by true e p d =
         let first = eqb-true (get_or field 0 0) 45 e in
-        ascii_after field (omega (arith, first)) (ascii_from_digits (drop 1 field) (ap (λ b. all_ascii_digits (cond b (drop 1 field) (without_leading_plus field))) (sym e) ∙ h))
+        ascii_after field (omega (arith, first)) (ascii_from_digits (drop 1 field)
+        (ap (λ b. all_ascii_digits (cond b (drop 1 field) (without_leading_plus field))) (sym e) ∙ h))
     by false e true d =
         let first = eqb-true (get_or field 0 0) 43 d in
         ascii_after field (omega (arith, first))
         (ascii_from_digits (drop 1 field)
-        (ap all_ascii_digits (sym (without_leading_plus_plus field first)) ∙ ap (λ b. all_ascii_digits (cond b (drop 1 field) (without_leading_plus field))) (sym e) ∙ h))
+        (ap all_ascii_digits (sym (without_leading_plus_plus field first))
+        ∙ ap (λ b. all_ascii_digits (cond b (drop 1 field) (without_leading_plus field))) (sym e) ∙ h))
     by false e false d =
         ascii_from_digits field
         (ap all_ascii_digits (sym (without_leading_plus_none field (eqb-false (get_or field 0 0) 43 d)))
@@ -114,7 +116,8 @@ no_integer field n = by (is_integer field) refl
   where
     by : (b : Bool) → is_integer field ≡ b → cond b (Some (signed_digits_value 10 field)) None ≡ None
     by true e =
-        let t = and_true (all_ascii_digits (without_leading_sign field)) (nat_le 1 (length (without_leading_sign field))) (nat_le (digits_value 10 (without_leading_sign field)) (greatest_digits field)) e in
+        let t = and_true (all_ascii_digits (without_leading_sign field)) (nat_le 1 (length (without_leading_sign field)))
+        (nat_le (digits_value 10 (without_leading_sign field)) (greatest_digits field)) e in
         let u = is_utf8-from_IsUtf8 field (IsUtf8-from_ascii field (ascii_from_integer field t.0)) in
         cc
     by false e = refl

@@ -25,7 +25,8 @@ places_at p fields i b l e =
     ∙ ap (λ t. cond t (i ∷ places p fields (i + 1)) (places p fields (i + 1))) test
   where
     by : (t : Bool)
-        → map (λ (q : ℕ × List ℕ). q.0) (cond t ((i, get_or fields i []) ∷ filter (λ q. p q.1) (enumerate_from (i + 1) (drop (i + 1) fields))) (filter (λ q. p q.1) (enumerate_from (i + 1) (drop (i + 1) fields))))
+        → map (λ (q : ℕ × List ℕ). q.0) (cond t ((i, get_or fields i []) ∷ filter (λ q. p q.1) (enumerate_from (i + 1) (drop (i + 1) fields)))
+        (filter (λ q. p q.1) (enumerate_from (i + 1) (drop (i + 1) fields))))
         ≡ cond t (i ∷ places p fields (i + 1)) (places p fields (i + 1))
     by true = refl
     by false = refl
@@ -51,11 +52,13 @@ module _ {Y : Type 0} (f : List ℕ → Option Y) (fields : List (List ℕ)) (i 
   gives x o e h = ap (option_and_then f) (sym e) ∙ h
 
   pub given_all : (y : Y) → option_and_then f (slice_get fields i) ≡ Some y
-      → (list_all (λ x. is_some (f x)) (drop (i + 1) fields) ≡ list_all (λ x. is_some (f x)) (drop i fields)) × (filter_map f (drop i fields) ≡ y ∷ filter_map f (drop (i + 1) fields))
+      → (list_all (λ x. is_some (f x)) (drop (i + 1) fields) ≡ list_all (λ x. is_some (f x)) (drop i fields))
+      × (filter_map f (drop i fields) ≡ y ∷ filter_map f (drop (i + 1) fields))
   given_all y h = by (slice_get fields i) refl h
     where
       by : (o : Option (List ℕ)) → slice_get fields i ≡ o → option_and_then f o ≡ Some y
-          → (list_all (λ x. is_some (f x)) (drop (i + 1) fields) ≡ list_all (λ x. is_some (f x)) (drop i fields)) × (filter_map f (drop i fields) ≡ y ∷ filter_map f (drop (i + 1) fields))
+          → (list_all (λ x. is_some (f x)) (drop (i + 1) fields) ≡ list_all (λ x. is_some (f x)) (drop i fields))
+          × (filter_map f (drop i fields) ≡ y ∷ filter_map f (drop (i + 1) fields))
       by None e g = cc
       by (Some x) e g = let d = drop_got fields i x e in (rw (d, g) refl, rw (d, g) refl)
 

@@ -61,11 +61,14 @@ next_takes cfg s fields field [] p e = by (ends_at_end s) e
         record { some = omega (arith, one_more fields field); rest = inr (refl, refl, omega (arith, one_more fields field)) }
     by false h = cc
 next_takes cfg s fields field (c ∷ rest) p e =
-    by (is_end (step cfg s c).1) refl e (next_takes cfg (step cfg s c).0 (fields_after (step cfg s c).1 fields field) (field_after (step cfg s c).1 c field) rest p)
+    by (is_end (step cfg s c).1) refl e (next_takes cfg (step cfg s c).0 (fields_after (step cfg s c).1 fields field) (field_after (step cfg s c).1 c field)
+    rest p)
   where
     by : (b : Bool) → is_end (step cfg s c).1 ≡ b
-        → cond b (Some (fields_after (step cfg s c).1 fields field, (step cfg s c).0, rest)) (next_record cfg (step cfg s c).0 (fields_after (step cfg s c).1 fields field) (field_after (step cfg s c).1 c field) rest) ≡ Some p
-        → (next_record cfg (step cfg s c).0 (fields_after (step cfg s c).1 fields field) (field_after (step cfg s c).1 c field) rest ≡ Some p → Takes (length (fields_after (step cfg s c).1 fields field)) (length rest) p)
+        → cond b (Some (fields_after (step cfg s c).1 fields field, (step cfg s c).0, rest))
+        (next_record cfg (step cfg s c).0 (fields_after (step cfg s c).1 fields field) (field_after (step cfg s c).1 c field) rest) ≡ Some p
+        → (next_record cfg (step cfg s c).0 (fields_after (step cfg s c).1 fields field) (field_after (step cfg s c).1 c field) rest ≡ Some p
+        → Takes (length (fields_after (step cfg s c).1 fields field)) (length rest) p)
         → Takes (length fields) (length (c ∷ rest)) p
     by true d h more =
         let n = ended (step cfg s c).1 fields field d in
@@ -191,7 +194,8 @@ pending_is reader h = by reader.bom_checked h
   where
     by : (b : Bool) → b ≡ true
         → cond (has_failed reader) None (buffered_of (rest_of reader.rdr) reader)
-        ≡ cond (has_failed reader) None (cond (not b && (reader.at == 0) && (reader.filled == 0)) (option_map strip_bom (rest_of reader.rdr)) (buffered_of (rest_of reader.rdr) reader))
+        ≡ cond (has_failed reader) None (cond (not b && (reader.at == 0) && (reader.filled == 0)) (option_map strip_bom (rest_of reader.rdr))
+        (buffered_of (rest_of reader.rdr) reader))
     by true e = refl
     by false e = cc
 

@@ -57,10 +57,12 @@ module _ (longest : ℕ) (columns : List Column) (fields : Record) (i : ℕ) (co
           ∙ sym (ap (λ xs. found (zip (drop i columns) xs)) none.0 ∙ ap found (zip-nil (drop i columns)))
       by (Some field) e true h =
           ap found (there field e)
-          ∙ ap (λ t. option_map (λ (p : Column × List ℕ). p.0) (cond t (Some (column, field)) (find (λ p. not (is_some (cell longest p.0.kind p.1))) (zip (drop (i + 1) columns) (drop (i + 1) fields))))) h
+          ∙ ap (λ t. option_map (λ (p : Column × List ℕ). p.0)
+          (cond t (Some (column, field)) (find (λ p. not (is_some (cell longest p.0.kind p.1))) (zip (drop (i + 1) columns) (drop (i + 1) fields))))) h
       by (Some field) e false h = sym (
           ap found (there field e)
-          ∙ ap (λ t. option_map (λ (p : Column × List ℕ). p.0) (cond t (Some (column, field)) (find (λ p. not (is_some (cell longest p.0.kind p.1))) (zip (drop (i + 1) columns) (drop (i + 1) fields))))) h)
+          ∙ ap (λ t. option_map (λ (p : Column × List ℕ). p.0)
+          (cond t (Some (column, field)) (find (λ p. not (is_some (cell longest p.0.kind p.1))) (zip (drop (i + 1) columns) (drop (i + 1) fields))))) h)
 
 -- a row by its slots
 row_by_slots : (longest : ℕ) (columns : List Column) (header fields : Record)

@@ -63,7 +63,8 @@ length-dine state n below =
     let a = digits (n / 5) (omega (person, below, arith)) in
     let b = digits (drawn state (2 * n) % 500) (omega arith) in
     let c = digits (1 + drawn state (2 * n + 1) % 12) (omega arith) in
-    let j = length-joined (codes "(" ∷ decimal (n / 5) ∷ codes ", " ∷ decimal (drawn state (2 * n) % 500) ∷ codes ", 2015, " ∷ decimal (1 + drawn state (2 * n + 1) % 12) ∷ codes ")" ∷ []) in
+    let j = length-joined (codes "(" ∷ decimal (n / 5) ∷ codes ", " ∷ decimal (drawn state (2 * n) % 500) ∷ codes ", 2015, " ∷ decimal
+    (1 + drawn state (2 * n + 1) % 12) ∷ codes ")" ∷ []) in
     omega arith
 
 length-query : (person month city : ℕ) → person < 10 ^ 5 → month < 10 ^ 5 → city < 10 ^ 5 → length (query_text person month city) ≤ 900

@@ -11,7 +11,8 @@ no_rows row = refl
 
 spaced-more : (x : List ℕ) (xs : List (List ℕ)) (y : List ℕ) → spaced (x ∷ xs ++ y ∷ []) ≡ spaced (x ∷ xs) ++ (codes ", " ++ y)
 spaced-more x xs y =
-    ap (λ (after : List ℕ). x ++ after) (flat_map-append (λ other. codes ", " ++ other) xs (y ∷ []) ∙ ap (λ (last : List ℕ). flat_map (λ other. codes ", " ++ other) xs ++ last) (append-nil (codes ", " ++ y)))
+    ap (λ (after : List ℕ). x ++ after) (flat_map-append (λ other. codes ", " ++ other) xs (y ∷ [])
+    ∙ ap (λ (last : List ℕ). flat_map (λ other. codes ", " ++ other) xs ++ last) (append-nil (codes ", " ++ y)))
     ∙ sym (append_assoc x (flat_map (λ other. codes ", " ++ other) xs) (codes ", " ++ y))
 
 pub one_row : (row : ℕ → List ℕ) (n : ℕ) → rows_text row (n + 1) ≡ rows_text row n ++ (separator n ++ row n)

@@ -51,7 +51,8 @@ bridged_same a b x y e = grind (arith, nat_tests)
 bridged_apart : (a b x y low high : ℕ) → ((low ≡ a) × (high ≡ b)) ⊎ ((low ≡ b) × (high ≡ a)) → (replaced high low x == replaced high low y) ≡ bridged a b x y
 bridged_apart a b x y low high e = grind (arith, nat_tests)
 
-module _ (atoms : List Atom) (es : List (Place × Place)) (e : Place × Place) (labels : List ℕ) (are : AreLabels atoms es labels) (left : IsPlace atoms e.0) (right : IsPlace atoms e.1) where
+module _ (atoms : List Atom) (es : List (Place × Place)) (e : Place × Place) (labels : List ℕ) (are : AreLabels atoms es labels) (left : IsPlace atoms e.0)
+    (right : IsPlace atoms e.1) where
   inside : (p : Place) → IsPlace atoms p → place_number atoms p < length labels
   inside p h = let g = number_below atoms p h in omega (arith, are.count)
 
@@ -63,9 +64,12 @@ module _ (atoms : List Atom) (es : List (Place × Place)) (e : Place × Place) (
       let h = are.joins e.1 q right hq in
       let i = are.joins p e.1 hp right in
       let j = are.joins e.0 q left hq in
-      ap (λ b. b || ((label_of atoms labels p == label_of atoms labels e.0) && (label_of atoms labels e.1 == label_of atoms labels q)) || ((label_of atoms labels p == label_of atoms labels e.1) && (label_of atoms labels e.0 == label_of atoms labels q))) f
-      ∙ ap (λ b. is_joined es p q || (b && (label_of atoms labels e.1 == label_of atoms labels q)) || ((label_of atoms labels p == label_of atoms labels e.1) && (label_of atoms labels e.0 == label_of atoms labels q))) g
-      ∙ ap (λ b. is_joined es p q || (is_joined es p e.0 && b) || ((label_of atoms labels p == label_of atoms labels e.1) && (label_of atoms labels e.0 == label_of atoms labels q))) h
+      ap (λ b. b || ((label_of atoms labels p == label_of atoms labels e.0) && (label_of atoms labels e.1 == label_of atoms labels q))
+      || ((label_of atoms labels p == label_of atoms labels e.1) && (label_of atoms labels e.0 == label_of atoms labels q))) f
+      ∙ ap (λ b. is_joined es p q || (b && (label_of atoms labels e.1 == label_of atoms labels q))
+      || ((label_of atoms labels p == label_of atoms labels e.1) && (label_of atoms labels e.0 == label_of atoms labels q))) g
+      ∙ ap (λ b. is_joined es p q || (is_joined es p e.0 && b)
+      || ((label_of atoms labels p == label_of atoms labels e.1) && (label_of atoms labels e.0 == label_of atoms labels q))) h
       ∙ ap (λ b. is_joined es p q || (is_joined es p e.0 && is_joined es e.1 q) || (b && (label_of atoms labels e.0 == label_of atoms labels q))) i
       ∙ ap (λ b. is_joined es p q || (is_joined es p e.0 && is_joined es e.1 q) || (is_joined es p e.1 && b)) j
 
@@ -73,10 +77,12 @@ module _ (atoms : List Atom) (es : List (Place × Place)) (e : Place × Place) (
   same_step same = record {
     count = are.count;
     firsts = are.firsts;
-    joins = λ p q hp hq. bridged_same (label_of atoms labels e.0) (label_of atoms labels e.1) (label_of atoms labels p) (label_of atoms labels q) same ∙ bridge p q hp hq;
+    joins = λ p q hp hq. bridged_same (label_of atoms labels e.0) (label_of atoms labels e.1) (label_of atoms labels p) (label_of atoms labels q) same
+        ∙ bridge p q hp hq;
   }
 
-  module _ (low high : ℕ) (order : low < high) (which : ((low ≡ label_of atoms labels e.0) × (high ≡ label_of atoms labels e.1)) ⊎ ((low ≡ label_of atoms labels e.1) × (high ≡ label_of atoms labels e.0))) where
+  module _ (low high : ℕ) (order : low < high) (which : ((low ≡ label_of atoms labels e.0) × (high ≡ label_of atoms labels e.1))
+      ⊎ ((low ≡ label_of atoms labels e.1) × (high ≡ label_of atoms labels e.0))) where
     abbrev new : List ℕ
     new = map (replaced high low) labels
 
@@ -140,7 +146,8 @@ module _ (atoms : List Atom) (es : List (Place × Place)) (e : Place × Place) (
     }
 
 -- the labels are relabelled where an equality is between two classes
-pub labels_apart : (atoms : List Atom) (es : List (Place × Place)) (e : Place × Place) (labels new : List ℕ) (a b : ℕ) → AreLabels atoms es labels → IsPlace atoms e.0 → IsPlace atoms e.1
+pub labels_apart : (atoms : List Atom) (es : List (Place × Place)) (e : Place × Place) (labels new : List ℕ) (a b : ℕ) → AreLabels atoms es labels
+    → IsPlace atoms e.0 → IsPlace atoms e.1
     → a ≡ label_of atoms labels e.0 → b ≡ label_of atoms labels e.1 → a ≢ b → new ≡ map (replaced (max a b) (min a b)) labels → AreLabels atoms (e ∷ es) new
 labels_apart atoms es e labels new a b are left right ea eb apart en = subst (AreLabels atoms (e ∷ es)) (sym en) (by (a < b) (b < a) (λ h. h) (λ h. h) order)
   where
@@ -166,12 +173,14 @@ labels_apart atoms es e labels new a b are left right ea eb apart en = subst (Ar
         let low : min a b ≡ b = omega arith in
         apart_step atoms es e labels are left right (min a b) (max a b) (omega arith) (inr (low ∙ eb, high ∙ ea))
 
-pub labels_same : (atoms : List Atom) (es : List (Place × Place)) (e : Place × Place) (labels : List ℕ) (a b : ℕ) → AreLabels atoms es labels → IsPlace atoms e.0 → IsPlace atoms e.1
+pub labels_same : (atoms : List Atom) (es : List (Place × Place)) (e : Place × Place) (labels : List ℕ) (a b : ℕ) → AreLabels atoms es labels
+    → IsPlace atoms e.0 → IsPlace atoms e.1
     → a ≡ label_of atoms labels e.0 → b ≡ label_of atoms labels e.1 → a ≡ b → AreLabels atoms (e ∷ es) labels
 labels_same atoms es e labels a b are left right ea eb same = same_step atoms es e labels are left right (sym ea ∙ same ∙ eb)
 
 -- the equalities that were walked over, the last first
-pub walked_more : (walked : List (Bor (Place × Place))) (next : Bor (Place × Place)) → reverse (map (λ e. e.now) (walked ++ next ∷ [])) ≡ next.now ∷ reverse (map (λ e. e.now) walked)
+pub walked_more : (walked : List (Bor (Place × Place))) (next : Bor (Place × Place))
+    → reverse (map (λ e. e.now) (walked ++ next ∷ [])) ≡ next.now ∷ reverse (map (λ e. e.now) walked)
 walked_more walked next = ap reverse (map-append (λ e. e.now) walked (next ∷ [])) ∙ reverse-append (map (λ e. e.now) walked) (next.now ∷ [])
 
 -- what a slice that was written through leaves in its vector
@@ -179,7 +188,8 @@ pub written : {A : Type 0} (new old : List A) (n : ℕ) → length new ≡ n →
 written new old n e = take-append-le n new (drop (length new) old) (omega arith) ∙ ap (λ k. take k new) (sym e) ∙ take-length new
 
 pub labels_walked : (atoms : List Atom) (walked : List (Bor (Place × Place))) (next : Bor (Place × Place)) (old before new : List ℕ) (n : ℕ)
-    → ((es : List (Place × Place)) → AreLabels atoms es before → AreLabels atoms (next.now ∷ es) new) → AreLabels atoms (reverse (map (λ e. e.now) walked)) old → before ≡ old → length new ≡ n
+    → ((es : List (Place × Place)) → AreLabels atoms es before → AreLabels atoms (next.now ∷ es) new) → AreLabels atoms (reverse (map (λ e. e.now) walked)) old
+    → before ≡ old → length new ≡ n
     → AreLabels atoms (reverse (map (λ e. e.now) (walked ++ next ∷ []))) (take n (new ++ drop (length new) old))
 labels_walked atoms walked next old before new n step are same len =
     subst (λ es. AreLabels atoms es (take n (new ++ drop (length new) old))) (sym (walked_more walked next))
@@ -196,12 +206,14 @@ module _ (same : Place → Place → Bool) (f : Place → ℕ) where
   first_among (p ∷ ps) q (inl e) = inl e
   first_among (p ∷ ps) q (inr h) = inr (first_among ps q (Has-from_filter (λ r. not (same p r)) (firsts same ps) q h).0)
 
-  map_filter : (p : Place) (qs : List Place) → ((q : Place) → Has qs q → same p q ≡ (f p == f q)) → map f (filter (λ q. not (same p q)) qs) ≡ filter (λ y. not (f p == y)) (map f qs)
+  map_filter : (p : Place) (qs : List Place) → ((q : Place) → Has qs q → same p q ≡ (f p == f q))
+      → map f (filter (λ q. not (same p q)) qs) ≡ filter (λ y. not (f p == y)) (map f qs)
   map_filter p [] h = refl
   map_filter p (q ∷ qs) h = by (same p q) (f p == f q) (h q (inl refl)) (map_filter p qs (λ r m. h r (inr m)))
     where
       by : (b c : Bool) → b ≡ c → map f (filter (λ r. not (same p r)) qs) ≡ filter (λ y. not (f p == y)) (map f qs)
-          → map f (cond (not b) (q ∷ filter (λ r. not (same p r)) qs) (filter (λ r. not (same p r)) qs)) ≡ cond (not c) (f q ∷ filter (λ y. not (f p == y)) (map f qs)) (filter (λ y. not (f p == y)) (map f qs))
+          → map f (cond (not b) (q ∷ filter (λ r. not (same p r)) qs) (filter (λ r. not (same p r)) qs))
+          ≡ cond (not c) (f q ∷ filter (λ y. not (f p == y)) (map f qs)) (filter (λ y. not (f p == y)) (map f qs))
       by true true e g = g
       by true false e g = cc
       by false true e g = cc
@@ -213,7 +225,8 @@ module _ (same : Place → Place → Bool) (f : Place → ℕ) where
       ap (λ ys. f p ∷ ys) (map_filter p (firsts same ps) (λ q m. h p q (inl refl) (inr (first_among ps q m)))
       ∙ ap (filter (λ y. not (f p == y))) (map_firsts ps (λ q r m n. h q r (inr m) (inr n))))
 
-  position_same : (qs : List Place) (p : Place) → ((q : Place) → Has qs q → same q p ≡ (f q == f p)) → position_or_len (λ q. same q p) qs ≡ position_or_len (λ y. y == f p) (map f qs)
+  position_same : (qs : List Place) (p : Place) → ((q : Place) → Has qs q → same q p ≡ (f q == f p))
+      → position_or_len (λ q. same q p) qs ≡ position_or_len (λ y. y == f p) (map f qs)
   position_same [] p h = refl
   position_same (q ∷ qs) p h =
       ap (λ b. cond (not b) (1 + position_or_len (λ q. same q p) qs) 0) (h q (inl refl))
@@ -245,7 +258,8 @@ module _ (block : Block) (labels : List ℕ) (are : AreLabels block.atoms block.
       let n = number_below block.atoms p h in
       get_or-map (rank labels) labels (place_number block.atoms p) 0 0 (omega (arith, are.count))
       ∙ sym (position_same (is_joined block.equalities) (label_of block.atoms labels) (leaders block) p
-      (λ q m. sym (are.joins q p (places_are block.atoms q (first_among (is_joined block.equalities) (label_of block.atoms labels) (places_of block.atoms) q m)) h))
+      (λ q m. sym (are.joins q p (places_are block.atoms q (first_among (is_joined block.equalities) (label_of block.atoms labels) (places_of block.atoms) q m))
+      h))
       ∙ ap (position_or_len (λ y. y == label_of block.atoms labels p)) leading)
 
   pub count_by_label : length (heads labels) ≡ length (leaders block)

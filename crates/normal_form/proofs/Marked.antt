@@ -38,7 +38,8 @@ length_marked atoms used ps = length-with used (map (place_number atoms) ps)
 
 pub marked_append : (atoms : List Atom) (used : List Bool) (ps qs : List Place) → marked atoms used (ps ++ qs) ≡ marked atoms (marked atoms used ps) qs
 unfolding marked
-marked_append atoms used ps qs = ap (with_classes used) (map-append (place_number atoms) ps qs) ∙ with_classes-append used (map (place_number atoms) ps) (map (place_number atoms) qs)
+marked_append atoms used ps qs = ap (with_classes used) (map-append (place_number atoms) ps qs)
+    ∙ with_classes-append used (map (place_number atoms) ps) (map (place_number atoms) qs)
 
 pub marked_nil : (atoms : List Atom) (used : List Bool) → marked atoms used [] ≡ used
 unfolding marked
@@ -48,7 +49,8 @@ pub marked_one : (atoms : List Atom) (used : List Bool) (p : Place) → marked a
 unfolding marked
 marked_one atoms used p = refl
 
-pub flat_map_more : {A B : Type 0} (f : A → List B) (xs : List A) (i : ℕ) (d : A) → i < length xs → flat_map f (take (i + 1) xs) ≡ flat_map f (take i xs) ++ f (get_or xs i d)
+pub flat_map_more : {A B : Type 0} (f : A → List B) (xs : List A) (i : ℕ) (d : A) → i < length xs
+    → flat_map f (take (i + 1) xs) ≡ flat_map f (take i xs) ++ f (get_or xs i d)
 flat_map_more f xs i d l = ap (λ k. flat_map f (take k xs)) (add-one i) ∙ ap (flat_map f) (take-suc xs i d l) ∙ pushed (take i xs) (get_or xs i d)
   where
     pushed : (ys : List _) (y : _) → flat_map f (ys ++ y ∷ []) ≡ flat_map f ys ++ f y
@@ -62,28 +64,33 @@ pushed xs ys new x y e f g = e ∙ ap (λ zs. zs ++ x ∷ []) f ∙ ap (λ z. ys
 -- one more mark, at a step of a loop
 pub marked_more : (atoms : List Atom) (used : List Bool) (ps : List Place) (i : ℕ) (d : Place) → i < length ps
     → marked atoms (marked atoms used (take i ps)) (get_or ps i d ∷ []) ≡ marked atoms used (take (i + 1) ps)
-marked_more atoms used ps i d l = sym (marked_append atoms used (take i ps) (get_or ps i d ∷ [])) ∙ ap (marked atoms used) (sym (ap (λ k. take k ps) (add-one i) ∙ take-suc ps i d l))
+marked_more atoms used ps i d l = sym (marked_append atoms used (take i ps) (get_or ps i d ∷ []))
+    ∙ ap (marked atoms used) (sym (ap (λ k. take k ps) (add-one i) ∙ take-suc ps i d l))
 
 pub marked_firsts : (atoms : List Atom) (used : List Bool) (cs : List (Place × Value)) (i : ℕ) (d : Place × Value) → i < length cs
     → marked atoms (marked atoms used (map (λ c. c.0) (take i cs))) ((get_or cs i d).0 ∷ []) ≡ marked atoms used (map (λ c. c.0) (take (i + 1) cs))
 marked_firsts atoms used cs i d l = sym (marked_append atoms used (map (λ c. c.0) (take i cs)) ((get_or cs i d).0 ∷ []))
-    ∙ ap (marked atoms used) (sym (ap (λ k. map (λ c. c.0) (take k cs)) (add-one i) ∙ ap (map (λ c. c.0)) (take-suc cs i d l) ∙ map-append (λ c. c.0) (take i cs) (get_or cs i d ∷ [])))
+    ∙ ap (marked atoms used) (sym (ap (λ k. map (λ c. c.0) (take k cs)) (add-one i) ∙ ap (map (λ c. c.0)) (take-suc cs i d l)
+    ∙ map-append (λ c. c.0) (take i cs) (get_or cs i d ∷ [])))
 
 pub marked_pairs : (atoms : List Atom) (used : List Bool) (es : List (Place × Place)) (i : ℕ) (d : Place × Place) → i < length es
-    → marked atoms (marked atoms (marked atoms used (flat_map (λ e. e.0 ∷ e.1 ∷ []) (take i es))) ((get_or es i d).0 ∷ [])) ((get_or es i d).1 ∷ []) ≡ marked atoms used (flat_map (λ e. e.0 ∷ e.1 ∷ []) (take (i + 1) es))
+    → marked atoms (marked atoms (marked atoms used (flat_map (λ e. e.0 ∷ e.1 ∷ []) (take i es))) ((get_or es i d).0 ∷ [])) ((get_or es i d).1 ∷ [])
+    ≡ marked atoms used (flat_map (λ e. e.0 ∷ e.1 ∷ []) (take (i + 1) es))
 marked_pairs atoms used es i d l =
     sym (marked_append atoms (marked atoms used (flat_map (λ e. e.0 ∷ e.1 ∷ []) (take i es))) ((get_or es i d).0 ∷ []) ((get_or es i d).1 ∷ []))
     ∙ sym (marked_append atoms used (flat_map (λ e. e.0 ∷ e.1 ∷ []) (take i es)) ((get_or es i d).0 ∷ (get_or es i d).1 ∷ []))
     ∙ ap (marked atoms used) (sym (flat_map_more (λ e. e.0 ∷ e.1 ∷ []) es i d l))
 
 pub marked_sides : (atoms : List Atom) (used : List Bool) (cs : List Comparison) (i : ℕ) (d : Comparison) → i < length cs
-    → marked atoms (marked atoms used (flat_map (λ c. c.left ∷ operand_places c.right) (take i cs))) ((get_or cs i d).left ∷ operand_places (get_or cs i d).right) ≡ marked atoms used (flat_map (λ c. c.left ∷ operand_places c.right) (take (i + 1) cs))
+    → marked atoms (marked atoms used (flat_map (λ c. c.left ∷ operand_places c.right) (take i cs)))
+    ((get_or cs i d).left ∷ operand_places (get_or cs i d).right) ≡ marked atoms used (flat_map (λ c. c.left ∷ operand_places c.right) (take (i + 1) cs))
 marked_sides atoms used cs i d l =
     sym (marked_append atoms used (flat_map (λ c. c.left ∷ operand_places c.right) (take i cs)) ((get_or cs i d).left ∷ operand_places (get_or cs i d).right))
     ∙ ap (marked atoms used) (sym (flat_map_more (λ c. c.left ∷ operand_places c.right) cs i d l))
 
 -- one more column, and one more atom
-pub class_list_more : (atoms : List Atom) (classes : List ℕ) (atom n : ℕ) → class_list atoms classes atom (n + 1) ≡ class_list atoms classes atom n ++ get_or classes (place_number atoms (place_at atom n)) 0 ∷ []
+pub class_list_more : (atoms : List Atom) (classes : List ℕ) (atom n : ℕ)
+    → class_list atoms classes atom (n + 1) ≡ class_list atoms classes atom n ++ get_or classes (place_number atoms (place_at atom n)) 0 ∷ []
 class_list_more atoms classes atom n = map-range_with_len_more (λ c. get_or classes (place_number atoms (place_at atom c)) 0) 0 n n (zero-add n)
 
 pub range_more : (n : ℕ) → range_with_len 0 (n + 1) ≡ range_with_len 0 n ++ n ∷ []
@@ -97,11 +104,13 @@ abbrev column : ℕ → ColumnId
 column c = record { 0 = c }
 
 pub used_list_more : (atoms : List Atom) (used : List Bool) (atom n : ℕ)
-    → used_list atoms used atom (n + 1) ≡ used_list atoms used atom n ++ cond (get_or used (place_number atoms (place_at atom n)) false) (record { 0 = n } ∷ []) []
+    → used_list atoms used atom (n + 1) ≡ used_list atoms used atom n ++ cond (get_or used (place_number atoms (place_at atom n)) false) (record { 0 = n } ∷ [])
+    []
 used_list_more atoms used atom n =
     ap (λ ns. map column (filter (λ c. get_or used (place_number atoms (place_at atom c)) false) ns)) (range_more n)
     ∙ ap (map column) (filter-append (λ c. get_or used (place_number atoms (place_at atom c)) false) (range_with_len 0 n) (n ∷ []))
-    ∙ map-append column (filter (λ c. get_or used (place_number atoms (place_at atom c)) false) (range_with_len 0 n)) (cond (get_or used (place_number atoms (place_at atom n)) false) (n ∷ []) [])
+    ∙ map-append column (filter (λ c. get_or used (place_number atoms (place_at atom c)) false) (range_with_len 0 n))
+    (cond (get_or used (place_number atoms (place_at atom n)) false) (n ∷ []) [])
     ∙ ap (λ cs. used_list atoms used atom n ++ cs) (by (get_or used (place_number atoms (place_at atom n)) false))
   where
     by : (b : Bool) → map column (cond b (n ∷ []) []) ≡ cond b (record { 0 = n } ∷ []) []
@@ -110,13 +119,16 @@ used_list_more atoms used atom n =
 
 pub used_more_true : (atoms : List Atom) (used : List Bool) (atom n k : ℕ) → k ≡ place_number atoms (place_at atom n) → get_or used k false ≡ true
     → used_list atoms used atom (n + 1) ≡ used_list atoms used atom n ++ record { 0 = n } ∷ []
-used_more_true atoms used atom n k e h = used_list_more atoms used atom n ∙ ap (λ b. used_list atoms used atom n ++ cond b (column n ∷ []) []) (ap (λ m. get_or used m false) (sym e) ∙ h)
+used_more_true atoms used atom n k e h = used_list_more atoms used atom n
+    ∙ ap (λ b. used_list atoms used atom n ++ cond b (column n ∷ []) []) (ap (λ m. get_or used m false) (sym e) ∙ h)
 
 pub used_more_false : (atoms : List Atom) (used : List Bool) (atom n k : ℕ) → k ≡ place_number atoms (place_at atom n) → get_or used k false ≡ false
     → used_list atoms used atom (n + 1) ≡ used_list atoms used atom n
-used_more_false atoms used atom n k e h = used_list_more atoms used atom n ∙ ap (λ b. used_list atoms used atom n ++ cond b (column n ∷ []) []) (ap (λ m. get_or used m false) (sym e) ∙ h) ∙ append-nil (used_list atoms used atom n)
+used_more_false atoms used atom n k e h = used_list_more atoms used atom n
+    ∙ ap (λ b. used_list atoms used atom n ++ cond b (column n ∷ []) []) (ap (λ m. get_or used m false) (sym e) ∙ h) ∙ append-nil (used_list atoms used atom n)
 
-enumerated_more : {A B : Type 0} (f : ℕ × A → B) (xs : List A) (i : ℕ) (d : A) → i < length xs → map f (take (i + 1) (enumerate_from 0 xs)) ≡ map f (take i (enumerate_from 0 xs)) ++ f (i, get_or xs i d) ∷ []
+enumerated_more : {A B : Type 0} (f : ℕ × A → B) (xs : List A) (i : ℕ) (d : A) → i < length xs
+    → map f (take (i + 1) (enumerate_from 0 xs)) ≡ map f (take i (enumerate_from 0 xs)) ++ f (i, get_or xs i d) ∷ []
 enumerated_more f xs i d l =
     ap (λ k. map f (take k (enumerate_from 0 xs))) (add-one i)
     ∙ ap (map f) (take-suc (enumerate_from 0 xs) i (i, d) (subst (λ n. i < n) (sym (length-enumerate_from 0 xs)) l))
@@ -127,17 +139,21 @@ enumerated_all : {A B : Type 0} (f : ℕ × A → B) (xs : List A) → map f (ta
 enumerated_all f xs = ap (λ n. map f (take n (enumerate_from 0 xs))) (sym (length-enumerate_from 0 xs)) ∙ ap (map f) (take-length (enumerate_from 0 xs))
 
 pub class_lists_more : (atoms : List Atom) (classes : List ℕ) (i : ℕ) (d : Atom) → i < length atoms
-    → map (λ a. class_list atoms classes a.0 a.1.width) (take (i + 1) (enumerate_from 0 atoms)) ≡ map (λ a. class_list atoms classes a.0 a.1.width) (take i (enumerate_from 0 atoms)) ++ class_list atoms classes i (get_or atoms i d).width ∷ []
+    → map (λ a. class_list atoms classes a.0 a.1.width) (take (i + 1) (enumerate_from 0 atoms))
+    ≡ map (λ a. class_list atoms classes a.0 a.1.width) (take i (enumerate_from 0 atoms)) ++ class_list atoms classes i (get_or atoms i d).width ∷ []
 class_lists_more atoms classes i d l = enumerated_more (λ a. class_list atoms classes a.0 a.1.width) atoms i d l
 
-pub class_lists_all : (atoms : List Atom) (classes : List ℕ) → map (λ a. class_list atoms classes a.0 a.1.width) (take (length atoms) (enumerate_from 0 atoms)) ≡ class_lists atoms classes
+pub class_lists_all : (atoms : List Atom) (classes : List ℕ)
+    → map (λ a. class_list atoms classes a.0 a.1.width) (take (length atoms) (enumerate_from 0 atoms)) ≡ class_lists atoms classes
 class_lists_all atoms classes = enumerated_all (λ a. class_list atoms classes a.0 a.1.width) atoms
 
 pub used_lists_more : (atoms : List Atom) (used : List Bool) (i : ℕ) (d : Atom) → i < length atoms
-    → map (λ a. used_list atoms used a.0 a.1.width) (take (i + 1) (enumerate_from 0 atoms)) ≡ map (λ a. used_list atoms used a.0 a.1.width) (take i (enumerate_from 0 atoms)) ++ used_list atoms used i (get_or atoms i d).width ∷ []
+    → map (λ a. used_list atoms used a.0 a.1.width) (take (i + 1) (enumerate_from 0 atoms))
+    ≡ map (λ a. used_list atoms used a.0 a.1.width) (take i (enumerate_from 0 atoms)) ++ used_list atoms used i (get_or atoms i d).width ∷ []
 used_lists_more atoms used i d l = enumerated_more (λ a. used_list atoms used a.0 a.1.width) atoms i d l
 
-pub used_lists_all : (atoms : List Atom) (used : List Bool) → map (λ a. used_list atoms used a.0 a.1.width) (take (length atoms) (enumerate_from 0 atoms)) ≡ used_lists atoms used
+pub used_lists_all : (atoms : List Atom) (used : List Bool) → map (λ a. used_list atoms used a.0 a.1.width) (take (length atoms) (enumerate_from 0 atoms))
+    ≡ used_lists atoms used
 used_lists_all atoms used = enumerated_all (λ a. used_list atoms used a.0 a.1.width) atoms
 
 has-set : (set : List Bool) (c k : ℕ) → k < length set → has (slice_set set c true) k ≡ ((c == k) || has set k)
@@ -145,7 +161,8 @@ has-set [] c k l = absurd (omega (arith, l))
 has-set (b ∷ set) zero zero l = refl
 has-set (b ∷ set) zero (suc k) l = let e : (zero == suc k) ≡ false = grind (arith, nat_tests) in ap (λ t. t || has set k) (sym e)
 has-set (b ∷ set) (suc c) zero l = let e : (suc c == zero) ≡ false = grind (arith, nat_tests) in ap (λ t. t || b) (sym e)
-has-set (b ∷ set) (suc c) (suc k) l = let e : (suc c == suc k) ≡ (c == k) = grind (arith, nat_tests) in has-set set c k (omega arith) ∙ ap (λ t. t || has set k) (sym e)
+has-set (b ∷ set) (suc c) (suc k) l = let e : (suc c == suc k) ≡ (c == k) = grind (arith, nat_tests) in
+    has-set set c k (omega arith) ∙ ap (λ t. t || has set k) (sym e)
 
 -- the marked places are those of the list, where none was marked before
 has-marked : (set : List Bool) (ks : List ℕ) (k : ℕ) → k < length set → has (with_classes set ks) k ≡ (list_any (λ c. c == k) ks || has set k)
@@ -170,10 +187,12 @@ or_false : (a : Bool) → (a || false) ≡ a
 or_false true = refl
 or_false false = refl
 
-any_numbered : (atoms : List Atom) (p : Place) (ps : List Place) → IsPlace atoms p → All (IsPlace atoms) ps → list_any (λ c. c == place_number atoms p) (map (place_number atoms) ps) ≡ list_any (same_place p) ps
+any_numbered : (atoms : List Atom) (p : Place) (ps : List Place) → IsPlace atoms p → All (IsPlace atoms) ps
+    → list_any (λ c. c == place_number atoms p) (map (place_number atoms) ps) ≡ list_any (same_place p) ps
 any_numbered atoms p [] h all = refl
 any_numbered atoms p (q ∷ ps) h all =
-    ap (λ b. b || list_any (λ c. c == place_number atoms p) (map (place_number atoms) ps)) (eqb_turned (place_number atoms q) (place_number atoms p) ∙ number_same atoms p q h (all 0 q (omega arith)))
+    ap (λ b. b || list_any (λ c. c == place_number atoms p) (map (place_number atoms) ps))
+    (eqb_turned (place_number atoms q) (place_number atoms p) ∙ number_same atoms p q h (all 0 q (omega arith)))
     ∙ ap (λ b. same_place p q || b) (any_numbered atoms p ps h (λ k d l. all (suc k) d (omega arith)))
   where
     eqb_turned : (a b : ℕ) → (a == b) ≡ (b == a)
@@ -184,24 +203,28 @@ module _ (atoms : List Atom) (n : ℕ) (ps : List Place) (full : n ≡ offset at
   unfolding marked
   marked_at p h =
       let l = number_below atoms p h in
-      has-marked (replicate n false) (map (place_number atoms) ps) (place_number atoms p) (subst (λ m. place_number atoms p < m) (sym full ∙ sym (length-replicate n false)) l)
+      has-marked (replicate n false) (map (place_number atoms) ps) (place_number atoms p)
+      (subst (λ m. place_number atoms p < m) (sym full ∙ sym (length-replicate n false)) l)
       ∙ ap (λ b. list_any (λ c. c == place_number atoms p) (map (place_number atoms) ps) || b) (none_there n (place_number atoms p))
       ∙ or_false (list_any (λ c. c == place_number atoms p) (map (place_number atoms) ps))
       ∙ any_numbered atoms p ps h all
 
-pairs_are : (atoms : List Atom) (es : List (Place × Place)) → All (λ e. IsPlace atoms e.0 × IsPlace atoms e.1) es → All (IsPlace atoms) (flat_map (λ e. e.0 ∷ e.1 ∷ []) es)
+pairs_are : (atoms : List Atom) (es : List (Place × Place)) → All (λ e. IsPlace atoms e.0 × IsPlace atoms e.1) es
+    → All (IsPlace atoms) (flat_map (λ e. e.0 ∷ e.1 ∷ []) es)
 pairs_are atoms [] h = All-nil (IsPlace atoms)
 pairs_are atoms (e ∷ es) h =
     let b = All-head (λ d. IsPlace atoms d.0 × IsPlace atoms d.1) e es h in
     All-cons (IsPlace atoms) e.0 (e.1 ∷ flat_map (λ d. d.0 ∷ d.1 ∷ []) es) b.0
     (All-cons (IsPlace atoms) e.1 (flat_map (λ d. d.0 ∷ d.1 ∷ []) es) b.1 (pairs_are atoms es (All-tail (λ d. IsPlace atoms d.0 × IsPlace atoms d.1) e es h)))
 
-sides_are : (atoms : List Atom) (cs : List Comparison) → All (ComparisonIsWellFormed atoms) cs → All (IsPlace atoms) (flat_map (λ c. c.left ∷ operand_places c.right) cs)
+sides_are : (atoms : List Atom) (cs : List Comparison) → All (ComparisonIsWellFormed atoms) cs
+    → All (IsPlace atoms) (flat_map (λ c. c.left ∷ operand_places c.right) cs)
 sides_are atoms [] h = All-nil (IsPlace atoms)
 sides_are atoms (c ∷ cs) h =
     let b = All-head (ComparisonIsWellFormed atoms) c cs h in
     All-cons (IsPlace atoms) c.left (operand_places c.right ++ flat_map (λ d. d.left ∷ operand_places d.right) cs) b.left
-    (All-append (IsPlace atoms) (operand_places c.right) (flat_map (λ d. d.left ∷ operand_places d.right) cs) (operand c.right b.right) (sides_are atoms cs (All-tail (ComparisonIsWellFormed atoms) c cs h)))
+    (All-append (IsPlace atoms) (operand_places c.right) (flat_map (λ d. d.left ∷ operand_places d.right) cs) (operand c.right b.right)
+    (sides_are atoms cs (All-tail (ComparisonIsWellFormed atoms) c cs h)))
   where
     operand : (o : Operand) → OperandIsPlace atoms o → All (IsPlace atoms) (operand_places o)
     operand (At place) g = All-cons (IsPlace atoms) place [] g (All-nil (IsPlace atoms))
@@ -210,9 +233,12 @@ sides_are atoms (c ∷ cs) h =
 module _ (block : Block) (shape : BlockIsWellFormed block) where
   used_are : All (IsPlace block.atoms) (used_places block)
   used_are =
-      All-append (IsPlace block.atoms) (flat_map (λ e. e.0 ∷ e.1 ∷ []) block.equalities ++ map (λ c. c.0) block.constants ++ flat_map (λ c. c.left ∷ operand_places c.right) block.comparisons) block.output
-      (All-append (IsPlace block.atoms) (flat_map (λ e. e.0 ∷ e.1 ∷ []) block.equalities ++ map (λ c. c.0) block.constants) (flat_map (λ c. c.left ∷ operand_places c.right) block.comparisons)
-      (All-append (IsPlace block.atoms) (flat_map (λ e. e.0 ∷ e.1 ∷ []) block.equalities) (map (λ c. c.0) block.constants) (pairs_are block.atoms block.equalities shape.equalities)
+      All-append (IsPlace block.atoms) (flat_map (λ e. e.0 ∷ e.1 ∷ []) block.equalities ++ map (λ c. c.0) block.constants ++ flat_map
+      (λ c. c.left ∷ operand_places c.right) block.comparisons) block.output
+      (All-append (IsPlace block.atoms) (flat_map (λ e. e.0 ∷ e.1 ∷ []) block.equalities ++ map (λ c. c.0) block.constants)
+      (flat_map (λ c. c.left ∷ operand_places c.right) block.comparisons)
+      (All-append (IsPlace block.atoms) (flat_map (λ e. e.0 ∷ e.1 ∷ []) block.equalities) (map (λ c. c.0) block.constants)
+      (pairs_are block.atoms block.equalities shape.equalities)
       (All-map (IsPlace block.atoms) (λ c. c.0) block.constants shape.constants))
       (sides_are block.atoms block.comparisons shape.comparisons))
       shape.output
@@ -224,7 +250,8 @@ map_agrees f g (x ∷ xs) h = ap (λ y. y ∷ map f xs) (h x (inl refl)) ∙ ap 
 
 filter_agrees : {A : Type 0} (p q : A → Bool) (xs : List A) → ((x : A) → Has xs x → p x ≡ q x) → filter p xs ≡ filter q xs
 filter_agrees p q [] h = refl
-filter_agrees p q (x ∷ xs) h = ap (λ b. cond b (x ∷ filter p xs) (filter p xs)) (h x (inl refl)) ∙ ap (λ ys. cond (q x) (x ∷ ys) ys) (filter_agrees p q xs (λ y m. h y (inr m)))
+filter_agrees p q (x ∷ xs) h = ap (λ b. cond b (x ∷ filter p xs) (filter p xs)) (h x (inl refl))
+    ∙ ap (λ ys. cond (q x) (x ∷ ys) ys) (filter_agrees p q xs (λ y m. h y (inr m)))
 
 -- an atom among those that are numbered
 pub data IsNumbered (atoms : List Atom) (a : ℕ × Atom) : Type 0 where
@@ -233,7 +260,8 @@ pub data IsNumbered (atoms : List Atom) (a : ℕ × Atom) : Type 0 where
 abbrev Continues : List Atom → ℕ → List Atom → Type 0
 Continues all i rest = (k : ℕ) (d : Atom) → k < length rest → get_or all (i + k) d ≡ get_or rest k d
 
-numbered_from : (all : List Atom) (i : ℕ) (rest : List Atom) → Continues all i rest → i + length rest ≡ length all → (a : ℕ × Atom) → Has (enumerate_from i rest) a → IsNumbered all a
+numbered_from : (all : List Atom) (i : ℕ) (rest : List Atom) → Continues all i rest → i + length rest ≡ length all → (a : ℕ × Atom)
+    → Has (enumerate_from i rest) a → IsNumbered all a
 numbered_from all i [] h n a m = absurd m
 numbered_from all i (b ∷ rest) h n a (inl e) =
     let f = ap (λ x. x.0) e in
@@ -241,7 +269,8 @@ numbered_from all i (b ∷ rest) h n a (inl e) =
     let here : get_or all i b ≡ b = ap (λ k. get_or all k b) (sym (add-zero i)) ∙ h 0 b (omega arith) in
     numbered (omega arith) (ap (width_of all) f ∙ width_at all i b (omega arith) ∙ ap (λ x. x.width) here ∙ sym g)
 numbered_from all i (b ∷ rest) h n a (inr m) =
-    numbered_from all (i + 1) rest (λ k d l. let e : i + 1 + k ≡ i + suc k = omega arith in ap (λ x. get_or all x d) e ∙ h (suc k) d (omega arith)) (omega arith) a m
+    numbered_from all (i + 1) rest (λ k d l. let e : i + 1 + k ≡ i + suc k = omega arith in ap (λ x. get_or all x d) e ∙ h (suc k) d (omega arith))
+    (omega arith) a m
 
 place_numbered : (atoms : List Atom) (a : ℕ × Atom) (c : ℕ) → IsNumbered atoms a → Has (range_with_len 0 a.1.width) c → IsPlace atoms (place_at a.0 c)
 place_numbered atoms a c (numbered l w) h = let b = in_range 0 a.1.width c h in record { atom = l; column = omega arith }
@@ -254,16 +283,22 @@ module _ (block : Block) (shape : BlockIsWellFormed block) where
   member a h = numbered_from block.atoms 0 block.atoms (λ k d l. ap (λ n. get_or block.atoms n d) (zero-add k)) (zero-add (length block.atoms)) a h
 
   module _ (n : ℕ) (full : n ≡ offset block.atoms (length block.atoms)) where
-    needed_lists : used_lists block.atoms (marked block.atoms (replicate n false) (used_places block)) ≡ map (λ a. needed_columns block a.0 a.1.width) (enumerate_from 0 block.atoms)
-    needed_lists = map_agrees (λ a. used_list block.atoms (marked block.atoms (replicate n false) (used_places block)) a.0 a.1.width) (λ a. needed_columns block a.0 a.1.width) (enumerate_from 0 block.atoms)
-        (λ a m. ap (map column) (filter_agrees (λ c. has (marked block.atoms (replicate n false) (used_places block)) (place_number block.atoms (place_at a.0 c)))
+    needed_lists : used_lists block.atoms (marked block.atoms (replicate n false) (used_places block))
+        ≡ map (λ a. needed_columns block a.0 a.1.width) (enumerate_from 0 block.atoms)
+    needed_lists = map_agrees (λ a. used_list block.atoms (marked block.atoms (replicate n false) (used_places block)) a.0 a.1.width)
+        (λ a. needed_columns block a.0 a.1.width) (enumerate_from 0 block.atoms)
+        (λ a m. ap (map column) (filter_agrees (λ c. has (marked block.atoms (replicate n false) (used_places block))
+        (place_number block.atoms (place_at a.0 c)))
         (λ c. list_any (same_place (place_at a.0 c)) (used_places block)) (range_with_len 0 a.1.width)
         (λ c k. marked_at block.atoms n (used_places block) full (used_are block shape) (place_at a.0 c) (place_numbered block.atoms a c (member a m) k))))
 
   module _ (labels : List ℕ) (are : AreLabels block.atoms block.equalities labels) where
-    classes_are : class_lists block.atoms (map (rank labels) labels) ≡ map (λ a. map (λ c. class_of block (place_at a.0 c)) (range_with_len 0 a.1.width)) (enumerate_from 0 block.atoms)
-    classes_are = map_agrees (λ a. class_list block.atoms (map (rank labels) labels) a.0 a.1.width) (λ a. map (λ c. class_of block (place_at a.0 c)) (range_with_len 0 a.1.width)) (enumerate_from 0 block.atoms)
-        (λ a m. map_agrees (λ c. get_or (map (rank labels) labels) (place_number block.atoms (place_at a.0 c)) 0) (λ c. class_of block (place_at a.0 c)) (range_with_len 0 a.1.width)
+    classes_are : class_lists block.atoms (map (rank labels) labels)
+        ≡ map (λ a. map (λ c. class_of block (place_at a.0 c)) (range_with_len 0 a.1.width)) (enumerate_from 0 block.atoms)
+    classes_are = map_agrees (λ a. class_list block.atoms (map (rank labels) labels) a.0 a.1.width)
+        (λ a. map (λ c. class_of block (place_at a.0 c)) (range_with_len 0 a.1.width)) (enumerate_from 0 block.atoms)
+        (λ a m. map_agrees (λ c. get_or (map (rank labels) labels) (place_number block.atoms (place_at a.0 c)) 0) (λ c. class_of block (place_at a.0 c))
+        (range_with_len 0 a.1.width)
         (λ c k. class_by_label block labels are (place_at a.0 c) (place_numbered block.atoms a c (member a m) k)))
 
     abbrev by_label : Place × Value → ℕ × Value
@@ -279,11 +314,20 @@ module _ (block : Block) (shape : BlockIsWellFormed block) where
         ∙ ap (λ ds. by_class c ∷ ds) (constants_from cs (All-tail (λ d. IsPlace block.atoms d.0) c cs h))
 
     -- what is read off the labels and the marks is the normal form
-    pub normal_is : (n : ℕ) → n ≡ offset block.atoms (length block.atoms) → (atoms : List Atom) (classes : List (List ℕ)) (count : ℕ) (constants : List (ℕ × Value)) (needed : List (List ColumnId))
+    pub normal_is : (n : ℕ) → n ≡ offset block.atoms (length block.atoms)
+        → (atoms : List Atom) (classes : List (List ℕ)) (count : ℕ) (constants : List (ℕ × Value)) (needed : List (List ColumnId))
         (comparisons : List Comparison) (output : List Place) → atoms ≡ block.atoms → classes ≡ class_lists block.atoms (map (rank labels) labels)
         → count ≡ length (heads labels) → constants ≡ map by_label block.constants
         → needed ≡ used_lists block.atoms (marked block.atoms (replicate n false) (used_places block)) → comparisons ≡ block.comparisons → output ≡ block.output
-        → ◌≡◌ {A = Normal} (record { atoms = atoms; classes = classes; count = count; constants = constants; needed = needed; comparisons = comparisons; output = output }) (normal_of block)
+        → ◌≡◌ {A = Normal} (record {
+          atoms = atoms;
+          classes = classes;
+          count = count;
+          constants = constants;
+          needed = needed;
+          comparisons = comparisons;
+          output = output;
+        }) (normal_of block)
     unfolding normal_of
     normal_is n full atoms classes count constants needed comparisons output a b c d e f g =
         let classes_is = b ∙ classes_are in
@@ -293,15 +337,28 @@ module _ (block : Block) (shape : BlockIsWellFormed block) where
         cc
 
 -- the same, as the calls hand it on
-pub normal_from : (block : Block) → BlockIsWellFormed block → (atoms : List Atom) → atoms ≡ block.atoms → (equalities : List (Place × Place)) → equalities ≡ block.equalities
-    → (labels slice numbers numbers2 numbers3 : List ℕ) → AreLabels atoms equalities labels → slice ≡ labels → numbers ≡ map (rank slice) slice → numbers2 ≡ numbers → numbers3 ≡ numbers
+pub normal_from : (block : Block) → BlockIsWellFormed block → (atoms : List Atom) → atoms ≡ block.atoms → (equalities : List (Place × Place))
+    → equalities ≡ block.equalities
+    → (labels slice numbers numbers2 numbers3 : List ℕ) → AreLabels atoms equalities labels → slice ≡ labels → numbers ≡ map (rank slice) slice
+    → numbers2 ≡ numbers → numbers3 ≡ numbers
     → (n : ℕ) → n ≡ offset atoms (length atoms) → (used used2 : List Bool) → used ≡ marked block.atoms (replicate n false) (used_places block) → used2 ≡ used
     → (given : List (Place × Value)) → given ≡ block.constants
-    → (atoms2 : List Atom) (classes : List (List ℕ)) (count : ℕ) (constants : List (ℕ × Value)) (needed : List (List ColumnId)) (comparisons : List Comparison) (output : List Place)
-    → atoms2 ≡ block.atoms → classes ≡ class_lists atoms numbers2 → count ≡ length (heads slice) → constants ≡ map (λ c. pair (get_or numbers3 (place_number atoms c.0) 0) c.1) given
+    → (atoms2 : List Atom) (classes : List (List ℕ)) (count : ℕ) (constants : List (ℕ × Value)) (needed : List (List ColumnId)) (comparisons : List Comparison)
+    (output : List Place)
+    → atoms2 ≡ block.atoms → classes ≡ class_lists atoms numbers2 → count ≡ length (heads slice)
+    → constants ≡ map (λ c. pair (get_or numbers3 (place_number atoms c.0) 0) c.1) given
     → needed ≡ used_lists atoms used2 → comparisons ≡ block.comparisons → output ≡ block.output
-    → ◌≡◌ {A = Normal} (record { atoms = atoms2; classes = classes; count = count; constants = constants; needed = needed; comparisons = comparisons; output = output }) (normal_of block)
-normal_from block shape atoms ea equalities ee labels slice numbers numbers2 numbers3 are es en e2 e3 n full used used2 eu e4 given eg atoms2 classes count constants needed comparisons output a b c d e f g =
+    → ◌≡◌ {A = Normal} (record {
+      atoms = atoms2;
+      classes = classes;
+      count = count;
+      constants = constants;
+      needed = needed;
+      comparisons = comparisons;
+      output = output;
+    }) (normal_of block)
+normal_from block shape atoms ea equalities ee labels slice numbers numbers2 numbers3 are es en e2 e3 n full used used2 eu e4 given eg atoms2 classes count
+    constants needed comparisons output a b c d e f g =
     let full2 : n ≡ offset block.atoms (length block.atoms) = full ∙ ap (λ given_atoms. offset given_atoms (length given_atoms)) ea in
     let are2 = subst (λ given_atoms. AreLabels given_atoms block.equalities labels) ea (subst (λ ps. AreLabels atoms ps labels) ee are) in
     let ranked = en ∙ ap (λ ls. map (rank ls) ls) es in

@@ -20,7 +20,8 @@ heads_push : (xs : List ℕ) (y : ℕ) → heads (xs ++ y ∷ []) ≡ heads xs +
 heads_push [] y = refl
 heads_push (x ∷ xs) y =
     ap (λ hs. x ∷ filter (λ h. not (x == h)) hs) (heads_push xs y)
-    ∙ ap (λ hs. x ∷ hs) (filter-append (λ h. not (x == h)) (heads xs) (cond (list_any (is y) xs) [] (y ∷ [])) ∙ ap (λ hs. filter (λ h. not (x == h)) (heads xs) ++ hs) (last (list_any (is y) xs) (x == y) refl))
+    ∙ ap (λ hs. x ∷ hs) (filter-append (λ h. not (x == h)) (heads xs) (cond (list_any (is y) xs) [] (y ∷ []))
+    ∙ ap (λ hs. filter (λ h. not (x == h)) (heads xs) ++ hs) (last (list_any (is y) xs) (x == y) refl))
   where
     last : (b c : Bool) → (x == y) ≡ c → filter (λ h. not (x == h)) (cond b [] (y ∷ [])) ≡ cond (c || b) [] (y ∷ [])
     last true true e = refl
@@ -32,7 +33,8 @@ any_kept : (hs : List ℕ) (x y : ℕ) → list_any (is y) hs ≡ true → (x ==
 any_kept [] x y h e = h
 any_kept (z ∷ hs) x y h e = by (z == y) (x == z) refl refl h (λ g. any_kept hs x y g e)
   where
-    by : (b c : Bool) → (z == y) ≡ b → (x == z) ≡ c → (b || list_any (is y) hs) ≡ true → (list_any (is y) hs ≡ true → list_any (is y) (filter (λ h. not (x == h)) hs) ≡ true)
+    by : (b c : Bool) → (z == y) ≡ b → (x == z) ≡ c → (b || list_any (is y) hs) ≡ true
+        → (list_any (is y) hs ≡ true → list_any (is y) (filter (λ h. not (x == h)) hs) ≡ true)
         → list_any (is y) (cond (not c) (z ∷ filter (λ h. not (x == h)) hs) (filter (λ h. not (x == h)) hs)) ≡ true
     by true true d f g rest = let k : x ≡ y = eqb-true x z f ∙ eqb-true z y d in absurd (eqb-false x y e k)
     by true false d f g rest = ap (λ b. b || list_any (is y) (filter (λ h. not (x == h)) hs)) d
@@ -57,7 +59,8 @@ no_head_of (x ∷ xs) y h = by (x == y) refl h (no_head_of xs y)
     none [] g = g
     none (z ∷ hs) g = step (z == y) (x == z) refl g (none hs)
       where
-        step : (b c : Bool) → (z == y) ≡ b → (b || list_any (is y) hs) ≡ false → (list_any (is y) hs ≡ false → list_any (is y) (filter (λ h. not (x == h)) hs) ≡ false)
+        step : (b c : Bool) → (z == y) ≡ b → (b || list_any (is y) hs) ≡ false
+            → (list_any (is y) hs ≡ false → list_any (is y) (filter (λ h. not (x == h)) hs) ≡ false)
             → list_any (is y) (cond (not c) (z ∷ filter (λ h. not (x == h)) hs) (filter (λ h. not (x == h)) hs)) ≡ false
         step true c d k rest = cc
         step false true d k rest = rest k
@@ -97,12 +100,14 @@ any_here (x ∷ xs) (suc k) l = by (x == get_or xs k 0) (any_here xs k (omega ar
     by false h = h
 
 -- the ranks of labels stay with more labels at the end
-ranks_kept : (all xs : List ℕ) (y : ℕ) → ((k : ℕ) → k < length xs → list_any (is (get_or xs k 0)) all ≡ true) → map (rank (all ++ y ∷ [])) xs ≡ map (rank all) xs
+ranks_kept : (all xs : List ℕ) (y : ℕ) → ((k : ℕ) → k < length xs → list_any (is (get_or xs k 0)) all ≡ true)
+    → map (rank (all ++ y ∷ [])) xs ≡ map (rank all) xs
 unfolding rank
 ranks_kept all [] y h = refl
 ranks_kept all (x ∷ xs) y h =
     ap (λ n. n ∷ map (rank (all ++ y ∷ [])) xs)
-    (ap (position_or_len (is x)) (heads_push all y) ∙ position_kept (is x) (heads all) (cond (list_any (is y) all) [] (y ∷ [])) (head_of all x (h 0 (omega arith))))
+    (ap (position_or_len (is x)) (heads_push all y) ∙ position_kept (is x) (heads all) (cond (list_any (is y) all) [] (y ∷ []))
+    (head_of all x (h 0 (omega arith))))
     ∙ ap (λ ns. rank all x ∷ ns) (ranks_kept all xs y (λ k l. h (suc k) (omega arith)))
 
 none_is : (xs : List ℕ) (y : ℕ) → ((k : ℕ) → k < length xs → get_or xs k 0 ≢ y) → list_any (is y) xs ≡ false
@@ -132,7 +137,8 @@ module _ (xs : List ℕ) (y : ℕ) where
   pub ranks_new : list_any (is y) xs ≡ false → map (rank (xs ++ y ∷ [])) (xs ++ y ∷ []) ≡ map (rank xs) xs ++ length (heads xs) ∷ []
   unfolding rank
   ranks_new h = ranks_push ∙ ap (λ n. map (rank xs) xs ++ n ∷ [])
-      (ap (position_or_len (is y)) (heads_push xs y ∙ ap (λ b. heads xs ++ cond b [] (y ∷ [])) h) ∙ position_past (is y) (heads xs) y (no_head_of xs y h) (same_number y))
+      (ap (position_or_len (is y)) (heads_push xs y ∙ ap (λ b. heads xs ++ cond b [] (y ∷ [])) h)
+      ∙ position_past (is y) (heads xs) y (no_head_of xs y h) (same_number y))
 
   pub ranks_old : list_any (is y) xs ≡ true → map (rank (xs ++ y ∷ [])) (xs ++ y ∷ []) ≡ map (rank xs) xs ++ rank xs y ∷ []
   unfolding rank
@@ -160,7 +166,8 @@ module _ (labels : List ℕ) (i : ℕ) (first : AreFirst labels) (l : i < length
       let t : k < i = omega (arith, length-take i labels) in
       omega arith)
 
-  pub numbers_new : label_at labels i ≡ i → map (rank (take (i + 1) labels)) (take (i + 1) labels) ≡ map (rank (take i labels)) (take i labels) ++ length (heads (take i labels)) ∷ []
+  pub numbers_new : label_at labels i ≡ i → map (rank (take (i + 1) labels)) (take (i + 1) labels)
+      ≡ map (rank (take i labels)) (take i labels) ++ length (heads (take i labels)) ∷ []
   numbers_new e = ap (λ ls. map (rank ls) ls) one_more ∙ ranks_new (take i labels) (label_at labels i) (none_before e)
 
   pub count_new : label_at labels i ≡ i → length (heads (take (i + 1) labels)) ≡ length (heads (take i labels)) + 1
@@ -177,11 +184,14 @@ module _ (labels : List ℕ) (i : ℕ) (first : AreFirst labels) (l : i < length
       let b = first_before e in
       subst (λ y. list_any (is y) (take i labels) ≡ true) (same_before e) (any_here (take i labels) (label_at labels i) (omega (arith, length-take i labels)))
 
-  pub numbers_old : label_at labels i ≢ i → map (rank (take (i + 1) labels)) (take (i + 1) labels) ≡ map (rank (take i labels)) (take i labels) ++ get_or (map (rank (take i labels)) (take i labels)) (label_at labels i) 0 ∷ []
+  pub numbers_old : label_at labels i ≢ i → map (rank (take (i + 1) labels)) (take (i + 1) labels)
+      ≡ map (rank (take i labels)) (take i labels) ++ get_or (map (rank (take i labels)) (take i labels)) (label_at labels i) 0 ∷ []
   numbers_old e =
       let b = first_before e in
-      let ranked = get_or-map (rank (take i labels)) (take i labels) (label_at labels i) 0 0 (omega (arith, length-take i labels)) ∙ ap (rank (take i labels)) (same_before e) in
-      ap (λ ls. map (rank ls) ls) one_more ∙ ranks_old (take i labels) (label_at labels i) (some_before e) ∙ ap (λ n. map (rank (take i labels)) (take i labels) ++ n ∷ []) (sym ranked)
+      let ranked = get_or-map (rank (take i labels)) (take i labels) (label_at labels i) 0 0 (omega (arith, length-take i labels))
+      ∙ ap (rank (take i labels)) (same_before e) in
+      ap (λ ls. map (rank ls) ls) one_more ∙ ranks_old (take i labels) (label_at labels i) (some_before e)
+      ∙ ap (λ n. map (rank (take i labels)) (take i labels) ++ n ∷ []) (sym ranked)
 
   pub count_old : label_at labels i ≢ i → length (heads (take (i + 1) labels)) ≡ length (heads (take i labels))
   count_old e = ap (λ ls. length (heads ls)) one_more ∙ heads_old (take i labels) (label_at labels i) (some_before e)
@@ -189,10 +199,12 @@ module _ (labels : List ℕ) (i : ℕ) (first : AreFirst labels) (l : i < length
   pub heads_le : length (heads (take i labels)) ≤ i
   heads_le = let g = heads_few (take i labels) in omega (arith, length-take i labels)
 
-  pub old_number : (numbers : List ℕ) (k r : ℕ) → numbers ≡ map (rank (take i labels)) (take i labels) → k ≡ label_at labels i → label_at labels i ≢ i → r ≡ get_or numbers k r
+  pub old_number : (numbers : List ℕ) (k r : ℕ) → numbers ≡ map (rank (take i labels)) (take i labels) → k ≡ label_at labels i → label_at labels i ≢ i
+      → r ≡ get_or numbers k r
       → r ≡ get_or (map (rank (take i labels)) (take i labels)) (label_at labels i) 0
   old_number numbers k r en ek e h =
       let b = first_before e in
       let inside : label_at labels i < length (take i labels) = omega (arith, length-take i labels) in
       h ∙ ap (λ ns. get_or ns k r) en ∙ ap (λ j. get_or (map (rank (take i labels)) (take i labels)) j r) ek
-      ∙ get_or-map (rank (take i labels)) (take i labels) (label_at labels i) 0 r inside ∙ sym (get_or-map (rank (take i labels)) (take i labels) (label_at labels i) 0 0 inside)
+      ∙ get_or-map (rank (take i labels)) (take i labels) (label_at labels i) 0 r inside
+      ∙ sym (get_or-map (rank (take i labels)) (take i labels) (label_at labels i) 0 0 inside)

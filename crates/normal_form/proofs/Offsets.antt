@@ -45,7 +45,8 @@ number_le atoms zero l = omega arith
 number_le [] (suc k) l = omega arith
 number_le (a ∷ atoms) (suc k) l = let g = number_le atoms k (omega arith) in omega arith
 
-pub offset_next_fits : (atoms : List Atom) (i : ℕ) (d : Atom) → All AtomIsWellFormed atoms → length atoms ≤ 16 → i < length atoms → offset atoms i + (get_or atoms i d).width < 2 ^ 16
+pub offset_next_fits : (atoms : List Atom) (i : ℕ) (d : Atom) → All AtomIsWellFormed atoms → length atoms ≤ 16 → i < length atoms
+    → offset atoms i + (get_or atoms i d).width < 2 ^ 16
 offset_next_fits atoms i d h few l =
     let e = offset_step atoms i d l in
     let g = offset_le atoms h (i + 1) in
@@ -102,7 +103,8 @@ number_same atoms p q hp hq = bool_same (place_number atoms p == place_number at
     eq-eqb (place_number atoms p) (place_number atoms q) (omega arith))
 
 range_append : (a m n : ℕ) → range_with_len a (m + n) ≡ range_with_len a m ++ range_with_len (a + m) n
-range_append a zero n = let e : zero + n ≡ n = omega arith in let f : a + zero ≡ a = omega arith in ap (range_with_len a) e ∙ ap (λ b. range_with_len b n) (sym f)
+range_append a zero n = let e : zero + n ≡ n = omega arith in let f : a + zero ≡ a = omega arith in
+    ap (range_with_len a) e ∙ ap (λ b. range_with_len b n) (sym f)
 range_append a (suc m) n =
     let e : suc m + n ≡ suc (m + n) = omega arith in
     let f : a + 1 + m ≡ a + suc m = omega arith in
@@ -125,7 +127,8 @@ Continues all i rest = (k : ℕ) (d : Atom) → k < length rest → get_or all (
 continues_rest : (all : List Atom) (i : ℕ) (a : Atom) (rest : List Atom) → Continues all i (a ∷ rest) → Continues all (i + 1) rest
 continues_rest all i a rest h = λ k d l. let e : i + 1 + k ≡ i + suc k = omega arith in ap (λ n. get_or all n d) e ∙ h (suc k) d (omega arith)
 
-numbers_from : (all : List Atom) (i : ℕ) (rest : List Atom) (m : ℕ) → Continues all i rest → i + length rest ≡ length all → offset all i + m ≡ offset all (length all)
+numbers_from : (all : List Atom) (i : ℕ) (rest : List Atom) (m : ℕ) → Continues all i rest → i + length rest ≡ length all
+    → offset all i + m ≡ offset all (length all)
     → map (place_number all) (pieces i rest) ≡ range_with_len (offset all i) m
 numbers_from all i [] m h n e =
     let s = ap (offset all) n in
@@ -143,7 +146,8 @@ numbers_from all i (a ∷ rest) m h n e =
     let o : offset all i + 0 ≡ offset all i = omega arith in
     let r : a.width + (m - a.width) ≡ m = omega arith in
     map-append (place_number all) (map (place_at i) (range_with_len 0 a.width)) (pieces (i + 1) rest)
-    ∙ ap (λ ns. ns ++ map (place_number all) (pieces (i + 1) rest)) (map_map (place_number all) (place_at i) (range_with_len 0 a.width) ∙ plus_range (offset all i) 0 a.width ∙ ap (λ b. range_with_len b a.width) o)
+    ∙ ap (λ ns. ns ++ map (place_number all) (pieces (i + 1) rest))
+    (map_map (place_number all) (place_at i) (range_with_len 0 a.width) ∙ plus_range (offset all i) 0 a.width ∙ ap (λ b. range_with_len b a.width) o)
     ∙ ap (λ ns. range_with_len (offset all i) a.width ++ ns) (g ∙ ap (λ b. range_with_len b (m - a.width)) (sym j))
     ∙ sym (range_append (offset all i) a.width (m - a.width))
     ∙ ap (range_with_len (offset all i)) r
@@ -152,7 +156,8 @@ numbers_from all i (a ∷ rest) m h n e =
 pub numbers_of_places : (atoms : List Atom) → map (place_number atoms) (places_of atoms) ≡ range_with_len 0 (offset atoms (length atoms))
 numbers_of_places atoms =
     let z = offset_zero atoms in
-    numbers_from atoms 0 atoms (offset atoms (length atoms)) (λ k d l. ap (λ n. get_or atoms n d) (zero-add k)) (zero-add (length atoms)) (ap (λ n. n + offset atoms (length atoms)) z ∙ zero-add (offset atoms (length atoms)))
+    numbers_from atoms 0 atoms (offset atoms (length atoms)) (λ k d l. ap (λ n. get_or atoms n d) (zero-add k)) (zero-add (length atoms))
+    (ap (λ n. n + offset atoms (length atoms)) z ∙ zero-add (offset atoms (length atoms)))
     ∙ ap (λ b. range_with_len b (offset atoms (length atoms))) z
 
 pub width_at : (atoms : List Atom) (k : ℕ) (d : Atom) → k < length atoms → width_of atoms k ≡ (get_or atoms k d).width
@@ -165,7 +170,8 @@ in_range a zero c h = absurd h
 in_range a (suc n) c (inl e) = omega arith
 in_range a (suc n) c (inr h) = let g = in_range (a + 1) n c h in omega arith
 
-pieces_are : (all : List Atom) (i : ℕ) (rest : List Atom) → Continues all i rest → i + length rest ≡ length all → (p : Place) → Has (pieces i rest) p → IsPlace all p
+pieces_are : (all : List Atom) (i : ℕ) (rest : List Atom) → Continues all i rest → i + length rest ≡ length all → (p : Place) → Has (pieces i rest) p
+    → IsPlace all p
 pieces_are all i [] h n p m = absurd m
 pieces_are all i (a ∷ rest) h n p m = elim (Has-append_cases (map (place_at i) (range_with_len 0 a.width)) (pieces (i + 1) rest) p m) [
   | inl g ↦ (

@@ -31,7 +31,8 @@ fn mark_output(places: &Places<'_>, output: &[Place], used: &mut [bool])
 
 #[tactic(auto, using(crate::proofs::Marked::marked_pairs, crate::proofs::Marked::marked_nil))]
 fn mark_equalities(places: &Places<'_>, equalities: &[(Place, Place)], used: &mut [bool])
-    requires equalities { All (λ e. IsPlace places.now.atoms.now e.0 × IsPlace places.now.atoms.now e.1) equalities.now }
+    requires equalities { All
+        (λ e. IsPlace places.now.atoms.now e.0 × IsPlace places.now.atoms.now e.1) equalities.now }
     requires full { length used.old ≡ places.now.count }
     ensures { used.new ≡ marked places.now.atoms.now used.old (flat_map (λ e. e.0 ∷ e.1 ∷ []) equalities.now) }
 {
@@ -56,7 +57,8 @@ fn mark_constants(places: &Places<'_>, constants: &[(Place, Value)], used: &mut 
 fn mark_sides(places: &Places<'_>, comparison: &Comparison, used: &mut [bool])
     requires comparison { ComparisonIsWellFormed places.now.atoms.now comparison.now }
     requires full { length used.old ≡ places.now.count }
-    ensures { used.new ≡ marked places.now.atoms.now used.old (comparison.now.left ∷ operand_places comparison.now.right) }
+    ensures { used.new ≡ marked places.now.atoms.now used.old
+        (comparison.now.left ∷ operand_places comparison.now.right) }
 {
     mark(places, comparison.left, used);
     if let Operand::At(place) = &comparison.right {
@@ -68,7 +70,8 @@ fn mark_sides(places: &Places<'_>, comparison: &Comparison, used: &mut [bool])
 fn mark_comparisons(places: &Places<'_>, comparisons: &[Comparison], used: &mut [bool])
     requires comparisons { All (ComparisonIsWellFormed places.now.atoms.now) comparisons.now }
     requires full { length used.old ≡ places.now.count }
-    ensures { used.new ≡ marked places.now.atoms.now used.old (flat_map (λ c. c.left ∷ operand_places c.right) comparisons.now) }
+    ensures { used.new ≡ marked places.now.atoms.now used.old
+        (flat_map (λ c. c.left ∷ operand_places c.right) comparisons.now) }
 {
     for comparison in comparisons {
         mark_sides(places, comparison, used);
@@ -93,7 +96,8 @@ fn mark_block(places: &Places<'_>, block: &Block, used: &mut [bool])
 pub fn marks_of(alloc: Global, places: &Places<'_>, block: &Block) -> Result<Vec<bool>, NoMemory>
     requires block { BlockIsWellFormed block.now }
     requires atoms { places.now.atoms.now ≡ block.now.atoms }
-    ensures used { IfOk result (λ used. used.items ≡ marked block.now.atoms (replicate places.now.count false) (used_places block.now)) }
+    ensures used { IfOk result (λ used. used.items ≡ marked block.now.atoms (replicate places.now.count false)
+        (used_places block.now)) }
     ensures len { IfOk result (λ used. length used.items ≡ places.now.count) }
 {
     let mut used = vec![in alloc; false; usize::from(places.count)]?;

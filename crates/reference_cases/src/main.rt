@@ -1,8 +1,8 @@
 //! Runs the reference programs on named cases of standard input, and prints what they give.
 //!
-//! For each case, in the words of `named_blocks`: of each block its classes and needed columns by atom, the covered classes, and
-//! the steps of its derivation with cost and size, or why it isn't covered; then of the query the announced number and the
-//! reads, where all blocks are covered, and in any case the rows of the full answer.
+//! For each case, in the words of `named_blocks`: of each block its classes and needed columns by atom, the covered
+//! classes, and the steps of its derivation with cost and size, or why it isn't covered; then of the query the
+//! announced number and the reads, where all blocks are covered, and in any case the rows of the full answer.
 #![tactic(auto)]
 
 mod shown;

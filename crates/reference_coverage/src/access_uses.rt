@@ -59,7 +59,8 @@ fn push_uses(
     accesses: &[Access],
 ) -> Result<(), NoMemory>
     ensures { OnOk result (found.new ≡ found.old
-        ++ map (λ access. record { atom = number; access = access }) (filter (λ access. access.table.0 == atom.table.0) accesses.now)) }
+        ++ map (λ access. record { atom = number; access = access })
+        (filter (λ access. access.table.0 == atom.table.0) accesses.now)) }
 {
     for access in accesses {
         if access.table.0 == atom.table.0 {

@@ -32,7 +32,8 @@ fn some_has_class(normal: &Normal, atom: u16, columns: &[ColumnId], class: u16) 
 
 // Whether a use adds this class, where the set holds its key.
 fn use_gives(normal: &Normal, set: &[bool], given: &AccessUse, class: u16) -> bool
-    ensures { result ≡ holds_classes set.now (key_classes normal.now given.now) && list_any (λ d. d == class) (fetched_classes normal.now given.now) }
+    ensures { result ≡ holds_classes set.now (key_classes normal.now given.now) && list_any (λ d. d == class)
+        (fetched_classes normal.now given.now) }
 {
     let key = given.access.key.as_slice();
     let fetched = given.access.fetched.as_slice();
@@ -42,7 +43,8 @@ fn use_gives(normal: &Normal, set: &[bool], given: &AccessUse, class: u16) -> bo
 }
 
 fn some_use_gives(normal: &Normal, set: &[bool], found: &[AccessUse], class: u16) -> bool
-    ensures { result ≡ list_any (λ u. holds_classes set.now (key_classes normal.now u) && list_any (λ d. d == class) (fetched_classes normal.now u)) found.now }
+    ensures { result ≡ list_any (λ u. holds_classes set.now (key_classes normal.now u) && list_any (λ d. d == class)
+        (fetched_classes normal.now u)) found.now }
 {
     found
         .iter()

@@ -73,7 +73,8 @@ fn adds_class(normal: &Normal, set: &[bool], chosen: &AccessUse) -> bool
 }
 
 fn is_enabled(normal: &Normal, set: &[bool], chosen: &AccessUse) -> bool
-    ensures { result ≡ (holds_classes set.now (key_classes normal.now chosen.now) && adds_class normal.now set.now chosen.now) }
+    ensures { result ≡ (holds_classes set.now (key_classes normal.now chosen.now) && adds_class normal.now set.now
+        chosen.now) }
 {
     let held = holds_columns(normal, set, chosen.atom, chosen.access.key.as_slice());
     let adds = adds_class(normal, set, chosen);

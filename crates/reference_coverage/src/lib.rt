@@ -1,5 +1,5 @@
-//! What a block's constraints cover, by plain slow programs whose contracts are the definitions: the covered set, coverage and
-//! its reason, the canonical derivation, and the announced number.
+//! What a block's constraints cover, by plain slow programs whose contracts are the definitions: the covered set,
+//! coverage and its reason, the canonical derivation, and the announced number.
 //!
 //! They serve to compare. The layers that the program is built from do the same fast.
 #![tactic(auto)]

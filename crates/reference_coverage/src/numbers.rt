@@ -24,7 +24,8 @@ fn next_size(adds: bool, cost: u128, size: u128) -> u128
 
 /// The reads of the steps at most, where `size` valuations stand before them; nothing where that passes 2^128 - 1.
 pub fn announced(accesses: &[Access], size: u128, steps: &[DStep]) -> Option<u128>
-    ensures { MatchOption result (2 ^ 128 ≤ announced accesses.now size steps.now) (λ n. n ≡ announced accesses.now size steps.now) }
+    ensures { MatchOption result (2 ^ 128 ≤ announced accesses.now size steps.now)
+        (λ n. n ≡ announced accesses.now size steps.now) }
 {
     match steps {
         [] => Some(0),

@@ -42,7 +42,7 @@ pub fn value_of<'a>(bindings: &'a [(u16, Value)], class: u16, zero: &'a Value) -
     }
 }
 
-// Whether no class has two values.
+/// Whether no class has two values.
 fn agrees(bindings: &[(u16, Value)], zero: &Value) -> bool
     requires { zero.now ≡ Number (pos 0) }
     ensures { result ≡ agrees bindings.now }
@@ -59,7 +59,8 @@ fn bindings_on(
     zero: &Value,
 ) -> Result<Bindings, NoMemory>
     requires { zero.now ≡ Number (pos 0) }
-    ensures { IfOk result (λ bindings. bindings ≡ map (λ c. (class_at normal.now atom c, value_at row.now c)) columns.now) }
+    ensures { IfOk result (λ bindings. bindings ≡ map (λ c. (class_at normal.now atom c, value_at row.now c))
+        columns.now) }
 {
     let mut bindings = List::new(alloc);
     for column in columns {
@@ -69,7 +70,7 @@ fn bindings_on(
     Ok(bindings)
 }
 
-// A way with what one more row binds.
+/// A way with what one more row binds.
 fn with_row(
     alloc: Global,
     normal: &Normal,
@@ -89,7 +90,7 @@ fn with_row(
     Ok(more)
 }
 
-// Adds one way with each row of a step's table.
+/// Adds one way with each row of a step's table.
 #[tactic(auto, unfolding(crate::specs::Ways::with_each_row))]
 fn push_ways(
     alloc: Global,
@@ -134,7 +135,8 @@ fn each_with_rows(
 ) -> Result<List<Bindings>, NoMemory>
     requires columns { columns.now ≡ member_columns (access_in accesses.now step.now.access) }
     requires zero { zero.now ≡ Number (pos 0) }
-    ensures { IfOk result (λ ways. ways ≡ flat_map (with_each_row rows.now normal.now accesses.now step.now) found.now) }
+    ensures { IfOk result (λ ways. ways
+        ≡ flat_map (with_each_row rows.now normal.now accesses.now step.now) found.now) }
 {
     let mut ways = List::new(alloc);
     for way in found {
@@ -165,7 +167,8 @@ fn with_step(
     zero: &Value,
 ) -> Result<List<Bindings>, NoMemory>
     requires { zero.now ≡ Number (pos 0) }
-    ensures { IfOk result (λ ways. ways ≡ with_row_for (rows_in tables.now) normal.now accesses.now found.now step.now) }
+    ensures { IfOk result (λ ways. ways
+        ≡ with_row_for (rows_in tables.now) normal.now accesses.now found.now step.now) }
 {
     let columns = columns_of(alloc, accesses, step.access)?;
     let rows = rows_of(tables, table_of(normal, step.atom));
@@ -182,7 +185,7 @@ fn with_step(
     Ok(ways)
 }
 
-// The ways after some steps, from those before them.
+/// The ways after some steps, from those before them.
 fn ways(
     alloc: Global,
     tables: &[List<Row>],
@@ -218,6 +221,7 @@ fn comparison_is_bound(normal: &Normal, set: &[bool], comparison: &Comparison) -
         class_at(normal, comparison.left.atom, comparison.left.column),
     );
     let right = operand_is_bound(normal, set, &comparison.right);
+    // Both are worked out before they are joined: `&&` would part the proof in cases.
     left & right
 }
 
@@ -251,7 +255,7 @@ fn holds_in(
     }
 }
 
-// Whether a comparison holds, where its columns are all bound.
+/// Whether a comparison holds, where its columns are all bound.
 fn is_met(
     normal: &Normal,
     set: &[bool],
@@ -264,6 +268,7 @@ fn is_met(
 {
     let open = !comparison_is_bound(normal, set, comparison);
     let held = holds_in(normal, bindings, comparison, zero);
+    // As above: `||` would part the proof in cases.
     open | held
 }
 
@@ -281,6 +286,7 @@ fn is_consistent(normal: &Normal, set: &[bool], bindings: &[(u16, Value)], zero:
 {
     let same = agrees(bindings, zero);
     let met = all_met(normal, set, bindings, zero);
+    // As above: `&&` would part the proof in cases.
     same & met
 }
 
@@ -309,7 +315,8 @@ fn valuations_from(
     zero: &Value,
 ) -> Result<List<Row>, NoMemory>
     requires { zero.now ≡ Number (pos 0) }
-    ensures { IfOk result (λ rows. rows ≡ map (λ w. map (value_of w) classes.now) (filter (is_consistent normal.now set.now) found.now)) }
+    ensures { IfOk result (λ rows. rows ≡ map (λ w. map (value_of w) classes.now)
+        (filter (is_consistent normal.now set.now) found.now)) }
 {
     let mut rows = List::new(alloc);
     for way in found {
@@ -407,9 +414,11 @@ pub fn valuations(
     guide: &Option<List<Row>>,
     steps: &[DStep],
 ) -> Result<List<Row>, NoMemory>
-    ensures { IfOk result (λ found. found ≡ valuations (rows_in tables.now) normal.now accesses.now guide.now steps.now) }
+    ensures { IfOk result (λ found. found
+        ≡ valuations (rows_in tables.now) normal.now accesses.now guide.now steps.now) }
 {
     let zero = Value::Int(0);
+    // Read for what its type tells: there are fewer than 65536 classes, as `classes_in` asks of the set.
     let _count = normal.count;
     let start = start_classes(alloc, normal, is_guided(guide))?;
     let set = bound_after(alloc, normal, accesses, start.as_slice(), steps)?;

@@ -30,7 +30,7 @@ pub fn sign_holds(sign: Sign, left: &Value, right: &Value) -> bool
     }
 }
 
-// A choice with one more row before it.
+/// A choice with one more row before it.
 fn with_row(alloc: Global, row: &Row, others: &List<Row>) -> Result<List<Row>, NoMemory>
     ensures { IfOk result (λ choice. choice ≡ row.now ∷ others.now) }
 {
@@ -99,7 +99,8 @@ fn choice_value<'a>(choice: &'a [Row], place: Place, zero: &'a Value) -> &'a Val
 
 fn equalities_hold(equalities: &[(Place, Place)], choice: &[Row], zero: &Value) -> bool
     requires { zero.now ≡ Number (pos 0) }
-    ensures { result ≡ list_all (λ e. same_value (choice_value choice.now e.0) (choice_value choice.now e.1)) equalities.now }
+    ensures { result ≡ list_all (λ e. same_value (choice_value choice.now e.0) (choice_value choice.now e.1))
+        equalities.now }
 {
     for equality in equalities {
         let left = choice_value(choice, equality.0, zero);
@@ -153,6 +154,7 @@ fn meets(block: &Block, choice: &[Row], zero: &Value) -> bool
     let equal = equalities_hold(block.equalities.as_slice(), choice, zero);
     let fixed = constants_hold(block.constants.as_slice(), choice, zero);
     let compared = comparisons_hold(block.comparisons.as_slice(), choice, zero);
+    // All are worked out before they are joined: `&&` would part the proof in cases.
     equal & fixed & compared
 }
 
@@ -172,7 +174,7 @@ fn project_choice(
     Ok(row)
 }
 
-// The outputs of the choices that meet all conditions.
+/// The outputs of the choices that meet all conditions.
 fn outputs(
     alloc: Global,
     block: &Block,
@@ -180,7 +182,8 @@ fn outputs(
     zero: &Value,
 ) -> Result<List<Row>, NoMemory>
     requires { zero.now ≡ Number (pos 0) }
-    ensures { IfOk result (λ found. found ≡ map (λ choice. map (choice_value choice) block.now.output) (filter (meets block.now) all.now)) }
+    ensures { IfOk result (λ found. found ≡ map (λ choice. map (choice_value choice) block.now.output)
+        (filter (meets block.now) all.now)) }
 {
     let mut found = List::new(alloc);
     for choice in all {

@@ -1,5 +1,5 @@
-//! What queries mean, by plain slow programs over small lists whose contracts are the definitions: the valuations and reads of
-//! a derivation, and the full answer of a query.
+//! What queries mean, by plain slow programs over small lists whose contracts are the definitions: the valuations and
+//! reads of a derivation, and the full answer of a query.
 //!
 //! They serve to compare. The layers that the program is built from do the same fast.
 #![tactic(auto)]

@@ -168,7 +168,8 @@ fn members_of(
     zero: &Value,
 ) -> Result<List<Row>, NoMemory>
     requires { zero.now ≡ Number (pos 0) }
-    ensures { IfOk result (λ members. members ≡ map (project columns.now) (filter (λ row. same_row (project key_columns.now row) key.now) rows.now)) }
+    ensures { IfOk result (λ members. members ≡ map (project columns.now)
+        (filter (λ row. same_row (project key_columns.now row) key.now) rows.now)) }
 {
     let mut members = List::new(alloc);
     for row in rows {
@@ -213,7 +214,8 @@ fn reads_of_keys(
     zero: &Value,
 ) -> Result<u128, NoMemory>
     requires { zero.now ≡ Number (pos 0) }
-    ensures { IfOk result (λ reads. reads ≡ sum_by (probe_reads (rows_in tables.now) (access_in accesses.now id)) keys.now) }
+    ensures { IfOk result (λ reads. reads ≡ sum_by (probe_reads (rows_in tables.now) (access_in accesses.now id))
+        keys.now) }
 {
     let mut reads: u128 = 0;
     for key in keys {
@@ -232,7 +234,8 @@ fn reads_of_step(
     found: &[Row],
 ) -> Result<u128, NoMemory>
     requires { length set.now < 65536 }
-    ensures { IfOk result (λ reads. reads ≡ step_reads (rows_in tables.now) normal.now accesses.now step.now set.now found.now) }
+    ensures { IfOk result (λ reads. reads ≡ step_reads (rows_in tables.now) normal.now accesses.now step.now set.now
+        found.now) }
 {
     let zero = Value::Int(0);
     let key = key_columns(alloc, accesses, step.access)?;
@@ -261,7 +264,8 @@ fn reads_of_step(
 }
 
 fn sum_of(first: u128, later: Option<u128>) -> Option<u128>
-    ensures { (n : ℕ) → MatchOption later (2 ^ 128 ≤ n) (λ m. m ≡ n) → MatchOption result (2 ^ 128 ≤ first + n) (λ m. m ≡ first + n) }
+    ensures { (n : ℕ) → MatchOption later (2 ^ 128 ≤ n) (λ m. m ≡ n)
+        → MatchOption result (2 ^ 128 ≤ first + n) (λ m. m ≡ first + n) }
 {
     match later {
         Some(more) => first.checked_add(more),
@@ -289,7 +293,8 @@ fn reads_after(
     done: &[DStep],
     steps: &[DStep],
 ) -> Result<Option<u128>, NoMemory>
-    ensures { IfOk result (λ reads. MatchOption reads (2 ^ 128 ≤ reads_from (rows_in tables.now) normal.now accesses.now guide.now done.now steps.now)
+    ensures { IfOk result (λ reads. MatchOption reads (2 ^ 128 ≤ reads_from (rows_in tables.now) normal.now accesses.now
+        guide.now done.now steps.now)
         (λ n. n ≡ reads_from (rows_in tables.now) normal.now accesses.now guide.now done.now steps.now)) }
 {
     match steps {
@@ -320,8 +325,10 @@ fn reads_of_next(
     done: &[DStep],
     step: &DStep,
 ) -> Result<u128, NoMemory>
-    ensures { IfOk result (λ reads. reads ≡ reads_at (rows_in tables.now) normal.now accesses.now guide.now done.now step.now) }
+    ensures { IfOk result (λ reads. reads ≡ reads_at (rows_in tables.now) normal.now accesses.now guide.now done.now
+        step.now) }
 {
+    // Read for what its type tells: there are fewer than 65536 classes, as `reads_of_step` asks of the set.
     let _count = normal.count;
     let start = start_classes(alloc, normal, is_guided(guide))?;
     let set = bound_after(alloc, normal, accesses, start.as_slice(), done)?;
@@ -347,7 +354,8 @@ pub fn reads_of(
     guide: &Option<List<Row>>,
     steps: &[DStep],
 ) -> Result<Option<u128>, NoMemory>
-    ensures { IfOk result (λ reads. MatchOption reads (2 ^ 128 ≤ reads_of (rows_in tables.now) normal.now accesses.now guide.now steps.now)
+    ensures { IfOk result (λ reads. MatchOption reads (2 ^ 128 ≤ reads_of (rows_in tables.now) normal.now accesses.now
+        guide.now steps.now)
         (λ n. n ≡ reads_of (rows_in tables.now) normal.now accesses.now guide.now steps.now)) }
 {
     reads_after(alloc, tables, normal, accesses, guide, &[], steps)

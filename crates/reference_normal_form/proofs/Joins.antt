@@ -28,14 +28,16 @@ has_joined [] p q = ors (same_place p q)
     ors true = refl
     ors false = refl
 has_joined (e ∷ es) p q =
-    list_any-append (λ x. same_place x q) (joined_with es p ++ cond (has_place (joined_with es p) e.0) (joined_with es e.1) []) (cond (has_place (joined_with es p) e.1) (joined_with es e.0) [])
+    list_any-append (λ x. same_place x q) (joined_with es p ++ cond (has_place (joined_with es p) e.0) (joined_with es e.1) [])
+    (cond (has_place (joined_with es p) e.1) (joined_with es e.0) [])
     ∙ ap (λ b. b || has_place (cond (has_place (joined_with es p) e.1) (joined_with es e.0) []) q)
     (list_any-append (λ x. same_place x q) (joined_with es p) (cond (has_place (joined_with es p) e.0) (joined_with es e.1) []))
     ∙ ap (λ b. (has_place (joined_with es p) q || b) || has_place (cond (has_place (joined_with es p) e.1) (joined_with es e.0) []) q)
     (any_if (has_place (joined_with es p) e.0) (λ x. same_place x q) (joined_with es e.1))
     ∙ ap (λ b. (has_place (joined_with es p) q || (has_place (joined_with es p) e.0 && has_place (joined_with es e.1) q)) || b)
     (any_if (has_place (joined_with es p) e.1) (λ x. same_place x q) (joined_with es e.0))
-    ∙ bridged (has_place (joined_with es p) q) (is_joined es p q) (has_place (joined_with es p) e.0) (is_joined es p e.0) (has_place (joined_with es e.1) q) (is_joined es e.1 q)
+    ∙ bridged (has_place (joined_with es p) q) (is_joined es p q) (has_place (joined_with es p) e.0) (is_joined es p e.0) (has_place (joined_with es e.1) q)
+    (is_joined es e.1 q)
     (has_place (joined_with es p) e.1) (is_joined es p e.1) (has_place (joined_with es e.0) q) (is_joined es e.0 q)
     (has_joined es p q) (has_joined es p e.0) (has_joined es e.1 q) (has_joined es p e.1) (has_joined es e.0 q)
 
@@ -70,5 +72,6 @@ pub without_joined : (equalities : List (Place × Place)) (p : Place) (qs : List
     → filter (λ q. not (has_place (joined_with equalities p) q)) qs ≡ filter (λ q. not (is_joined equalities p q)) qs
 without_joined es p [] = refl
 without_joined es p (q ∷ qs) =
-    ap (λ b. cond (not b) (q ∷ filter (λ r. not (has_place (joined_with es p) r)) qs) (filter (λ r. not (has_place (joined_with es p) r)) qs)) (has_joined es p q)
+    ap (λ b. cond (not b) (q ∷ filter (λ r. not (has_place (joined_with es p) r)) qs) (filter (λ r. not (has_place (joined_with es p) r)) qs))
+    (has_joined es p q)
     ∙ ap (λ rs. cond (not (is_joined es p q)) (q ∷ rs) rs) (without_joined es p qs)

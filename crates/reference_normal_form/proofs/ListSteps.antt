@@ -22,14 +22,16 @@ map_if f true n = refl
 map_if f false n = refl
 
 -- the numbers that pass a test, mapped
-pub filter_map_step : {A : Type 0} (f : ℕ → A) (p : ℕ → Bool) (n : ℕ) → map f (filter p (range_with_len 0 (n + 1))) ≡ map f (filter p (range_with_len 0 n)) ++ cond (p n) (f n ∷ []) []
+pub filter_map_step : {A : Type 0} (f : ℕ → A) (p : ℕ → Bool) (n : ℕ)
+    → map f (filter p (range_with_len 0 (n + 1))) ≡ map f (filter p (range_with_len 0 n)) ++ cond (p n) (f n ∷ []) []
 filter_map_step f p n =
     ap (λ ks. map f (filter p ks)) (range_step n)
     ∙ ap (map f) (filter-append p (range_with_len 0 n) (n ∷ []))
     ∙ map-append f (filter p (range_with_len 0 n)) (cond (p n) (n ∷ []) [])
     ∙ ap (λ ys. map f (filter p (range_with_len 0 n)) ++ ys) (map_if f (p n) n)
 
-one_more : {A : Type 0} (xs : List A) (i : ℕ) (d : A) → i < length xs → take (i + 1) (enumerate_from 0 xs) ≡ take i (enumerate_from 0 xs) ++ (i, get_or xs i d) ∷ []
+one_more : {A : Type 0} (xs : List A) (i : ℕ) (d : A) → i < length xs
+    → take (i + 1) (enumerate_from 0 xs) ≡ take i (enumerate_from 0 xs) ++ (i, get_or xs i d) ∷ []
 one_more {A} xs i d l =
     ap (λ k. take k (enumerate_from 0 xs)) (add-one i)
     ∙ take-suc (enumerate_from 0 xs) i (i, d) (subst (λ n. i < n) (sym (length-enumerate_from 0 xs)) l)

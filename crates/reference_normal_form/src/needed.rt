@@ -89,7 +89,8 @@ fn push_needed(
 ) -> Result<(), NoMemory>
     requires { used.now ≡ used_places block.now }
     ensures { OnOk result (columns.new ≡ columns.old
-        ++ (if list_any (same_place (record { atom = atom; column = record { 0 = column } })) (used_places block.now) then (record { 0 = column }) ∷ [] else [])) }
+        ++ (if list_any (same_place (record { atom = atom; column = record { 0 = column } })) (used_places block.now)
+        then (record { 0 = column }) ∷ [] else [])) }
 {
     if stands_in(used, atom, column) {
         columns.push(ColumnId(column))?;
@@ -118,7 +119,8 @@ fn needed_columns(
 /// The needed columns of each atom.
 pub fn needed(alloc: Global, block: &Block) -> Result<List<List<ColumnId>>, NoMemory>
     requires { length block.now.atoms < 65536 }
-    ensures { IfOk result (λ all. all ≡ map (λ a. needed_columns block.now a.0 a.1.width) (enumerate_from 0 block.now.atoms)) }
+    ensures { IfOk result (λ all. all ≡ map (λ a. needed_columns block.now a.0 a.1.width)
+        (enumerate_from 0 block.now.atoms)) }
 {
     let used = used_places(alloc, block)?;
     let mut all = List::new(alloc);

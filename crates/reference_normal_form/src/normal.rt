@@ -130,7 +130,8 @@ fn classes_of_atom(
 ) -> Result<List<u16>, NoMemory>
     requires groups { groups.now ≡ map (joined_with block.now.equalities) (leaders block.now) }
     requires few { length groups.now < 65536 }
-    ensures { IfOk result (λ classes. classes ≡ map (λ c. class_of block.now (record { atom = atom; column = record { 0 = c } })) (range_with_len 0 width)) }
+    ensures { IfOk result (λ classes. classes ≡ map (λ c. class_of block.now
+        (record { atom = atom; column = record { 0 = c } })) (range_with_len 0 width)) }
 {
     let mut classes = List::new(alloc);
     for column in 0..width {
@@ -152,7 +153,8 @@ fn classes(
     requires groups { groups.now ≡ map (joined_with block.now.equalities) (leaders block.now) }
     requires few { length groups.now < 65536 }
     ensures { IfOk result (λ all. all
-        ≡ map (λ a. map (λ c. class_of block.now (record { atom = a.0; column = record { 0 = c } })) (range_with_len 0 a.1.width)) (enumerate_from 0 block.now.atoms)) }
+        ≡ map (λ a. map (λ c. class_of block.now (record { atom = a.0; column = record { 0 = c } }))
+        (range_with_len 0 a.1.width)) (enumerate_from 0 block.now.atoms)) }
 {
     let mut all = List::new(alloc);
     for (number, atom) in block.atoms.as_slice().iter().enumerate() {

@@ -26,7 +26,8 @@ pub fn has_place(places: &[Place], place: Place) -> bool
 // The places of one atom.
 #[tactic(auto, using(crate::proofs::ListSteps::range_map_step))]
 fn places_on(alloc: Global, atom: u16, width: u16) -> Result<List<Place>, NoMemory>
-    ensures { IfOk result (λ places. places ≡ map (λ c. record { atom = atom; column = record { 0 = c } }) (range_with_len 0 width)) }
+    ensures { IfOk result (λ places. places ≡ map (λ c. record { atom = atom; column = record { 0 = c } })
+        (range_with_len 0 width)) }
 {
     let mut places = List::new(alloc);
     for column in 0..width {

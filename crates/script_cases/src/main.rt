@@ -10,10 +10,11 @@
 //! - `before.beas`, a script that is run before, over the same session, where there is to be one;
 //! - all files that the scripts load.
 //!
-//! A case is run over an output that takes as many bytes as are wanted and no more, then over one that keeps each put by
-//! itself, which is to be one report, and then over outputs that fail earlier, at each length or, where there are more
-//! than 400, at so many of them: then the status is 4 and the output is what comes before the failure. A demonstration has
-//! one put for all its statements, and is let fail at a few lengths alone, since each takes a whole run.
+//! A case is run over an output that takes as many bytes as are wanted and no more, then over one that keeps each put
+//! by itself, which is to be one report, and then over outputs that fail earlier, at each length or, where there are
+//! more than 400, at so many of them: then the status is 4 and the output is what comes before the failure. A
+//! demonstration has one put for all its statements, and is let fail at a few lengths alone, since each takes a whole
+//! run.
 #![tactic(auto)]
 
 ghost use Rattle.std.specs.Prelude.{◌≡◌, ◌<◌};

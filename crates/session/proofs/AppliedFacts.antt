@@ -34,14 +34,16 @@ applied_at_once limit act E report a s t before after e h later =
       tied = tied_none limit before after later;
     })
 
-pub applied_after_read : (limit : ℕ) (limits : Limits) (db : Database) (w : Result TableId Refusal) (file : List ℕ) (id : TableId) (outcome : Outcome) (report : Report)
+pub applied_after_read : (limit : ℕ) (limits : Limits) (db : Database) (w : Result TableId Refusal) (file : List ℕ) (id : TableId) (outcome : Outcome)
+    (report : Report)
     (a : Database) (before after : Seen) → w ≡ Ok id → Happens (load_effect limits db file id outcome) report a 0 0
     → AreTied limit (record { name = file; outcome = outcome } ∷ []) before after → Applied limit (load_act limits db w file) report a 0 0 before after
 applied_after_read limit limits db w file id outcome report a before after e h tied =
     let P : Result TableId Refusal → Type 0 = λ x. Applied limit (load_act limits db x file) report a 0 0 before after in
     subst P (sym e) (record { outcome = outcome; report_is = h.report_is; db_is = h.db_is; cost_is = h.cost_is; tied = tied })
 
-pub applied_unknown : (limit : ℕ) (limits : Limits) (db : Database) (w : Result TableId Refusal) (file : List ℕ) (why : Refusal) (report : Report) (a : Database)
+pub applied_unknown : (limit : ℕ) (limits : Limits) (db : Database) (w : Result TableId Refusal) (file : List ℕ) (why : Refusal) (report : Report)
+    (a : Database)
     (before after : Seen) → w ≡ Err why → Happens (refusal_effect db why) report a 0 0 → IsLater before after
     → Applied limit (load_act limits db w file) report a 0 0 before after
 applied_unknown limit limits db w file why report a before after e h later =
@@ -76,10 +78,12 @@ load_denied limit limits db w file NoMemory (Err want) files h so = tt
 load_denied limit limits db w file NoMemory (Ok report) files h so =
     let one : Effect = record { report = Done; cost = 0; db = db } in
     let two : Effect = record { report = Changed 0; cost = 0; db = db } in
-    absurd (let bad : Done ≡ Changed 0 = sym (so one db db 0 0 (stops_at one db db 0 refl)).report_is ∙ (so two db db 0 0 (stops_at two db db 0 refl)).report_is in cc)
+    absurd (let bad : Done ≡ Changed 0 = sym (so one db db 0 0 (stops_at one db db 0 refl)).report_is
+    ∙ (so two db db 0 0 (stops_at two db db 0 refl)).report_is in cc)
 load_denied limit limits db w file (Refused why) (Err want) files h so = tt
 load_denied limit limits db w file (Refused why) (Ok report) files h so =
-    applied_unknown limit limits db w file why report db files files h (so (refusal_effect db why) db db 0 0 (refusal_happens why db db 0 refl)) (later_same files)
+    applied_unknown limit limits db w file why report db files files h (so (refusal_effect db why) db db 0 0 (refusal_happens why db db 0 refl))
+    (later_same files)
 
 -- every statement but a LOAD is carried out at once
 pub at_once : (s : Settings) (db : Database) (statement : Statement)

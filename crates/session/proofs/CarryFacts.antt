@@ -28,7 +28,8 @@ failed T x = Err x
 pub carries_refused : (T : Type 0) (r : Option Refusal) (E : Effect) (b a : Database) (x : Fail) (s : ℕ) → IsRefusedAs (failed T x) r → a ≡ b
     → Carries (unless r b E) b (Err x) a s s
 carries_refused T r E b a NoMemory s h e = stops_at (unless r b E) b a s e
-carries_refused T r E b a (Refused why) s h e = let P : Option Refusal → Type 0 = λ q. Happens (unless q b E) (Refusing why) a s s in subst P (sym h) (refusal_happens why b a s e)
+carries_refused T r E b a (Refused why) s h e = let P : Option Refusal
+    → Type 0 = λ q. Happens (unless q b E) (Refusing why) a s s in subst P (sym h) (refusal_happens why b a s e)
 
 pub carries_denied : {A : Type 0} (w : Result A Refusal) (f : A → Effect) (b a : Database) (x : Fail) (s : ℕ) → Gives (Err x) w → a ≡ b
     → Carries (with_answer w b f) b (Err x) a s s
@@ -68,7 +69,8 @@ access_done (Some why) broken n b a E s t h d c = absurd (let bad : Some why ≡
 pub access_refused : (admit broken : Option Refusal) (n : ℕ) (b a : Database) (E : Effect) (why : Refusal) (s t : ℕ) → option_or admit broken ≡ Some why → a ≡ b
     → t ≡ s + rows_read admit n → Happens (unless admit b (reading n (unless broken b E))) (Refusing why) a s t
 access_refused None broken n b a E why s t h d c =
-    let P : Option Refusal → Type 0 = λ q. Happens (reading n (unless q b E)) (Refusing why) a s t in subst P (sym h) (record { report_is = refl; db_is = d; cost_is = c })
+    let P : Option Refusal → Type 0 = λ q. Happens (reading n (unless q b E)) (Refusing why) a s t in
+    subst P (sym h) (record { report_is = refl; db_is = d; cost_is = c })
 access_refused (Some other) broken n b a E why s t h d c =
     let P : Option Refusal → Type 0 = λ q. Happens (unless q b (reading n (unless broken b E))) (Refusing why) a s t in
     subst P (sym h) (record { report_is = refl; db_is = d; cost_is = c })

@@ -29,10 +29,12 @@ module _ (rows : List (List Value)) (limit width : ℕ) where
       → All (PairIsBelow width) (filter_map (pair_in rows limit first) columns)
   with_first first below [] all = All-nil (PairIsBelow width)
   with_first first below (second ∷ columns) all =
-      by (first.0 == second.0) (nat_le (greatest rows (first ∷ []) (second ∷ [])) limit) (with_first first below columns (λ i d l. all (suc i) d (omega (arith, l))))
+      by (first.0 == second.0) (nat_le (greatest rows (first ∷ []) (second ∷ [])) limit)
+      (with_first first below columns (λ i d l. all (suc i) d (omega (arith, l))))
     where
       by : (same within : Bool) → All (PairIsBelow width) (filter_map (pair_in rows limit first) columns)
-          → All (PairIsBelow width) (cons_option (maybe same within first second (greatest rows (first ∷ []) (second ∷ []))) (filter_map (pair_in rows limit first) columns))
+          → All (PairIsBelow width) (cons_option (maybe same within first second (greatest rows (first ∷ []) (second ∷ [])))
+          (filter_map (pair_in rows limit first) columns))
       by true within rest = rest
       by false true rest =
           all_cons (PairIsBelow width) (first, second, greatest rows (first ∷ []) (second ∷ [])) (filter_map (pair_in rows limit first) columns)

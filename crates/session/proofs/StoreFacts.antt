@@ -81,7 +81,8 @@ pub resolve_found : (g : Guarded) (table : List ℕ) (key fetched : List (List �
     → resolution (schema_of (stored g)) table key fetched ≡ Ok (record { table = id; key = k; fetched = f })
 resolve_found g table key fetched id k f none named ks fs =
     ap (λ s. resolution s table key fetched) (schema_is_catalogue g) ∙ ap (λ r. or_refusal r (resolved_in g.catalogue table key fetched)) none
-    ∙ ap (λ o. made (unwrap_or o (record { 0 = 0 })) (column_ids (columns_of_named g.catalogue table) key) (column_ids (columns_of_named g.catalogue table) fetched)) named
+    ∙ ap (λ o. made (unwrap_or o (record { 0 = 0 })) (column_ids (columns_of_named g.catalogue table) key)
+    (column_ids (columns_of_named g.catalogue table) fetched)) named
     ∙ ap (λ c. made id c (column_ids (columns_of_named g.catalogue table) fetched)) (sym ks) ∙ ap (λ c. made id k c) (sym fs)
   where
     made : TableId → List ColumnId → List ColumnId → Result Resolved Refusal

@@ -2,8 +2,8 @@
 //!
 //! In the folder that its word names, or in the one that it is started in, each of the files `spellings`, `refusals`,
 //! `depths`, `pieces`, `names`, `tokens` and `cuts` has cases with an empty line between them. A case is a text, of one
-//! line or more, and below it, on lines that begin with `> `, what is wanted for it; a case whose text is empty has just
-//! those lines. A part that begins with `#` is a remark. `[N TEXT]` stands for TEXT, N times, and `[U+0B]` for the
+//! line or more, and below it, on lines that begin with `> `, what is wanted for it; a case whose text is empty has
+//! just those lines. A part that begins with `#` is a remark. `[N TEXT]` stands for TEXT, N times, and `[U+0B]` for the
 //! character of Unicode with that number of base 16: characters that can't be seen are written so.
 //!
 //! - `spellings`, `refusals`, `depths`: wanted is the canonical text of the statement that the text spells, which has

@@ -18,7 +18,8 @@ passes d x le =
     ]
 
 -- a token that isn't too deep passes the question on to those after it
-pub one_deeper : (d j : ℕ) (s : Symbol) (rest : List Symbol) → d ≤ 32 → nat_lt 32 (depth_from d j (s ∷ rest)) ≡ nat_lt 32 (depth_from (depth_behind d j s) (joins_behind j s) rest)
+pub one_deeper : (d j : ℕ) (s : Symbol) (rest : List Symbol) → d ≤ 32
+    → nat_lt 32 (depth_from d j (s ∷ rest)) ≡ nat_lt 32 (depth_from (depth_behind d j s) (joins_behind j s) rest)
 one_deeper d j s rest le = passes d (depth_from (depth_behind d j s) (joins_behind j s) rest) le
 
 pub too_deep : (d j : ℕ) (rest : List Symbol) → 32 < d → nat_lt 32 (depth_from d j rest) ≡ true
@@ -30,7 +31,8 @@ joins_rise j s = elim (joins_blocks s) as (λ b. cond b (j + 1) j ≤ j + 1) [ t
 pub nothing_deep : (d j : ℕ) → d ≤ 32 → nat_lt 32 (depth_from d j []) ≡ false
 nothing_deep d j le = le-ltb 32 d le
 
-pub too_deep_here : (tokens : List Token) (i : ℕ) (token : Token) (d j next : ℕ) → token ≡ get_or tokens i token → i < length tokens → d ≤ 32 → next ≡ depth_behind d j (symbol_of token.kind token.text) → 32 < next → nat_lt 32 (depth_from d j (symbols (drop i tokens))) ≡ true
+pub too_deep_here : (tokens : List Token) (i : ℕ) (token : Token) (d j next : ℕ) → token ≡ get_or tokens i token → i < length tokens → d ≤ 32
+    → next ≡ depth_behind d j (symbol_of token.kind token.text) → 32 < next → nat_lt 32 (depth_from d j (symbols (drop i tokens))) ≡ true
 too_deep_here tokens i token d j next e lt le n deep =
     let s = symbol_of token.kind token.text in
     let rest = symbols (drop (i + 1) tokens) in

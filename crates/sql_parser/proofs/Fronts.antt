@@ -15,11 +15,13 @@ use Rattle.sql_tree.specs.Words.{COMMA, AND, UNION, EXCEPT}
 use Rattle.sql_parser.specs.Reading.{◌>>=◌, Adds, starts, rest_of, behind, behind_both, read_condition, read_conditions, read_source, read_sources, starts_join, read_join, read_joins, read_term, read_query}
 
 -- a call that fails, where the whole fails with it
-pub adding_fails : {X Y : Type 0} (e : ReadError) (new : X) (after : Y) (rest : List Symbol) (part : Option (X × List Symbol)) (whole : Option (Y × List Symbol)) → Adds {X = Unit {0}} (Err e) new rest part → (part ≡ None → whole ≡ None) → Adds {X = Unit {0}} (Err e) after rest whole
+pub adding_fails : {X Y : Type 0} (e : ReadError) (new : X) (after : Y) (rest : List Symbol) (part : Option (X × List Symbol))
+    (whole : Option (Y × List Symbol)) → Adds {X = Unit {0}} (Err e) new rest part → (part ≡ None → whole ≡ None) → Adds {X = Unit {0}} (Err e) after rest whole
 adding_fails errors.Syntax new after rest part whole h f = f h
 adding_fails errors.NoMemory new after rest part whole h f = tt
 
-behind-inv : {X : Type 0} (front found : List X) (rest : List Symbol) (r : Option (List X × List Symbol)) → behind front r ≡ Some (found, rest) → (xs : List X) × (r ≡ Some (xs, rest)) × (front ++ xs ≡ found)
+behind-inv : {X : Type 0} (front found : List X) (rest : List Symbol) (r : Option (List X × List Symbol)) → behind front r ≡ Some (found, rest)
+    → (xs : List X) × (r ≡ Some (xs, rest)) × (front ++ xs ≡ found)
 unfolding behind
 behind-inv front found rest (Some p) e =
     let whole : (front ++ p.0, p.1) ≡ (found, rest) = cc in
@@ -38,24 +40,30 @@ behind-append front xs None = refl
 
 -- ---- conditions
 
-conditions-then : (n : ℕ) (tokens : List Symbol) (cs : List Cond) (rest : List Symbol) → read_condition (read_conditions n) tokens ≡ Some (cs, rest) → starts AND rest ≡ true → read_conditions (suc n) tokens ≡ (read_conditions n (rest_of rest) >>= λ q. Some (cs ++ q.0, q.1))
+conditions-then : (n : ℕ) (tokens : List Symbol) (cs : List Cond) (rest : List Symbol) → read_condition (read_conditions n) tokens ≡ Some (cs, rest)
+    → starts AND rest ≡ true → read_conditions (suc n) tokens ≡ (read_conditions n (rest_of rest) >>= λ q. Some (cs ++ q.0, q.1))
 unfolding read_conditions
 conditions-then n tokens cs rest e t = rw (e, t) refl
 
-conditions-last : (n : ℕ) (tokens : List Symbol) (cs : List Cond) (rest : List Symbol) → read_condition (read_conditions n) tokens ≡ Some (cs, rest) → starts AND rest ≡ false → read_conditions (suc n) tokens ≡ Some (cs, rest)
+conditions-last : (n : ℕ) (tokens : List Symbol) (cs : List Cond) (rest : List Symbol) → read_condition (read_conditions n) tokens ≡ Some (cs, rest)
+    → starts AND rest ≡ false → read_conditions (suc n) tokens ≡ Some (cs, rest)
 unfolding read_conditions
 conditions-last n tokens cs rest e t = rw (e, t) refl
 
 module _ (n : ℕ) (some : 0 < n) (front found : List Cond) (tokens rest : List Symbol) where
-  pub conditions-go_on : behind front (read_condition (read_conditions (n - 1)) tokens) ≡ Some (found, rest) → starts AND rest ≡ true → behind front (read_conditions n tokens) ≡ behind found (read_conditions (n - 1) (rest_of rest))
+  pub conditions-go_on : behind front (read_condition (read_conditions (n - 1)) tokens) ≡ Some (found, rest) → starts AND rest ≡ true
+      → behind front (read_conditions n tokens) ≡ behind found (read_conditions (n - 1) (rest_of rest))
   unfolding read_conditions
   conditions-go_on e t =
       let k : n ≡ suc (n - 1) = omega arith in
       let b = behind-inv front found rest (read_condition (read_conditions (n - 1)) tokens) e in
-      let one : read_conditions (suc (n - 1)) tokens ≡ (read_conditions (n - 1) (rest_of rest) >>= λ q. Some (b.0 ++ q.0, q.1)) = conditions-then (n - 1) tokens b.0 rest b.1 t in
-      ap (λ m. behind front (read_conditions m tokens)) k ∙ ap (behind front) one ∙ behind-append front b.0 (read_conditions (n - 1) (rest_of rest)) ∙ ap (λ cs. behind cs (read_conditions (n - 1) (rest_of rest))) b.2
+      let one : read_conditions (suc (n - 1)) tokens ≡ (read_conditions (n - 1) (rest_of rest) >>= λ q. Some (b.0 ++ q.0, q.1)) = conditions-then (n - 1) tokens
+      b.0 rest b.1 t in
+      ap (λ m. behind front (read_conditions m tokens)) k ∙ ap (behind front) one ∙ behind-append front b.0 (read_conditions (n - 1) (rest_of rest))
+      ∙ ap (λ cs. behind cs (read_conditions (n - 1) (rest_of rest))) b.2
 
-  pub conditions-end : behind front (read_condition (read_conditions (n - 1)) tokens) ≡ Some (found, rest) → starts AND rest ≡ false → behind front (read_conditions n tokens) ≡ Some (found, rest)
+  pub conditions-end : behind front (read_condition (read_conditions (n - 1)) tokens) ≡ Some (found, rest) → starts AND rest ≡ false
+      → behind front (read_conditions n tokens) ≡ Some (found, rest)
   unfolding read_conditions behind
   conditions-end e t =
       let k : n ≡ suc (n - 1) = omega arith in
@@ -63,7 +71,8 @@ module _ (n : ℕ) (some : 0 < n) (front found : List Cond) (tokens rest : List 
       let one : read_conditions (suc (n - 1)) tokens ≡ Some (b.0, rest) = conditions-last (n - 1) tokens b.0 rest b.1 t in
       ap (λ m. behind front (read_conditions m tokens)) k ∙ ap (behind front) one ∙ ap (λ cs. Some (cs, rest)) b.2
 
-pub conditions-none : (n : ℕ) → 0 < n → (front : List Cond) (tokens : List Symbol) (whole : Option (List Cond × List Symbol)) → behind front (read_conditions n tokens) ≡ whole → behind front (read_condition (read_conditions (n - 1)) tokens) ≡ None → whole ≡ None
+pub conditions-none : (n : ℕ) → 0 < n → (front : List Cond) (tokens : List Symbol) (whole : Option (List Cond × List Symbol))
+    → behind front (read_conditions n tokens) ≡ whole → behind front (read_condition (read_conditions (n - 1)) tokens) ≡ None → whole ≡ None
 unfolding read_conditions behind
 conditions-none n some front tokens whole so_far e =
     let k : n ≡ suc (n - 1) = omega arith in
@@ -77,7 +86,8 @@ conditions-over n front tokens e = rw e refl
 
 -- ---- sources and joins
 
-both-inv : (front found : Source) (rest : List Symbol) (r : Option (Source × List Symbol)) → behind_both front r ≡ Some (found, rest) → (s : Source) × (r ≡ Some (s, rest)) × ((front.0 ++ s.0, front.1 ++ s.1) ≡ found)
+both-inv : (front found : Source) (rest : List Symbol) (r : Option (Source × List Symbol)) → behind_both front r ≡ Some (found, rest)
+    → (s : Source) × (r ≡ Some (s, rest)) × ((front.0 ++ s.0, front.1 ++ s.1) ≡ found)
 unfolding behind_both
 both-inv front found rest (Some p) e =
     let whole : ((front.0 ++ p.0.0, front.1 ++ p.0.1), p.1) ≡ (found, rest) = cc in
@@ -89,38 +99,48 @@ unfolding behind_both
 both-none front (Some p) e = absurd cc
 both-none front None e = refl
 
-both-append : (front s : Source) (r : Option (Source × List Symbol)) → behind_both front (r >>= λ q. Some ((s.0 ++ q.0.0, s.1 ++ q.0.1), q.1)) ≡ behind_both (front.0 ++ s.0, front.1 ++ s.1) r
+both-append : (front s : Source) (r : Option (Source × List Symbol))
+    → behind_both front (r >>= λ q. Some ((s.0 ++ q.0.0, s.1 ++ q.0.1), q.1)) ≡ behind_both (front.0 ++ s.0, front.1 ++ s.1) r
 unfolding behind_both
 both-append front s (Some p) =
-    ap (λ (t : Source). Some (t, p.1)) (ap (λ (is : List FromItem). (is, front.1 ++ (s.1 ++ p.0.1))) (sym (append_assoc front.0 s.0 p.0.0)) ∙ ap (λ (cs : List Cond). ((front.0 ++ s.0) ++ p.0.0, cs)) (sym (append_assoc front.1 s.1 p.0.1)))
+    ap (λ (t : Source). Some (t, p.1)) (ap (λ (is : List FromItem). (is, front.1 ++ (s.1 ++ p.0.1))) (sym (append_assoc front.0 s.0 p.0.0))
+    ∙ ap (λ (cs : List Cond). ((front.0 ++ s.0) ++ p.0.0, cs)) (sym (append_assoc front.1 s.1 p.0.1)))
 both-append front s None = refl
 
 both-nothing : (front : Source) (rest : List Symbol) → behind_both front (Some (([], []), rest)) ≡ Some (front, rest)
 unfolding behind_both
-both-nothing front rest = ap (λ (s : Source). Some (s, rest)) (ap (λ (is : List FromItem). (is, front.1 ++ [])) (append-nil front.0) ∙ ap (λ (cs : List Cond). (front.0, cs)) (append-nil front.1))
+both-nothing front rest = ap (λ (s : Source). Some (s, rest))
+    (ap (λ (is : List FromItem). (is, front.1 ++ [])) (append-nil front.0) ∙ ap (λ (cs : List Cond). (front.0, cs)) (append-nil front.1))
 
-sources-then : (n : ℕ) (tokens : List Symbol) (s : Source) (rest : List Symbol) → read_source tokens ≡ Some (s, rest) → starts COMMA rest ≡ true → read_sources (suc n) tokens ≡ (read_sources n (rest_of rest) >>= λ q. Some ((s.0 ++ q.0.0, s.1 ++ q.0.1), q.1))
+sources-then : (n : ℕ) (tokens : List Symbol) (s : Source) (rest : List Symbol) → read_source tokens ≡ Some (s, rest) → starts COMMA rest ≡ true
+    → read_sources (suc n) tokens ≡ (read_sources n (rest_of rest) >>= λ q. Some ((s.0 ++ q.0.0, s.1 ++ q.0.1), q.1))
 unfolding read_sources
 sources-then n tokens s rest e t = rw (e, t) refl
 
-sources-last : (n : ℕ) (tokens : List Symbol) (s : Source) (rest : List Symbol) → read_source tokens ≡ Some (s, rest) → starts COMMA rest ≡ false → read_sources (suc n) tokens ≡ Some (s, rest)
+sources-last : (n : ℕ) (tokens : List Symbol) (s : Source) (rest : List Symbol) → read_source tokens ≡ Some (s, rest) → starts COMMA rest ≡ false
+    → read_sources (suc n) tokens ≡ Some (s, rest)
 unfolding read_sources
 sources-last n tokens s rest e t = rw (e, t) refl
 
-joins-then : (n : ℕ) (tokens : List Symbol) (s : Source) (rest : List Symbol) → starts_join tokens ≡ true → read_join tokens ≡ Some (s, rest) → read_joins (suc n) tokens ≡ (read_joins n rest >>= λ q. Some ((s.0 ++ q.0.0, s.1 ++ q.0.1), q.1))
+joins-then : (n : ℕ) (tokens : List Symbol) (s : Source) (rest : List Symbol) → starts_join tokens ≡ true → read_join tokens ≡ Some (s, rest)
+    → read_joins (suc n) tokens ≡ (read_joins n rest >>= λ q. Some ((s.0 ++ q.0.0, s.1 ++ q.0.1), q.1))
 unfolding read_joins
 joins-then n tokens s rest t e = rw (t, e) refl
 
 module _ (n : ℕ) (some : 0 < n) (front found : Source) (tokens rest : List Symbol) where
-  pub sources-go_on : behind_both front (read_source tokens) ≡ Some (found, rest) → starts COMMA rest ≡ true → behind_both front (read_sources n tokens) ≡ behind_both found (read_sources (n - 1) (rest_of rest))
+  pub sources-go_on : behind_both front (read_source tokens) ≡ Some (found, rest) → starts COMMA rest ≡ true
+      → behind_both front (read_sources n tokens) ≡ behind_both found (read_sources (n - 1) (rest_of rest))
   unfolding read_sources
   sources-go_on e t =
       let k : n ≡ suc (n - 1) = omega arith in
       let b = both-inv front found rest (read_source tokens) e in
-      let one : read_sources (suc (n - 1)) tokens ≡ (read_sources (n - 1) (rest_of rest) >>= λ q. Some ((b.0.0 ++ q.0.0, b.0.1 ++ q.0.1), q.1)) = sources-then (n - 1) tokens b.0 rest b.1 t in
-      ap (λ m. behind_both front (read_sources m tokens)) k ∙ ap (behind_both front) one ∙ both-append front b.0 (read_sources (n - 1) (rest_of rest)) ∙ ap (λ (s : Source). behind_both s (read_sources (n - 1) (rest_of rest))) b.2
+      let one : read_sources (suc (n - 1)) tokens ≡ (read_sources (n - 1) (rest_of rest) >>= λ q. Some ((b.0.0 ++ q.0.0, b.0.1 ++ q.0.1), q.1)) = sources-then
+      (n - 1) tokens b.0 rest b.1 t in
+      ap (λ m. behind_both front (read_sources m tokens)) k ∙ ap (behind_both front) one ∙ both-append front b.0 (read_sources (n - 1) (rest_of rest))
+      ∙ ap (λ (s : Source). behind_both s (read_sources (n - 1) (rest_of rest))) b.2
 
-  pub sources-end : behind_both front (read_source tokens) ≡ Some (found, rest) → starts COMMA rest ≡ false → behind_both front (read_sources n tokens) ≡ Some (found, rest)
+  pub sources-end : behind_both front (read_source tokens) ≡ Some (found, rest) → starts COMMA rest ≡ false
+      → behind_both front (read_sources n tokens) ≡ Some (found, rest)
   unfolding read_sources behind_both
   sources-end e t =
       let k : n ≡ suc (n - 1) = omega arith in
@@ -128,13 +148,16 @@ module _ (n : ℕ) (some : 0 < n) (front found : Source) (tokens rest : List Sym
       let one : read_sources (suc (n - 1)) tokens ≡ Some (b.0, rest) = sources-last (n - 1) tokens b.0 rest b.1 t in
       ap (λ m. behind_both front (read_sources m tokens)) k ∙ ap (behind_both front) one ∙ ap (λ (s : Source). Some (s, rest)) b.2
 
-  pub joins-go_on : starts_join tokens ≡ true → behind_both front (read_join tokens) ≡ Some (found, rest) → behind_both front (read_joins n tokens) ≡ behind_both found (read_joins (n - 1) rest)
+  pub joins-go_on : starts_join tokens ≡ true → behind_both front (read_join tokens) ≡ Some (found, rest)
+      → behind_both front (read_joins n tokens) ≡ behind_both found (read_joins (n - 1) rest)
   unfolding read_joins
   joins-go_on t e =
       let k : n ≡ suc (n - 1) = omega arith in
       let b = both-inv front found rest (read_join tokens) e in
-      let one : read_joins (suc (n - 1)) tokens ≡ (read_joins (n - 1) rest >>= λ q. Some ((b.0.0 ++ q.0.0, b.0.1 ++ q.0.1), q.1)) = joins-then (n - 1) tokens b.0 rest t b.1 in
-      ap (λ m. behind_both front (read_joins m tokens)) k ∙ ap (behind_both front) one ∙ both-append front b.0 (read_joins (n - 1) rest) ∙ ap (λ (s : Source). behind_both s (read_joins (n - 1) rest)) b.2
+      let one : read_joins (suc (n - 1)) tokens ≡ (read_joins (n - 1) rest >>= λ q. Some ((b.0.0 ++ q.0.0, b.0.1 ++ q.0.1), q.1)) = joins-then (n - 1) tokens
+      b.0 rest t b.1 in
+      ap (λ m. behind_both front (read_joins m tokens)) k ∙ ap (behind_both front) one ∙ both-append front b.0 (read_joins (n - 1) rest)
+      ∙ ap (λ (s : Source). behind_both s (read_joins (n - 1) rest)) b.2
 
 module _ (n : ℕ) (some : 0 < n) (front : Source) (tokens : List Symbol) (whole : Option (Source × List Symbol)) where
   pub sources-none : behind_both front (read_sources n tokens) ≡ whole → behind_both front (read_source tokens) ≡ None → whole ≡ None
@@ -172,21 +195,24 @@ joins-end n front tokens t = ap (behind_both front) (joins-are_over n tokens t) 
 -- ---- terms
 
 module _ (n : ℕ) (some : 0 < n) (front : Front) (tokens : List Symbol) where
-  pub terms-union : (tree : Tree) (rest : List Symbol) → read_term (read_query (n - 1) Nothing) tokens ≡ Some (tree, rest) → starts UNION rest ≡ true → read_query n front tokens ≡ read_query (n - 1) (BeforeUnion (joined_to front tree)) (rest_of rest)
+  pub terms-union : (tree : Tree) (rest : List Symbol) → read_term (read_query (n - 1) Nothing) tokens ≡ Some (tree, rest) → starts UNION rest ≡ true
+      → read_query n front tokens ≡ read_query (n - 1) (BeforeUnion (joined_to front tree)) (rest_of rest)
   unfolding read_query
   terms-union tree rest e t =
       let k : n ≡ suc (n - 1) = omega arith in
       let one : read_query (suc (n - 1)) front tokens ≡ read_query (n - 1) (BeforeUnion (joined_to front tree)) (rest_of rest) = rw (e, t) refl in
       ap (λ m. read_query m front tokens) k ∙ one
 
-  pub terms-except : (tree : Tree) (rest : List Symbol) → read_term (read_query (n - 1) Nothing) tokens ≡ Some (tree, rest) → starts UNION rest ≡ false → starts EXCEPT rest ≡ true → read_query n front tokens ≡ read_query (n - 1) (BeforeExcept (joined_to front tree)) (rest_of rest)
+  pub terms-except : (tree : Tree) (rest : List Symbol) → read_term (read_query (n - 1) Nothing) tokens ≡ Some (tree, rest) → starts UNION rest ≡ false
+      → starts EXCEPT rest ≡ true → read_query n front tokens ≡ read_query (n - 1) (BeforeExcept (joined_to front tree)) (rest_of rest)
   unfolding read_query
   terms-except tree rest e t u =
       let k : n ≡ suc (n - 1) = omega arith in
       let one : read_query (suc (n - 1)) front tokens ≡ read_query (n - 1) (BeforeExcept (joined_to front tree)) (rest_of rest) = rw (e, t, u) refl in
       ap (λ m. read_query m front tokens) k ∙ one
 
-  pub terms-end : (tree : Tree) (rest : List Symbol) → read_term (read_query (n - 1) Nothing) tokens ≡ Some (tree, rest) → starts UNION rest ≡ false → starts EXCEPT rest ≡ false → read_query n front tokens ≡ Some (joined_to front tree, rest)
+  pub terms-end : (tree : Tree) (rest : List Symbol) → read_term (read_query (n - 1) Nothing) tokens ≡ Some (tree, rest) → starts UNION rest ≡ false
+      → starts EXCEPT rest ≡ false → read_query n front tokens ≡ Some (joined_to front tree, rest)
   unfolding read_query
   terms-end tree rest e t u =
       let k : n ≡ suc (n - 1) = omega arith in

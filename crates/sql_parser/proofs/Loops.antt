@@ -10,20 +10,23 @@ behind-some : {X : Type 0} (front xs : List X) (rest : List Symbol) → behind f
 unfolding behind
 behind-some front xs rest = refl
 
-pub behind-cons : {X : Type 0} (front : List X) (x : X) (read : Option (List X × List Symbol)) → behind front (read >>= λ q. Some (x ∷ q.0, q.1)) ≡ behind (front ++ x ∷ []) read
+pub behind-cons : {X : Type 0} (front : List X) (x : X) (read : Option (List X × List Symbol))
+    → behind front (read >>= λ q. Some (x ∷ q.0, q.1)) ≡ behind (front ++ x ∷ []) read
 unfolding behind
 behind-cons front x (Some p) = ap (λ xs. Some (xs, p.1)) (sym (append_assoc front (x ∷ []) p.0))
 behind-cons front x None = refl
 
 module _ {X : Type 0} (read : List Symbol → Option (X × List Symbol)) (front : List X) (n : ℕ) (some : 0 < n) (tokens : List Symbol) where
-  pub commas-go_on : (x : X) (rest : List Symbol) → read tokens ≡ Some (x, rest) → starts COMMA rest ≡ true → behind front (read_commas read n tokens) ≡ behind (front ++ x ∷ []) (read_commas read (n - 1) (rest_of rest))
+  pub commas-go_on : (x : X) (rest : List Symbol) → read tokens ≡ Some (x, rest) → starts COMMA rest ≡ true
+      → behind front (read_commas read n tokens) ≡ behind (front ++ x ∷ []) (read_commas read (n - 1) (rest_of rest))
   unfolding read_commas
   commas-go_on x rest e t =
       let k : n ≡ suc (n - 1) = omega arith in
       let one : read_commas read (suc (n - 1)) tokens ≡ (read_commas read (n - 1) (rest_of rest) >>= λ q. Some (x ∷ q.0, q.1)) = rw (e, t) refl in
       ap (λ m. behind front (read_commas read m tokens)) k ∙ ap (behind front) one ∙ behind-cons front x (read_commas read (n - 1) (rest_of rest))
 
-  pub commas-end : (x : X) (rest : List Symbol) → read tokens ≡ Some (x, rest) → starts COMMA rest ≡ false → behind front (read_commas read n tokens) ≡ Some (front ++ x ∷ [], rest)
+  pub commas-end : (x : X) (rest : List Symbol) → read tokens ≡ Some (x, rest) → starts COMMA rest ≡ false
+      → behind front (read_commas read n tokens) ≡ Some (front ++ x ∷ [], rest)
   unfolding read_commas
   commas-end x rest e t =
       let k : n ≡ suc (n - 1) = omega arith in
@@ -42,14 +45,17 @@ unfolding behind
 behind-nil (Some p) = refl
 behind-nil None = refl
 
-pub commas-begin : {X : Type 0} (read : List Symbol → Option (X × List Symbol)) (front : List X) (n : ℕ) (tokens : List Symbol) → front ≡ [] → n ≡ length tokens → behind front (read_commas read n tokens) ≡ read_commas read (length tokens) tokens
+pub commas-begin : {X : Type 0} (read : List Symbol → Option (X × List Symbol)) (front : List X) (n : ℕ) (tokens : List Symbol) → front ≡ [] → n ≡ length tokens
+    → behind front (read_commas read n tokens) ≡ read_commas read (length tokens) tokens
 commas-begin read front n tokens e k = rw (e, k) (behind-nil (read_commas read (length tokens) tokens))
 
-pub commas-over : {X : Type 0} (read : List Symbol → Option (X × List Symbol)) (front : List X) (n : ℕ) (tokens : List Symbol) → n ≡ 0 → behind front (read_commas read n tokens) ≡ None
+pub commas-over : {X : Type 0} (read : List Symbol → Option (X × List Symbol)) (front : List X) (n : ℕ) (tokens : List Symbol) → n ≡ 0
+    → behind front (read_commas read n tokens) ≡ None
 unfolding read_commas behind
 commas-over read front n tokens e = rw e refl
 
 -- a call that fails, where the whole fails with it
-pub fails_on : {X Y : Type 0} (e : ReadError) (rest after : List Symbol) (part : Option (X × List Symbol)) (whole : Option (Y × List Symbol)) → Gives {X = X} (Err e) rest part → (part ≡ None → whole ≡ None) → Gives {X = Y} (Err e) after whole
+pub fails_on : {X Y : Type 0} (e : ReadError) (rest after : List Symbol) (part : Option (X × List Symbol)) (whole : Option (Y × List Symbol))
+    → Gives {X = X} (Err e) rest part → (part ≡ None → whole ≡ None) → Gives {X = Y} (Err e) after whole
 fails_on errors.Syntax rest after part whole h f = f h
 fails_on errors.NoMemory rest after part whole h f = tt

@@ -65,7 +65,8 @@ nothing_is_spelled tokens h = record { no_statement = λ s k. h s (spelled-reads
 
 -- ---- from what is spelled
 
-statement-is : (s t : Statement) (rest : List Symbol) (tokens : List Symbol) → read_statement tokens ≡ Some (s, []) → read_statement tokens ≡ Some (t, rest) → s ≡ t
+statement-is : (s t : Statement) (rest : List Symbol) (tokens : List Symbol) → read_statement tokens ≡ Some (s, []) → read_statement tokens ≡ Some (t, rest)
+    → s ≡ t
 statement-is s t rest tokens e f = ap (λ (p : Statement × List Symbol). p.0) (some_is (s, []) (t, rest) (sym e ∙ f))
 
 pub read_is : (tokens : List Symbol) (s t : Statement) → read_statement tokens ≡ Some (s, []) → Spells tokens t → (s ≡ t) × (lacks_distinct s ≡ false)
@@ -78,7 +79,8 @@ read_lacks tokens s e h =
     let l = lone-lacks tokens h in
     ap lacks_distinct (statement-is s l.0 [] tokens e l.1) ∙ l.2
 
-pub read_none : (tokens : List Symbol) → ((s : Statement) → read_statement tokens ≡ Some (s, []) → ⊥) → ((t : Statement) → Spells tokens t → ⊥) × (SpellsLone tokens → ⊥)
+pub read_none : (tokens : List Symbol) → ((s : Statement) → read_statement tokens ≡ Some (s, []) → ⊥)
+    → ((t : Statement) → Spells tokens t → ⊥) × (SpellsLone tokens → ⊥)
 read_none tokens h = let n = nothing_is_spelled tokens h in (n.no_statement, n.no_lone)
 
 pub read_some : (tokens : List Symbol) (s : Statement) → read_statement tokens ≡ Some (s, []) → SpellsNothing tokens → ⊥
@@ -104,28 +106,37 @@ end-none None h = refl
 end-none (Some (s, [])) h = absurd (h s refl)
 end-none (Some (s, symbol ∷ rest)) h = refl
 
-pub syntax-parsed : (tokens : List Symbol) → nat_lt 32 (depth tokens) ≡ false → ((s : Statement) → read_statement tokens ≡ Some (s, []) → ⊥) → parsed tokens ≡ Err refusal.Syntax
+pub syntax-parsed : (tokens : List Symbol) → nat_lt 32 (depth tokens) ≡ false → ((s : Statement) → read_statement tokens ≡ Some (s, []) → ⊥)
+    → parsed tokens ≡ Err refusal.Syntax
 syntax-parsed tokens d h = fair-parsed tokens d ∙ end-none (read_statement tokens) h
 
 end-parsed : (tokens : List Symbol) (s : Statement) → nat_lt 32 (depth tokens) ≡ false → read_statement tokens ≡ Some (s, []) → parsed tokens ≡ with_distinct s
 end-parsed tokens s d e = fair-parsed tokens d ∙ ap to_the_end e
 
-pub lone-parsed : (tokens : List Symbol) (s : Statement) → nat_lt 32 (depth tokens) ≡ false → read_statement tokens ≡ Some (s, []) → lacks_distinct s ≡ true → parsed tokens ≡ Err refusal.NeedsDistinct
+pub lone-parsed : (tokens : List Symbol) (s : Statement) → nat_lt 32 (depth tokens) ≡ false → read_statement tokens ≡ Some (s, []) → lacks_distinct s ≡ true
+    → parsed tokens ≡ Err refusal.NeedsDistinct
 lone-parsed tokens s d e l = end-parsed tokens s d e ∙ (rw l refl)
 
-pub whole-parsed : (tokens : List Symbol) (s : Statement) → nat_lt 32 (depth tokens) ≡ false → read_statement tokens ≡ Some (s, []) → lacks_distinct s ≡ false → parsed tokens ≡ Ok s
+pub whole-parsed : (tokens : List Symbol) (s : Statement) → nat_lt 32 (depth tokens) ≡ false → read_statement tokens ≡ Some (s, []) → lacks_distinct s ≡ false
+    → parsed tokens ≡ Ok s
 whole-parsed tokens s d e l = end-parsed tokens s d e ∙ (rw l refl)
 
 -- ---- it is a reading by the grammar
 
-lone-or-whole : (tokens : List Symbol) (s : Statement) (b : Bool) → depth tokens ≤ 32 → read_statement tokens ≡ Some (s, []) → lacks_distinct s ≡ b → Parses tokens (with_distinct s)
+lone-or-whole : (tokens : List Symbol) (s : Statement) (b : Bool) → depth tokens ≤ 32 → read_statement tokens ≡ Some (s, []) → lacks_distinct s ≡ b
+    → Parses tokens (with_distinct s)
 lone-or-whole tokens s true d e l = rw l ((d, lone_is_spelled tokens s e l))
 lone-or-whole tokens s false d e l = rw l ((d, whole_is_spelled tokens s e l))
 
-end-parses : (tokens : List Symbol) (read : Option (Statement × List Symbol)) → depth tokens ≤ 32 → read_statement tokens ≡ read → Parses tokens (to_the_end read)
+end-parses : (tokens : List Symbol) (read : Option (Statement × List Symbol)) → depth tokens ≤ 32 → read_statement tokens ≡ read
+    → Parses tokens (to_the_end read)
 end-parses tokens None d e = (d, nothing_is_spelled tokens (λ s f. let g : None ≡ Some (s, []) = sym e ∙ f in cc))
 end-parses tokens (Some (s, [])) d e = lone-or-whole tokens s (lacks_distinct s) d e refl
-end-parses tokens (Some (s, symbol ∷ rest)) d e = (d, nothing_is_spelled tokens (λ t f. let g : symbol ∷ rest ≡ [] = ap (λ (p : Statement × List Symbol). p.1) (some_is (s, symbol ∷ rest) (t, []) (sym e ∙ f)) in cc))
+end-parses tokens (Some (s, symbol ∷ rest)) d e = (
+  d,
+  nothing_is_spelled tokens
+      (λ t f. let g : symbol ∷ rest ≡ [] = ap (λ (p : Statement × List Symbol). p.1) (some_is (s, symbol ∷ rest) (t, []) (sym e ∙ f)) in cc),
+)
 
 parsed-as : (tokens : List Symbol) (b : Bool) → nat_lt 32 (depth tokens) ≡ b → Parses tokens (parsed tokens)
 parsed-as tokens true d = subst (Parses tokens) (sym (deep-parsed tokens d)) (ltb-true 32 (depth tokens) d)
@@ -150,10 +161,12 @@ pub spelled : (tokens : List Symbol) (answer : Result Statement Fail) → Answer
 spelled tokens (Ok s) e = subst (Parses tokens) e (parsed-parses tokens)
 spelled tokens (Err why) e = tt
 
-pub refused : (tokens : List Symbol) (answer : Result Statement Fail) → Answers answer (parsed tokens) → (why : Refusal) → IsErrOf answer (Refused why) → Parses tokens (Err why)
+pub refused : (tokens : List Symbol) (answer : Result Statement Fail) → Answers answer (parsed tokens) → (why : Refusal) → IsErrOf answer (Refused why)
+    → Parses tokens (Err why)
 refused tokens (Ok s) e why h = cc
 refused tokens (Err NoMemory) e why h = cc
 refused tokens (Err (Refused w)) e why h = let same : w ≡ why = cc in subst (Parses tokens) (e ∙ ap (λ (r : Refusal). Err r) same) (parsed-parses tokens)
 
-pub answered : (tokens : List Symbol) (answer : Result Statement Fail) → Answers answer (parsed tokens) → (reading : Reading) → Parses tokens reading → Answers answer reading
+pub answered : (tokens : List Symbol) (answer : Result Statement Fail) → Answers answer (parsed tokens) → (reading : Reading) → Parses tokens reading
+    → Answers answer reading
 answered tokens answer e reading h = subst (Answers answer) (one_reading tokens reading h) e

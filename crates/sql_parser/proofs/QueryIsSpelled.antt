@@ -41,14 +41,19 @@ item-spelled tokens i rest e =
     elim (pick-inv (starts AS a.0.1) (read_id (rest_of a.0.1)) (cond (starts_id a.0.1) (read_id a.0.1) (Some (a.0.0, a.0.1))) (Some b.0) b.1) [
       | inl k ↦
           let u = id-spelled (rest_of a.0.1) b.0.0 b.0.1 k.1 in
-          took_as (record { front = t.front ++ AS ∷ u.front; parts = then_parts t.front (AS ∷ u.front) b.0.1 t.parts (starts-inv AS a.0.1 k.0 ∙ ap (λ r. AS ∷ r) u.parts); spelled = as_alias t.spelled u.spelled }) b.2
+          took_as (record {
+            front = t.front ++ AS ∷ u.front;
+            parts = then_parts t.front (AS ∷ u.front) b.0.1 t.parts (starts-inv AS a.0.1 k.0 ∙ ap (λ r. AS ∷ r) u.parts);
+            spelled = as_alias t.spelled u.spelled;
+          }) b.2
       | inr k ↦ elim (pick-inv (starts_id a.0.1) (read_id a.0.1) (Some (a.0.0, a.0.1)) (Some b.0) k.1) [
         | inl n ↦
             let u = id-spelled a.0.1 b.0.0 b.0.1 n.1 in
             took_as (record { front = t.front ++ u.front; parts = then_parts t.front u.front b.0.1 t.parts u.parts; spelled = alias t.spelled u.spelled }) b.2
         | inr n ↦
             let same_alias = some_is (a.0.0, a.0.1) b.0 n.1 in
-            took_as (record { front = t.front; parts = t.parts; spelled = alone t.spelled }) (ap (λ (p : List ℕ × List Symbol). read_as (item_of a.0.0 p.0) p.1) same_alias ∙ b.2)
+            took_as (record { front = t.front; parts = t.parts; spelled = alone t.spelled })
+            (ap (λ (p : List ℕ × List Symbol). read_as (item_of a.0.0 p.0) p.1) same_alias ∙ b.2)
       ]
     ]
 
@@ -70,7 +75,12 @@ joined-spelled tokens s rest e =
     let o = bind-inv (expect ON a.0.1) _ (s, rest) a.2 in
     let b = bind-inv (read_conditions (length o.0) o.0) _ (s, rest) o.2 in
     let c = conditions-spelled (length o.0) o.0 b.0.0 b.0.1 b.1 in
-    took_as (record { front = i.front ++ ON ∷ c.front; parts = then_parts i.front (ON ∷ c.front) b.0.1 i.parts (expect-inv ON a.0.1 o.0 o.1 ∙ ap (λ r. ON ∷ r) c.parts); spelled = item_on i.spelled c.spelled }) b.2
+    took_as (record {
+      front = i.front ++ ON ∷ c.front;
+      parts = then_parts i.front (ON ∷ c.front) b.0.1 i.parts
+          (expect-inv ON a.0.1 o.0 o.1 ∙ ap (λ r. ON ∷ r) c.parts);
+      spelled = item_on i.spelled c.spelled;
+    }) b.2
 
 with_join : {a : List Symbol} {s : Source} → IsJoined a s → IsJoin (JOIN ∷ a) s
 with_join (item_on i c) = joined i c
@@ -82,10 +92,12 @@ starts_join-inv : (tokens : List Symbol) → starts_join tokens ≡ true → sta
 unfolding starts_join
 starts_join-inv tokens e j i = sym (rw (j, i) refl) ∙ e
 
-join-spelled : (tokens : List Symbol) (s : Source) (rest : List Symbol) → starts_join tokens ≡ true → read_join tokens ≡ Some (s, rest) → Took IsJoin tokens s rest
+join-spelled : (tokens : List Symbol) (s : Source) (rest : List Symbol) → starts_join tokens ≡ true → read_join tokens ≡ Some (s, rest)
+    → Took IsJoin tokens s rest
 unfolding read_join read_crossed
 join-spelled tokens s rest some e =
-    elim (pick-inv (starts JOIN tokens) (read_joined (rest_of tokens)) (cond (starts INNER tokens) (expect JOIN (rest_of tokens) >>= read_joined) (read_crossed (rest_of tokens))) (Some (s, rest)) e) [
+    elim (pick-inv (starts JOIN tokens) (read_joined (rest_of tokens))
+    (cond (starts INNER tokens) (expect JOIN (rest_of tokens) >>= read_joined) (read_crossed (rest_of tokens))) (Some (s, rest)) e) [
       | inl j ↦
           let t = joined-spelled (rest_of tokens) s rest j.1 in
           record { front = JOIN ∷ t.front; parts = starts-inv JOIN tokens j.0 ∙ ap (λ r. JOIN ∷ r) t.parts; spelled = with_join t.spelled }
@@ -93,12 +105,22 @@ join-spelled tokens s rest some e =
         | inl i ↦
             let a = bind-inv (expect JOIN (rest_of tokens)) read_joined (s, rest) i.1 in
             let t = joined-spelled a.0 s rest a.2 in
-            record { front = INNER ∷ JOIN ∷ t.front; parts = starts-inv INNER tokens i.0 ∙ ap (λ r. INNER ∷ r) (expect-inv JOIN (rest_of tokens) a.0 a.1 ∙ ap (λ r. JOIN ∷ r) t.parts); spelled = with_inner t.spelled }
+            record {
+              front = INNER ∷ JOIN ∷ t.front;
+              parts = starts-inv INNER tokens i.0
+                  ∙ ap (λ r. INNER ∷ r) (expect-inv JOIN (rest_of tokens) a.0 a.1 ∙ ap (λ r. JOIN ∷ r) t.parts);
+              spelled = with_inner t.spelled;
+            }
         | inr i ↦
             let a = bind-inv (expect JOIN (rest_of tokens)) _ (s, rest) i.1 in
             let b = bind-inv (read_item a.0) _ (s, rest) a.2 in
             let t = item-spelled a.0 b.0.0 b.0.1 b.1 in
-            took_as (record { front = CROSS ∷ JOIN ∷ t.front; parts = starts-inv CROSS tokens (starts_join-inv tokens some j.0 i.0) ∙ ap (λ r. CROSS ∷ r) (expect-inv JOIN (rest_of tokens) a.0 a.1 ∙ ap (λ r. JOIN ∷ r) t.parts); spelled = crossed t.spelled }) b.2
+            took_as (record {
+              front = CROSS ∷ JOIN ∷ t.front;
+              parts = starts-inv CROSS tokens (starts_join-inv tokens some j.0 i.0)
+                  ∙ ap (λ r. CROSS ∷ r) (expect-inv JOIN (rest_of tokens) a.0 a.1 ∙ ap (λ r. JOIN ∷ r) t.parts);
+              spelled = crossed t.spelled;
+            }) b.2
       ]
     ]
 
@@ -118,13 +140,15 @@ joins-spelled zero tokens s rest e =
       | inr k ↦ took_as (record { front = []; parts = refl; spelled = no_join }) k.1
     ]
 joins-spelled (suc n) tokens s rest e =
-    elim (pick-inv (starts_join tokens) (read_join tokens >>= λ p. read_joins n p.1 >>= λ q. Some ((p.0.0 ++ q.0.0, p.0.1 ++ q.0.1), q.1)) (Some (([], []), tokens)) (Some (s, rest)) e) [
+    elim (pick-inv (starts_join tokens) (read_join tokens >>= λ p. read_joins n p.1 >>= λ q. Some ((p.0.0 ++ q.0.0, p.0.1 ++ q.0.1), q.1))
+    (Some (([], []), tokens)) (Some (s, rest)) e) [
       | inl k ↦
           let a = bind-inv (read_join tokens) _ (s, rest) k.1 in
           let b = bind-inv (read_joins n a.0.1) _ (s, rest) a.2 in
           let t = join-spelled tokens a.0.0 a.0.1 k.0 a.1 in
           let u = joins-spelled n a.0.1 b.0.0 b.0.1 b.1 in
-          took_as (record { front = t.front ++ u.front; parts = then_parts t.front u.front b.0.1 t.parts u.parts; spelled = more-joins t.spelled u.spelled }) b.2
+          took_as (record { front = t.front ++ u.front; parts = then_parts t.front u.front b.0.1 t.parts u.parts; spelled = more-joins t.spelled u.spelled })
+          b.2
       | inr k ↦ took_as (record { front = []; parts = refl; spelled = no_join }) k.1
     ]
 
@@ -145,10 +169,20 @@ pub record SourcesOf (a : List Symbol) (s : Source) : Type 0 where
   pub conditions : s.1 ≡ flat_map (λ t. t.1) sources
 
 one-source : {a : List Symbol} {s : Source} → IsSource a s → SourcesOf a s
-one-source {a} {s} h = record { sources = s ∷ []; spelled = last h; items = sym (flat_map-cons (λ (t : Source). t.0) s [] ∙ append-nil s.0); conditions = sym (flat_map-cons (λ (t : Source). t.1) s [] ∙ append-nil s.1) }
+one-source {a} {s} h = record {
+  sources = s ∷ [];
+  spelled = last h;
+  items = sym (flat_map-cons (λ (t : Source). t.0) s [] ∙ append-nil s.0);
+  conditions = sym (flat_map-cons (λ (t : Source). t.1) s [] ∙ append-nil s.1);
+}
 
 more-sources : {a b : List Symbol} {s t : Source} → IsSource a s → SourcesOf b t → SourcesOf (a ++ COMMA ∷ b) (s.0 ++ t.0, s.1 ++ t.1)
-more-sources {a} {b} {s} {t} h k = record { sources = s ∷ k.sources; spelled = comma h k.spelled; items = ap (λ is. s.0 ++ is) k.items ∙ sym (flat_map-cons (λ (t : Source). t.0) s k.sources); conditions = ap (λ cs. s.1 ++ cs) k.conditions ∙ sym (flat_map-cons (λ (t : Source). t.1) s k.sources) }
+more-sources {a} {b} {s} {t} h k = record {
+  sources = s ∷ k.sources;
+  spelled = comma h k.spelled;
+  items = ap (λ is. s.0 ++ is) k.items ∙ sym (flat_map-cons (λ (t : Source). t.0) s k.sources);
+  conditions = ap (λ cs. s.1 ++ cs) k.conditions ∙ sym (flat_map-cons (λ (t : Source). t.1) s k.sources);
+}
 
 sources-spelled : (n : ℕ) (tokens : List Symbol) (s : Source) (rest : List Symbol) → read_sources n tokens ≡ Some (s, rest) → Took SourcesOf tokens s rest
 unfolding read_sources
@@ -156,11 +190,16 @@ sources-spelled zero tokens s rest e = absurd (none_is (s, rest) e)
 sources-spelled (suc n) tokens s rest e =
     let a = bind-inv (read_source tokens) _ (s, rest) e in
     let t = source-spelled tokens a.0.0 a.0.1 a.1 in
-    elim (pick-inv (starts COMMA a.0.1) (read_sources n (rest_of a.0.1) >>= λ q. Some ((a.0.0.0 ++ q.0.0, a.0.0.1 ++ q.0.1), q.1)) (Some a.0) (Some (s, rest)) a.2) [
+    elim (pick-inv (starts COMMA a.0.1) (read_sources n (rest_of a.0.1) >>= λ q. Some ((a.0.0.0 ++ q.0.0, a.0.0.1 ++ q.0.1), q.1)) (Some a.0) (Some (s, rest))
+    a.2) [
       | inl k ↦
           let b = bind-inv (read_sources n (rest_of a.0.1)) _ (s, rest) k.1 in
           let u = sources-spelled n (rest_of a.0.1) b.0.0 b.0.1 b.1 in
-          took_as (record { front = t.front ++ COMMA ∷ u.front; parts = then_parts t.front (COMMA ∷ u.front) b.0.1 t.parts (starts-inv COMMA a.0.1 k.0 ∙ ap (λ r. COMMA ∷ r) u.parts); spelled = more-sources t.spelled u.spelled }) b.2
+          took_as (record {
+            front = t.front ++ COMMA ∷ u.front;
+            parts = then_parts t.front (COMMA ∷ u.front) b.0.1 t.parts (starts-inv COMMA a.0.1 k.0 ∙ ap (λ r. COMMA ∷ r) u.parts);
+            spelled = more-sources t.spelled u.spelled;
+          }) b.2
       | inr k ↦ took_as (record { front = t.front; parts = t.parts; spelled = one-source t.spelled }) k.1
     ]
 
@@ -183,15 +222,19 @@ output-spelled tokens o rest e =
 distinct-spelled : (tokens : List Symbol) → Took IsDistinct tokens (starts DISTINCT tokens) (behind_distinct tokens)
 unfolding behind_distinct
 distinct-spelled tokens =
-    let go : (b : Bool) → starts DISTINCT tokens ≡ b → Took IsDistinct tokens b (cond b (rest_of tokens) tokens) = λ b. elim b as (λ b. starts DISTINCT tokens ≡ b → Took IsDistinct tokens b (cond b (rest_of tokens) tokens)) [
+    let go : (b : Bool) → starts DISTINCT tokens ≡ b → Took IsDistinct tokens b (cond b (rest_of tokens) tokens) = λ b. elim b as
+    (λ b. starts DISTINCT tokens ≡ b → Took IsDistinct tokens b (cond b (rest_of tokens) tokens)) [
       | true ↦ λ t. record { front = DISTINCT ∷ []; parts = starts-inv DISTINCT tokens t; spelled = distinct_rows }
       | false ↦ λ t. record { front = []; parts = refl; spelled = all_rows }
     ] in
     go (starts DISTINCT tokens) refl
 
-block-made : {a b c d : List Symbol} {distinct star : Bool} {rs : List ColumnRef} {s : Source} {cs : List Cond} → IsDistinct a distinct → IsOutput b star rs → SourcesOf c s → IsWhere d cs → IsBlock (SELECT ∷ a ++ b ++ FROM ∷ c ++ d) (record { distinct = distinct; star = star; items = rs; from_items = s.0; conditions = s.1 ++ cs })
+block-made : {a b c d : List Symbol} {distinct star : Bool} {rs : List ColumnRef} {s : Source} {cs : List Cond} → IsDistinct a distinct → IsOutput b star rs
+    → SourcesOf c s → IsWhere d cs → IsBlock (SELECT ∷ a ++ b ++ FROM ∷ c ++ d)
+    (record { distinct = distinct; star = star; items = rs; from_items = s.0; conditions = s.1 ++ cs })
 block-made {a} {b} {c} {d} {distinct} {star} {rs} {s} {cs} h o k w =
-    subst (λ (t : Source). IsBlock (SELECT ∷ a ++ b ++ FROM ∷ c ++ d) (record { distinct = distinct; star = star; items = rs; from_items = t.0; conditions = t.1 ++ cs }))
+    subst (λ (t : Source). IsBlock (SELECT ∷ a ++ b ++ FROM ∷ c ++ d)
+    (record { distinct = distinct; star = star; items = rs; from_items = t.0; conditions = t.1 ++ cs }))
     (ap (λ (is : List FromItem). (is, flat_map (λ (t : Source). t.1) k.sources)) (sym k.items) ∙ ap (λ (es : List Cond). (s.0, es)) (sym k.conditions))
     (select_block h o k.spelled w)
 
@@ -218,7 +261,9 @@ block-spelled tokens b rest e =
 
 -- ---- queries
 
-term-spelled : (between : List Symbol → Option (Tree × List Symbol)) → ((tokens : List Symbol) (t : Tree) (rest : List Symbol) → between tokens ≡ Some (t, rest) → Took IsQuery tokens t rest) → (tokens : List Symbol) (t : Tree) (rest : List Symbol) → read_term between tokens ≡ Some (t, rest) → Took IsTerm tokens t rest
+term-spelled : (between : List Symbol → Option (Tree × List Symbol))
+    → ((tokens : List Symbol) (t : Tree) (rest : List Symbol) → between tokens ≡ Some (t, rest) → Took IsQuery tokens t rest)
+    → (tokens : List Symbol) (t : Tree) (rest : List Symbol) → read_term between tokens ≡ Some (t, rest) → Took IsTerm tokens t rest
 unfolding read_term read_block_term
 term-spelled between reads tokens t rest e =
     elim (pick-inv (starts OPEN tokens) (closed (between (rest_of tokens))) (read_block tokens >>= λ p. Some (Block p.0, p.1)) (Some (t, rest)) e) [
@@ -250,7 +295,8 @@ front-then {b = b} {t = u} (behind_except {a} {t} q) h = subst (λ c. IsQuery c 
 abbrev Behind : List Symbol → List Symbol → Tree → Type 0
 Behind before a t = IsQuery (before ++ a) t
 
-joins-on : {tokens next rest : List Symbol} {t : Tree} (s : Symbol) (before a b : List Symbol) → next ≡ s ∷ rest_of next → tokens ≡ a ++ next → rest_of next ≡ b ++ rest → IsQuery (((before ++ a) ++ s ∷ []) ++ b) t → Took (Behind before) tokens t rest
+joins-on : {tokens next rest : List Symbol} {t : Tree} (s : Symbol) (before a b : List Symbol) → next ≡ s ∷ rest_of next → tokens ≡ a ++ next
+    → rest_of next ≡ b ++ rest → IsQuery (((before ++ a) ++ s ∷ []) ++ b) t → Took (Behind before) tokens t rest
 joins-on {tokens} {next} {rest} {t} s before a b k e f q =
     record {
       front = a ++ s ∷ b;
@@ -258,7 +304,8 @@ joins-on {tokens} {next} {rest} {t} s before a b k e f q =
       spelled = subst (λ c. IsQuery c t) (append_assoc (before ++ a) (s ∷ []) b ∙ append_assoc before a (s ∷ b)) q;
     }
 
-terms-spelled : (n : ℕ) (before : List Symbol) (front : Front) → IsFront before front → (tokens : List Symbol) (t : Tree) (rest : List Symbol) → read_query n front tokens ≡ Some (t, rest) → Took (Behind before) tokens t rest
+terms-spelled : (n : ℕ) (before : List Symbol) (front : Front) → IsFront before front → (tokens : List Symbol) (t : Tree) (rest : List Symbol)
+    → read_query n front tokens ≡ Some (t, rest) → Took (Behind before) tokens t rest
 unfolding read_query
 terms-spelled zero before front f tokens t rest e = absurd (none_is (t, rest) e)
 terms-spelled (suc n) before front f tokens t rest e =
@@ -266,17 +313,22 @@ terms-spelled (suc n) before front f tokens t rest e =
     let whole = terms-spelled n [] Nothing no_front in
     let u = term-spelled (read_query n Nothing) whole tokens a.0.0 a.0.1 a.1 in
     let q = front-then f u.spelled in
-    elim (pick-inv (starts UNION a.0.1) (read_query n (BeforeUnion (joined_to front a.0.0)) (rest_of a.0.1)) (cond (starts EXCEPT a.0.1) (read_query n (BeforeExcept (joined_to front a.0.0)) (rest_of a.0.1)) (Some (joined_to front a.0.0, a.0.1))) (Some (t, rest)) a.2) [
+    elim (pick-inv (starts UNION a.0.1) (read_query n (BeforeUnion (joined_to front a.0.0)) (rest_of a.0.1))
+    (cond (starts EXCEPT a.0.1) (read_query n (BeforeExcept (joined_to front a.0.0)) (rest_of a.0.1)) (Some (joined_to front a.0.0, a.0.1)))
+    (Some (t, rest)) a.2) [
       | inl k ↦
           let v = terms-spelled n ((before ++ u.front) ++ UNION ∷ []) (BeforeUnion (joined_to front a.0.0)) (behind_union q) (rest_of a.0.1) t rest k.1 in
           joins-on UNION before u.front v.front (starts-inv UNION a.0.1 k.0) u.parts v.parts v.spelled
-      | inr k ↦ elim (pick-inv (starts EXCEPT a.0.1) (read_query n (BeforeExcept (joined_to front a.0.0)) (rest_of a.0.1)) (Some (joined_to front a.0.0, a.0.1)) (Some (t, rest)) k.1) [
-        | inl x ↦
-            let v = terms-spelled n ((before ++ u.front) ++ EXCEPT ∷ []) (BeforeExcept (joined_to front a.0.0)) (behind_except q) (rest_of a.0.1) t rest x.1 in
-            joins-on EXCEPT before u.front v.front (starts-inv EXCEPT a.0.1 x.0) u.parts v.parts v.spelled
-        | inr x ↦ took_as (record { front = u.front; parts = u.parts; spelled = q }) x.1
-      ]
+      | inr k ↦ elim (pick-inv (starts EXCEPT a.0.1) (read_query n (BeforeExcept (joined_to front a.0.0)) (rest_of a.0.1)) (Some (joined_to front a.0.0, a.0.1))
+          (Some (t, rest)) k.1) [
+            | inl x ↦
+                let v = terms-spelled n ((before ++ u.front) ++ EXCEPT ∷ []) (BeforeExcept (joined_to front a.0.0)) (behind_except q)
+                (rest_of a.0.1) t rest x.1 in
+                joins-on EXCEPT before u.front v.front (starts-inv EXCEPT a.0.1 x.0) u.parts v.parts v.spelled
+            | inr x ↦ took_as (record { front = u.front; parts = u.parts; spelled = q }) x.1
+          ]
     ]
 
 pub query-spelled : (tokens : List Symbol) (t : Tree) (rest : List Symbol) → read_whole_query tokens ≡ Some (t, rest) → Took IsQuery tokens t rest
-query-spelled tokens t rest e = let u = terms-spelled (length tokens) [] Nothing no_front tokens t rest e in record { front = u.front; parts = u.parts; spelled = u.spelled }
+query-spelled tokens t rest e = let u = terms-spelled (length tokens) [] Nothing no_front tokens t rest e in
+    record { front = u.front; parts = u.parts; spelled = u.spelled }

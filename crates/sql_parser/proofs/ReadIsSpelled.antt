@@ -55,7 +55,8 @@ pub pick-inv : {A : Type 0} (b : Bool) (x y z : A) → cond b x y ≡ z → ((b 
 pick-inv true x y z e = inl (refl, e)
 pick-inv false x y z e = inr (refl, e)
 
-pub took_as : {X : Type 0} {Spelled : List Symbol → X → Type 0} {tokens : List Symbol} {x y : X} {r s : List Symbol} → Took Spelled tokens x r → read_as x r ≡ read_as y s → Took Spelled tokens y s
+pub took_as : {X : Type 0} {Spelled : List Symbol → X → Type 0} {tokens : List Symbol} {x y : X} {r s : List Symbol} → Took Spelled tokens x r
+    → read_as x r ≡ read_as y s → Took Spelled tokens y s
 took_as {X} {Spelled} {tokens} {x} {y} {r} {s} t e = subst (λ (p : X × List Symbol). Took Spelled tokens p.0 p.1) (some_is (x, r) (y, s) e) t
 
 pub same-inv : (s t : Symbol) → same s t ≡ true → s ≡ t
@@ -109,24 +110,32 @@ quoted-inv _ n rest e = absurd (none_is (n, rest) e)
 
 module _ {X : Type 0} (Spelled : List Symbol → X → Type 0) (read : List Symbol → Option (X × List Symbol))
     (spelled : (tokens : List Symbol) (x : X) (rest : List Symbol) → read tokens ≡ Some (x, rest) → Took Spelled tokens x rest) where
-  pub commas-spelled : (n : ℕ) (tokens : List Symbol) (xs : List X) (rest : List Symbol) → read_commas read n tokens ≡ Some (xs, rest) → Took (Commas Spelled) tokens xs rest
+  pub commas-spelled : (n : ℕ) (tokens : List Symbol) (xs : List X) (rest : List Symbol) → read_commas read n tokens ≡ Some (xs, rest)
+      → Took (Commas Spelled) tokens xs rest
   unfolding read_commas
   commas-spelled zero tokens xs rest e = absurd (none_is (xs, rest) e)
   commas-spelled (suc n) tokens xs rest e =
       let a = bind-inv (read tokens) _ (xs, rest) e in
       let t = spelled tokens a.0.0 a.0.1 a.1 in
-      elim (pick-inv (starts COMMA a.0.1) (read_commas read n (rest_of a.0.1) >>= λ q. Some (a.0.0 ∷ q.0, q.1)) (Some (a.0.0 ∷ [], a.0.1)) (Some (xs, rest)) a.2) [
+      elim (pick-inv (starts COMMA a.0.1) (read_commas read n (rest_of a.0.1) >>= λ q. Some (a.0.0 ∷ q.0, q.1)) (Some (a.0.0 ∷ [], a.0.1)) (Some (xs, rest))
+      a.2) [
         | inl c ↦
             let b = bind-inv (read_commas read n (rest_of a.0.1)) _ (xs, rest) c.1 in
             let u = commas-spelled n (rest_of a.0.1) b.0.0 b.0.1 b.1 in
-            took_as (record { front = t.front ++ COMMA ∷ u.front; parts = then_parts t.front (COMMA ∷ u.front) b.0.1 t.parts (starts-inv COMMA a.0.1 c.0 ∙ ap (λ r. COMMA ∷ r) u.parts); spelled = comma t.spelled u.spelled }) b.2
+            took_as (record {
+              front = t.front ++ COMMA ∷ u.front;
+              parts = then_parts t.front (COMMA ∷ u.front) b.0.1 t.parts (starts-inv COMMA a.0.1 c.0 ∙ ap (λ r. COMMA ∷ r) u.parts);
+              spelled = comma t.spelled u.spelled;
+            }) b.2
         | inr c ↦ took_as (record { front = t.front; parts = t.parts; spelled = last t.spelled }) c.1
       ]
 
-pub ids-spelled : (tokens : List Symbol) (ns : List (List ℕ)) (rest : List Symbol) → read_list read_id tokens ≡ Some (ns, rest) → Took (Commas IsId) tokens ns rest
+pub ids-spelled : (tokens : List Symbol) (ns : List (List ℕ)) (rest : List Symbol) → read_list read_id tokens ≡ Some (ns, rest)
+    → Took (Commas IsId) tokens ns rest
 ids-spelled tokens ns rest e = commas-spelled IsId read_id id-spelled (length tokens) tokens ns rest e
 
-pub maybe_ids-spelled : (tokens : List Symbol) (ns : List (List ℕ)) (rest : List Symbol) → read_maybe_ids tokens ≡ Some (ns, rest) → Took IsMaybeIds tokens ns rest
+pub maybe_ids-spelled : (tokens : List Symbol) (ns : List (List ℕ)) (rest : List Symbol) → read_maybe_ids tokens ≡ Some (ns, rest)
+    → Took IsMaybeIds tokens ns rest
 unfolding read_maybe_ids
 maybe_ids-spelled tokens ns rest e =
     elim (pick-inv (starts CLOSE tokens) (Some ([], tokens)) (read_list read_id tokens) (Some (ns, rest)) e) [
@@ -134,11 +143,16 @@ maybe_ids-spelled tokens ns rest e =
       | inr c ↦ let t = ids-spelled tokens ns rest c.1 in record { front = t.front; parts = t.parts; spelled = ids t.spelled }
     ]
 
-column-made : {tokens : List Symbol} {n : List ℕ} {next rest : List Symbol} {kind : ColType × List Symbol} {c : Column} → Took IsId tokens n next → (s : Symbol) (k : ColType) → starts s next ≡ true → ((a : List Symbol) → IsId a n → IsColumn (a ++ s ∷ []) (record { name = n; kind = k }))
+column-made : {tokens : List Symbol} {n : List ℕ} {next rest : List Symbol} {kind : ColType × List Symbol} {c : Column} → Took IsId tokens n next
+    → (s : Symbol) (k : ColType) → starts s next ≡ true → ((a : List Symbol) → IsId a n → IsColumn (a ++ s ∷ []) (record { name = n; kind = k }))
     → read_as k (rest_of next) ≡ Some kind → read_as (record { name = n; kind = kind.0 }) kind.1 ≡ read_as c rest → Took IsColumn tokens c rest
 column-made {tokens} {n} {next} {rest} {kind} {c} i s k t make e f =
     let e2 = some_is (k, rest_of next) kind e in
-    took_as (record { front = i.front ++ s ∷ []; parts = then_parts i.front (s ∷ []) (rest_of next) i.parts (starts-inv s next t); spelled = make i.front i.spelled }) (ap (λ (p : ColType × List Symbol). Some (record { name = n; kind = p.0 }, p.1)) e2 ∙ f)
+    took_as (record {
+      front = i.front ++ s ∷ [];
+      parts = then_parts i.front (s ∷ []) (rest_of next) i.parts (starts-inv s next t);
+      spelled = make i.front i.spelled;
+    }) (ap (λ (p : ColType × List Symbol). Some (record { name = n; kind = p.0 }, p.1)) e2 ∙ f)
 
 pub column-spelled : (tokens : List Symbol) (c : Column) (rest : List Symbol) → read_column tokens ≡ Some (c, rest) → Took IsColumn tokens c rest
 unfolding read_column read_kind
@@ -146,49 +160,56 @@ column-spelled tokens c rest e =
     let a = bind-inv (read_id tokens) _ (c, rest) e in
     let i = id-spelled tokens a.0.0 a.0.1 a.1 in
     let b = bind-inv (read_kind a.0.1) _ (c, rest) a.2 in
-    elim (pick-inv (starts INTEGER a.0.1) (Some (Integer, rest_of a.0.1)) (cond (starts INT a.0.1) (Some (Integer, rest_of a.0.1)) (cond (starts TEXT a.0.1) (Some (Texts, rest_of a.0.1)) None)) (Some b.0) b.1) [
+    elim (pick-inv (starts INTEGER a.0.1) (Some (Integer, rest_of a.0.1))
+    (cond (starts INT a.0.1) (Some (Integer, rest_of a.0.1)) (cond (starts TEXT a.0.1) (Some (Texts, rest_of a.0.1)) None)) (Some b.0) b.1) [
       | inl k ↦ column-made i INTEGER Integer k.0 (λ _ h. integer h) k.1 b.2
-      | inr k ↦ elim (pick-inv (starts INT a.0.1) (Some (Integer, rest_of a.0.1)) (cond (starts TEXT a.0.1) (Some (Texts, rest_of a.0.1)) None) (Some b.0) k.1) [
-        | inl k ↦ column-made i INT Integer k.0 (λ _ h. int h) k.1 b.2
-        | inr k ↦ elim (pick-inv (starts TEXT a.0.1) (Some (Texts, rest_of a.0.1)) None (Some b.0) k.1) [
-          | inl k ↦ column-made i TEXT Texts k.0 (λ _ h. text h) k.1 b.2
-          | inr k ↦ absurd (none_is b.0 k.1)
-        ]
-      ]
+      | inr k ↦ elim (pick-inv (starts INT a.0.1) (Some (Integer, rest_of a.0.1))
+          (cond (starts TEXT a.0.1) (Some (Texts, rest_of a.0.1)) None) (Some b.0) k.1) [
+            | inl k ↦ column-made i INT Integer k.0 (λ _ h. int h) k.1 b.2
+            | inr k ↦ elim (pick-inv (starts TEXT a.0.1) (Some (Texts, rest_of a.0.1)) None (Some b.0) k.1) [
+              | inl k ↦ column-made i TEXT Texts k.0 (λ _ h. text h) k.1 b.2
+              | inr k ↦ absurd (none_is b.0 k.1)
+            ]
+          ]
     ]
 
 -- ---- literals, refs, sides
 
-signed-spelled : (minus : Bool) (tokens : List Symbol) (l : Literal) (rest : List Symbol) → read_signed minus tokens ≡ Some (l, rest) → (d : List ℕ) × (tokens ≡ number d ∷ rest) × (l ≡ signed minus d)
+signed-spelled : (minus : Bool) (tokens : List Symbol) (l : Literal) (rest : List Symbol) → read_signed minus tokens ≡ Some (l, rest)
+    → (d : List ℕ) × (tokens ≡ number d ∷ rest) × (l ≡ signed minus d)
 unfolding read_signed
 signed-spelled minus tokens l rest e =
     let a = bind-inv (read_number tokens) _ (l, rest) e in
     let k = some_is (signed minus a.0.0, a.0.1) (l, rest) a.2 in
     (a.0.0, number-inv tokens a.0.0 a.0.1 a.1 ∙ ap (λ (p : Literal × List Symbol). number a.0.0 ∷ p.1) k, sym (ap (λ (p : Literal × List Symbol). p.0) k))
 
-literal-made : (tokens front : List Symbol) (l m : Literal) (rest : List Symbol) → tokens ≡ front ++ rest → IsLiteral front m → l ≡ m → Took IsLiteral tokens l rest
+literal-made : (tokens front : List Symbol) (l m : Literal) (rest : List Symbol) → tokens ≡ front ++ rest → IsLiteral front m → l ≡ m
+    → Took IsLiteral tokens l rest
 literal-made tokens front l m rest e h k = record { front = front; parts = e; spelled = subst (λ n. IsLiteral front n) (sym k) h }
 
 pub literal-spelled : (tokens : List Symbol) (l : Literal) (rest : List Symbol) → read_literal tokens ≡ Some (l, rest) → Took IsLiteral tokens l rest
 unfolding read_literal
 literal-spelled tokens l rest e =
-    elim (pick-inv (starts_quoted tokens) (read_quoted tokens >>= λ p. Some (Words p.0, p.1)) (cond (starts MINUS tokens) (read_signed true (rest_of tokens)) (cond (starts PLUS tokens) (read_signed false (rest_of tokens)) (read_signed false tokens))) (Some (l, rest)) e) [
+    elim (pick-inv (starts_quoted tokens) (read_quoted tokens >>= λ p. Some (Words p.0, p.1))
+    (cond (starts MINUS tokens) (read_signed true (rest_of tokens))
+    (cond (starts PLUS tokens) (read_signed false (rest_of tokens)) (read_signed false tokens))) (Some (l, rest)) e) [
       | inl q ↦
           let a = bind-inv (read_quoted tokens) _ (l, rest) q.1 in
           took_as (record { front = quoted a.0.0 ∷ []; parts = quoted-inv tokens a.0.0 a.0.1 a.1; spelled = between_quotes }) a.2
-      | inr q ↦ elim (pick-inv (starts MINUS tokens) (read_signed true (rest_of tokens)) (cond (starts PLUS tokens) (read_signed false (rest_of tokens)) (read_signed false tokens)) (Some (l, rest)) q.1) [
-        | inl m ↦
-            let s = signed-spelled true (rest_of tokens) l rest m.1 in
-            literal-made tokens (MINUS ∷ number s.0 ∷ []) l (signed true s.0) rest (starts-inv MINUS tokens m.0 ∙ ap (λ r. MINUS ∷ r) s.1) negative s.2
-        | inr m ↦ elim (pick-inv (starts PLUS tokens) (read_signed false (rest_of tokens)) (read_signed false tokens) (Some (l, rest)) m.1) [
-          | inl p ↦
-              let s = signed-spelled false (rest_of tokens) l rest p.1 in
-              literal-made tokens (PLUS ∷ number s.0 ∷ []) l (signed false s.0) rest (starts-inv PLUS tokens p.0 ∙ ap (λ r. PLUS ∷ r) s.1) positive s.2
-          | inr p ↦
-              let s = signed-spelled false tokens l rest p.1 in
-              literal-made tokens (number s.0 ∷ []) l (signed false s.0) rest s.1 plain s.2
-        ]
-      ]
+      | inr q ↦ elim (pick-inv (starts MINUS tokens) (read_signed true (rest_of tokens))
+          (cond (starts PLUS tokens) (read_signed false (rest_of tokens)) (read_signed false tokens)) (Some (l, rest)) q.1) [
+            | inl m ↦
+                let s = signed-spelled true (rest_of tokens) l rest m.1 in
+                literal-made tokens (MINUS ∷ number s.0 ∷ []) l (signed true s.0) rest (starts-inv MINUS tokens m.0 ∙ ap (λ r. MINUS ∷ r) s.1) negative s.2
+            | inr m ↦ elim (pick-inv (starts PLUS tokens) (read_signed false (rest_of tokens)) (read_signed false tokens) (Some (l, rest)) m.1) [
+              | inl p ↦
+                  let s = signed-spelled false (rest_of tokens) l rest p.1 in
+                  literal-made tokens (PLUS ∷ number s.0 ∷ []) l (signed false s.0) rest (starts-inv PLUS tokens p.0 ∙ ap (λ r. PLUS ∷ r) s.1) positive s.2
+              | inr p ↦
+                  let s = signed-spelled false tokens l rest p.1 in
+                  literal-made tokens (number s.0 ∷ []) l (signed false s.0) rest s.1 plain s.2
+            ]
+          ]
     ]
 
 pub tuple-spelled : (tokens : List Symbol) (ls : List Literal) (rest : List Symbol) → read_tuple tokens ≡ Some (ls, rest) → Took IsTuple tokens ls rest
@@ -208,18 +229,24 @@ unfolding read_ref
 ref-spelled tokens r rest e =
     let a = bind-inv (read_id tokens) _ (r, rest) e in
     let i = id-spelled tokens a.0.0 a.0.1 a.1 in
-    elim (pick-inv (starts DOT a.0.1) (read_id (rest_of a.0.1) >>= λ p. Some (record { table = Some a.0.0; column = p.0 }, p.1)) (Some (record { table = None; column = a.0.0 }, a.0.1)) (Some (r, rest)) a.2) [
+    elim (pick-inv (starts DOT a.0.1) (read_id (rest_of a.0.1) >>= λ p. Some (record { table = Some a.0.0; column = p.0 }, p.1))
+    (Some (record { table = None; column = a.0.0 }, a.0.1)) (Some (r, rest)) a.2) [
       | inl d ↦
           let b = bind-inv (read_id (rest_of a.0.1)) _ (r, rest) d.1 in
           let j = id-spelled (rest_of a.0.1) b.0.0 b.0.1 b.1 in
-          took_as (record { front = i.front ++ DOT ∷ j.front; parts = then_parts i.front (DOT ∷ j.front) b.0.1 i.parts (starts-inv DOT a.0.1 d.0 ∙ ap (λ t. DOT ∷ t) j.parts); spelled = dotted i.spelled j.spelled }) b.2
+          took_as (record {
+            front = i.front ++ DOT ∷ j.front;
+            parts = then_parts i.front (DOT ∷ j.front) b.0.1 i.parts (starts-inv DOT a.0.1 d.0 ∙ ap (λ t. DOT ∷ t) j.parts);
+            spelled = dotted i.spelled j.spelled;
+          }) b.2
       | inr d ↦ took_as (record { front = i.front; parts = i.parts; spelled = bare i.spelled }) d.1
     ]
 
 pub side-spelled : (tokens : List Symbol) (s : Side) (rest : List Symbol) → read_side tokens ≡ Some (s, rest) → Took IsSide tokens s rest
 unfolding read_side
 side-spelled tokens s rest e =
-    elim (pick-inv (starts_id tokens) (read_ref tokens >>= λ p. Some (Placed p.0, p.1)) (read_literal tokens >>= λ p. Some (Fixed p.0, p.1)) (Some (s, rest)) e) [
+    elim (pick-inv (starts_id tokens) (read_ref tokens >>= λ p. Some (Placed p.0, p.1))
+    (read_literal tokens >>= λ p. Some (Fixed p.0, p.1)) (Some (s, rest)) e) [
       | inl c ↦
           let a = bind-inv (read_ref tokens) _ (s, rest) c.1 in
           let t = ref-spelled tokens a.0.0 a.0.1 a.1 in
@@ -268,11 +295,12 @@ sign-spelled (mark m ∷ r) s rest e =
     took_as (record { front = mark m ∷ []; parts = refl; spelled = sign_of-spelled m a.0 a.1 }) a.2
 sign-spelled _ s rest e = absurd (none_is (s, rest) e)
 
--- one condition, without parentheses round it
+-- one condition, without parentheses around it
 abbrev pub IsOne : List Symbol → Cond → Type 0
 IsOne a c = IsCondition a (c ∷ [])
 
-comparison-spelled : (front tokens : List Symbol) (left : Side) (c : Cond) (rest : List Symbol) → IsSide front left → read_comparison left tokens ≡ Some (c, rest) → Took (λ a c. IsOne (front ++ a) c) tokens c rest
+comparison-spelled : (front tokens : List Symbol) (left : Side) (c : Cond) (rest : List Symbol) → IsSide front left
+    → read_comparison left tokens ≡ Some (c, rest) → Took (λ a c. IsOne (front ++ a) c) tokens c rest
 unfolding read_comparison
 comparison-spelled front tokens left c rest l e =
     let a = bind-inv (read_sign tokens) _ (c, rest) e in
@@ -282,10 +310,15 @@ comparison-spelled front tokens left c rest l e =
     elim (pick-inv (is_literal left && is_literal b.0.0) None (Some (Compare left a.0.0 b.0.0, b.0.1)) (Some (c, rest)) b.2) [
       | inl n ↦ absurd (none_is (c, rest) n.1)
       | inr n ↦
-          took_as (record { front = s.front ++ r.front; parts = then_parts s.front r.front b.0.1 s.parts r.parts; spelled = subst (λ u. IsOne u (Compare left a.0.0 b.0.0)) (append_assoc front s.front r.front) (comparison l s.spelled r.spelled n.0) }) n.1
+          took_as (record {
+            front = s.front ++ r.front;
+            parts = then_parts s.front r.front b.0.1 s.parts r.parts;
+            spelled = subst (λ u. IsOne u (Compare left a.0.0 b.0.0)) (append_assoc front s.front r.front) (comparison l s.spelled r.spelled n.0);
+          }) n.1
     ]
 
-range-spelled : (front tokens : List Symbol) (value : Side) (c : Cond) (rest : List Symbol) → IsSide front value → read_range value tokens ≡ Some (c, rest) → Took (λ a c. IsOne (front ++ BETWEEN ∷ a) c) tokens c rest
+range-spelled : (front tokens : List Symbol) (value : Side) (c : Cond) (rest : List Symbol) → IsSide front value → read_range value tokens ≡ Some (c, rest)
+    → Took (λ a c. IsOne (front ++ BETWEEN ∷ a) c) tokens c rest
 unfolding read_range
 range-spelled front tokens (Placed value) c rest (placed v) e =
     let a = bind-inv (read_side tokens) _ (c, rest) e in
@@ -308,7 +341,12 @@ simple-spelled tokens c rest e =
     elim (pick-inv (starts BETWEEN a.0.1) (read_range a.0.0 (rest_of a.0.1)) (read_comparison a.0.0 a.0.1) (Some (c, rest)) a.2) [
       | inl k ↦
           let t = range-spelled l.front (rest_of a.0.1) a.0.0 c rest l.spelled k.1 in
-          record { front = l.front ++ BETWEEN ∷ t.front; parts = then_parts l.front (BETWEEN ∷ t.front) rest l.parts (starts-inv BETWEEN a.0.1 k.0 ∙ ap (λ r. BETWEEN ∷ r) t.parts); spelled = t.spelled }
+          record {
+            front = l.front ++ BETWEEN ∷ t.front;
+            parts = then_parts l.front (BETWEEN ∷ t.front) rest l.parts
+                (starts-inv BETWEEN a.0.1 k.0 ∙ ap (λ r. BETWEEN ∷ r) t.parts);
+            spelled = t.spelled;
+          }
       | inr k ↦
           let t = comparison-spelled l.front a.0.1 a.0.0 c rest l.spelled k.1 in
           record { front = l.front ++ t.front; parts = then_parts l.front t.front rest l.parts t.parts; spelled = t.spelled }
@@ -318,7 +356,8 @@ simple-spelled tokens c rest e =
 abbrev Reads : (List Symbol → Option (List Cond × List Symbol)) → Type 0
 Reads read = (tokens : List Symbol) (cs : List Cond) (rest : List Symbol) → read tokens ≡ Some (cs, rest) → Took IsConditions tokens cs rest
 
-condition-spelled : (between : List Symbol → Option (List Cond × List Symbol)) → Reads between → (tokens : List Symbol) (cs : List Cond) (rest : List Symbol) → read_condition between tokens ≡ Some (cs, rest) → Took IsCondition tokens cs rest
+condition-spelled : (between : List Symbol → Option (List Cond × List Symbol)) → Reads between → (tokens : List Symbol) (cs : List Cond) (rest : List Symbol)
+    → read_condition between tokens ≡ Some (cs, rest) → Took IsCondition tokens cs rest
 unfolding read_condition
 condition-spelled between reads tokens cs rest e =
     elim (pick-inv (starts OPEN tokens) (closed (between (rest_of tokens))) (read_simple tokens >>= λ p. Some (p.0 ∷ [], p.1)) (Some (cs, rest)) e) [
@@ -336,7 +375,8 @@ condition-spelled between reads tokens cs rest e =
           took_as (record { front = t.front; parts = t.parts; spelled = t.spelled }) a.2
     ]
 
-pub conditions-spelled : (n : ℕ) (tokens : List Symbol) (cs : List Cond) (rest : List Symbol) → read_conditions n tokens ≡ Some (cs, rest) → Took IsConditions tokens cs rest
+pub conditions-spelled : (n : ℕ) (tokens : List Symbol) (cs : List Cond) (rest : List Symbol) → read_conditions n tokens ≡ Some (cs, rest)
+    → Took IsConditions tokens cs rest
 unfolding read_conditions
 conditions-spelled zero tokens cs rest e = absurd (none_is (cs, rest) e)
 conditions-spelled (suc n) tokens cs rest e =
@@ -346,6 +386,10 @@ conditions-spelled (suc n) tokens cs rest e =
       | inl k ↦
           let b = bind-inv (read_conditions n (rest_of a.0.1)) _ (cs, rest) k.1 in
           let u = conditions-spelled n (rest_of a.0.1) b.0.0 b.0.1 b.1 in
-          took_as (record { front = t.front ++ AND ∷ u.front; parts = then_parts t.front (AND ∷ u.front) b.0.1 t.parts (starts-inv AND a.0.1 k.0 ∙ ap (λ r. AND ∷ r) u.parts); spelled = conjunction t.spelled u.spelled }) b.2
+          took_as (record {
+            front = t.front ++ AND ∷ u.front;
+            parts = then_parts t.front (AND ∷ u.front) b.0.1 t.parts (starts-inv AND a.0.1 k.0 ∙ ap (λ r. AND ∷ r) u.parts);
+            spelled = conjunction t.spelled u.spelled;
+          }) b.2
       | inr k ↦ took_as (record { front = t.front; parts = t.parts; spelled = last_condition t.spelled }) k.1
     ]

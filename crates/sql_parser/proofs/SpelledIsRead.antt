@@ -54,7 +54,8 @@ module _ {X : Type 0} (Spelled : List Symbol → X → Type 0) (read : List Symb
     (reads : (a : List Symbol) (x : X) → Spelled a x → (rest : List Symbol) → Ends rest → read (a ++ rest) ≡ Some (x, rest))
     (some : (a : List Symbol) (x : X) → Spelled a x → 0 < length a)
     (before : (rest : List Symbol) → Ends (COMMA ∷ rest)) where
-  commas-reads : (n : ℕ) (a : List Symbol) (xs : List X) → Commas Spelled a xs → length a ≤ n → (rest : List Symbol) → Ends rest → starts COMMA rest ≡ false → read_commas read n (a ++ rest) ≡ Some (xs, rest)
+  commas-reads : (n : ℕ) (a : List Symbol) (xs : List X) → Commas Spelled a xs → length a ≤ n → (rest : List Symbol) → Ends rest → starts COMMA rest ≡ false
+      → read_commas read n (a ++ rest) ≡ Some (xs, rest)
   unfolding read_commas starts rest_of
   commas-reads zero a xs (last h) le rest ends stop = absurd (omega (arith, some _ _ h))
   commas-reads zero c ys (comma {a} {b} h hs) le rest ends stop = absurd (omega (arith, length-append a (COMMA ∷ b)))
@@ -68,11 +69,13 @@ module _ {X : Type 0} (Spelled : List Symbol → X → Type 0) (read : List Symb
   commas-some a xs (last h) = some _ _ h
   commas-some c ys (comma {a} {b} h hs) = omega (arith, length-append a (COMMA ∷ b))
 
-  pub list-reads : (a : List Symbol) (xs : List X) → Commas Spelled a xs → (rest : List Symbol) → Ends rest → starts COMMA rest ≡ false → read_list read (a ++ rest) ≡ Some (xs, rest)
+  pub list-reads : (a : List Symbol) (xs : List X) → Commas Spelled a xs → (rest : List Symbol) → Ends rest → starts COMMA rest ≡ false
+      → read_list read (a ++ rest) ≡ Some (xs, rest)
   list-reads a xs h rest ends stop = commas-reads (length (a ++ rest)) a xs h (omega (arith, length-append a rest)) rest ends stop
 
   -- what no item begins with, no list begins with
-  pub commas-start : (s : Symbol) → ((a : List Symbol) (x : X) → Spelled a x → (rest : List Symbol) → starts s (a ++ rest) ≡ false) → (a : List Symbol) (xs : List X) → Commas Spelled a xs → (rest : List Symbol) → starts s (a ++ rest) ≡ false
+  pub commas-start : (s : Symbol) → ((a : List Symbol) (x : X) → Spelled a x → (rest : List Symbol) → starts s (a ++ rest) ≡ false)
+      → (a : List Symbol) (xs : List X) → Commas Spelled a xs → (rest : List Symbol) → starts s (a ++ rest) ≡ false
   commas-start s never a xs (last h) rest = never _ _ h rest
   commas-start s never c ys (comma {a} {b} h hs) rest = rw (append_assoc a (COMMA ∷ b) rest) (never _ _ h (COMMA ∷ (b ++ rest)))
 
@@ -80,17 +83,20 @@ module _ {X : Type 0} (Spelled : List Symbol → X → Type 0) (read : List Symb
 abbrev pub Any : List Symbol → Type 0
 Any rest = Unit {0}
 
-pub ids-reads : {a : List Symbol} {ns : List (List ℕ)} → Commas IsId a ns → (rest : List Symbol) → starts COMMA rest ≡ false → read_list read_id (a ++ rest) ≡ Some (ns, rest)
+pub ids-reads : {a : List Symbol} {ns : List (List ℕ)} → Commas IsId a ns → (rest : List Symbol) → starts COMMA rest ≡ false
+    → read_list read_id (a ++ rest) ≡ Some (ns, rest)
 ids-reads h rest stop = list-reads IsId read_id Any (λ _ _ i rest _. id-reads i rest) (λ _ _ i. id-some i) (λ _. tt) _ _ h rest tt stop
 
 pub no-comma_id : (a : List Symbol) (ns : List (List ℕ)) → Commas IsId a ns → (m : List ℕ) (rest : List Symbol) → starts (mark m) (a ++ rest) ≡ false
-no-comma_id a ns h m rest = commas-start IsId read_id Any (λ _ _ i rest _. id-reads i rest) (λ _ _ i. id-some i) (λ _. tt) (mark m) (λ _ _ i rest. id-no_mark i m rest) a ns h rest
+no-comma_id a ns h m rest = commas-start IsId read_id Any (λ _ _ i rest _. id-reads i rest) (λ _ _ i. id-some i) (λ _. tt) (mark m)
+    (λ _ _ i rest. id-no_mark i m rest) a ns h rest
 
 pub closed-reads : {X : Type 0} (read : Option (X × List Symbol)) (x : X) (rest : List Symbol) → read ≡ Some (x, CLOSE ∷ rest) → closed read ≡ Some (x, rest)
 unfolding closed starts rest_of
 closed-reads read x rest e = rw e refl
 
-pub maybe_ids-reads : {a : List Symbol} {ns : List (List ℕ)} → IsMaybeIds a ns → (rest : List Symbol) → read_maybe_ids (a ++ CLOSE ∷ rest) ≡ Some (ns, CLOSE ∷ rest)
+pub maybe_ids-reads : {a : List Symbol} {ns : List (List ℕ)} → IsMaybeIds a ns → (rest : List Symbol)
+    → read_maybe_ids (a ++ CLOSE ∷ rest) ≡ Some (ns, CLOSE ∷ rest)
 unfolding read_maybe_ids starts
 maybe_ids-reads no_ids rest = refl
 maybe_ids-reads (ids {a} {ns} h) rest = rw (no-comma_id a ns h (codes ")") (CLOSE ∷ rest), ids-reads h (CLOSE ∷ rest) refl) refl
@@ -106,7 +112,8 @@ column-some (integer {a} i) = omega (arith, length-append a (INTEGER ∷ []))
 column-some (int {a} i) = omega (arith, length-append a (INT ∷ []))
 column-some (text {a} i) = omega (arith, length-append a (TEXT ∷ []))
 
-pub columns-read : {a : List Symbol} {cs : List Column} → Commas IsColumn a cs → (rest : List Symbol) → starts COMMA rest ≡ false → read_list read_column (a ++ rest) ≡ Some (cs, rest)
+pub columns-read : {a : List Symbol} {cs : List Column} → Commas IsColumn a cs → (rest : List Symbol) → starts COMMA rest ≡ false
+    → read_list read_column (a ++ rest) ≡ Some (cs, rest)
 columns-read h rest stop = list-reads IsColumn read_column Any (λ _ _ i rest _. column-reads i rest) (λ _ _ i. column-some i) (λ _. tt) _ _ h rest tt stop
 
 pub literal-reads : {a : List Symbol} {l : Literal} → IsLiteral a l → (rest : List Symbol) → read_literal (a ++ rest) ≡ Some (l, rest)
@@ -126,12 +133,14 @@ pub tuple-reads : {a : List Symbol} {ls : List Literal} → IsTuple a ls → (re
 unfolding read_tuple starts rest_of
 tuple-reads (tuple {a} {ls} h) rest =
     ap (λ t. read_tuple (OPEN ∷ t)) (append_assoc a (CLOSE ∷ []) rest)
-    ∙ closed-reads (read_list read_literal (a ++ CLOSE ∷ rest)) ls rest (list-reads IsLiteral read_literal Any (λ _ _ i rest _. literal-reads i rest) (λ _ _ i. literal-some i) (λ _. tt) a ls h (CLOSE ∷ rest) tt refl)
+    ∙ closed-reads (read_list read_literal (a ++ CLOSE ∷ rest)) ls rest
+    (list-reads IsLiteral read_literal Any (λ _ _ i rest _. literal-reads i rest) (λ _ _ i. literal-some i) (λ _. tt) a ls h (CLOSE ∷ rest) tt refl)
 
 tuple-some : {a : List Symbol} {ls : List Literal} → IsTuple a ls → 0 < length a
 tuple-some (tuple {a} h) = omega arith
 
-pub tuples-read : {a : List Symbol} {rows : List (List Literal)} → Commas IsTuple a rows → (rest : List Symbol) → starts COMMA rest ≡ false → read_list read_tuple (a ++ rest) ≡ Some (rows, rest)
+pub tuples-read : {a : List Symbol} {rows : List (List Literal)} → Commas IsTuple a rows → (rest : List Symbol) → starts COMMA rest ≡ false
+    → read_list read_tuple (a ++ rest) ≡ Some (rows, rest)
 tuples-read h rest stop = list-reads IsTuple read_tuple Any (λ _ _ i rest _. tuple-reads i rest) (λ _ _ i. tuple-some i) (λ _. tt) _ _ h rest tt stop
 
 -- ---- refs and sides
@@ -215,19 +224,24 @@ three a b c rest = simp append_assoc
 pub four : (a b c d rest : List Symbol) → (a ++ b ++ c ++ d) ++ rest ≡ a ++ (b ++ (c ++ (d ++ rest)))
 four a b c d rest = simp append_assoc
 
-pub simple-compare : {a b c : List Symbol} {left right : Side} {sign : Sign} (l : IsSide a left) (s : IsSign b sign) (r : IsSide c right) → (is_literal left && is_literal right) ≡ false → (rest : List Symbol) → NoDot rest → read_simple ((a ++ b ++ c) ++ rest) ≡ Some (Compare left sign right, rest)
+pub simple-compare : {a b c : List Symbol} {left right : Side} {sign : Sign} (l : IsSide a left) (s : IsSign b sign) (r : IsSide c right)
+    → (is_literal left && is_literal right) ≡ false → (rest : List Symbol) → NoDot rest
+    → read_simple ((a ++ b ++ c) ++ rest) ≡ Some (Compare left sign right, rest)
 unfolding read_simple read_comparison
 simple-compare {a} {b} {c} l s r some rest stop =
     ap read_simple (three a b c rest)
-    ∙ rw (side-reads l (b ++ (c ++ rest)) (sign-no_dot s (c ++ rest)).0, (sign-no_dot s (c ++ rest)).1, sign-reads s (c ++ rest), side-reads r rest stop, some) refl
+    ∙ rw (side-reads l (b ++ (c ++ rest)) (sign-no_dot s (c ++ rest)).0, (sign-no_dot s (c ++ rest)).1, sign-reads s (c ++ rest), side-reads r rest stop, some)
+    refl
 
-pub simple-range : {a b c : List Symbol} {value : ColumnRef} {low high : Side} → IsRef a value → IsSide b low → IsSide c high → (rest : List Symbol) → NoDot rest → read_simple ((a ++ BETWEEN ∷ b ++ AND ∷ c) ++ rest) ≡ Some (Between value low high, rest)
+pub simple-range : {a b c : List Symbol} {value : ColumnRef} {low high : Side} → IsRef a value → IsSide b low → IsSide c high → (rest : List Symbol)
+    → NoDot rest → read_simple ((a ++ BETWEEN ∷ b ++ AND ∷ c) ++ rest) ≡ Some (Between value low high, rest)
 unfolding read_simple read_range starts rest_of
 simple-range {a} {b} {c} r l h rest stop =
     ap read_simple (three a (BETWEEN ∷ b) (AND ∷ c) rest)
     ∙ rw (side-reads (placed r) (BETWEEN ∷ (b ++ (AND ∷ (c ++ rest)))) refl, side-reads l (AND ∷ (c ++ rest)) refl, side-reads h rest stop) refl
 
-pub condition-simple : (n : ℕ) (tokens : List Symbol) (c : Cond) (rest : List Symbol) → starts OPEN tokens ≡ false → read_simple tokens ≡ Some (c, rest) → read_condition (read_conditions n) tokens ≡ Some (c ∷ [], rest)
+pub condition-simple : (n : ℕ) (tokens : List Symbol) (c : Cond) (rest : List Symbol) → starts OPEN tokens ≡ false → read_simple tokens ≡ Some (c, rest)
+    → read_condition (read_conditions n) tokens ≡ Some (c ∷ [], rest)
 unfolding read_condition
 condition-simple n tokens c rest shut e = rw (shut, e) refl
 

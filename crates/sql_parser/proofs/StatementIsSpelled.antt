@@ -17,10 +17,12 @@ record InParentheses {X : Type 0} (Spelled : List Symbol → X → Type 0) (toke
   parts : tokens ≡ (OPEN ∷ inner) ++ (CLOSE ∷ rest)
   spelled : Spelled inner x
 
-in_parentheses : {X : Type 0} {Spelled : List Symbol → X → Type 0} (tokens inside : List Symbol) (x : X) (rest : List Symbol) → tokens ≡ OPEN ∷ inside → Took Spelled inside x (CLOSE ∷ rest) → InParentheses Spelled tokens x rest
+in_parentheses : {X : Type 0} {Spelled : List Symbol → X → Type 0} (tokens inside : List Symbol) (x : X) (rest : List Symbol) → tokens ≡ OPEN ∷ inside
+    → Took Spelled inside x (CLOSE ∷ rest) → InParentheses Spelled tokens x rest
 in_parentheses tokens inside x rest e t = record { inner = t.front; parts = e ∙ ap (λ r. OPEN ∷ r) t.parts; spelled = t.spelled }
 
-columns-spelled : (tokens : List Symbol) (cs : List Column) (rest : List Symbol) → read_columns tokens ≡ Some (cs, rest) → InParentheses (Commas IsColumn) tokens cs rest
+columns-spelled : (tokens : List Symbol) (cs : List Column) (rest : List Symbol) → read_columns tokens ≡ Some (cs, rest)
+    → InParentheses (Commas IsColumn) tokens cs rest
 unfolding read_columns
 columns-spelled tokens cs rest e =
     let a = bind-inv (expect OPEN tokens) _ (cs, rest) e in
@@ -34,7 +36,8 @@ key-spelled tokens ns rest e =
     let c = closed-inv (read_maybe_ids a.0) ns rest a.2 in
     in_parentheses tokens a.0 ns rest (expect-inv OPEN tokens a.0 a.1) (maybe_ids-spelled a.0 ns (CLOSE ∷ rest) c)
 
-fetched-spelled : (tokens : List Symbol) (ns : List (List ℕ)) (rest : List Symbol) → read_fetched tokens ≡ Some (ns, rest) → (f : List Symbol) × (tokens ≡ (FETCH ∷ OPEN ∷ f) ++ (CLOSE ∷ rest)) × Commas IsId f ns
+fetched-spelled : (tokens : List Symbol) (ns : List (List ℕ)) (rest : List Symbol) → read_fetched tokens ≡ Some (ns, rest)
+    → (f : List Symbol) × (tokens ≡ (FETCH ∷ OPEN ∷ f) ++ (CLOSE ∷ rest)) × Commas IsId f ns
 unfolding read_fetched
 fetched-spelled tokens ns rest e =
     let a = bind-inv (expect FETCH tokens) _ (ns, rest) e in
@@ -53,16 +56,22 @@ pub data SpellsAny : List Symbol → Statement → Type 0 where
 abbrev Behind : List Symbol → List Symbol → Statement → Type 0
 Behind words a s = SpellsAny (words ++ a) s
 
-table-spelled : (tokens : List Symbol) (s : Statement) (rest : List Symbol) → read_create_table tokens ≡ Some (s, rest) → Took (Behind (CREATE ∷ TABLE ∷ [])) tokens s rest
+table-spelled : (tokens : List Symbol) (s : Statement) (rest : List Symbol) → read_create_table tokens ≡ Some (s, rest)
+    → Took (Behind (CREATE ∷ TABLE ∷ [])) tokens s rest
 unfolding read_create_table
 table-spelled tokens s rest e =
     let a = bind-inv (read_id tokens) _ (s, rest) e in
     let i = id-spelled tokens a.0.0 a.0.1 a.1 in
     let b = bind-inv (read_columns a.0.1) _ (s, rest) a.2 in
     let c = columns-spelled a.0.1 b.0.0 b.0.1 b.1 in
-    took_as (record { front = i.front ++ OPEN ∷ c.inner ++ CLOSE ∷ []; parts = then_parts (i.front ++ OPEN ∷ c.inner) (CLOSE ∷ []) b.0.1 (then_parts i.front (OPEN ∷ c.inner) (CLOSE ∷ b.0.1) i.parts c.parts) refl; spelled = whole (create_table i.spelled c.spelled) }) b.2
+    took_as (record {
+      front = i.front ++ OPEN ∷ c.inner ++ CLOSE ∷ [];
+      parts = then_parts (i.front ++ OPEN ∷ c.inner) (CLOSE ∷ []) b.0.1 (then_parts i.front (OPEN ∷ c.inner) (CLOSE ∷ b.0.1) i.parts c.parts) refl;
+      spelled = whole (create_table i.spelled c.spelled);
+    }) b.2
 
-access-spelled : (tokens : List Symbol) (s : Statement) (rest : List Symbol) → read_create_access tokens ≡ Some (s, rest) → Took (Behind (CREATE ∷ [])) tokens s rest
+access-spelled : (tokens : List Symbol) (s : Statement) (rest : List Symbol) → read_create_access tokens ≡ Some (s, rest)
+    → Took (Behind (CREATE ∷ [])) tokens s rest
 unfolding read_create_access
 access-spelled tokens s rest e =
     let w = bind-inv (expect ACCESS tokens) _ (s, rest) e in
@@ -77,13 +86,15 @@ access-spelled tokens s rest e =
     let f = fetched-spelled c.0.1 d.0.0 d.0.1 d.1 in
     let l = bind-inv (expect LIMIT d.0.1) _ (s, rest) d.2 in
     let n = bind-inv (read_number l.0) _ (s, rest) l.2 in
-    let names = then_parts (ACCESS ∷ i.front) (ON ∷ j.front) b.0.1 (expect-inv ACCESS tokens w.0 w.1 ∙ ap (λ r. ACCESS ∷ r) i.parts) (expect-inv ON a.0.1 o.0 o.1 ∙ ap (λ r. ON ∷ r) j.parts) in
+    let names = then_parts (ACCESS ∷ i.front) (ON ∷ j.front) b.0.1 (expect-inv ACCESS tokens w.0 w.1 ∙ ap (λ r. ACCESS ∷ r) i.parts)
+    (expect-inv ON a.0.1 o.0 o.1 ∙ ap (λ r. ON ∷ r) j.parts) in
     let keys = then_parts (ACCESS ∷ i.front ++ ON ∷ j.front) (OPEN ∷ k.inner) (CLOSE ∷ c.0.1) names k.parts in
     let fetches = then_parts (ACCESS ∷ i.front ++ ON ∷ j.front ++ OPEN ∷ k.inner) (CLOSE ∷ FETCH ∷ OPEN ∷ f.0) (CLOSE ∷ d.0.1) keys (ap (λ r. CLOSE ∷ r) f.1) in
     let ending = ap (λ r. CLOSE ∷ r) (expect-inv LIMIT d.0.1 l.0 l.1 ∙ ap (λ r. LIMIT ∷ r) (number-inv l.0 n.0.0 n.0.1 n.1)) in
     took_as (record {
       front = ACCESS ∷ i.front ++ ON ∷ j.front ++ OPEN ∷ k.inner ++ CLOSE ∷ FETCH ∷ OPEN ∷ f.0 ++ CLOSE ∷ LIMIT ∷ number n.0.0 ∷ [];
-      parts = then_parts (ACCESS ∷ i.front ++ ON ∷ j.front ++ OPEN ∷ k.inner ++ CLOSE ∷ FETCH ∷ OPEN ∷ f.0) (CLOSE ∷ LIMIT ∷ number n.0.0 ∷ []) n.0.1 fetches ending;
+      parts = then_parts (ACCESS ∷ i.front ++ ON ∷ j.front ++ OPEN ∷ k.inner ++ CLOSE ∷ FETCH ∷ OPEN ∷ f.0) (CLOSE ∷ LIMIT ∷ number n.0.0 ∷ []) n.0.1 fetches
+          ending;
       spelled = whole (create_access i.spelled j.spelled k.spelled f.2);
     }) n.2
 
@@ -91,7 +102,8 @@ create-spelled : (tokens : List Symbol) (s : Statement) (rest : List Symbol) →
 unfolding read_create
 create-spelled tokens s rest e =
     elim (pick-inv (starts TABLE tokens) (read_create_table (rest_of tokens)) (read_create_access tokens) (Some (s, rest)) e) [
-      | inl t ↦ let u = table-spelled (rest_of tokens) s rest t.1 in record { front = TABLE ∷ u.front; parts = starts-inv TABLE tokens t.0 ∙ ap (λ r. TABLE ∷ r) u.parts; spelled = u.spelled }
+      | inl t ↦ let u = table-spelled (rest_of tokens) s rest t.1 in
+          record { front = TABLE ∷ u.front; parts = starts-inv TABLE tokens t.0 ∙ ap (λ r. TABLE ∷ r) u.parts; spelled = u.spelled }
       | inr t ↦ access-spelled tokens s rest t.1
     ]
 
@@ -101,7 +113,11 @@ drop-spelled tokens s rest e =
     let w = bind-inv (expect ACCESS tokens) _ (s, rest) e in
     let a = bind-inv (read_id w.0) _ (s, rest) w.2 in
     let i = id-spelled w.0 a.0.0 a.0.1 a.1 in
-    took_as (record { front = ACCESS ∷ i.front; parts = expect-inv ACCESS tokens w.0 w.1 ∙ ap (λ r. ACCESS ∷ r) i.parts; spelled = whole (drop_access i.spelled) }) a.2
+    took_as (record {
+      front = ACCESS ∷ i.front;
+      parts = expect-inv ACCESS tokens w.0 w.1 ∙ ap (λ r. ACCESS ∷ r) i.parts;
+      spelled = whole (drop_access i.spelled);
+    }) a.2
 
 load-spelled : (tokens : List Symbol) (s : Statement) (rest : List Symbol) → read_load tokens ≡ Some (s, rest) → Took (Behind (LOAD ∷ [])) tokens s rest
 unfolding read_load
@@ -110,7 +126,12 @@ load-spelled tokens s rest e =
     let i = id-spelled tokens a.0.0 a.0.1 a.1 in
     let w = bind-inv (expect FROM a.0.1) _ (s, rest) a.2 in
     let q = bind-inv (read_quoted w.0) _ (s, rest) w.2 in
-    took_as (record { front = i.front ++ FROM ∷ quoted q.0.0 ∷ []; parts = then_parts i.front (FROM ∷ quoted q.0.0 ∷ []) q.0.1 i.parts (expect-inv FROM a.0.1 w.0 w.1 ∙ ap (λ r. FROM ∷ r) (quoted-inv w.0 q.0.0 q.0.1 q.1)); spelled = whole (load i.spelled) }) q.2
+    took_as (record {
+      front = i.front ++ FROM ∷ quoted q.0.0 ∷ [];
+      parts = then_parts i.front (FROM ∷ quoted q.0.0 ∷ []) q.0.1 i.parts
+          (expect-inv FROM a.0.1 w.0 w.1 ∙ ap (λ r. FROM ∷ r) (quoted-inv w.0 q.0.0 q.0.1 q.1));
+      spelled = whole (load i.spelled);
+    }) q.2
 
 insert-spelled : (tokens : List Symbol) (s : Statement) (rest : List Symbol) → read_insert tokens ≡ Some (s, rest) → Took (Behind (INSERT ∷ [])) tokens s rest
 unfolding read_insert
@@ -121,7 +142,12 @@ insert-spelled tokens s rest e =
     let v = bind-inv (expect VALUES a.0.1) _ (s, rest) a.2 in
     let b = bind-inv (read_list read_tuple v.0) _ (s, rest) v.2 in
     let t = commas-spelled IsTuple read_tuple tuple-spelled (length v.0) v.0 b.0.0 b.0.1 b.1 in
-    took_as (record { front = INTO ∷ i.front ++ VALUES ∷ t.front; parts = then_parts (INTO ∷ i.front) (VALUES ∷ t.front) b.0.1 (expect-inv INTO tokens w.0 w.1 ∙ ap (λ r. INTO ∷ r) i.parts) (expect-inv VALUES a.0.1 v.0 v.1 ∙ ap (λ r. VALUES ∷ r) t.parts); spelled = whole (insert i.spelled t.spelled) }) b.2
+    took_as (record {
+      front = INTO ∷ i.front ++ VALUES ∷ t.front;
+      parts = then_parts (INTO ∷ i.front) (VALUES ∷ t.front) b.0.1 (expect-inv INTO tokens w.0 w.1 ∙ ap (λ r. INTO ∷ r) i.parts)
+          (expect-inv VALUES a.0.1 v.0 v.1 ∙ ap (λ r. VALUES ∷ r) t.parts);
+      spelled = whole (insert i.spelled t.spelled);
+    }) b.2
 
 delete-spelled : (tokens : List Symbol) (s : Statement) (rest : List Symbol) → read_delete tokens ≡ Some (s, rest) → Took (Behind (DELETE ∷ [])) tokens s rest
 unfolding read_delete
@@ -131,9 +157,15 @@ delete-spelled tokens s rest e =
     let i = id-spelled w.0 a.0.0 a.0.1 a.1 in
     let b = bind-inv (read_where a.0.1) _ (s, rest) a.2 in
     let t = where-spelled a.0.1 b.0.0 b.0.1 b.1 in
-    took_as (record { front = FROM ∷ i.front ++ t.front; parts = then_parts (FROM ∷ i.front) t.front b.0.1 (expect-inv FROM tokens w.0 w.1 ∙ ap (λ r. FROM ∷ r) i.parts) t.parts; spelled = whole (delete i.spelled t.spelled) }) b.2
+    took_as (record {
+      front = FROM ∷ i.front ++ t.front;
+      parts = then_parts (FROM ∷ i.front) t.front b.0.1
+          (expect-inv FROM tokens w.0 w.1 ∙ ap (λ r. FROM ∷ r) i.parts) t.parts;
+      spelled = whole (delete i.spelled t.spelled);
+    }) b.2
 
-discover-spelled : (tokens : List Symbol) (s : Statement) (rest : List Symbol) → read_discover tokens ≡ Some (s, rest) → Took (Behind (DISCOVER ∷ [])) tokens s rest
+discover-spelled : (tokens : List Symbol) (s : Statement) (rest : List Symbol) → read_discover tokens ≡ Some (s, rest)
+    → Took (Behind (DISCOVER ∷ [])) tokens s rest
 unfolding read_discover read_pairs read_group
 discover-spelled tokens s rest e =
     let a = bind-inv (read_id tokens) _ (s, rest) e in
@@ -141,7 +173,13 @@ discover-spelled tokens s rest e =
     elim (pick-inv (starts LIMIT a.0.1) (read_pairs a.0.0 (rest_of a.0.1)) (read_group a.0.0 a.0.1) (Some (s, rest)) a.2) [
       | inl l ↦
           let n = bind-inv (read_number (rest_of a.0.1)) _ (s, rest) l.1 in
-          took_as (record { front = i.front ++ LIMIT ∷ number n.0.0 ∷ []; parts = then_parts i.front (LIMIT ∷ number n.0.0 ∷ []) n.0.1 i.parts (starts-inv LIMIT a.0.1 l.0 ∙ ap (λ r. LIMIT ∷ r) (number-inv (rest_of a.0.1) n.0.0 n.0.1 n.1)); spelled = whole (discover_pairs i.spelled) }) n.2
+          took_as (record {
+            front = i.front ++ LIMIT ∷ number n.0.0 ∷ [];
+            parts = then_parts i.front (LIMIT ∷ number n.0.0 ∷ []) n.0.1 i.parts
+                (starts-inv LIMIT a.0.1 l.0 ∙ ap (λ r. LIMIT ∷ r) (number-inv (rest_of a.0.1) n.0.0 n.0.1 n.1));
+            spelled = whole (discover_pairs i.spelled);
+          })
+          n.2
       | inr l ↦
           let c = bind-inv (read_key a.0.1) _ (s, rest) l.1 in
           let k = key-spelled a.0.1 c.0.0 c.0.1 c.1 in
@@ -149,20 +187,27 @@ discover-spelled tokens s rest e =
           let f = fetched-spelled c.0.1 d.0.0 d.0.1 d.1 in
           let keys = then_parts i.front (OPEN ∷ k.inner) (CLOSE ∷ c.0.1) i.parts k.parts in
           let fetches = then_parts (i.front ++ OPEN ∷ k.inner) (CLOSE ∷ FETCH ∷ OPEN ∷ f.0) (CLOSE ∷ d.0.1) keys (ap (λ r. CLOSE ∷ r) f.1) in
-          took_as (record { front = i.front ++ OPEN ∷ k.inner ++ CLOSE ∷ FETCH ∷ OPEN ∷ f.0 ++ CLOSE ∷ []; parts = then_parts (i.front ++ OPEN ∷ k.inner ++ CLOSE ∷ FETCH ∷ OPEN ∷ f.0) (CLOSE ∷ []) d.0.1 fetches refl; spelled = whole (discover_group i.spelled k.spelled f.2) }) d.2
+          took_as (record {
+            front = i.front ++ OPEN ∷ k.inner ++ CLOSE ∷ FETCH ∷ OPEN ∷ f.0 ++ CLOSE ∷ [];
+            parts = then_parts (i.front ++ OPEN ∷ k.inner ++ CLOSE ∷ FETCH ∷ OPEN ∷ f.0) (CLOSE ∷ []) d.0.1 fetches refl;
+            spelled = whole (discover_group i.spelled k.spelled f.2);
+          }) d.2
     ]
 
 any_query : {a : List Symbol} {t : Tree} → IsQuery a t → SpellsAny a (Select t)
 any_query {a} {t} q =
-    let go : (b : Bool) → wants_distinct t ≡ b → SpellsAny a (Select t) = λ b. elim b as (λ b. wants_distinct t ≡ b → SpellsAny a (Select t)) [ true ↦ λ e. lacking q e | false ↦ λ e. whole (select q e) ] in
+    let go : (b : Bool) → wants_distinct t ≡ b → SpellsAny a (Select t) = λ b. elim b as (λ b. wants_distinct t ≡ b → SpellsAny a (Select t))
+    [ true ↦ λ e. lacking q e | false ↦ λ e. whole (select q e) ] in
     go (wants_distinct t) refl
 
 any_explained : {a : List Symbol} {t : Tree} → IsQuery a t → SpellsAny (EXPLAIN ∷ a) (Explain t)
 any_explained {a} {t} q =
-    let go : (b : Bool) → wants_distinct t ≡ b → SpellsAny (EXPLAIN ∷ a) (Explain t) = λ b. elim b as (λ b. wants_distinct t ≡ b → SpellsAny (EXPLAIN ∷ a) (Explain t)) [ true ↦ λ e. lacking_explained q e | false ↦ λ e. whole (explain q e) ] in
+    let go : (b : Bool) → wants_distinct t ≡ b → SpellsAny (EXPLAIN ∷ a) (Explain t) = λ b. elim b as
+    (λ b. wants_distinct t ≡ b → SpellsAny (EXPLAIN ∷ a) (Explain t)) [ true ↦ λ e. lacking_explained q e | false ↦ λ e. whole (explain q e) ] in
     go (wants_distinct t) refl
 
-explain-spelled : (tokens : List Symbol) (s : Statement) (rest : List Symbol) → read_explain tokens ≡ Some (s, rest) → Took (Behind (EXPLAIN ∷ [])) tokens s rest
+explain-spelled : (tokens : List Symbol) (s : Statement) (rest : List Symbol) → read_explain tokens ≡ Some (s, rest)
+    → Took (Behind (EXPLAIN ∷ [])) tokens s rest
 unfolding read_explain
 explain-spelled tokens s rest e =
     let a = bind-inv (read_whole_query tokens) _ (s, rest) e in
@@ -176,7 +221,8 @@ select-spelled tokens s rest e =
     let t = query-spelled tokens a.0.0 a.0.1 a.1 in
     took_as (record { front = t.front; parts = t.parts; spelled = any_query t.spelled }) a.2
 
-behind_word : (w : Symbol) (tokens : List Symbol) (s : Statement) (rest : List Symbol) → starts w tokens ≡ true → Took (Behind (w ∷ [])) (rest_of tokens) s rest → Took SpellsAny tokens s rest
+behind_word : (w : Symbol) (tokens : List Symbol) (s : Statement) (rest : List Symbol) → starts w tokens ≡ true → Took (Behind (w ∷ [])) (rest_of tokens) s rest
+    → Took SpellsAny tokens s rest
 behind_word w tokens s rest e t = record { front = w ∷ t.front; parts = starts-inv w tokens e ∙ ap (λ r. w ∷ r) t.parts; spelled = t.spelled }
 
 -- What is read is spelled.

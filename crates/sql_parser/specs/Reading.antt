@@ -149,7 +149,8 @@ read_tuple tokens = do
 unfoldable pub read_ref : List Symbol → Option (ColumnRef × List Symbol)
 read_ref tokens = do
   (first, rest) ← read_id tokens
-  if starts DOT rest then (read_id (rest_of rest) >>= λ p. Some (record { table = Some first; column = p.0 }, p.1)) else Some (record { table = None; column = first }, rest)
+  if starts DOT rest then (read_id (rest_of rest) >>= λ p. Some (record { table = Some first; column = p.0 }, p.1)) else Some
+      (record { table = None; column = first }, rest)
 
 unfoldable pub read_side : List Symbol → Option (Side × List Symbol)
 read_side tokens =

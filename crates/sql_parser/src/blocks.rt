@@ -40,7 +40,8 @@ fn joined(
     items: &mut List<FromItem>,
     found: &mut List<Cond>,
 ) -> Result<(), ReadError>
-    ensures { Adds result (items.new, found.new) reader.new (behind_both (items.old, found.old) (read_joined reader.old)) }
+    ensures { Adds result (items.new, found.new) reader.new (behind_both (items.old, found.old)
+        (read_joined reader.old)) }
 {
     let item = from_item(reader, alloc)?;
     items.push(item)?;
@@ -55,7 +56,8 @@ fn crossed(
     items: &mut List<FromItem>,
     found: &List<Cond>,
 ) -> Result<(), ReadError>
-    ensures { Adds result (items.new, found.now) reader.new (behind_both (items.old, found.now) (read_crossed reader.old)) }
+    ensures { Adds result (items.new, found.now) reader.new (behind_both (items.old, found.now)
+        (read_crossed reader.old)) }
 {
     reader.want_word("join")?;
     let item = from_item(reader, alloc)?;
@@ -77,7 +79,8 @@ fn join(
     items: &mut List<FromItem>,
     found: &mut List<Cond>,
 ) -> Result<(), ReadError>
-    ensures { Adds result (items.new, found.new) reader.new (behind_both (items.old, found.old) (read_join reader.old)) }
+    ensures { Adds result (items.new, found.new) reader.new
+        (behind_both (items.old, found.old) (read_join reader.old)) }
 {
     if reader.next_is_word("join") {
         reader.skip();
@@ -98,7 +101,8 @@ fn joins(
     items: &mut List<FromItem>,
     found: &mut List<Cond>,
 ) -> Result<(), ReadError>
-    ensures { Adds result (items.new, found.new) reader.new (behind_both (items.old, found.old) (read_joins (length reader.old) reader.old)) }
+    ensures { Adds result (items.new, found.new) reader.new (behind_both (items.old, found.old)
+        (read_joins (length reader.old) reader.old)) }
 {
     let mut room = reader.left();
     'more: while next_is_join(reader) {
@@ -118,7 +122,8 @@ fn from_source(
     items: &mut List<FromItem>,
     found: &mut List<Cond>,
 ) -> Result<(), ReadError>
-    ensures { Adds result (items.new, found.new) reader.new (behind_both (items.old, found.old) (read_source reader.old)) }
+    ensures { Adds result (items.new, found.new) reader.new (behind_both (items.old, found.old)
+        (read_source reader.old)) }
 {
     let item = from_item(reader, alloc)?;
     items.push(item)?;
@@ -131,7 +136,8 @@ fn from_sources(
     items: &mut List<FromItem>,
     found: &mut List<Cond>,
 ) -> Result<(), ReadError>
-    ensures { Adds result (items.new, found.new) reader.new (behind_both (items.old, found.old) (read_sources (length reader.old) reader.old)) }
+    ensures { Adds result (items.new, found.new) reader.new (behind_both (items.old, found.old)
+        (read_sources (length reader.old) reader.old)) }
 {
     let mut room = reader.left();
     while room > 0 {

@@ -1,4 +1,4 @@
-// Conditions. Parentheses round them leave no trace.
+// Conditions. Parentheses around them leave no trace.
 ghost use Rattle.std.specs.Prelude.{◌≡◌, ◌∷◌, [], ◌++◌, codes, length};
 ghost use Rattle.sql_parser.specs.Reading.{Gives, Adds, behind, closed, starts_id, read_side, sign_of, read_sign, read_range, read_comparison, read_simple, read_condition, read_conditions, read_all_conditions, read_where};
 

@@ -7,7 +7,8 @@ use std::alloc::Global;
 
 /// The digits without one leading zero, where other digits stand after it.
 fn without_zero(digits: &str) -> Option<&str>
-    ensures same { MatchOption result (trimmed digits.now ≡ digits.now) (λ rest. trimmed digits.now ≡ trimmed rest.now) }
+    ensures same { MatchOption result (trimmed digits.now ≡ digits.now)
+        (λ rest. trimmed digits.now ≡ trimmed rest.now) }
     ensures shorter { MatchOption result (Unit {0}) (λ rest. length rest.now < length digits.now) }
 {
     let rest = digits.strip_prefix('0')?;

@@ -14,6 +14,7 @@ pub trait Part: Drop {
     /// What is read from the front of some tokens, and the tokens after it.
     ghost reads: { List Symbol → Option (Self × List Symbol) };
 
+    /// Reads a part and goes after it. Where the tokens don't begin with one, that is an error in the syntax.
     fn read(reader: &mut Reader, alloc: Global) -> Result<Self, ReadError>
         ensures { Gives result reader.new (reads reader.old) };
 }

@@ -57,6 +57,7 @@ impl<'a> Model for Reader<'a> {
 }
 
 impl<'a> Reader<'a> {
+    /// A reader before the first of these tokens.
     pub fn new(tokens: &'a [Token]) -> Reader<'a>
         ensures { result ≡ symbols tokens.now }
     {

@@ -18,7 +18,8 @@ use std::alloc::Global;
 /// Reads a statement from all of the tokens, or a query that lacks its DISTINCT.
 fn all_of(tokens: &[Token], alloc: Global) -> Result<Statement, ReadError>
     ensures ok { IfOk result (λ s. read_statement (symbols tokens.now) ≡ Some (s, [])) }
-    ensures syntax { IsErrOf result ReadError.Syntax → (s : Tree) → read_statement (symbols tokens.now) ≡ Some (s, []) → ⊥ }
+    ensures syntax { IsErrOf result ReadError.Syntax → (s : Tree) → read_statement (symbols tokens.now) ≡ Some (s, [])
+        → ⊥ }
 {
     let mut reader = Reader::new(tokens);
     let found = statement(&mut reader, alloc)?;

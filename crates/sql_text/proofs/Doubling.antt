@@ -16,11 +16,13 @@ doubled_front (x ∷ front) back none =
     rw here (ap (λ ys. x ∷ ys) rest)
 
 -- a text is doubled at its first quote
-pub doubled_parts : (front back : List ℕ) → ((i : ℕ) → i < length front → get_or front i 0 ≢ 39) → doubled (front ++ (39 ∷ back)) ≡ front ++ (39 ∷ 39 ∷ doubled back)
+pub doubled_parts : (front back : List ℕ) → ((i : ℕ) → i < length front → get_or front i 0 ≢ 39)
+    → doubled (front ++ (39 ∷ back)) ≡ front ++ (39 ∷ 39 ∷ doubled back)
 doubled_parts front back none = doubled_front front (39 ∷ back) none
 
 -- one turn: a front without a quote is written, then two quotes
-pub doubled_turn : (whole text words : List ℕ) (front back : Bor (List ℕ)) (r : Option (Bor (List ℕ) × Bor (List ℕ))) → IsSplitOnceResult 39 words r → r ≡ Some (front, back) → text ++ doubled words ≡ whole → (text ++ front.now ++ 39 ∷ 39 ∷ []) ++ doubled back.now ≡ whole
+pub doubled_turn : (whole text words : List ℕ) (front back : Bor (List ℕ)) (r : Option (Bor (List ℕ) × Bor (List ℕ))) → IsSplitOnceResult 39 words r
+    → r ≡ Some (front, back) → text ++ doubled words ≡ whole → (text ++ front.now ++ 39 ∷ 39 ∷ []) ++ doubled back.now ≡ whole
 doubled_turn whole text words front back r split is e =
     let parts = split_parts 39 words r split (omega arith) in
     let at = rw is at parts in

@@ -88,7 +88,8 @@ leads-lexeme s at t h =
     record {
       tokens = tokens_from-lexeme at (t.to - at) t.kind t.text (drop at s)
           (omega (arith, length-drop at s, h.some, h.within)) (omega (arith, h.some)) h.is
-          ∙ ap (λ (rest : List ℕ). record { kind = t.kind; from = at; to = at + (t.to - at); text = t.text } ∷ tokens_from (at + (t.to - at)) 0 rest) (drop-drop (t.to - at) at s)
+          ∙ ap (λ (rest : List ℕ). record { kind = t.kind; from = at; to = at + (t.to - at); text = t.text } ∷ tokens_from (at + (t.to - at)) 0 rest)
+          (drop-drop (t.to - at) at s)
           ∙ ap (λ (k : ℕ). record { kind = t.kind; from = at; to = k; text = t.text } ∷ tokens_from k 0 (drop k s)) place
           ∙ ap (λ (v : Token). v ∷ tokens_from t.to 0 (drop t.to s)) (same_token t at h.from);
       some = h.some;

@@ -134,8 +134,10 @@ fn quoted(alloc: Global, source: &str, at: usize) -> Result<Token, NoMemory>
 fn read_content(alloc: Global, source: &str, from: usize) -> Result<Option<Content>, NoMemory>
     requires from { from ≤ length source.now }
     requires cut { IsCharBoundary source.now from }
-    ensures text { IfOk result (λ found. option_map (λ content. content.text) found ≡ quoted_text (drop from source.now)) }
-    ensures to { IfOk result (λ found. IfSome found (λ content. content.to ≡ from + length (doubled content.text) + 1)) }
+    ensures text { IfOk result (λ found. option_map (λ content. content.text) found
+        ≡ quoted_text (drop from source.now)) }
+    ensures to { IfOk result (λ found. IfSome found
+        (λ content. content.to ≡ from + length (doubled content.text) + 1)) }
     ensures within { IfOk result (λ found. IfSome found (λ content. content.to ≤ length source.now)) }
     ensures end { IfOk result (λ found. IfSome found (λ content. IsCharBoundary source.now content.to)) }
 {
@@ -220,7 +222,12 @@ fn plain(
     requires within { to ≤ length source.now }
     requires first { IsCharBoundary source.now from }
     requires last { IsCharBoundary source.now to }
-    ensures { IfOk result (λ token. token ≡ record { kind = kind; from = from; to = to; text = slice_range source.now from to }) }
+    ensures { IfOk result (λ token. token ≡ record {
+      kind = kind;
+      from = from;
+      to = to;
+      text = slice_range source.now from to;
+    }) }
 {
     let text = Text::from_str(alloc, &source[from..to])?;
     Ok(token(kind, from, to, text))

@@ -12,7 +12,8 @@ use std::alloc::Global;
 pub fn split(alloc: Global, tokens: &List<Token>) -> Result<List<Piece>, NoMemory>
     requires { length tokens.now < 2 ^ 32 }
     ensures pieces { IfOk result (λ pieces. pieces ≡ pieces_of tokens.now) }
-    ensures parts { IfOk result (λ pieces. map (λ p. slice_range tokens.now p.from p.to) pieces ≡ statements_of tokens.now) }
+    ensures parts { IfOk result (λ pieces. map (λ p. slice_range tokens.now p.from p.to) pieces
+        ≡ statements_of tokens.now) }
     ensures within { IfOk result (λ pieces. All (λ p. (p.from < p.to) × (p.to ≤ length tokens.now)) pieces) }
 {
     let all = tokens.as_slice();

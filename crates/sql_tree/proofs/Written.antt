@@ -17,7 +17,8 @@ put_all_text w [] = sym (append-nil w.text)
 put_all_text w (x ∷ xs) = put_all_text (put w x) xs ∙ simp append_assoc
 
 -- one more part of a list
-pub one_more : {X : Type 0} (between : Lexeme) (part : X → List Lexeme) (w next : Written) (xs : List X) (i : ℕ) (x : X) → x ≡ get_or xs i x → i < length xs → next ≡ put_all (put w between) (part x)
+pub one_more : {X : Type 0} (between : Lexeme) (part : X → List Lexeme) (w next : Written) (xs : List X) (i : ℕ) (x : X) → x ≡ get_or xs i x → i < length xs
+    → next ≡ put_all (put w between) (part x)
     → put_all w (flat_map (λ y. between ∷ part y) (drop i xs)) ≡ put_all next (flat_map (λ y. between ∷ part y) (drop (i + 1) xs))
 unfolding put_all
 one_more {X} between part w next xs i x e lt n =
@@ -28,15 +29,19 @@ one_more {X} between part w next xs i x e lt n =
     ∙ put_all_append (put w between) (part x) others
     ∙ ap (λ v. put_all v others) (sym n)
 
-pub parts_done : {X : Type 0} (between : Lexeme) (part : X → List Lexeme) (w : Written) (xs : List X) (i : ℕ) → length xs ≤ i → put_all w (flat_map (λ y. between ∷ part y) (drop i xs)) ≡ w
+pub parts_done : {X : Type 0} (between : Lexeme) (part : X → List Lexeme) (w : Written) (xs : List X) (i : ℕ) → length xs ≤ i
+    → put_all w (flat_map (λ y. between ∷ part y) (drop i xs)) ≡ w
 unfolding put_all
 parts_done between part w xs i le = ap (λ ys. put_all w (flat_map (λ y. between ∷ part y) ys)) (drop_all i xs le)
 
-pub parted_first : {X : Type 0} (between : Lexeme) (part : X → List Lexeme) (w next : Written) (xs rest : List X) (first : X) → xs ≡ first ∷ rest → next ≡ put_all w (part first) → put_all next (flat_map (λ y. between ∷ part y) rest) ≡ put_all w (parted between part xs)
+pub parted_first : {X : Type 0} (between : Lexeme) (part : X → List Lexeme) (w next : Written) (xs rest : List X) (first : X) → xs ≡ first ∷ rest
+    → next ≡ put_all w (part first) → put_all next (flat_map (λ y. between ∷ part y) rest) ≡ put_all w (parted between part xs)
 parted_first between part w next xs rest first e n =
-    ap (λ v. put_all v (flat_map (λ y. between ∷ part y) rest)) n ∙ sym (put_all_append w (part first) (flat_map (λ y. between ∷ part y) rest)) ∙ ap (λ ys. put_all w (parted between part ys)) (sym e)
+    ap (λ v. put_all v (flat_map (λ y. between ∷ part y) rest)) n ∙ sym (put_all_append w (part first) (flat_map (λ y. between ∷ part y) rest))
+    ∙ ap (λ ys. put_all w (parted between part ys)) (sym e)
 
-pub parted_nil : {X : Type 0} (between : Lexeme) (part : X → List Lexeme) (w : Written) (xs ys : List X) → ys ≡ xs → length ys ≡ 0 → w ≡ put_all w (parted between part xs)
+pub parted_nil : {X : Type 0} (between : Lexeme) (part : X → List Lexeme) (w : Written) (xs ys : List X) → ys ≡ xs → length ys ≡ 0
+    → w ≡ put_all w (parted between part xs)
 unfolding put_all
 parted_nil between part w xs ys e n = ap (λ zs. put_all w (parted between part zs)) (sym (nil_from_length ys n) ∙ e)
 

@@ -120,7 +120,8 @@ abbrev pub distinct_of : Bool → List Lexeme
 distinct_of distinct = if distinct then keyword (codes "DISTINCT") ∷ [] else []
 
 abbrev pub block_of : BlockTree → List Lexeme
-block_of block = keyword (codes "SELECT") ∷ distinct_of block.distinct ++ output_of block.star block.items ++ keyword (codes "FROM") ∷ listed item_of block.from_items ++ where_of block.conditions
+block_of block = keyword (codes "SELECT") ∷ distinct_of block.distinct ++ output_of block.star block.items ++ keyword (codes "FROM") ∷ listed item_of
+    block.from_items ++ where_of block.conditions
 
 abbrev pub in_parentheses : List Lexeme → List Lexeme
 in_parentheses lexemes = sign (codes "(") ∷ lexemes ++ sign (codes ")") ∷ []
@@ -143,7 +144,8 @@ abbrev pub limit_of : List ℕ → List Lexeme
 limit_of limit = keyword (codes "LIMIT") ∷ digits limit ∷ []
 
 abbrev pub access_of : AccessSpec → List Lexeme
-access_of spec = keyword (codes "CREATE") ∷ keyword (codes "ACCESS") ∷ name spec.name ∷ keyword (codes "ON") ∷ name spec.table ∷ in_parentheses (names_of spec.key) ++ fetch_of spec.fetched ++ limit_of spec.limit
+access_of spec = keyword (codes "CREATE") ∷ keyword (codes "ACCESS") ∷ name spec.name ∷ keyword (codes "ON") ∷ name spec.table ∷ in_parentheses
+    (names_of spec.key) ++ fetch_of spec.fetched ++ limit_of spec.limit
 
 abbrev pub lexemes_of : Statement → List Lexeme
 lexemes_of (CreateTable table columns) = keyword (codes "CREATE") ∷ keyword (codes "TABLE") ∷ name table ∷ in_parentheses (listed column_of columns)

@@ -89,8 +89,10 @@ is_literal (Fixed l) = true
 mutual
   -- side sign side, at least one side a ref | ref BETWEEN side AND side | ( conditions ), without a trace of the parentheses
   pub data IsCondition : List Symbol → List Cond → Type 0 where
-    comparison : {a b c : List Symbol} {left right : Side} {sign : Sign} → IsSide a left → IsSign b sign → IsSide c right → (is_literal left && is_literal right) ≡ false → IsCondition (a ++ b ++ c) (Compare left sign right ∷ [])
-    range : {a b c : List Symbol} {value : ColumnRef} {low high : Side} → IsRef a value → IsSide b low → IsSide c high → IsCondition (a ++ BETWEEN ∷ b ++ AND ∷ c) (Between value low high ∷ [])
+    comparison : {a b c : List Symbol} {left right : Side} {sign : Sign} → IsSide a left → IsSign b sign → IsSide c right
+        → (is_literal left && is_literal right) ≡ false → IsCondition (a ++ b ++ c) (Compare left sign right ∷ [])
+    range : {a b c : List Symbol} {value : ColumnRef} {low high : Side} → IsRef a value → IsSide b low → IsSide c high
+        → IsCondition (a ++ BETWEEN ∷ b ++ AND ∷ c) (Between value low high ∷ [])
     parentheses : {a : List Symbol} {cs : List Cond} → IsConditions a cs → IsCondition (OPEN ∷ a ++ CLOSE ∷ []) cs
 
   -- condition { AND condition }
@@ -112,9 +114,12 @@ pub data IsItem : List Symbol → FromItem → Type 0 where
 -- { [ INNER ] JOIN item ON conditions | CROSS JOIN item }
 pub data IsJoins : List Symbol → List FromItem → List Cond → Type 0 where
   no_join : IsJoins [] [] []
-  join : {a b c : List Symbol} {i : FromItem} {is : List FromItem} {cs ds : List Cond} → IsItem a i → IsConditions b cs → IsJoins c is ds → IsJoins (JOIN ∷ a ++ ON ∷ b ++ c) (i ∷ is) (cs ++ ds)
-  inner_join : {a b c : List Symbol} {i : FromItem} {is : List FromItem} {cs ds : List Cond} → IsItem a i → IsConditions b cs → IsJoins c is ds → IsJoins (INNER ∷ JOIN ∷ a ++ ON ∷ b ++ c) (i ∷ is) (cs ++ ds)
-  cross_join : {a b : List Symbol} {i : FromItem} {is : List FromItem} {ds : List Cond} → IsItem a i → IsJoins b is ds → IsJoins (CROSS ∷ JOIN ∷ a ++ b) (i ∷ is) ds
+  join : {a b c : List Symbol} {i : FromItem} {is : List FromItem} {cs ds : List Cond} → IsItem a i → IsConditions b cs → IsJoins c is ds
+      → IsJoins (JOIN ∷ a ++ ON ∷ b ++ c) (i ∷ is) (cs ++ ds)
+  inner_join : {a b c : List Symbol} {i : FromItem} {is : List FromItem} {cs ds : List Cond} → IsItem a i → IsConditions b cs → IsJoins c is ds
+      → IsJoins (INNER ∷ JOIN ∷ a ++ ON ∷ b ++ c) (i ∷ is) (cs ++ ds)
+  cross_join : {a b : List Symbol} {i : FromItem} {is : List FromItem} {ds : List Cond} → IsItem a i → IsJoins b is ds
+      → IsJoins (CROSS ∷ JOIN ∷ a ++ b) (i ∷ is) ds
 
 -- a source: its items in order, and the conditions after ON in order
 abbrev pub Source : Type 0
@@ -135,11 +140,18 @@ pub data IsOutput : List Symbol → Bool → List ColumnRef → Type 0 where
   columns : {a : List Symbol} {rs : List ColumnRef} → Commas IsRef a rs → IsOutput a false rs
 
 abbrev pub block_of : Bool → Bool → List ColumnRef → List Source → List Cond → BlockTree
-block_of distinct star refs sources conditions = record { distinct = distinct; star = star; items = refs; from_items = flat_map (λ s. s.0) sources; conditions = flat_map (λ s. s.1) sources ++ conditions }
+block_of distinct star refs sources conditions = record {
+  distinct = distinct;
+  star = star;
+  items = refs;
+  from_items = flat_map (λ s. s.0) sources;
+  conditions = flat_map (λ s. s.1) sources ++ conditions;
+}
 
 -- SELECT [ DISTINCT ] ( * | ref { , ref } ) FROM source { , source } [ WHERE conditions ]
 pub data IsBlock : List Symbol → BlockTree → Type 0 where
-  select_block : {a b c d : List Symbol} {distinct star : Bool} {rs : List ColumnRef} {ss : List Source} {cs : List Cond} → IsDistinct a distinct → IsOutput b star rs → Commas IsSource c ss → IsWhere d cs → IsBlock (SELECT ∷ a ++ b ++ FROM ∷ c ++ d) (block_of distinct star rs ss cs)
+  select_block : {a b c d : List Symbol} {distinct star : Bool} {rs : List ColumnRef} {ss : List Source} {cs : List Cond} → IsDistinct a distinct
+      → IsOutput b star rs → Commas IsSource c ss → IsWhere d cs → IsBlock (SELECT ∷ a ++ b ++ FROM ∷ c ++ d) (block_of distinct star rs ss cs)
 
 mutual
   -- block | ( query )
@@ -163,7 +175,8 @@ pub data Spells : List Symbol → Statement → Type 0 where
   create_table : {a b : List Symbol} {n : List ℕ} {cs : List Column} → IsId a n → Commas IsColumn b cs
       → Spells (CREATE ∷ TABLE ∷ a ++ OPEN ∷ b ++ CLOSE ∷ []) (CreateTable n cs)
   create_access : {a b c d : List Symbol} {n t limit : List ℕ} {key fetched : List (List ℕ)} → IsId a n → IsId b t → IsMaybeIds c key → Commas IsId d fetched
-      → Spells (CREATE ∷ ACCESS ∷ a ++ ON ∷ b ++ OPEN ∷ c ++ CLOSE ∷ FETCH ∷ OPEN ∷ d ++ CLOSE ∷ LIMIT ∷ number limit ∷ []) (CreateAccess (record { name = n; table = t; key = key; fetched = fetched; limit = limit }))
+      → Spells (CREATE ∷ ACCESS ∷ a ++ ON ∷ b ++ OPEN ∷ c ++ CLOSE ∷ FETCH ∷ OPEN ∷ d ++ CLOSE ∷ LIMIT ∷ number limit ∷ [])
+      (CreateAccess (record { name = n; table = t; key = key; fetched = fetched; limit = limit }))
   drop_access : {a : List Symbol} {n : List ℕ} → IsId a n
       → Spells (DROP ∷ ACCESS ∷ a) (DropAccess n)
   load : {a : List Symbol} {t file : List ℕ} → IsId a t

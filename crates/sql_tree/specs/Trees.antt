@@ -34,10 +34,12 @@ stacked (inr sign ∷ rest) [] = []
 stacked-postfix : (t : Tree) (rest : List (BlockTree ⊎ Bool)) (stack : List Tree) → stacked (postfix t ++ rest) stack ≡ stacked rest (t ∷ stack)
 stacked-postfix (Block b) rest stack = refl
 stacked-postfix (Union l r) rest stack =
-    ap (λ ts. stacked ts stack) (append_assoc (postfix l) (postfix r ++ inr true ∷ []) rest ∙ ap (λ ts. postfix l ++ ts) (append_assoc (postfix r) (inr true ∷ []) rest))
+    ap (λ ts. stacked ts stack) (append_assoc (postfix l) (postfix r ++ inr true ∷ []) rest
+    ∙ ap (λ ts. postfix l ++ ts) (append_assoc (postfix r) (inr true ∷ []) rest))
     ∙ stacked-postfix l (postfix r ++ (inr true ∷ rest)) stack ∙ stacked-postfix r (inr true ∷ rest) (l ∷ stack)
 stacked-postfix (Except l r) rest stack =
-    ap (λ ts. stacked ts stack) (append_assoc (postfix l) (postfix r ++ inr false ∷ []) rest ∙ ap (λ ts. postfix l ++ ts) (append_assoc (postfix r) (inr false ∷ []) rest))
+    ap (λ ts. stacked ts stack) (append_assoc (postfix l) (postfix r ++ inr false ∷ []) rest
+    ∙ ap (λ ts. postfix l ++ ts) (append_assoc (postfix r) (inr false ∷ []) rest))
     ∙ stacked-postfix l (postfix r ++ (inr false ∷ rest)) stack ∙ stacked-postfix r (inr false ∷ rest) (l ∷ stack)
 
 alone : (t : Tree) → stacked (postfix t) [] ≡ t ∷ []

@@ -163,7 +163,8 @@ fn write_comparison(
     by: Sign,
     right: &Side,
 ) -> Result<(), NoMemory>
-    ensures { OnOk result (writer.new ≡ put_all writer.old (side_of left.now ++ sign (sign_text by) ∷ side_of right.now)) }
+    ensures { OnOk result (writer.new ≡ put_all writer.old (side_of left.now ++ sign (sign_text by) ∷ side_of
+        right.now)) }
 {
     write_side(writer, left)?;
     write_sign(writer, by)?;
@@ -172,7 +173,8 @@ fn write_comparison(
 
 #[tactic(auto, unfolding(crate::specs::Writing::put_all), using(crate::proofs::Written::put_all_append))]
 fn write_bounds(writer: &mut Writer, low: &Side, high: &Side) -> Result<(), NoMemory>
-    ensures { OnOk result (writer.new ≡ put_all writer.old (side_of low.now ++ keyword (codes "AND") ∷ side_of high.now)) }
+    ensures { OnOk result (writer.new ≡ put_all writer.old (side_of low.now ++ keyword (codes "AND") ∷ side_of
+        high.now)) }
 {
     write_side(writer, low)?;
     writer.word("AND")?;
@@ -186,7 +188,8 @@ fn write_range(
     low: &Side,
     high: &Side,
 ) -> Result<(), NoMemory>
-    ensures { OnOk result (writer.new ≡ put_all writer.old (ref_of value.now ++ keyword (codes "BETWEEN") ∷ side_of low.now ++ keyword (codes "AND") ∷ side_of high.now)) }
+    ensures { OnOk result (writer.new ≡ put_all writer.old (ref_of value.now ++ keyword (codes "BETWEEN") ∷ side_of
+        low.now ++ keyword (codes "AND") ∷ side_of high.now)) }
 {
     value.write(writer)?;
     writer.word("BETWEEN")?;
@@ -336,7 +339,8 @@ fn write_create_table(
     table: &Name,
     columns: &Items<Column>,
 ) -> Result<(), NoMemory>
-    ensures { OnOk result (writer.new ≡ put_all writer.old (keyword (codes "CREATE") ∷ keyword (codes "TABLE") ∷ name table.now ∷ in_parentheses (listed column_of columns.now))) }
+    ensures { OnOk result (writer.new ≡ put_all writer.old (keyword (codes "CREATE") ∷ keyword (codes "TABLE") ∷ name
+        table.now ∷ in_parentheses (listed column_of columns.now))) }
 {
     writer.word("CREATE")?;
     writer.word("TABLE")?;
@@ -360,7 +364,8 @@ fn write_access(writer: &mut Writer, spec: &AccessSpec) -> Result<(), NoMemory>
 
 #[tactic(auto, unfolding(crate::specs::Writing::put_all))]
 fn write_drop_access(writer: &mut Writer, access: &Name) -> Result<(), NoMemory>
-    ensures { OnOk result (writer.new ≡ put_all writer.old (keyword (codes "DROP") ∷ keyword (codes "ACCESS") ∷ name access.now ∷ [])) }
+    ensures { OnOk result (writer.new ≡ put_all writer.old (keyword (codes "DROP") ∷ keyword (codes "ACCESS") ∷ name
+        access.now ∷ [])) }
 {
     writer.word("DROP")?;
     writer.word("ACCESS")?;
@@ -369,7 +374,8 @@ fn write_drop_access(writer: &mut Writer, access: &Name) -> Result<(), NoMemory>
 
 #[tactic(auto, unfolding(crate::specs::Writing::put_all))]
 fn write_load(writer: &mut Writer, table: &Name, file: &Text) -> Result<(), NoMemory>
-    ensures { OnOk result (writer.new ≡ put_all writer.old (keyword (codes "LOAD") ∷ name table.now ∷ keyword (codes "FROM") ∷ content file.now ∷ [])) }
+    ensures { OnOk result (writer.new ≡ put_all writer.old (keyword (codes "LOAD") ∷ name table.now ∷ keyword
+        (codes "FROM") ∷ content file.now ∷ [])) }
 {
     writer.word("LOAD")?;
     writer.name(table)?;
@@ -383,7 +389,8 @@ fn write_insert(
     table: &Name,
     rows: &Items<Items<Literal>>,
 ) -> Result<(), NoMemory>
-    ensures { OnOk result (writer.new ≡ put_all writer.old (keyword (codes "INSERT") ∷ keyword (codes "INTO") ∷ name table.now ∷ keyword (codes "VALUES") ∷ listed tuple_of rows.now)) }
+    ensures { OnOk result (writer.new ≡ put_all writer.old (keyword (codes "INSERT") ∷ keyword (codes "INTO") ∷ name
+        table.now ∷ keyword (codes "VALUES") ∷ listed tuple_of rows.now)) }
 {
     writer.word("INSERT")?;
     writer.word("INTO")?;
@@ -394,7 +401,8 @@ fn write_insert(
 
 #[tactic(auto, unfolding(crate::specs::Writing::put_all))]
 fn write_delete(writer: &mut Writer, table: &Name, conditions: &Items<Cond>) -> Result<(), NoMemory>
-    ensures { OnOk result (writer.new ≡ put_all writer.old (keyword (codes "DELETE") ∷ keyword (codes "FROM") ∷ name table.now ∷ where_of conditions.now)) }
+    ensures { OnOk result (writer.new ≡ put_all writer.old (keyword (codes "DELETE") ∷ keyword (codes "FROM") ∷ name
+        table.now ∷ where_of conditions.now)) }
 {
     writer.word("DELETE")?;
     writer.word("FROM")?;
@@ -409,7 +417,8 @@ fn write_group(
     key: &Items<Name>,
     fetched: &Items<Name>,
 ) -> Result<(), NoMemory>
-    ensures { OnOk result (writer.new ≡ put_all writer.old (keyword (codes "DISCOVER") ∷ name table.now ∷ in_parentheses (names_of key.now) ++ fetch_of fetched.now)) }
+    ensures { OnOk result (writer.new ≡ put_all writer.old (keyword (codes "DISCOVER") ∷ name table.now ∷ in_parentheses
+        (names_of key.now) ++ fetch_of fetched.now)) }
 {
     writer.word("DISCOVER")?;
     writer.name(table)?;
@@ -419,7 +428,8 @@ fn write_group(
 
 #[tactic(auto, unfolding(crate::specs::Writing::put_all))]
 fn write_pairs(writer: &mut Writer, table: &Name, limit: &Text) -> Result<(), NoMemory>
-    ensures { OnOk result (writer.new ≡ put_all writer.old (keyword (codes "DISCOVER") ∷ name table.now ∷ limit_of limit.now)) }
+    ensures { OnOk result (writer.new ≡ put_all writer.old (keyword (codes "DISCOVER") ∷ name table.now ∷ limit_of
+        limit.now)) }
 {
     writer.word("DISCOVER")?;
     writer.name(table)?;
@@ -456,7 +466,7 @@ fn write_statement(writer: &mut Writer, statement: &Statement) -> Result<(), NoM
 }
 
 /// The canonical text of a statement: words of the grammar in capitals, one space between tokens where one belongs,
-/// all conditions after WHERE, and parentheses only round a UNION or EXCEPT that is a right operand.
+/// all conditions after WHERE, and parentheses only around a UNION or EXCEPT that is a right operand.
 pub fn print(alloc: Global, statement: &Statement) -> Result<Text, NoMemory>
     ensures { IfOk result (λ text. text ≡ printed statement.now) }
 {

@@ -45,7 +45,8 @@ broken_step accesses rows k a h is =
 pub broken_end : (accesses : List Access) (rows : List Row) (k : ℕ) → length accesses ≤ k → broken_from accesses rows k ≡ None
 broken_end accesses rows k h = ap (find (λ a. not (holds rows a))) (drop_of_length-le accesses h)
 
-from_filtered : (Q : Access → Type 0) (p : Access → Bool) (xs : List Access) → All Q (filter p xs) → (i : ℕ) (d : Access) → i < length xs → p (get_or xs i d) ≡ true → Q (get_or xs i d)
+from_filtered : (Q : Access → Type 0) (p : Access → Bool) (xs : List Access) → All Q (filter p xs) → (i : ℕ) (d : Access) → i < length xs
+    → p (get_or xs i d) ≡ true → Q (get_or xs i d)
 from_filtered Q p [] h i d l t = absurd (omega (arith, l))
 from_filtered Q p (x ∷ xs) h zero d l t = subst (λ (b : Bool). All Q (cond b (x ∷ filter p xs) (filter p xs))) t h 0 d (omega arith)
 from_filtered Q p (x ∷ xs) h (suc i) d l t = from_filtered Q p xs (rest (p x) h) i d (omega arith) t
@@ -64,9 +65,12 @@ pub hold_after : (accesses : List Access) (rows : List (List Row)) (table : Tabl
 hold_after accesses rows table own hold live none i d l = elim (cases_eq (get_or accesses i d).table.0 table.0) [
   | inl s ↦
       let P : Access → Type 0 = λ a. not (holds own a) ≡ false in
-      let not_broken : P (get_or accesses i d) = from_filtered P (λ a. a.table.0 == table.0) accesses (find_none (λ a. not (holds own a)) (accesses_on accesses table) none) i d l (eq-eqb (get_or accesses i d).table.0 table.0 s) in
-      subst (λ (rs : List Row). Holds rs (get_or accesses i d)) (sym (ap (λ t. get_or (set rows table.0 own) t []) s ∙ get_or-set_same rows table.0 own [] live))
-      (Holds-from_greatest own (get_or accesses i d) (leb-true (greatest own (get_or accesses i d).key (get_or accesses i d).fetched) (get_or accesses i d).bound (true_from (holds own (get_or accesses i d)) not_broken)))
+      let not_broken : P (get_or accesses i d) = from_filtered P (λ a. a.table.0 == table.0) accesses
+      (find_none (λ a. not (holds own a)) (accesses_on accesses table) none) i d l (eq-eqb (get_or accesses i d).table.0 table.0 s) in
+      subst (λ (rs : List Row). Holds rs (get_or accesses i d))
+      (sym (ap (λ t. get_or (set rows table.0 own) t []) s ∙ get_or-set_same rows table.0 own [] live))
+      (Holds-from_greatest own (get_or accesses i d) (leb-true (greatest own (get_or accesses i d).key (get_or accesses i d).fetched)
+      (get_or accesses i d).bound (true_from (holds own (get_or accesses i d)) not_broken)))
   | inr n ↦ subst (λ (rs : List Row). Holds rs (get_or accesses i d)) (sym (get_or-set_other rows table.0 (get_or accesses i d).table.0 own [] n)) (hold i d l)
 ]
 
@@ -105,7 +109,8 @@ answers rows a false to from = fails_where rows a (λ h. true≢false (sym (from
 
 -- what the index of a table's constraint number k tells of more rows
 pub judged : (accesses : List Access) (table : TableId) (rows : List (List Row)) (more : List Row) (k place : ℕ)
-    (indexes : List Index) (index : Index) (answer : Bool) → IsPlaceOn accesses table.0 k place → k < length (ids_on accesses table.0) → IndexesOf accesses rows indexes → HoldOver accesses rows → index ≡ get_or indexes place index
+    (indexes : List Index) (index : Index) (answer : Bool) → IsPlaceOn accesses table.0 k place → k < length (ids_on accesses table.0)
+    → IndexesOf accesses rows indexes → HoldOver accesses rows → index ≡ get_or indexes place index
     → ((rs : List Row) → IsIndexOf index rs → Holds rs index.access → (IsTrue answer ↔ Holds (rs ++ more) index.access))
     → broken_from (accesses_on accesses table) (get_or rows table.0 [] ++ more) k
     ≡ cond (not answer) (Some (get_or accesses place no_access)) (broken_from (accesses_on accesses table) (get_or rows table.0 [] ++ more) (k + 1))
@@ -121,8 +126,10 @@ judged accesses table rows more k place indexes index answer p h indexed hold is
     let access : index.access ≡ x = ap (λ i. i.access) is ∙ at.access_is in
     let rs : get_or rows x.table.0 [] ≡ get_or rows table.0 [] = ap (λ t. get_or rows t []) on in
     let own_rows = get_or rows table.0 [] in
-    let index_is : IsIndexOf index own_rows = subst (λ (r : List Row). IsIndexOf index r) rs (subst (λ (i : Index). IsIndexOf i (get_or rows x.table.0 [])) (sym is) at.index_is) in
-    let held : Holds own_rows index.access = subst (λ (a : Access). Holds own_rows a) (sym access) (subst (λ (r : List Row). Holds r x) rs (hold place no_access p.within)) in
+    let index_is : IsIndexOf index own_rows = subst (λ (r : List Row). IsIndexOf index r) rs
+    (subst (λ (i : Index). IsIndexOf i (get_or rows x.table.0 [])) (sym is) at.index_is) in
+    let held : Holds own_rows index.access = subst (λ (a : Access). Holds own_rows a) (sym access)
+    (subst (λ (r : List Row). Holds r x) rs (hold place no_access p.within)) in
     let iff = tells own_rows index_is held in
     let to : IsTrue answer → Holds (own_rows ++ more) x = λ t. subst (λ (a : Access). Holds (own_rows ++ more) a) access (iff.0 t) in
     let from : Holds (own_rows ++ more) x → IsTrue answer = λ g. iff.1 (subst (λ (a : Access). Holds (own_rows ++ more) a) (sym access) g) in
@@ -131,7 +138,8 @@ judged accesses table rows more k place indexes index answer p h indexed hold is
     ∙ ap (λ b. cond (not b) (Some x) (broken_from mine (own_rows ++ more) (k + 1))) (answers (own_rows ++ more) x answer to from)
 
 -- whether a greatest group passes the bound
-pub broken_where : (rows : List Row) (a : Access) (needed : ℕ) → needed ≡ greatest rows a.key a.fetched → a.bound < needed → already_broken rows a ≡ Some (AlreadyBroken needed a.bound)
+pub broken_where : (rows : List Row) (a : Access) (needed : ℕ) → needed ≡ greatest rows a.key a.fetched → a.bound < needed
+    → already_broken rows a ≡ Some (AlreadyBroken needed a.bound)
 broken_where rows a needed e l =
     ap (λ b. refused_if (not b) (AlreadyBroken (greatest rows a.key a.fetched) a.bound)) (lt-leb (greatest rows a.key a.fetched) a.bound (omega (arith, e, l)))
     ∙ ap (λ n. Some (AlreadyBroken n a.bound)) (sym e)

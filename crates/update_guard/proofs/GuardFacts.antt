@@ -35,29 +35,34 @@ schemas_of_joined (t ∷ tables) [] e = absurd (omega (arith, e))
 schemas_of_joined (t ∷ tables) (r ∷ rows) e = ap (λ ts. t ∷ ts) (schemas_of_joined tables rows (omega (arith, e)))
 
 pub schema_of_stored : (schema : Schema) (rows : List (List Row)) → length rows ≡ length schema.tables → schema_of (database_of schema rows) ≡ schema
-schema_of_stored schema rows e = ap (λ ts. let s : Schema = record { tables = ts; accesses = schema.accesses; created = schema.created } in s) (schemas_of_joined schema.tables rows e)
+schema_of_stored schema rows e = ap (λ ts. let s : Schema = record { tables = ts; accesses = schema.accesses; created = schema.created } in s)
+    (schemas_of_joined schema.tables rows e)
 
 pub length-joined : (tables : List TableSchema) (rows : List (List Row)) → length rows ≡ length tables → length (joined tables rows) ≡ length tables
 length-joined [] rows e = refl
 length-joined (t ∷ tables) [] e = absurd (omega (arith, e))
 length-joined (t ∷ tables) (r ∷ rows) e = ap suc (length-joined tables rows (omega (arith, e)))
 
-rows_of_joined : (tables : List TableSchema) (rows : List (List Row)) (i : ℕ) → length rows ≡ length tables → (get_or (joined tables rows) i empty_table).rows ≡ get_or rows i []
+rows_of_joined : (tables : List TableSchema) (rows : List (List Row)) (i : ℕ) → length rows ≡ length tables
+    → (get_or (joined tables rows) i empty_table).rows ≡ get_or rows i []
 rows_of_joined [] [] i e = refl
 rows_of_joined [] (r ∷ rows) i e = absurd (omega (arith, e))
 rows_of_joined (t ∷ tables) [] i e = absurd (omega (arith, e))
 rows_of_joined (t ∷ tables) (r ∷ rows) zero e = refl
 rows_of_joined (t ∷ tables) (r ∷ rows) (suc i) e = rows_of_joined tables rows i (omega (arith, e))
 
-pub rows_at_stored : (schema : Schema) (rows : List (List Row)) (id : TableId) → length rows ≡ length schema.tables → rows_at (database_of schema rows) id ≡ get_or rows id.0 []
+pub rows_at_stored : (schema : Schema) (rows : List (List Row)) (id : TableId) → length rows ≡ length schema.tables
+    → rows_at (database_of schema rows) id ≡ get_or rows id.0 []
 rows_at_stored schema rows id e = rows_of_joined schema.tables rows id.0 e
 
 joined-push : (tables : List TableSchema) (rows : List (List Row)) (name : List ℕ) (columns : List Column) → length rows ≡ length tables
-    → joined (tables ++ record { name = name; columns = columns } ∷ []) (rows ++ [] ∷ []) ≡ joined tables rows ++ record { name = name; columns = columns; rows = [] } ∷ []
+    → joined (tables ++ record { name = name; columns = columns } ∷ []) (rows ++ [] ∷ [])
+    ≡ joined tables rows ++ record { name = name; columns = columns; rows = [] } ∷ []
 joined-push [] [] name columns e = refl
 joined-push [] (r ∷ rows) name columns e = absurd (omega (arith, e))
 joined-push (t ∷ tables) [] name columns e = absurd (omega (arith, e))
-joined-push (t ∷ tables) (r ∷ rows) name columns e = ap (λ ts. record { name = t.name; columns = t.columns; rows = r } ∷ ts) (joined-push tables rows name columns (omega (arith, e)))
+joined-push (t ∷ tables) (r ∷ rows) name columns e = ap (λ ts. record { name = t.name; columns = t.columns; rows = r } ∷ ts)
+    (joined-push tables rows name columns (omega (arith, e)))
 
 joined-set : (tables : List TableSchema) (rows : List (List Row)) (i : ℕ) (r : List Row) → length rows ≡ length tables
     → joined tables (set rows i r) ≡ set (joined tables rows) i (record (get_or (joined tables rows) i empty_table) { rows = r })
@@ -65,12 +70,14 @@ joined-set [] [] i r e = refl
 joined-set [] (q ∷ rows) i r e = absurd (omega (arith, e))
 joined-set (t ∷ tables) [] i r e = absurd (omega (arith, e))
 joined-set (t ∷ tables) (q ∷ rows) zero r e = refl
-joined-set (t ∷ tables) (q ∷ rows) (suc i) r e = ap (λ ts. record { name = t.name; columns = t.columns; rows = q } ∷ ts) (joined-set tables rows i r (omega (arith, e)))
+joined-set (t ∷ tables) (q ∷ rows) (suc i) r e = ap (λ ts. record { name = t.name; columns = t.columns; rows = q } ∷ ts)
+    (joined-set tables rows i r (omega (arith, e)))
 
 pub stored_with_table : (schema : Schema) (rows : List (List Row)) (name : List ℕ) (columns : List Column) → length rows ≡ length schema.tables
     → database_of (schema_with_table schema name columns) (rows ++ [] ∷ []) ≡ with_table (database_of schema rows) name columns
 stored_with_table schema rows name columns e =
-    ap (λ ts. let d : Database = record { tables = ts; accesses = schema.accesses; created = schema.created } in d) (joined-push schema.tables rows name columns e)
+    ap (λ ts. let d : Database = record { tables = ts; accesses = schema.accesses; created = schema.created } in d)
+    (joined-push schema.tables rows name columns e)
 
 pub stored_with_rows : (schema : Schema) (rows : List (List Row)) (id : TableId) (r : List Row) → length rows ≡ length schema.tables
     → database_of schema (set rows id.0 r) ≡ with_rows (database_of schema rows) id r
@@ -84,7 +91,8 @@ rows_pushed [] (suc i) = refl
 rows_pushed (r ∷ rows) zero = refl
 rows_pushed (r ∷ rows) (suc i) = rows_pushed rows i
 
-pub guarded_with_table : (schema : Schema) (rows : List (List Row)) (indexes : List Index) (name : List ℕ) (columns : List Column) → IsGuarded schema rows indexes
+pub guarded_with_table : (schema : Schema) (rows : List (List Row)) (indexes : List Index) (name : List ℕ) (columns : List Column)
+    → IsGuarded schema rows indexes
     → IsGuarded (schema_with_table schema name columns) (rows ++ [] ∷ []) indexes
 guarded_with_table schema rows indexes name columns g = record {
   tables = length-append rows ([] ∷ []) ∙ ap (λ n. n + 1) g.tables ∙ sym (length-append schema.tables (record { name = name; columns = columns } ∷ []));
@@ -100,7 +108,8 @@ guarded_with_table schema rows indexes name columns g = record {
   hold = λ i d l. subst (λ (rs : List Row). Holds rs (get_or schema.accesses i d)) (sym (rows_pushed rows (get_or schema.accesses i d).table.0)) (g.hold i d l);
 }
   where
-    fits : (i : ℕ) → i < length (rows ++ [] ∷ []) → All (RowFits (get_or (schema.tables ++ record { name = name; columns = columns } ∷ []) i no_table).columns) (get_or (rows ++ [] ∷ []) i [])
+    fits : (i : ℕ) → i < length (rows ++ [] ∷ []) → All (RowFits (get_or (schema.tables ++ record { name = name; columns = columns } ∷ []) i no_table).columns)
+        (get_or (rows ++ [] ∷ []) i [])
     fits i h = elim (cases_eq i (length rows)) [
       | inl s ↦ λ k d l. absurd (omega (arith, l, ap (λ j. length (get_or (rows ++ [] ∷ []) j [])) s, ap length (get_or-append_seam rows [] [] [])))
       | inr n ↦
@@ -124,17 +133,23 @@ guarded_with_access schema rows old new access g a = record {
   hold = All-push (λ x. Holds (get_or rows x.table.0 []) x) schema.accesses access g.hold a.holds;
 }
   where
-    each : (i : ℕ) (d : Index) (e : Access) → i < length (schema.accesses ++ access ∷ []) → IsIndexAt rows (get_or new i d) (get_or (schema.accesses ++ access ∷ []) i e)
+    each : (i : ℕ) (d : Index) (e : Access) → i < length (schema.accesses ++ access ∷ [])
+        → IsIndexAt rows (get_or new i d) (get_or (schema.accesses ++ access ∷ []) i e)
     each i d e h = elim (cases_eq i (length schema.accesses)) [
       | inl s ↦
-          let x : get_or new i d ≡ a.index = ap (λ xs. get_or xs i d) a.added ∙ ap (λ j. get_or (old ++ a.index ∷ []) j d) (s ∙ sym g.indexed.count) ∙ get_or-append_seam old a.index [] d in
-          let y : get_or (schema.accesses ++ access ∷ []) i e ≡ access = ap (λ j. get_or (schema.accesses ++ access ∷ []) j e) s ∙ get_or-append_seam schema.accesses access [] e in
-          subst (λ (z : Index). IsIndexAt rows z (get_or (schema.accesses ++ access ∷ []) i e)) (sym x) (subst (λ (z : Access). IsIndexAt rows a.index z) (sym y) (record { access_is = a.access_is; index_is = a.index_is }))
+          let x : get_or new i d ≡ a.index = ap (λ xs. get_or xs i d) a.added ∙ ap (λ j. get_or (old ++ a.index ∷ []) j d) (s ∙ sym g.indexed.count)
+          ∙ get_or-append_seam old a.index [] d in
+          let y : get_or (schema.accesses ++ access ∷ []) i e ≡ access = ap (λ j. get_or (schema.accesses ++ access ∷ []) j e) s
+          ∙ get_or-append_seam schema.accesses access [] e in
+          subst (λ (z : Index). IsIndexAt rows z (get_or (schema.accesses ++ access ∷ []) i e)) (sym x)
+          (subst (λ (z : Access). IsIndexAt rows a.index z) (sym y) (record { access_is = a.access_is; index_is = a.index_is }))
       | inr n ↦
           let l : i < length schema.accesses = omega (arith, h, n, length-append schema.accesses (access ∷ [])) in
-          let x : get_or new i d ≡ get_or old i d = ap (λ xs. get_or xs i d) a.added ∙ get_or-append old (a.index ∷ []) d i (omega (arith, l, g.indexed.count)) in
+          let x : get_or new i d ≡ get_or old i d = ap (λ xs. get_or xs i d) a.added
+          ∙ get_or-append old (a.index ∷ []) d i (omega (arith, l, g.indexed.count)) in
           let y : get_or (schema.accesses ++ access ∷ []) i e ≡ get_or schema.accesses i e = get_or-append schema.accesses (access ∷ []) e i l in
-          subst (λ (z : Index). IsIndexAt rows z (get_or (schema.accesses ++ access ∷ []) i e)) (sym x) (subst (λ (z : Access). IsIndexAt rows (get_or old i d) z) (sym y) (g.indexed.each i d e l))
+          subst (λ (z : Index). IsIndexAt rows z (get_or (schema.accesses ++ access ∷ []) i e)) (sym x)
+          (subst (λ (z : Access). IsIndexAt rows (get_or old i d) z) (sym y) (g.indexed.each i d e l))
     ]
 
 below_or_above : (i n : ℕ) → (i < n) ⊎ (n ≤ i)
@@ -144,7 +159,8 @@ below_or_above i n = elim (cases_order i n) [
 ]
 
 -- one constraint less, and its index
-pub guarded_without : (schema : Schema) (rows : List (List Row)) (indexes : List Index) (accesses : List Access) (place : ℕ) → IsGuarded schema rows indexes → place < length schema.accesses
+pub guarded_without : (schema : Schema) (rows : List (List Row)) (indexes : List Index) (accesses : List Access) (place : ℕ) → IsGuarded schema rows indexes
+    → place < length schema.accesses
     → accesses ≡ remove schema.accesses place → IsGuarded (record schema { accesses = accesses }) rows (remove indexes place)
 guarded_without schema rows indexes accesses place g h e = record {
   tables = g.tables;
@@ -163,21 +179,25 @@ guarded_without schema rows indexes accesses place g h e = record {
     shorter : length (remove schema.accesses place) + 1 ≡ length schema.accesses
     shorter = omega (arith, length-remove schema.accesses place h)
 
-    from : (i : ℕ) (d : Index) (f : Access) → i < length (remove schema.accesses place) → IsIndexAt rows (get_or (remove indexes place) i d) (get_or (remove schema.accesses place) i f)
+    from : (i : ℕ) (d : Index) (f : Access) → i < length (remove schema.accesses place)
+        → IsIndexAt rows (get_or (remove indexes place) i d) (get_or (remove schema.accesses place) i f)
     from i d f l = elim (below_or_above i place) [
       | inl b ↦
           subst (λ (z : Index). IsIndexAt rows z (get_or (remove schema.accesses place) i f)) (sym (get_or-remove_below indexes place d i b long))
-          (subst (λ (z : Access). IsIndexAt rows (get_or indexes i d) z) (sym (get_or-remove_below schema.accesses place f i b h)) (g.indexed.each i d f (omega (arith, b, h))))
+          (subst (λ (z : Access). IsIndexAt rows (get_or indexes i d) z) (sym (get_or-remove_below schema.accesses place f i b h))
+          (g.indexed.each i d f (omega (arith, b, h))))
       | inr a ↦
           subst (λ (z : Index). IsIndexAt rows z (get_or (remove schema.accesses place) i f)) (sym (get_or-remove_above indexes place d i a long))
-          (subst (λ (z : Access). IsIndexAt rows (get_or indexes (i + 1) d) z) (sym (get_or-remove_above schema.accesses place f i a h)) (g.indexed.each (i + 1) d f (omega (arith, l, shorter))))
+          (subst (λ (z : Access). IsIndexAt rows (get_or indexes (i + 1) d) z) (sym (get_or-remove_above schema.accesses place f i a h))
+          (g.indexed.each (i + 1) d f (omega (arith, l, shorter))))
     ]
 
     each : (i : ℕ) (d : Index) (f : Access) → i < length accesses → IsIndexAt rows (get_or (remove indexes place) i d) (get_or accesses i f)
     each i d f l =
         subst (λ (xs : List Access). IsIndexAt rows (get_or (remove indexes place) i d) (get_or xs i f)) (sym e) (from i d f (omega (arith, l, ap length e)))
 
-    held : (i : ℕ) (f : Access) → i < length (remove schema.accesses place) → Holds (get_or rows (get_or (remove schema.accesses place) i f).table.0 []) (get_or (remove schema.accesses place) i f)
+    held : (i : ℕ) (f : Access) → i < length (remove schema.accesses place)
+        → Holds (get_or rows (get_or (remove schema.accesses place) i f).table.0 []) (get_or (remove schema.accesses place) i f)
     held i f l =
         let P : Access → Type 0 = λ a. Holds (get_or rows a.table.0 []) a in
         elim (below_or_above i place) [
@@ -190,28 +210,34 @@ guarded_without schema rows indexes accesses place g h e = record {
         subst (λ (xs : List Access). Holds (get_or rows (get_or xs i f).table.0 []) (get_or xs i f)) (sym e) (held i f (omega (arith, l, ap length e)))
 
 -- other rows of one table
-pub guarded_with_rows : (schema : Schema) (rows : List (List Row)) (old new : List Index) (id : TableId) (own : List Row) → IsGuarded schema rows old → id.0 < length rows
-    → length own ≤ 16777216 → All (RowFits (columns_at schema id)) own → IndexesOf schema.accesses (set rows id.0 own) new → HoldOver schema.accesses (set rows id.0 own)
+pub guarded_with_rows : (schema : Schema) (rows : List (List Row)) (old new : List Index) (id : TableId) (own : List Row) → IsGuarded schema rows old
+    → id.0 < length rows
+    → length own ≤ 16777216 → All (RowFits (columns_at schema id)) own → IndexesOf schema.accesses (set rows id.0 own) new
+    → HoldOver schema.accesses (set rows id.0 own)
     → IsGuarded schema (set rows id.0 own) new
 guarded_with_rows schema rows old new id own g live few fit indexed hold = record {
   tables = length-set rows id.0 own ∙ g.tables;
   few = λ i d l. elim (cases_eq i id.0) [
     | inl s ↦ subst (λ (r : List Row). length r ≤ 16777216) (sym (ap (λ j. get_or (set rows id.0 own) j d) s ∙ get_or-set_same rows id.0 own d live)) few
-    | inr n ↦ subst (λ (r : List Row). length r ≤ 16777216) (sym (get_or-set_other rows id.0 i own d n)) (g.few i d (omega (arith, l, length-set rows id.0 own)))
+    | inr n ↦ subst (λ (r : List Row). length r ≤ 16777216) (sym (get_or-set_other rows id.0 i own d n))
+        (g.few i d (omega (arith, l, length-set rows id.0 own)))
   ];
   fits = λ i l. elim (cases_eq i id.0) [
     | inl s ↦
         let P : ℕ → Type 0 = λ j. All (RowFits (get_or schema.tables j no_table).columns) (get_or (set rows id.0 own) j []) in
         subst P (sym s) (subst (λ (r : List Row). All (RowFits (columns_at schema id)) r) (sym (get_or-set_same rows id.0 own [] live)) fit)
-    | inr n ↦ subst (λ (r : List Row). All (RowFits (get_or schema.tables i no_table).columns) r) (sym (get_or-set_other rows id.0 i own [] n)) (g.fits i (omega (arith, l, length-set rows id.0 own)))
+    | inr n ↦ subst (λ (r : List Row). All (RowFits (get_or schema.tables i no_table).columns) r) (sym (get_or-set_other rows id.0 i own [] n))
+        (g.fits i (omega (arith, l, length-set rows id.0 own)))
   ];
   indexed = indexed;
   hold = hold;
 }
 
 -- what a guard keeps after the making of a constraint, made or not
-pub after_create_access : {A E : Type 0} (r : Result A E) (schema schema' : Schema) (rows : List (List Row)) (indexes items items' indexes' : List Index) (access : Access) → IsGuarded schema rows indexes
-    → items ≡ indexes → indexes' ≡ items' → OnOk r (schema' ≡ schema_with_access schema access) → OnOk r (AddsIndex (get_or rows access.table.0 []) access items items')
+pub after_create_access : {A E : Type 0} (r : Result A E) (schema schema' : Schema) (rows : List (List Row)) (indexes items items' indexes' : List Index)
+    (access : Access) → IsGuarded schema rows indexes
+    → items ≡ indexes → indexes' ≡ items' → OnOk r (schema' ≡ schema_with_access schema access)
+    → OnOk r (AddsIndex (get_or rows access.table.0 []) access items items')
     → OnErr r (schema' ≡ schema) → OnErr r (items' ≡ items) → IsGuarded schema' rows indexes'
 after_create_access (Ok x) schema schema' rows indexes items items' indexes' access g e f p q u v =
     subst (λ s. IsGuarded s rows indexes') (sym p) (subst (λ i. IsGuarded (schema_with_access schema access) rows i) (sym f)
@@ -220,11 +246,13 @@ after_create_access (Err x) schema schema' rows indexes items items' indexes' ac
     subst (λ s. IsGuarded s rows indexes') (sym u) (subst (λ i. IsGuarded schema rows i) (sym (f ∙ v ∙ e)) g)
 
 -- and of a table
-pub after_create_table : {A E : Type 0} (r : Result A E) (schema schema' : Schema) (rows items items' rows' : List (List Row)) (indexes : List Index) (name : List ℕ) (columns : List Column) → IsGuarded schema rows indexes
+pub after_create_table : {A E : Type 0} (r : Result A E) (schema schema' : Schema) (rows items items' rows' : List (List Row)) (indexes : List Index)
+    (name : List ℕ) (columns : List Column) → IsGuarded schema rows indexes
     → items ≡ rows → rows' ≡ items' → OnOk r (schema' ≡ schema_with_table schema name columns) → OnOk r (items' ≡ items ++ [] ∷ [])
     → OnErr r (schema' ≡ schema) → OnErr r (items' ≡ items) → IsGuarded schema' rows' indexes
 after_create_table (Ok x) schema schema' rows items items' rows' indexes name columns g e f p q u v =
-    subst (λ s. IsGuarded s rows' indexes) (sym p) (subst (λ rs. IsGuarded (schema_with_table schema name columns) rs indexes) (sym (f ∙ q ∙ ap (λ rs. rs ++ [] ∷ []) e))
+    subst (λ s. IsGuarded s rows' indexes) (sym p) (subst (λ rs. IsGuarded (schema_with_table schema name columns) rs indexes)
+    (sym (f ∙ q ∙ ap (λ rs. rs ++ [] ∷ []) e))
     (guarded_with_table schema rows indexes name columns g))
 after_create_table (Err x) schema schema' rows items items' rows' indexes name columns g e f p q u v =
     subst (λ s. IsGuarded s rows' indexes) (sym u) (subst (λ rs. IsGuarded schema rs indexes) (sym (f ∙ v ∙ e)) g)
@@ -242,13 +270,17 @@ pub refusal_of_stored : (limits : Limits) (schema : Schema) (rows : List (List R
     → create_access_refusal limits (database_of schema rows) spec
     ≡ option_or (admit_refusal limits schema spec) (already_broken (get_or rows (admitted schema spec).table.0 []) (admitted schema spec))
 refusal_of_stored limits schema rows spec e =
-    ap (λ s. option_or (admit_refusal limits s spec) (already_broken (rows_at (database_of schema rows) (admitted s spec).table) (admitted s spec))) (schema_of_stored schema rows e)
-    ∙ ap (λ r. option_or (admit_refusal limits schema spec) (already_broken r (admitted schema spec))) (rows_at_stored schema rows (admitted schema spec).table e)
+    ap (λ s. option_or (admit_refusal limits s spec) (already_broken (rows_at (database_of schema rows) (admitted s spec).table) (admitted s spec)))
+    (schema_of_stored schema rows e)
+    ∙ ap (λ r. option_or (admit_refusal limits schema spec) (already_broken r (admitted schema spec)))
+    (rows_at_stored schema rows (admitted schema spec).table e)
 
 pub reads_of_stored : (limits : Limits) (schema : Schema) (rows : List (List Row)) (spec : AccessSpec) → length rows ≡ length schema.tables
-    → create_access_reads limits (database_of schema rows) spec ≡ (if is_none (admit_refusal limits schema spec) then length (get_or rows (admitted schema spec).table.0 []) else 0)
+    → create_access_reads limits (database_of schema rows) spec
+    ≡ (if is_none (admit_refusal limits schema spec) then length (get_or rows (admitted schema spec).table.0 []) else 0)
 reads_of_stored limits schema rows spec e =
-    ap (λ s. if is_none (admit_refusal limits s spec) then length (rows_at (database_of schema rows) (admitted s spec).table) else 0) (schema_of_stored schema rows e)
+    ap (λ s. if is_none (admit_refusal limits s spec) then length (rows_at (database_of schema rows) (admitted s spec).table) else 0)
+    (schema_of_stored schema rows e)
     ∙ ap (λ (r : List Row). if is_none (admit_refusal limits schema spec) then length r else 0) (rows_at_stored schema rows (admitted schema spec).table e)
 
 pub on_ok_both : {A E P Q R : Type 0} (r : Result A E) → OnOk r P → OnOk r Q → (P → Q → R) → OnOk r R
@@ -260,11 +292,14 @@ on_err_both (Ok x) p q f = tt
 on_err_both (Err x) p q f = f p q
 
 -- and after a drop
-pub after_drop_access : {A E : Type 0} (r : Result A E) (schema schema' : Schema) (rows : List (List Row)) (indexes items items' indexes' : List Index) (name : List ℕ) → IsGuarded schema rows indexes
-    → items ≡ indexes → indexes' ≡ items' → OnOk r (schema' ≡ schema_without_access schema name) → OnOk r (DropsIndex schema.accesses (schema_without_access schema name).accesses items items')
+pub after_drop_access : {A E : Type 0} (r : Result A E) (schema schema' : Schema) (rows : List (List Row)) (indexes items items' indexes' : List Index)
+    (name : List ℕ) → IsGuarded schema rows indexes
+    → items ≡ indexes → indexes' ≡ items' → OnOk r (schema' ≡ schema_without_access schema name)
+    → OnOk r (DropsIndex schema.accesses (schema_without_access schema name).accesses items items')
     → OnErr r (schema' ≡ schema) → OnErr r (items' ≡ items) → IsGuarded schema' rows indexes'
 after_drop_access (Ok x) schema schema' rows indexes items items' indexes' name g e f p q u v =
-    subst (λ s. IsGuarded s rows indexes') (sym p) (subst (λ i. IsGuarded (schema_without_access schema name) rows i) (sym (f ∙ q.indexes_are ∙ ap (λ i. remove i q.place) e))
+    subst (λ s. IsGuarded s rows indexes') (sym p) (subst (λ i. IsGuarded (schema_without_access schema name) rows i)
+    (sym (f ∙ q.indexes_are ∙ ap (λ i. remove i q.place) e))
     (guarded_without schema rows indexes (schema_without_access schema name).accesses q.place g q.within q.accesses_are))
 after_drop_access (Err x) schema schema' rows indexes items items' indexes' name g e f p q u v =
     subst (λ s. IsGuarded s rows indexes') (sym u) (subst (λ i. IsGuarded schema rows i) (sym (f ∙ v ∙ e)) g)
@@ -277,7 +312,8 @@ few_at schema rows indexes g i = elim (below_or_above i (length rows)) [
 ]
 
 -- the refusal of rows over the database that is kept
-pub insert_refusal_of_stored : (limits : Limits) (schema : Schema) (rows : List (List Row)) (id : TableId) (added : List Row) → length rows ≡ length schema.tables
+pub insert_refusal_of_stored : (limits : Limits) (schema : Schema) (rows : List (List Row)) (id : TableId) (added : List Row)
+    → length rows ≡ length schema.tables
     → insert_refusal limits (database_of schema rows) id added
     ≡ option_or (wrong_width (columns_at schema id) added) (option_or (wrong_type (columns_at schema id) added)
     (option_or (refused_if (nat_lt limits.rows (length (get_or rows id.0 []) + length added)) (TooMany Rows limits.rows))

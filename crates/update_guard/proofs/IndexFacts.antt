@@ -68,20 +68,23 @@ has x ids = list_any (λ i. i.0 == x) ids
 pub not_before : (ids : List AccessId) (k : ℕ) (d : AccessId) → Rising ids → k < length ids → has (get_or ids k d).0 (take k ids) ≡ false
 not_before ids k d rise l = list_any_none (λ i. i.0 == (get_or ids k d).0) (take k ids) (λ j e h.
     let b : j < k = omega (arith, h, length-take k ids) in
-    ne_eqb (get_or (take k ids) j e).0 (get_or ids k d).0 (λ s. absurd (omega (arith, rise j k d b l, s, ap (λ x. x.0) (get_or-take k ids j e b ∙ get_or_default ids j e d (omega (arith, b, l)))))))
+    ne_eqb (get_or (take k ids) j e).0 (get_or ids k d).0 (λ s. absurd
+    (omega (arith, rise j k d b l, s, ap (λ x. x.0) (get_or-take k ids j e b ∙ get_or_default ids j e d (omega (arith, b, l)))))))
 
 not_after : (ids : List AccessId) (k : ℕ) (d : AccessId) → Rising ids → k < length ids → has (get_or ids k d).0 (drop (suc k) ids) ≡ false
 not_after ids k d rise l = list_any_none (λ i. i.0 == (get_or ids k d).0) (drop (suc k) ids) (λ j e h.
     let b : suc k + j < length ids = omega (arith, h, length-drop (suc k) ids) in
     let later = rise k (suc k + j) d (omega arith) b in
-    ne_eqb (get_or (drop (suc k) ids) j e).0 (get_or ids k d).0 (λ s. absurd (omega (arith, later, s, ap (λ x. x.0) (get_or-drop (suc k) ids j e ∙ get_or_default ids (suc k + j) e d b)))))
+    ne_eqb (get_or (drop (suc k) ids) j e).0 (get_or ids k d).0
+    (λ s. absurd (omega (arith, later, s, ap (λ x. x.0) (get_or-drop (suc k) ids j e ∙ get_or_default ids (suc k + j) e d b)))))
 
 or_true : (a b : Bool) → b ≡ true → (a || b) ≡ true
 or_true true b e = refl
 or_true false b e = e
 
 -- one index is moved: its constraint is done where it wasn't, or is no more where it was
-pub record Move (accesses : List Access) (rows : List (List Row)) (table : ℕ) (before after : List Row) (done moved : List AccessId) (indexes : List Index) (place : ℕ) (id : AccessId) (new : Index) : Type 0 where
+pub record Move (accesses : List Access) (rows : List (List Row)) (table : ℕ) (before after : List Row) (done moved : List AccessId) (indexes : List Index)
+    (place : ℕ) (id : AccessId) (new : Index) : Type 0 where
   pub indexed : AreIndexed accesses rows table before after done indexes
   pub rise : IdsRise accesses
   pub live : table < length rows
@@ -92,7 +95,8 @@ pub record Move (accesses : List Access) (rows : List (List Row)) (table : ℕ) 
   pub access_is : new.access ≡ (get_or indexes place new).access
   pub index_is : IsIndexOf (get_or indexes place new) (if has id.0 done then after else before) → IsIndexOf new (if has id.0 moved then after else before)
 
-pub moved_one : {accesses : List Access} {rows : List (List Row)} {table : ℕ} {before after : List Row} {done moved : List AccessId} {indexes : List Index} {place : ℕ} {id : AccessId} {new : Index}
+pub moved_one : {accesses : List Access} {rows : List (List Row)} {table : ℕ} {before after : List Row} {done moved : List AccessId} {indexes : List Index}
+    {place : ℕ} {id : AccessId} {new : Index}
     → Move accesses rows table before after done moved indexes place id new → AreIndexed accesses rows table before after moved (set indexes place new)
 moved_one {accesses} {rows} {table} {before} {after} {done} {moved} {indexes} {place} {id} {new} m = record {
   count = length-set indexes place new ∙ m.indexed.count;
@@ -110,24 +114,32 @@ moved_one {accesses} {rows} {table} {before} {after} {done} {moved} {indexes} {p
         let rows_of : (xs : List Row) → get_or (set rows table xs) (get_or accesses place e).table.0 [] ≡ xs =
         λ xs. ap (λ t. get_or (set rows table xs) t []) own_table ∙ get_or-set_same rows table xs [] m.live in
         let was : IsIndexOf (get_or indexes place new) (if has id.0 done then after else before) =
-        subst (IsIndexOf (get_or indexes place new)) (rows_of (if is_done done (get_or accesses place e) then after else before) ∙ ap (λ x. if has x done then after else before) own_id) old.index_is in
+        subst (IsIndexOf (get_or indexes place new)) (rows_of (if is_done done (get_or accesses place e) then after else before)
+        ∙ ap (λ x. if has x done then after else before) own_id) old.index_is in
         record {
           access_is = m.access_is ∙ old.access_is;
-          index_is = subst (IsIndexOf new) (ap (λ x. if has x moved then after else before) (sym own_id) ∙ sym (rows_of (if is_done moved (get_or accesses place e) then after else before))) (m.index_is was);
+          index_is = subst (IsIndexOf new) (ap (λ x. if has x moved then after else before) (sym own_id)
+              ∙ sym (rows_of (if is_done moved (get_or accesses place e) then after else before))) (m.index_is was);
         }
 
-    there : (i : ℕ) (d : Index) (e : Access) → i < length accesses → i ≢ place → IsIndexAt (set rows table (if is_done moved (get_or accesses i e) then after else before)) (get_or indexes i d) (get_or accesses i e)
+    there : (i : ℕ) (d : Index) (e : Access) → i < length accesses → i ≢ place
+        → IsIndexAt (set rows table (if is_done moved (get_or accesses i e) then after else before)) (get_or indexes i d) (get_or accesses i e)
     there i d e l n =
-        let other : (get_or accesses i e).id.0 ≢ id.0 = λ s. n (one_place (λ a. a.id.0) accesses i place e m.rise l m.within (s ∙ sym m.is_on.has_id ∙ ap (λ a. a.id.0) (sym (m.at e)))) in
-        subst (λ (b : Bool). IsIndexAt (set rows table (if b then after else before)) (get_or indexes i d) (get_or accesses i e)) (sym (m.others (get_or accesses i e).id.0 other)) (m.indexed.each i d e l)
+        let other : (get_or accesses i e).id.0 ≢ id.0 = λ s. n
+        (one_place (λ a. a.id.0) accesses i place e m.rise l m.within (s ∙ sym m.is_on.has_id ∙ ap (λ a. a.id.0) (sym (m.at e)))) in
+        subst (λ (b : Bool). IsIndexAt (set rows table (if b then after else before)) (get_or indexes i d) (get_or accesses i e))
+        (sym (m.others (get_or accesses i e).id.0 other)) (m.indexed.each i d e l)
 
-    each : (i : ℕ) (d : Index) (e : Access) → i < length accesses → IsIndexAt (set rows table (if is_done moved (get_or accesses i e) then after else before)) (get_or (set indexes place new) i d) (get_or accesses i e)
+    each : (i : ℕ) (d : Index) (e : Access) → i < length accesses
+        → IsIndexAt (set rows table (if is_done moved (get_or accesses i e) then after else before)) (get_or (set indexes place new) i d) (get_or accesses i e)
     each i d e l = elim (cases_eq i place) [
       | inl s ↦
           let read : get_or (set indexes place new) i d ≡ new = ap (λ j. get_or (set indexes place new) j d) s ∙ get_or-set_same indexes place new d long in
           let P : ℕ → Type 0 = λ j. IsIndexAt (set rows table (if is_done moved (get_or accesses j e) then after else before)) new (get_or accesses j e) in
-          subst (λ (x : Index). IsIndexAt (set rows table (if is_done moved (get_or accesses i e) then after else before)) x (get_or accesses i e)) (sym read) (subst P (sym s) (here e))
-      | inr n ↦ subst (λ (x : Index). IsIndexAt (set rows table (if is_done moved (get_or accesses i e) then after else before)) x (get_or accesses i e)) (sym (get_or-set_other indexes place i new d n)) (there i d e l n)
+          subst (λ (x : Index). IsIndexAt (set rows table (if is_done moved (get_or accesses i e) then after else before)) x (get_or accesses i e)) (sym read)
+          (subst P (sym s) (here e))
+      | inr n ↦ subst (λ (x : Index). IsIndexAt (set rows table (if is_done moved (get_or accesses i e) then after else before)) x (get_or accesses i e))
+          (sym (get_or-set_other indexes place i new d n)) (there i d e l n)
     ]
 
 -- no constraint is done yet
@@ -139,14 +151,16 @@ pub from_none_done : (accesses : List Access) (rows : List (List Row)) (table : 
     → AreIndexed accesses rows table before after [] indexes → IndexesOf accesses (set rows table before) indexes
 from_none_done accesses rows table before after indexes i = record { count = i.count; each = i.each }
 
-among : (p : Access → Bool) (xs : List Access) (i : ℕ) (e : Access) → i < length xs → p (get_or xs i e) ≡ true → has (get_or xs i e).id.0 (map (λ a. a.id) (filter p xs)) ≡ true
+among : (p : Access → Bool) (xs : List Access) (i : ℕ) (e : Access) → i < length xs → p (get_or xs i e) ≡ true
+    → has (get_or xs i e).id.0 (map (λ a. a.id) (filter p xs)) ≡ true
 among p [] i e l t = absurd (omega (arith, l))
 among p (x ∷ xs) zero e l t =
     ap (λ b. has x.id.0 (map (λ a. a.id) (cond b (x ∷ filter p xs) (filter p xs)))) t
     ∙ ap (λ b. b || has x.id.0 (map (λ a. a.id) (filter p xs))) (eq-eqb x.id.0 x.id.0 refl)
 among p (x ∷ xs) (suc i) e l t = by (p x) (among p xs i e (omega arith) t)
   where
-    by : (b : Bool) → has (get_or xs i e).id.0 (map (λ a. a.id) (filter p xs)) ≡ true → has (get_or xs i e).id.0 (map (λ a. a.id) (cond b (x ∷ filter p xs) (filter p xs))) ≡ true
+    by : (b : Bool) → has (get_or xs i e).id.0 (map (λ a. a.id) (filter p xs)) ≡ true
+        → has (get_or xs i e).id.0 (map (λ a. a.id) (cond b (x ∷ filter p xs) (filter p xs))) ≡ true
     by true h = or_true (x.id.0 == (get_or xs i e).id.0) (has (get_or xs i e).id.0 (map (λ a. a.id) (filter p xs))) h
     by false h = h
 
@@ -168,16 +182,20 @@ or_false true = refl
 or_false false = refl
 
 -- with its table's constraints done, each has the rows after
-same_rows : (accesses : List Access) (rows : List (List Row)) (table : ℕ) (before after : List Row) → IdsRise accesses → table < length rows → (i : ℕ) (e : Access) → i < length accesses
-    → get_or (set rows table after) (get_or accesses i e).table.0 [] ≡ get_or (set rows table (if is_done (ids_on accesses table) (get_or accesses i e) then after else before)) (get_or accesses i e).table.0 []
+same_rows : (accesses : List Access) (rows : List (List Row)) (table : ℕ) (before after : List Row) → IdsRise accesses → table < length rows
+    → (i : ℕ) (e : Access) → i < length accesses
+    → get_or (set rows table after) (get_or accesses i e).table.0 []
+    ≡ get_or (set rows table (if is_done (ids_on accesses table) (get_or accesses i e) then after else before)) (get_or accesses i e).table.0 []
 same_rows accesses rows table before after rise live i e l = elim (cases_eq (get_or accesses i e).table.0 table) [
-  | inl s ↦ ap (λ b. get_or (set rows table (if b then after else before)) (get_or accesses i e).table.0 []) (sym (done_where accesses table rise i e l ∙ eq-eqb (get_or accesses i e).table.0 table s))
+  | inl s ↦ ap (λ b. get_or (set rows table (if b then after else before)) (get_or accesses i e).table.0 [])
+      (sym (done_where accesses table rise i e l ∙ eq-eqb (get_or accesses i e).table.0 table s))
   | inr n ↦ get_or-set_other rows table (get_or accesses i e).table.0 after [] n
       ∙ sym (get_or-set_other rows table (get_or accesses i e).table.0 (if is_done (ids_on accesses table) (get_or accesses i e) then after else before) [] n)
 ]
 
 -- all of the table's constraints are done
-pub all_done : (accesses : List Access) (rows : List (List Row)) (table : ℕ) (before after : List Row) (indexes : List Index) → IdsRise accesses → table < length rows
+pub all_done : (accesses : List Access) (rows : List (List Row)) (table : ℕ) (before after : List Row) (indexes : List Index) → IdsRise accesses
+    → table < length rows
     → IndexesOf accesses (set rows table after) indexes → AreIndexed accesses rows table before after (ids_on accesses table) indexes
 all_done accesses rows table before after indexes rise live is = record {
   count = is.count;
@@ -187,7 +205,8 @@ all_done accesses rows table before after indexes rise live is = record {
   };
 }
 
-pub from_all_done : (accesses : List Access) (rows : List (List Row)) (table : ℕ) (before after : List Row) (indexes : List Index) → IdsRise accesses → table < length rows
+pub from_all_done : (accesses : List Access) (rows : List (List Row)) (table : ℕ) (before after : List Row) (indexes : List Index) → IdsRise accesses
+    → table < length rows
     → AreIndexed accesses rows table before after (ids_on accesses table) indexes → IndexesOf accesses (set rows table after) indexes
 from_all_done accesses rows table before after indexes rise live is = record {
   count = is.count;
@@ -205,24 +224,27 @@ step_others ids k d x l n =
 step_own : (ids : List AccessId) (k : ℕ) (d : AccessId) → k < length ids → has (get_or ids k d).0 (take (suc k) ids) ≡ true
 step_own ids k d l =
     ap (has (get_or ids k d).0) (take-suc ids k d l) ∙ list_any-append (λ i. i.0 == (get_or ids k d).0) (take k ids) (get_or ids k d ∷ [])
-    ∙ ap (λ b. has (get_or ids k d).0 (take k ids) || (b || false)) (eq-eqb (get_or ids k d).0 (get_or ids k d).0 refl) ∙ or_true (has (get_or ids k d).0 (take k ids)) (true || false) refl
+    ∙ ap (λ b. has (get_or ids k d).0 (take k ids) || (b || false)) (eq-eqb (get_or ids k d).0 (get_or ids k d).0 refl)
+    ∙ or_true (has (get_or ids k d).0 (take k ids)) (true || false) refl
 
 drop_others : (ids : List AccessId) (k : ℕ) (d : AccessId) (x : ℕ) → k < length ids → x ≢ (get_or ids k d).0 → has x (drop (suc k) ids) ≡ has x (drop k ids)
 drop_others ids k d x l n = sym (ap (has x) (drop-cons ids k d l) ∙ ap (λ b. b || has x (drop (suc k) ids)) (ne_eqb (get_or ids k d).0 x (λ s. n (sym s))))
 
 drop_own : (ids : List AccessId) (k : ℕ) (d : AccessId) → k < length ids → has (get_or ids k d).0 (drop k ids) ≡ true
-drop_own ids k d l = ap (has (get_or ids k d).0) (drop-cons ids k d l) ∙ ap (λ b. b || has (get_or ids k d).0 (drop (suc k) ids)) (eq-eqb (get_or ids k d).0 (get_or ids k d).0 refl)
+drop_own ids k d l = ap (has (get_or ids k d).0) (drop-cons ids k d l)
+    ∙ ap (λ b. b || has (get_or ids k d).0 (drop (suc k) ids)) (eq-eqb (get_or ids k d).0 (get_or ids k d).0 refl)
 
 -- what a step of a loop over ids knows of the index that it moves
-pub record Turn (accesses : List Access) (table : ℕ) (ids : List AccessId) (k : ℕ) (indexes : List Index) (place : ℕ) (id : AccessId) (new : Index) : Type 0 where
-  pub rise : IdsRise accesses
-  pub rising : Rising ids
-  pub in_list : k < length ids
-  pub id_is : id ≡ get_or ids k id
-  pub is_on : IsOnTable accesses table id
-  pub within : place < length accesses
-  pub at : (d : Access) → get_or accesses place d ≡ access_with_id accesses id
-  pub access_is : new.access ≡ (get_or indexes place new).access
+pub record Turn (accesses : List Access) (table : ℕ) (ids : List AccessId) (k : ℕ) (indexes : List Index) (place : ℕ) (id : AccessId) (new : Index) : Type 0
+  where
+    pub rise : IdsRise accesses
+    pub rising : Rising ids
+    pub in_list : k < length ids
+    pub id_is : id ≡ get_or ids k id
+    pub is_on : IsOnTable accesses table id
+    pub within : place < length accesses
+    pub at : (d : Access) → get_or accesses place d ≡ access_with_id accesses id
+    pub access_is : new.access ≡ (get_or indexes place new).access
 
 -- the first of the ids that are left is done no more
 pub turn_out : {accesses : List Access} {table : ℕ} {ids : List AccessId} {k : ℕ} {indexes : List Index} {place : ℕ} {id : AccessId} {new : Index}
@@ -241,7 +263,8 @@ turn_out {accesses} {table} {ids} {k} {indexes} {place} {id} {new} rows before a
   index_is = λ old.
       let was : has id.0 (drop k ids) ≡ true = ap (λ i. has i.0 (drop k ids)) t.id_is ∙ drop_own ids k id t.in_list in
       let now : has id.0 (drop (suc k) ids) ≡ false = ap (λ i. has i.0 (drop (suc k) ids)) t.id_is ∙ not_after ids k id t.rising t.in_list in
-      subst (IsIndexOf new) (ap (λ b. if b then after else before) (sym now)) (flips (subst (IsIndexOf (get_or indexes place new)) (ap (λ b. if b then after else before) was) old));
+      subst (IsIndexOf new) (ap (λ b. if b then after else before) (sym now))
+      (flips (subst (IsIndexOf (get_or indexes place new)) (ap (λ b. if b then after else before) was) old));
 })
 
 -- one id more is done
@@ -261,17 +284,20 @@ turn_in {accesses} {table} {ids} {k} {indexes} {place} {id} {new} rows before af
   index_is = λ old.
       let was : has id.0 (take k ids) ≡ false = ap (λ i. has i.0 (take k ids)) t.id_is ∙ not_before ids k id t.rising t.in_list in
       let now : has id.0 (take (suc k) ids) ≡ true = ap (λ i. has i.0 (take (suc k) ids)) t.id_is ∙ step_own ids k id t.in_list in
-      subst (IsIndexOf new) (ap (λ b. if b then after else before) (sym now)) (flips (subst (IsIndexOf (get_or indexes place new)) (ap (λ b. if b then after else before) was) old));
+      subst (IsIndexOf new) (ap (λ b. if b then after else before) (sym now))
+      (flips (subst (IsIndexOf (get_or indexes place new)) (ap (λ b. if b then after else before) was) old));
 })
 
 -- a step over the first n of a table's constraints
-pub turn_of : {accesses : List Access} {table k place : ℕ} (n : ℕ) (indexes : List Index) (new : Index) → IsPlaceOn accesses table k place → k < n → n ≤ length (ids_on accesses table)
+pub turn_of : {accesses : List Access} {table k place : ℕ} (n : ℕ) (indexes : List Index) (new : Index) → IsPlaceOn accesses table k place → k < n
+    → n ≤ length (ids_on accesses table)
     → new.access ≡ (get_or indexes place new).access → Turn accesses table (take n (ids_on accesses table)) k indexes place (id_at accesses table k) new
 turn_of {accesses} {table} {k} {place} n indexes new p h l same = record {
   rise = p.rise;
   rising = rising_take (ids_on accesses table) n (ids_rise accesses table p.rise);
   in_list = omega (arith, h, l, length-take n (ids_on accesses table));
-  id_is = get_or_default (ids_on accesses table) k (record { 0 = 0 }) (id_at accesses table k) (omega (arith, h, l)) ∙ sym (get_or-take n (ids_on accesses table) k (id_at accesses table k) h);
+  id_is = get_or_default (ids_on accesses table) k (record { 0 = 0 }) (id_at accesses table k) (omega (arith, h, l))
+      ∙ sym (get_or-take n (ids_on accesses table) k (id_at accesses table k) h);
   is_on = p.is_on;
   within = p.within;
   at = p.at;
@@ -279,7 +305,8 @@ turn_of {accesses} {table} {k} {place} n indexes new p h l same = record {
 }
 
 -- where a table's constraint number k stands, as the look-ups tell
-pub place_on : (accesses : List Access) (table k place : ℕ) (lent : List AccessId) (id : AccessId) → IdsRise accesses → lent ≡ ids_on accesses table → k < length lent → id ≡ get_or lent k id
+pub place_on : (accesses : List Access) (table k place : ℕ) (lent : List AccessId) (id : AccessId) → IdsRise accesses → lent ≡ ids_on accesses table
+    → k < length lent → id ≡ get_or lent k id
     → place < length accesses → ((d : Access) → get_or accesses place d ≡ access_with_id accesses id) → IsPlaceOn accesses table k place
 place_on accesses table k place lent id rise e h is within at =
     let l : k < length (ids_on accesses table) = omega (arith, h, ap length e) in
@@ -291,7 +318,8 @@ place_on accesses table k place lent id rise e h is within at =
       is_on = on_table accesses table rise k (record { 0 = 0 }) l;
     }
 
-pub live_at : (accesses : List Access) (table k : ℕ) (lent : List AccessId) (id : AccessId) → IdsRise accesses → lent ≡ ids_on accesses table → k < length lent → id ≡ get_or lent k id
+pub live_at : (accesses : List Access) (table k : ℕ) (lent : List AccessId) (id : AccessId) → IdsRise accesses → lent ≡ ids_on accesses table → k < length lent
+    → id ≡ get_or lent k id
     → list_any (λ x. x.id.0 == id.0) accesses ≡ true
 live_at accesses table k lent id rise e h is =
     let l : k < length (ids_on accesses table) = omega (arith, h, ap length e) in
@@ -316,17 +344,22 @@ kept_one {accesses} {table} {k} {place} rows before after done indexes new p liv
 })
 
 -- an index whose constraint isn't done yet is as it was
-pub fresh_at : (accesses : List Access) (table k place : ℕ) (old new : List Index) (d : Index) → IsPlaceOn accesses table k place → k < length (ids_on accesses table)
-    → ((i : ℕ) (e : Index) (f : Access) → i < length accesses → is_done (take k (ids_on accesses table)) (get_or accesses i f) ≡ false → get_or new i e ≡ get_or old i e)
+pub fresh_at : (accesses : List Access) (table k place : ℕ) (old new : List Index) (d : Index) → IsPlaceOn accesses table k place
+    → k < length (ids_on accesses table)
+    → ((i : ℕ) (e : Index) (f : Access) → i < length accesses → is_done (take k (ids_on accesses table)) (get_or accesses i f) ≡ false
+    → get_or new i e ≡ get_or old i e)
     → get_or new place d ≡ get_or old place d
 fresh_at accesses table k place old new d p h fresh =
     let no = not_before (ids_on accesses table) k (record { 0 = 0 }) (ids_rise accesses table p.rise) h in
     fresh place d no_access p.within (ap (λ x. has x (take k (ids_on accesses table))) (ap (λ a. a.id.0) (p.at no_access) ∙ p.is_on.has_id) ∙ no)
 
 -- and stays so where another one is moved
-pub fresh_after : (accesses : List Access) (table k place : ℕ) (old new : List Index) (moved : Index) → IsPlaceOn accesses table k place → k < length (ids_on accesses table)
-    → ((i : ℕ) (e : Index) (f : Access) → i < length accesses → is_done (take k (ids_on accesses table)) (get_or accesses i f) ≡ false → get_or new i e ≡ get_or old i e)
-    → (i : ℕ) (e : Index) (f : Access) → i < length accesses → is_done (take (suc k) (ids_on accesses table)) (get_or accesses i f) ≡ false → get_or (set new place moved) i e ≡ get_or old i e
+pub fresh_after : (accesses : List Access) (table k place : ℕ) (old new : List Index) (moved : Index) → IsPlaceOn accesses table k place
+    → k < length (ids_on accesses table)
+    → ((i : ℕ) (e : Index) (f : Access) → i < length accesses → is_done (take k (ids_on accesses table)) (get_or accesses i f) ≡ false
+    → get_or new i e ≡ get_or old i e)
+    → (i : ℕ) (e : Index) (f : Access) → i < length accesses → is_done (take (suc k) (ids_on accesses table)) (get_or accesses i f) ≡ false
+    → get_or (set new place moved) i e ≡ get_or old i e
 fresh_after accesses table k place old new moved p h fresh i e f l unseen =
     let ids = ids_on accesses table in
     let id = id_at accesses table k in

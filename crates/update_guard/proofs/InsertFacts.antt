@@ -22,7 +22,8 @@ pub always_err : {A E Q : Type 0} (r : Result A E) → Q → OnErr r Q
 always_err (Ok x) q = tt
 always_err (Err x) q = q
 
-pub refused_head : (A : Type 0) (why : Fail) (first rest : Option Refusal) → IsRefusedAs {T = A} (Err why) first → IsRefusedAs {T = A} (Err why) (option_or first rest)
+pub refused_head : (A : Type 0) (why : Fail) (first rest : Option Refusal) → IsRefusedAs {T = A} (Err why) first
+    → IsRefusedAs {T = A} (Err why) (option_or first rest)
 refused_head A NoMemory first rest r = tt
 refused_head A (Refused why) first rest r = ap (λ f. option_or f rest) r
 
@@ -33,13 +34,15 @@ refusal_at accesses own rows r = option_map (breaks_bound r) (broken accesses (o
 abbrev pub refusals_from : List Access → List Row → List Row → ℕ → Option Refusal
 refusals_from accesses own rows i = first_of (map (refusal_at accesses own rows) (drop i (enumerate_from 1 rows)))
 
-pub one_more : (own rows : List Row) (i : ℕ) (row : Row) → i < length rows → row ≡ get_or rows i row → (own ++ take i rows) ++ row ∷ [] ≡ own ++ take (i + 1) rows
+pub one_more : (own rows : List Row) (i : ℕ) (row : Row) → i < length rows → row ≡ get_or rows i row
+    → (own ++ take i rows) ++ row ∷ [] ≡ own ++ take (i + 1) rows
 one_more own rows i row h is =
     append_assoc own (take i rows) (row ∷ []) ∙ ap (λ x. own ++ (take i rows ++ x ∷ [])) is
     ∙ ap (λ xs. own ++ xs) (sym (take-suc rows i row h)) ∙ ap (λ j. own ++ take j rows) (sym (add-one i))
 
 pub bound_step : (accesses : List Access) (own rows : List Row) (i : ℕ) (row : Row) → i < length rows → row ≡ get_or rows i row
-    → refusals_from accesses own rows i ≡ option_or (option_map (breaks_bound (i + 1, row)) (broken accesses ((own ++ take i rows) ++ row ∷ []))) (refusals_from accesses own rows (i + 1))
+    → refusals_from accesses own rows i ≡ option_or (option_map (breaks_bound (i + 1, row)) (broken accesses ((own ++ take i rows) ++ row ∷ [])))
+    (refusals_from accesses own rows (i + 1))
 bound_step accesses own rows i row h is =
     let long : i < length (enumerate_from 1 rows) = rw (length-enumerate_from 1 rows) h in
     let n : 1 + i ≡ i + 1 = omega arith in
@@ -47,8 +50,10 @@ bound_step accesses own rows i row h is =
     ap (λ es. first_of (map F es)) (drop-cons (enumerate_from 1 rows) i (0, row) long)
     ∙ ap (λ e. option_or (F e) (first_of (map F (drop (suc i) (enumerate_from 1 rows)))))
     (get_or-enumerate_from 1 rows i (0, row) h ∙ ap (λ m. (m, get_or rows i row)) n ∙ ap (λ (x : Row). (i + 1, x)) (sym is))
-    ∙ ap (λ own'. option_or (option_map (breaks_bound (i + 1, row)) (broken accesses own')) (first_of (map F (drop (suc i) (enumerate_from 1 rows))))) (sym (one_more own rows i row h is))
-    ∙ ap (λ j. option_or (option_map (breaks_bound (i + 1, row)) (broken accesses ((own ++ take i rows) ++ row ∷ []))) (refusals_from accesses own rows j)) (sym (add-one i))
+    ∙ ap (λ own'. option_or (option_map (breaks_bound (i + 1, row)) (broken accesses own')) (first_of (map F (drop (suc i) (enumerate_from 1 rows)))))
+    (sym (one_more own rows i row h is))
+    ∙ ap (λ j. option_or (option_map (breaks_bound (i + 1, row)) (broken accesses ((own ++ take i rows) ++ row ∷ []))) (refusals_from accesses own rows j))
+    (sym (add-one i))
 
 pub bound_end : (accesses : List Access) (own rows : List Row) (i : ℕ) → length rows ≤ i → refusals_from accesses own rows i ≡ None
 bound_end accesses own rows i h =
@@ -67,13 +72,16 @@ room_of accesses rows table own added count more indexes live few fits is k d l 
     elim (cases_eq a.table.0 table) [
       | inl s ↦
           let read : length (get_or (set rows table (own ++ added)) a.table.0 []) ≡ length own + length added =
-          ap (λ t. length (get_or (set rows table (own ++ added)) t [])) s ∙ ap length (get_or-set_same rows table (own ++ added) [] live) ∙ length-append own added in
+          ap (λ t. length (get_or (set rows table (own ++ added)) t [])) s ∙ ap length (get_or-set_same rows table (own ++ added) [] live)
+          ∙ length-append own added in
           let bound = few table in
           let same : length (get_or (set rows table own) table []) ≡ length own = ap length (get_or-set_same rows table own [] live) in
           omega (arith, o.index_is.total_is, read, bound, same, fits)
       | inr n ↦
-          let read : length (get_or (set rows table (own ++ added)) a.table.0 []) ≡ length (get_or rows a.table.0 []) = ap length (get_or-set_other rows table a.table.0 (own ++ added) [] n) in
-          let same : length (get_or (set rows table own) a.table.0 []) ≡ length (get_or rows a.table.0 []) = ap length (get_or-set_other rows table a.table.0 own [] n) in
+          let read : length (get_or (set rows table (own ++ added)) a.table.0 [])
+          ≡ length (get_or rows a.table.0 []) = ap length (get_or-set_other rows table a.table.0 (own ++ added) [] n) in
+          let same : length (get_or (set rows table own) a.table.0 [])
+          ≡ length (get_or rows a.table.0 []) = ap length (get_or-set_other rows table a.table.0 own [] n) in
           omega (arith, o.index_is.total_is, read, same, few a.table.0, fits)
     ]
 

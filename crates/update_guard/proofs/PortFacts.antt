@@ -23,11 +23,14 @@ pub same_access : (accesses : List Access) (id : AccessId) → access_with_id ac
 unfolding access_in
 same_access accesses id = refl
 
-pub index_found : (schema : Schema) (rows : List (List Row)) (indexes : List Index) (id : AccessId) (place : ℕ) (index : Index) → SchemaIsSound schema → IndexesOf schema.accesses rows indexes
-    → place < length schema.accesses → ((d : Access) → get_or schema.accesses place d ≡ access_with_id schema.accesses id) → (access_with_id schema.accesses id).id.0 ≡ id.0
+pub index_found : (schema : Schema) (rows : List (List Row)) (indexes : List Index) (id : AccessId) (place : ℕ) (index : Index) → SchemaIsSound schema
+    → IndexesOf schema.accesses rows indexes
+    → place < length schema.accesses → ((d : Access) → get_or schema.accesses place d ≡ access_with_id schema.accesses id)
+    → (access_with_id schema.accesses id).id.0 ≡ id.0
     → index ≡ get_or indexes place index → IsIndexFound schema rows indexes id index
 index_found schema rows indexes id place index sound indexed within at has_id is =
-    let access : index.access ≡ access_with_id schema.accesses id = ap (λ i. i.access) is ∙ (indexed.each place index no_access within).access_is ∙ at no_access in
+    let access : index.access ≡ access_with_id schema.accesses id = ap (λ i. i.access) is ∙ (indexed.each place index no_access within).access_is
+    ∙ at no_access in
     let own : index.access.id.0 ≡ id.0 = ap (λ a. a.id.0) access ∙ has_id in
     let long : place < length indexes = omega (arith, within, indexed.count) in
     let first : find (λ x. x.access.id.0 == id.0) indexes ≡ Some (get_or indexes place index) =

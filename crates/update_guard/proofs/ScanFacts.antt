@@ -45,7 +45,8 @@ pub list_all-from_find : {X : Type 0} (p : X → Bool) (xs : List X) → find (�
 list_all-from_find p [] e = refl
 list_all-from_find {X} p (x ∷ xs) e = by (p x) (list_all-from_find p xs) e
   where
-    by : (b : Bool) → (find (λ y. not (p y)) xs ≡ None → list_all p xs ≡ true) → cond (not b) (Some x) (find (λ y. not (p y)) xs) ≡ None → (b && list_all p xs) ≡ true
+    by : (b : Bool) → (find (λ y. not (p y)) xs ≡ None → list_all p xs ≡ true) → cond (not b) (Some x) (find (λ y. not (p y)) xs) ≡ None
+        → (b && list_all p xs) ≡ true
     by true rest f = rest f
     by false rest f = cc
 
@@ -63,7 +64,8 @@ module _ {X : Type 0} (p : ℕ × X → Bool) (xs : List X) (i : ℕ) (x : X) (h
   pub scan_next : p (i + 1, x) ≡ false → scan_from p 1 xs i ≡ scan_from p 1 xs (i + 1)
   scan_next e = here ∙ ap (λ b. cond b (Some (i + 1, x)) (scan_from p 1 xs (i + 1))) e
 
-pub all_more : {X : Type 0} (P : X → Type 0) (xs : List X) (i : ℕ) (x : X) → i < length xs → x ≡ get_or xs i x → All P (take i xs) → P x → All P (take (i + 1) xs)
+pub all_more : {X : Type 0} (P : X → Type 0) (xs : List X) (i : ℕ) (x : X) → i < length xs → x ≡ get_or xs i x → All P (take i xs) → P x
+    → All P (take (i + 1) xs)
 all_more {X} P xs i x h is all px =
     let Q : List X → Type 0 = λ ys. All P ys in
     subst Q (sym (ap (λ j. take j xs) (add-one i) ∙ take-suc xs i x h ∙ ap (λ y. take i xs ++ y ∷ []) (sym is))) (All-push P (take i xs) x all px)

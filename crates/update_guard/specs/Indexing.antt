@@ -19,10 +19,12 @@ with_rows_of rows table own = slice_set rows table own
 abbrev pub is_done : List AccessId → Access → Bool
 is_done done access = list_any (λ id. id.0 == access.id.0) done
 
-pub record AreIndexed (accesses : List Access) (rows : List (List Row)) (table : ℕ) (before after : List Row) (done : List AccessId) (indexes : List Index) : Type 0 where
+pub record AreIndexed (accesses : List Access) (rows : List (List Row)) (table : ℕ) (before after : List Row) (done : List AccessId)
+    (indexes : List Index) : Type 0 where
   pub count : length indexes ≡ length accesses
   pub each : (i : ℕ) (d : Index) (e : Access) → i < length accesses
-      → IsIndexAt (with_rows_of rows table (if is_done done (slice_index_or accesses i e) then after else before)) (slice_index_or indexes i d) (slice_index_or accesses i e)
+      → IsIndexAt (with_rows_of rows table (if is_done done (slice_index_or accesses i e) then after else before)) (slice_index_or indexes i d)
+      (slice_index_or accesses i e)
 
 -- some rows of which these are the indexes, with room for more of one table
 pub record SomeRows (accesses : List Access) (table more : ℕ) (indexes : List Index) : Type 0 where

@@ -66,8 +66,10 @@ pub fn delete_from<L: Ledger>(
     requires form { BlockIsWellFormed filter.now }
     requires one { length filter.now.atoms ≡ 1 }
     requires wide { width_of filter.now.atoms 0 ≡ length (columns_at catalogue.now table) }
-    ensures rows { stores.new.items ≡ slice_set stores.old.items table.0 (kept_rows filter.now (slice_index_or stores.old.items table.0 [])) }
-    ensures gone { result + length (kept_rows filter.now (slice_index_or stores.old.items table.0 [])) ≡ length (slice_index_or stores.old.items table.0 []) }
+    ensures rows { stores.new.items ≡ slice_set stores.old.items table.0
+        (kept_rows filter.now (slice_index_or stores.old.items table.0 [])) }
+    ensures gone { result + length (kept_rows filter.now (slice_index_or stores.old.items table.0 []))
+        ≡ length (slice_index_or stores.old.items table.0 []) }
     ensures cost { steps.new ≡ steps.old + length (slice_index_or stores.old.items table.0 []) }
     ensures kept { IsGuarded catalogue.now stores.new.items indexes.new.items }
 {

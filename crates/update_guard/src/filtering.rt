@@ -45,7 +45,8 @@ fn comparison_holds(row: &Row, comparison: &Comparison) -> bool
 fn meets_equalities(row: &Row, equalities: &[(Place, Place)]) -> bool
     requires left { All (λ e. PlaceFits row.now e.0) equalities.now }
     requires right { All (λ e. PlaceFits row.now e.1) equalities.now }
-    ensures { result ≡ list_all (λ e. same_value (choice_value (row.now ∷ []) e.0) (choice_value (row.now ∷ []) e.1)) equalities.now }
+    ensures { result ≡ list_all (λ e. same_value (choice_value (row.now ∷ []) e.0) (choice_value (row.now ∷ []) e.1))
+        equalities.now }
 {
     for equality in equalities {
         if value_at(row, &equality.0) != value_at(row, &equality.1) {

@@ -80,9 +80,11 @@ impl Guarded {
         requires { 1 ≤ length spec.now.fetched }
         ensures refused { IsRefusedAs result (create_access_refusal limits.now (stored self.old) spec.now) }
         ensures id { IfOk result (λ id. id.0 ≡ (stored self.old).created) }
-        ensures ok { OnOk result (stored self.new ≡ with_access (stored self.old) (admitted (schema_of (stored self.old)) spec.now)) }
+        ensures ok { OnOk result (stored self.new ≡ with_access (stored self.old)
+            (admitted (schema_of (stored self.old)) spec.now)) }
         ensures err { OnErr result (stored self.new ≡ stored self.old) }
-        ensures cost { result ≢ Err Want → steps.new ≡ steps.old + create_access_reads limits.now (stored self.old) spec.now }
+        ensures cost { result ≢ Err Want → steps.new ≡ steps.old + create_access_reads limits.now (stored self.old)
+            spec.now }
         ensures at_most { steps.new ≤ steps.old + create_access_reads limits.now (stored self.old) spec.now }
         ensures no_fewer { steps.old ≤ steps.new }
     {
@@ -156,7 +158,8 @@ impl Guarded {
         requires form { BlockIsWellFormed filter.now }
         requires one { length filter.now.atoms ≡ 1 }
         requires live { (block_table filter.now).0 < length (stored self.old).tables }
-        requires wide { width_of filter.now.atoms 0 ≡ length (columns_at (schema_of (stored self.old)) (block_table filter.now)) }
+        requires wide { width_of filter.now.atoms 0 ≡ length
+            (columns_at (schema_of (stored self.old)) (block_table filter.now)) }
         ensures kept { stored self.new ≡ kept filter.now (stored self.old) }
         ensures count { result + length (kept_rows filter.now (rows_at (stored self.old) (block_table filter.now)))
             ≡ length (rows_at (stored self.old) (block_table filter.now)) }

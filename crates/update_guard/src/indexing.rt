@@ -45,7 +45,8 @@ pub fn remove_from(
     requires within { n ≤ length (ids_on catalogue.now.accesses table.0) }
     requires count { vec_len indexes.old ≡ length catalogue.now.accesses }
     ensures taken { (rows : List (List Tuple)) (front back : List Tuple) → table.0 < length rows
-        → AreIndexed catalogue.now.accesses rows table.0 (front ++ back) (front ++ row.now ∷ back) (take n (ids_on catalogue.now.accesses table.0)) indexes.old.items
+        → AreIndexed catalogue.now.accesses rows table.0 (front ++ back) (front ++ row.now ∷ back)
+        (take n (ids_on catalogue.now.accesses table.0)) indexes.old.items
         → IndexesOf catalogue.now.accesses (slice_set rows table.0 (front ++ back)) indexes.new.items }
     ensures len { vec_len indexes.new ≡ vec_len indexes.old }
 {
@@ -199,7 +200,8 @@ pub fn first_broken(
 ) -> Option<usize>
     requires live { table.0 < length catalogue.now.tables }
     requires count { length indexes.now ≡ length catalogue.now.accesses }
-    ensures first { (rows : List (List Tuple)) → table.0 < length rows → IndexesOf catalogue.now.accesses rows indexes.now → HoldOver catalogue.now.accesses rows
+    ensures first { (rows : List (List Tuple)) → table.0 < length rows
+        → IndexesOf catalogue.now.accesses rows indexes.now → HoldOver catalogue.now.accesses rows
         → broken (accesses_on catalogue.now.accesses table) (slice_index_or rows table.0 [] ++ row.now ∷ [])
         ≡ option_map (λ place. slice_index_or catalogue.now.accesses place no_access) result }
     ensures within { IfSome result (λ place. place < length catalogue.now.accesses) }

@@ -61,8 +61,10 @@ fn put_row(
     requires count { vec_len indexes.old ≡ length catalogue.now.accesses }
     requires room { All (λ index. index.total + 1 < 2 ^ 32) indexes.old.items }
     requires wide { length row.now ≡ length (columns_at catalogue.now table) }
-    ensures refused { (rows : List (List Tuple)) → table.0 < length rows → IndexesOf catalogue.now.accesses rows indexes.old.items → HoldOver catalogue.now.accesses rows
-        → IsRefusedAs result (option_map (breaks_bound (number, row.now)) (broken (accesses_on catalogue.now.accesses table) (slice_index_or rows table.0 [] ++ row.now ∷ []))) }
+    ensures refused { (rows : List (List Tuple)) → table.0 < length rows
+        → IndexesOf catalogue.now.accesses rows indexes.old.items → HoldOver catalogue.now.accesses rows
+        → IsRefusedAs result (option_map (breaks_bound (number, row.now))
+        (broken (accesses_on catalogue.now.accesses table) (slice_index_or rows table.0 [] ++ row.now ∷ []))) }
     ensures added { OnOk result ((rows : List (List Tuple)) (front : List Tuple) → table.0 < length rows
         → IndexesOf catalogue.now.accesses (slice_set rows table.0 front) indexes.old.items
         → IndexesOf catalogue.now.accesses (slice_set rows table.0 (front ++ row.now ∷ [])) indexes.new.items) }
@@ -178,17 +180,21 @@ pub fn insert_rows(
     requires known { AreOwn catalogue.now.accesses table.0 store.old indexes.old.items }
     ensures refused { (all : List (List Tuple)) → table.0 < length all → slice_index_or all table.0 [] ≡ store.old
         → IndexesOf catalogue.now.accesses all indexes.old.items → HoldOver catalogue.now.accesses all
-        → IsRefusedAs result (option_or (refused_if (nat_lt limits.now.rows (length store.old + length rows)) (Refusal.TooMany OfRows limits.now.rows))
+        → IsRefusedAs result (option_or (refused_if (nat_lt limits.now.rows (length store.old + length rows))
+        (Refusal.TooMany OfRows limits.now.rows))
         (broken_bound (accesses_on catalogue.now.accesses table) store.old rows)) }
     ensures rows { OnOk result (store.new ≡ store.old ++ rows) }
     ensures within { OnOk result (length store.old + length rows ≤ limits.now.rows) }
-    ensures added { OnOk result ((all : List (List Tuple)) → table.0 < length all → IndexesOf catalogue.now.accesses (slice_set all table.0 store.old) indexes.old.items
+    ensures added { OnOk result ((all : List (List Tuple)) → table.0 < length all
+        → IndexesOf catalogue.now.accesses (slice_set all table.0 store.old) indexes.old.items
         → IndexesOf catalogue.now.accesses (slice_set all table.0 (store.old ++ rows)) indexes.new.items) }
-    ensures hold { OnOk result ((all : List (List Tuple)) → table.0 < length all → slice_index_or all table.0 [] ≡ store.old
+    ensures hold { OnOk result ((all : List (List Tuple)) → table.0 < length all
+        → slice_index_or all table.0 [] ≡ store.old
         → IndexesOf catalogue.now.accesses all indexes.old.items → HoldOver catalogue.now.accesses all
         → HoldOver catalogue.now.accesses (slice_set all table.0 (store.old ++ rows))) }
     ensures err { OnErr result (store.new ≡ store.old) }
-    ensures indexes { OnErr result ((all : List (List Tuple)) → table.0 < length all → IndexesOf catalogue.now.accesses (slice_set all table.0 store.old) indexes.old.items
+    ensures indexes { OnErr result ((all : List (List Tuple)) → table.0 < length all
+        → IndexesOf catalogue.now.accesses (slice_set all table.0 store.old) indexes.old.items
         → IndexesOf catalogue.now.accesses (slice_set all table.0 store.old) indexes.new.items) }
 {
     refuse_too_many(store.len(), rows.len(), limits.rows)?;
@@ -229,10 +235,13 @@ pub fn insert_into(
     requires few { length rows < 2 ^ 32 }
     requires narrow { All (λ row. length row < 2 ^ 32) rows }
     requires kept { IsGuarded catalogue.now stores.old.items indexes.old.items }
-    ensures refused { IsRefusedAs result (option_or (wrong_width (columns_at catalogue.now table) rows) (option_or (wrong_type (columns_at catalogue.now table) rows)
-        (option_or (refused_if (nat_lt limits.now.rows (length (slice_index_or stores.old.items table.0 []) + length rows)) (Refusal.TooMany OfRows limits.now.rows))
+    ensures refused { IsRefusedAs result (option_or (wrong_width (columns_at catalogue.now table) rows)
+        (option_or (wrong_type (columns_at catalogue.now table) rows)
+        (option_or (refused_if (nat_lt limits.now.rows (length (slice_index_or stores.old.items table.0 []) + length
+        rows)) (Refusal.TooMany OfRows limits.now.rows))
         (broken_bound (accesses_on catalogue.now.accesses table) (slice_index_or stores.old.items table.0 []) rows)))) }
-    ensures ok { OnOk result (stores.new.items ≡ slice_set stores.old.items table.0 (slice_index_or stores.old.items table.0 [] ++ rows)) }
+    ensures ok { OnOk result (stores.new.items ≡ slice_set stores.old.items table.0
+        (slice_index_or stores.old.items table.0 [] ++ rows)) }
     ensures err { OnErr result (stores.new.items ≡ stores.old.items) }
     ensures kept { IsGuarded catalogue.now stores.new.items indexes.new.items }
 {

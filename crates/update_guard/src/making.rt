@@ -61,16 +61,20 @@ pub fn make_access<L: Ledger>(
     requires fetches { 1 ≤ length spec.now.fetched }
     requires tables { length rows.now ≡ length catalogue.old.tables }
     ensures refused { IsRefusedAs result (option_or (admit_refusal limits.now catalogue.old spec.now)
-        (already_broken (slice_index_or rows.now (admitted catalogue.old spec.now).table.0 []) (admitted catalogue.old spec.now))) }
+        (already_broken (slice_index_or rows.now (admitted catalogue.old spec.now).table.0 [])
+        (admitted catalogue.old spec.now))) }
     ensures id { IfOk result (λ id. id.0 ≡ catalogue.old.created) }
     ensures ok { OnOk result (catalogue.new ≡ schema_with_access catalogue.old (admitted catalogue.old spec.now)) }
-    ensures index { OnOk result (AddsIndex (slice_index_or rows.now (admitted catalogue.old spec.now).table.0 []) (admitted catalogue.old spec.now) indexes.old.items indexes.new.items) }
+    ensures index { OnOk result (AddsIndex (slice_index_or rows.now (admitted catalogue.old spec.now).table.0 [])
+        (admitted catalogue.old spec.now) indexes.old.items indexes.new.items) }
     ensures err { OnErr result (catalogue.new ≡ catalogue.old) }
     ensures indexes_stay { OnErr result (indexes.new.items ≡ indexes.old.items) }
     ensures cost { result ≢ Err Want → steps.new ≡ steps.old
-        + (if is_none (admit_refusal limits.now catalogue.old spec.now) then length (slice_index_or rows.now (admitted catalogue.old spec.now).table.0 []) else 0) }
+        + (if is_none (admit_refusal limits.now catalogue.old spec.now) then length
+        (slice_index_or rows.now (admitted catalogue.old spec.now).table.0 []) else 0) }
     ensures at_most { steps.new ≤ steps.old
-        + (if is_none (admit_refusal limits.now catalogue.old spec.now) then length (slice_index_or rows.now (admitted catalogue.old spec.now).table.0 []) else 0) }
+        + (if is_none (admit_refusal limits.now catalogue.old spec.now) then length
+        (slice_index_or rows.now (admitted catalogue.old spec.now).table.0 []) else 0) }
     ensures no_fewer { steps.old ≤ steps.new }
 {
     let access = catalogue.admit(alloc, limits, spec)?;
@@ -97,7 +101,8 @@ pub fn drop_index(
     requires { vec_len indexes.old ≡ length catalogue.old.accesses }
     ensures refused { IsRefusedAs result (drop_access_refusal catalogue.old name.now) }
     ensures ok { OnOk result (catalogue.new ≡ schema_without_access catalogue.old name.now) }
-    ensures index { OnOk result (DropsIndex catalogue.old.accesses (schema_without_access catalogue.old name.now).accesses indexes.old.items indexes.new.items) }
+    ensures index { OnOk result (DropsIndex catalogue.old.accesses
+        (schema_without_access catalogue.old name.now).accesses indexes.old.items indexes.new.items) }
     ensures err { OnErr result (catalogue.new ≡ catalogue.old) }
     ensures indexes_stay { OnErr result (indexes.new.items ≡ indexes.old.items) }
 {

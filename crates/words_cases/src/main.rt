@@ -1,9 +1,9 @@
 //! Cases of command lines and of demonstrations: for each line of standard input, what it asks for.
 //!
 //! In a line of words each word has `|` before it, so that an empty line has no word and `|` alone one empty word; the
-//! word `*` stands for 70000 letters. A line `@SEED` asks for the length of the demonstration that the seed makes, for a
-//! checksum of its bytes (FNV-1a of 64 bits), and for how its seventh statement begins. A line that begins with `#` is
-//! a comment.
+//! word `*` stands for 70000 letters. A line `@SEED` asks for the length of the demonstration that the seed makes,
+//! for a checksum of its bytes (FNV-1a of 64 bits), and for how its seventh statement begins. A line that begins with
+//! `#` is a comment.
 //!
 //! scripts/words-cases writes what the demonstrations must give by a program of its own.
 #![tactic(auto)]

@@ -21,5 +21,6 @@ pub returns-in_ok-tuple-in-Err-clause-ok : goal.returns-in_ok-tuple-in-Err-claus
 returns-in_ok-tuple-in-Err-clause-ok c =
     let ts = c.args.bucket.now in
     let tuple = project c.args.tuple.now.columns.now c.args.tuple.now.row.now in
-    on_ok_weaker c.insert.result (λ e. subst (λ new. IsOneMore ts new tuple) (sym (e ∙ ap (λ t. insert ts c.in-Err.at (record { tuple = t; count = 1 })) c.in_ok-tuple-in-Err.ensures))
+    on_ok_weaker c.insert.result (λ e. subst (λ new. IsOneMore ts new tuple)
+    (sym (e ∙ ap (λ t. insert ts c.in-Err.at (record { tuple = t; count = 1 })) c.in_ok-tuple-in-Err.ensures))
     (put_in ts c.in-Err.at tuple c.requires.ordered c.requires.counted c.in-Err.ensures)) c.insert.ensures.ok

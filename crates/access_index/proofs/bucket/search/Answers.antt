@@ -30,4 +30,5 @@ returns-in_default g c =
     let tuple = g.W.Values.list c.args.tuple.now in
     gap_at tuple ts c.place_of-at.result c.requires c.place_of-at.ensures
     (λ d l e. c.in_default.not-Equal
-    (c.compare_values.ensures ∙ ap (λ x. row_cmp x tuple) (c.as_slice.ensures ∙ ap (λ t. t.tuple) (c.get.ensures ∙ get_or_default ts c.place_of-at.result c.get.result.now d l)) ∙ e))
+    (c.compare_values.ensures ∙ ap (λ x. row_cmp x tuple) (c.as_slice.ensures
+    ∙ ap (λ t. t.tuple) (c.get.ensures ∙ get_or_default ts c.place_of-at.result c.get.result.now d l)) ∙ e))

@@ -7,5 +7,6 @@ use Rattle.access_index.proofs.index.begin_alike.Goals as goal
 pub returns : goal.returns
 returns c h =
     sym c.front.ensures
-    ∙ same_row_true c.front.result.now c.front-2.result.now (sym (lists_ties value_cmp (λ x y. refl) c.front.result.now c.front-2.result.now) ∙ sym c.eq.ensures ∙ h)
+    ∙ same_row_true c.front.result.now c.front-2.result.now (sym (lists_ties value_cmp (λ x y. refl) c.front.result.now c.front-2.result.now) ∙ sym c.eq.ensures
+    ∙ h)
     ∙ c.front-2.ensures

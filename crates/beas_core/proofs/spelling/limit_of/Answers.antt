@@ -22,7 +22,8 @@ exact value digit known r e small_is h = elim (cases_lt 4294967295 value) [
   | inr within ↦ let f = small value digit r within e in let g = small_is within in omega arith
 ]
 
-more : (value digit known r : ℕ) → r ≡ next value digit → (value ≤ 4294967295 → value ≡ known) → (4294967295 < value → 4294967295 < known) → 4294967295 < r → 4294967295 < known * 10 + digit
+more : (value digit known r : ℕ) → r ≡ next value digit → (value ≤ 4294967295 → value ≡ known) → (4294967295 < value → 4294967295 < known) → 4294967295 < r
+    → 4294967295 < known * 10 + digit
 more value digit known r e small_is large_is h = elim (cases_lt 4294967295 value) [
   | inl over ↦ let f = large_is over in omega arith
   | inr within ↦ let f = small value digit r within e in let g = small_is within in omega arith
@@ -36,8 +37,10 @@ loop-byte-preserved c =
     let digit = digit_value (get_or bytes i 0) in
     let step = digits_value_more 10 bytes i c.loop-byte-test.true in
     record {
-      digits = list_all_more is_ascii_digit bytes i 0 c.loop-byte-test.true ∙ ap (λ b. b && is_ascii_digit (get_or bytes i 0)) c.loop-byte.invariant.digits ∙ sym c.is_ascii_digit.ensures.value ∙ c.if-not-is_ascii_digit.false;
+      digits = list_all_more is_ascii_digit bytes i 0 c.loop-byte-test.true ∙ ap (λ b. b && is_ascii_digit (get_or bytes i 0)) c.loop-byte.invariant.digits
+          ∙ sym c.is_ascii_digit.ensures.value ∙ c.if-not-is_ascii_digit.false;
       small = c.push_digit-value.ensures.small;
       exact = λ h. exact c.loop-byte.value digit known c.push_digit-value.result c.push_digit-value.ensures.value c.loop-byte.invariant.exact h ∙ sym step;
-      large = λ h. let m = more c.loop-byte.value digit known c.push_digit-value.result c.push_digit-value.ensures.value c.loop-byte.invariant.exact c.loop-byte.invariant.large h in omega arith;
+      large = λ h. let m = more c.loop-byte.value digit known c.push_digit-value.result c.push_digit-value.ensures.value c.loop-byte.invariant.exact
+          c.loop-byte.invariant.large h in omega arith;
     }

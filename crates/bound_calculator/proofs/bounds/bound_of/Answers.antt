@@ -11,4 +11,5 @@ pub returns-in-Ok : goal.returns-in-Ok
 returns-in-Ok c =
     let h = c.in-Ok.ensures.position (λ a. a.id.0) (answers_always _ _ _ (λ f a r g called. search rules)) in
     let below : c.in-Ok.at < length c.args.accesses.now = search rules in
-    sym (ap (λ a. a.bound) (found_at c.args.accesses.now c.args.id c.in-Ok.at c.index-accesses-at.result c.requires below (same _ _ (h c.index-accesses-at.result))))
+    sym (ap (λ a. a.bound) (found_at c.args.accesses.now c.args.id c.in-Ok.at c.index-accesses-at.result c.requires below
+    (same _ _ (h c.index-accesses-at.result))))

@@ -12,6 +12,7 @@ returns c =
     let old : c.index_mut-ids.result.now.items ≡ get_or (map inner c.args.lists.now.items) c.args.at [] =
     ap inner c.index_mut-ids.ensures.value ∙ sym (get_or-map inner c.args.lists.now.items c.args.at c.index_mut-ids.result.now [] within) in
     let kept : c.retain.new.self.items ≡ filter (λ i. not (i.0 == c.args.id.0)) c.index_mut-ids.result.now.items =
-    filter_same _ (λ i. not (i.0 == c.args.id.0)) _ (λ x b f r. search rules) c.index_mut-ids.result.now.items c.retain.new.self.items c.retain.ensures.filtered in
+    filter_same _ (λ i. not (i.0 == c.args.id.0)) _ (λ x b f r. search rules) c.index_mut-ids.result.now.items c.retain.new.self.items
+    c.retain.ensures.filtered in
     map-set inner c.args.lists.now.items c.args.at c.retain.new.self
     ∙ ap (set (map inner c.args.lists.now.items) c.args.at) (kept ∙ ap (filter (λ i. not (i.0 == c.args.id.0))) old)

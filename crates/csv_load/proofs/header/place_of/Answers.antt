@@ -10,7 +10,8 @@ use Rattle.csv_load.proofs.header.place_of.Goals.{then-is_named_at+else-is_some,
 pub returns-then-is_some : goal.returns-then-is_some
 returns-then-is_some c =
     let l : c.loop-place.place < length (fields_of c.args.header.now) = omega arith in
-    place_twice (λ field. names field c.args.column.now) (fields_of c.args.header.now) c.loop-place.place (place_of (fields_of c.args.header.now) c.args.column.now)
+    place_twice (λ field. names field c.args.column.now) (fields_of c.args.header.now) c.loop-place.place
+    (place_of (fields_of c.args.header.now) c.args.column.now)
     l (sym c.is_named_at.ensures ∙ c.if-is_named_at.true) c.loop-place.found (sym c.is_some.ensures ∙ c.if-is_some.true) c.loop-place.invariant
 
 pub loop-place-preserved : goal.loop-place-preserved
@@ -24,5 +25,6 @@ loop-place-preserved c =
           subst P (sym w.found-is) (place_taken p (fields_of c.args.header.now) c.loop-place.place all l (sym c.is_named_at.ensures ∙ w.if-is_named_at.true)
           c.loop-place.found (sym w.is_some.ensures ∙ w.if-is_some.false) c.loop-place.invariant)
       | else-is_named_at w ↦
-          subst P (sym w.found-is) (place_passed p (fields_of c.args.header.now) c.loop-place.place all c.loop-place.found l (sym c.is_named_at.ensures ∙ w.if-is_named_at.false) c.loop-place.invariant)
+          subst P (sym w.found-is) (place_passed p (fields_of c.args.header.now) c.loop-place.place all c.loop-place.found l
+          (sym c.is_named_at.ensures ∙ w.if-is_named_at.false) c.loop-place.invariant)
     ]

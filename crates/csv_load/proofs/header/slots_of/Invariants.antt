@@ -9,5 +9,6 @@ use Rattle.csv_load.proofs.header.slots_of.Given as goal
 -- the columns so far have a place each, and these are the places
 abbrev pub invariant-loop-column : goal.invariant-loop-column
 invariant-loop-column l =
-    (list_all (λ column. is_some (place_of (fields_of l.header) column)) (drop l.column-index l.columns) ≡ list_all (λ column. is_some (place_of (fields_of l.header) column)) l.columns)
+    (list_all (λ column. is_some (place_of (fields_of l.header) column)) (drop l.column-index l.columns)
+    ≡ list_all (λ column. is_some (place_of (fields_of l.header) column)) l.columns)
     × (l.slots.items ++ filter_map (slot_of (fields_of l.header)) (drop l.column-index l.columns) ≡ slots_of l.columns (fields_of l.header))

@@ -59,8 +59,14 @@ rows_left-requires-clause-room c =
     subst (λ columns. IsLayout columns (fields_of c.read.new.fields) c.in-Some.layout) c.as_slice.ensures
     (at_some c.in_ok-layout.field-0 c.in-Some.layout _ _ c.in-Some.is c.in_ok-layout.ensures) in
     let w : weight (fields_of c.read.new.fields ∷ c.read.new.self) ≤ length c.args.bytes.now + 1 =
-    subst (λ records. weight records ≤ length c.args.bytes.now + 1) (at_true c.in_ok-read.field-0 _ _ c.if-not-branch.false c.in_ok-read.ensures.ok) c.of-records.ensures.few in
-    omega (arith, c.requires, room c.args.limits.now.text c.args.columns.now c.args.bytes.now (fields_of c.read.new.fields) c.read.new.self all c.in-Some.layout l w)
+    subst (λ records. weight records ≤ length c.args.bytes.now + 1) (at_true c.in_ok-read.field-0 _ _ c.if-not-branch.false c.in_ok-read.ensures.ok)
+    c.of-records.ensures.few in
+    omega (
+      arith,
+      c.requires,
+      room c.args.limits.now.text c.args.columns.now c.args.bytes.now (fields_of c.read.new.fields) c.read.new.self all c.in-Some.layout
+          l w,
+    )
 
 pub returns-clause-good : goal.returns-clause-good
 returns-clause-good c =
@@ -69,7 +75,8 @@ returns-clause-good c =
     let l : IsLayout c.args.columns.now (fields_of c.read.new.fields) c.in-Some.layout =
     subst (λ columns. IsLayout columns (fields_of c.read.new.fields) c.in-Some.layout) c.as_slice.ensures
     (at_some c.in_ok-layout.field-0 c.in-Some.layout _ _ c.in-Some.is c.in_ok-layout.ensures) in
-    as_good c.rows_left.result _ _ (fault_is c.args.limits.now.text c.args.columns.now c.args.bytes.now (fields_of c.read.new.fields) c.read.new.self all c.in-Some.layout l) c.rows_left.ensures.good
+    as_good c.rows_left.result _ _ (fault_is c.args.limits.now.text c.args.columns.now c.args.bytes.now (fields_of c.read.new.fields) c.read.new.self all
+    c.in-Some.layout l) c.rows_left.ensures.good
 
 pub returns-clause-rows : goal.returns-clause-rows
 returns-clause-rows c =
@@ -78,7 +85,8 @@ returns-clause-rows c =
     let l : IsLayout c.args.columns.now (fields_of c.read.new.fields) c.in-Some.layout =
     subst (λ columns. IsLayout columns (fields_of c.read.new.fields) c.in-Some.layout) c.as_slice.ensures
     (at_some c.in_ok-layout.field-0 c.in-Some.layout _ _ c.in-Some.is c.in_ok-layout.ensures) in
-    as_rows c.rows_left.result _ _ (rows_are c.args.limits.now.text c.args.columns.now c.args.bytes.now (fields_of c.read.new.fields) c.read.new.self all c.in-Some.layout l) c.rows_left.ensures.rows
+    as_rows c.rows_left.result _ _ (rows_are c.args.limits.now.text c.args.columns.now c.args.bytes.now (fields_of c.read.new.fields) c.read.new.self all
+    c.in-Some.layout l) c.rows_left.ensures.rows
 
 pub returns-clause-refused : goal.returns-clause-refused
 returns-clause-refused c =
@@ -87,4 +95,5 @@ returns-clause-refused c =
     let l : IsLayout c.args.columns.now (fields_of c.read.new.fields) c.in-Some.layout =
     subst (λ columns. IsLayout columns (fields_of c.read.new.fields) c.in-Some.layout) c.as_slice.ensures
     (at_some c.in_ok-layout.field-0 c.in-Some.layout _ _ c.in-Some.is c.in_ok-layout.ensures) in
-    as_refused c.rows_left.result _ _ (fault_is c.args.limits.now.text c.args.columns.now c.args.bytes.now (fields_of c.read.new.fields) c.read.new.self all c.in-Some.layout l) c.rows_left.ensures.refused
+    as_refused c.rows_left.result _ _ (fault_is c.args.limits.now.text c.args.columns.now c.args.bytes.now (fields_of c.read.new.fields) c.read.new.self all
+    c.in-Some.layout l) c.rows_left.ensures.refused

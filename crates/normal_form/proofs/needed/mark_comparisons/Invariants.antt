@@ -5,4 +5,5 @@ use Rattle.normal_form.specs.Places.{marked}
 use Rattle.normal_form.proofs.needed.mark_comparisons.Given as goal
 
 abbrev pub invariant-loop-comparison : goal.invariant-loop-comparison
-invariant-loop-comparison l = l.used ≡ marked l.places.atoms.now l.initial.used (flat_map (λ c. c.left ∷ operand_places c.right) (take l.comparison-index l.comparisons))
+invariant-loop-comparison l = l.used ≡ marked l.places.atoms.now l.initial.used
+    (flat_map (λ c. c.left ∷ operand_places c.right) (take l.comparison-index l.comparisons))

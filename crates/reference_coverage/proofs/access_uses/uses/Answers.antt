@@ -12,4 +12,5 @@ loop-number-preserved c =
 pub returns : goal.returns
 returns c =
     numbered_end (λ a. map (λ access. record { atom = a.0; access = access }) (filter (λ access. access.table.0 == a.1.table.0) c.args.accesses.now))
-    c.args.normal.now.atoms c.as_slice-atom-items.result.now c.as_slice-atom-items.ensures c.loop-number.number _ c.loop-number-test.false c.loop-number.invariant
+    c.args.normal.now.atoms c.as_slice-atom-items.result.now c.as_slice-atom-items.ensures c.loop-number.number _ c.loop-number-test.false
+    c.loop-number.invariant

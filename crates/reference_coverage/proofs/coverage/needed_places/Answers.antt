@@ -13,4 +13,5 @@ loop-atom-preserved c =
 pub returns : goal.returns
 returns c =
     numbered_end {B = Place} (λ n. map (λ c'. record { atom = n.0; column = c' }) n.1)
-    c.args.normal.now.needed c.as_slice-columns-items.result.now c.as_slice-columns-items.ensures c.loop-atom.atom _ c.loop-atom-test.false c.loop-atom.invariant
+    c.args.normal.now.needed c.as_slice-columns-items.result.now c.as_slice-columns-items.ensures c.loop-atom.atom _ c.loop-atom-test.false
+    c.loop-atom.invariant

@@ -5,4 +5,5 @@ use Rattle.std.specs.List.{filter}
 use Rattle.reference_coverage.proofs.derivations.least_enabled.Given as goal
 
 abbrev pub invariant-loop-candidate : goal.invariant-loop-candidate
-invariant-loop-candidate l = l.ready.items ≡ filter (λ u. holds_classes l.set (key_classes l.normal u) && adds_class l.normal l.set u) (take l.candidate-index l.candidate-items)
+invariant-loop-candidate l = l.ready.items ≡ filter (λ u. holds_classes l.set (key_classes l.normal u) && adds_class l.normal l.set u)
+    (take l.candidate-index l.candidate-items)

@@ -7,5 +7,6 @@ pub loop-row-preserved : goal.loop-row-preserved
 loop-row-preserved c =
     c.in_ok-add_choices.ensures
     ∙ ap (λ all. all ++ map (λ other. c.row-item.result ∷ other) c.args.others.now) c.loop-row.invariant
-    ∙ ap (λ row. flat_map (λ r. map (λ other. r ∷ other) c.args.others.now) (take c.loop-row.row-index c.args.rows.now) ++ map (λ other. row ∷ other) c.args.others.now) c.row-item.is
+    ∙ ap (λ row. flat_map (λ r. map (λ other. r ∷ other) c.args.others.now) (take c.loop-row.row-index c.args.rows.now) ++ map (λ other. row ∷ other)
+    c.args.others.now) c.row-item.is
     ∙ sym (flat_map_step (λ r. map (λ other. r ∷ other) c.args.others.now) c.args.rows.now c.loop-row.row-index c.row-item.result c.loop-row-test.true)

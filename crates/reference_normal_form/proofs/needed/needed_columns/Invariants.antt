@@ -5,4 +5,5 @@ use Rattle.reference_normal_form.proofs.needed.needed_columns.Given as goal
 
 abbrev pub invariant-loop-column : goal.invariant-loop-column
 invariant-loop-column l = l.columns
-    ≡ map (λ c. record { 0 = c }) (filter (λ c. list_any (same_place (record { atom = l.atom; column = record { 0 = c } })) (used_places l.block)) (range_with_len 0 l.column))
+    ≡ map (λ c. record { 0 = c }) (filter (λ c. list_any (same_place (record { atom = l.atom; column = record { 0 = c } })) (used_places l.block))
+    (range_with_len 0 l.column))

@@ -8,4 +8,5 @@ blocks_text-requires c = rw c.as_slice.ensures (told c.args.catalogue.now.access
 pub returns : goal.returns
 returns c =
     let blocks = rw c.as_slice.ensures at c.in_ok-text.ensures in
-    plan_whole c.args.catalogue.now c.args.prepared.now _ _ _ _ blocks c.in_ok-push_str.ensures.ok c.in_ok-push_answer.ensures.text c.in_ok-push_str-2.ensures.ok
+    plan_whole c.args.catalogue.now c.args.prepared.now _ _ _ _ blocks c.in_ok-push_str.ensures.ok c.in_ok-push_answer.ensures.text
+    c.in_ok-push_str-2.ensures.ok

@@ -18,8 +18,10 @@ loop-place-preserved c =
     let step = step_told c.args.catalogue.now c.args.block (c.loop-place.place + 1) c.loop-place.size (get_or c.args.steps.now c.loop-place.place no_step)
     c.access_of-access.result.now c.from-atom.result c.from.result c.size_after-size.result c.as_str.result.now
     c.access_of-access.ensures.access c.from.ensures c.size_after-size.ensures (c.as_str.ensures ∙ c.in_ok-used.ensures) c.from-atom.ensures in
-    let lines = steps_text-next c.args.catalogue.now c.args.block (c.loop-place.place + 1) c.loop-place.size c.size_after-size.result c.args.steps.now c.loop-place.place no_step c.loop-place-test.true step.0 in
-    let left = announced-next c.args.catalogue.now.accesses c.loop-place.size c.size_after-size.result c.args.steps.now c.loop-place.place no_step c.loop-place-test.true step.0 in (
+    let lines = steps_text-next c.args.catalogue.now c.args.block (c.loop-place.place + 1) c.loop-place.size c.size_after-size.result c.args.steps.now
+    c.loop-place.place no_step c.loop-place-test.true step.0 in
+    let left = announced-next c.args.catalogue.now.accesses c.loop-place.size c.size_after-size.result c.args.steps.now c.loop-place.place no_step
+    c.loop-place-test.true step.0 in (
       advance c.loop-place.text _ c.in_ok-push_str.ensures.ok (c.as_str-in-loop-place.ensures ∙ c.in_ok-line.ensures ∙ step.1) lines c.loop-place.invariant.0,
       omega (arith, left, c.loop-place.invariant.1),
     )

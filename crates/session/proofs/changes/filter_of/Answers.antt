@@ -20,7 +20,8 @@ returns-clause-bound c =
     let conditions = c.args.conditions.now in
     let r = c.bind_delete.result in
     subst (λ s. Gives r (unless_refused (delete_refusals limits s table conditions) (bound_delete s table conditions))) (sym (schema_is_catalogue g))
-    (given r (delete_refusals limits g.catalogue table conditions) (bound_delete g.catalogue table conditions) c.bind_delete.ensures.refused c.bind_delete.ensures.block)
+    (given r (delete_refusals limits g.catalogue table conditions) (bound_delete g.catalogue table conditions) c.bind_delete.ensures.refused
+    c.bind_delete.ensures.block)
 
 pub returns-clause-live : goal.returns-clause-live
 returns-clause-live c =

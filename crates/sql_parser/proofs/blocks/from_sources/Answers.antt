@@ -11,16 +11,21 @@ returns-in_err-from_source c =
     let front : Source = (c.loop-room.items, c.loop-room.found) in
     let part = behind_both front (read_source c.loop-room.reader) in
     let whole = behind_both (c.args.items.now, c.args.found.now) (read_sources (length c.args.reader.now) c.args.reader.now) in
-    rw (p.1, p.2) (adding_fails c.in_err-from_source.field-0.0 (c.from_source.new.items, c.from_source.new.found) (c.from_source.new.items, c.from_source.new.found) c.from_source.new.reader part whole c.in_err-from_source.ensures
+    rw (p.1, p.2) (adding_fails c.in_err-from_source.field-0.0 (c.from_source.new.items, c.from_source.new.found)
+    (c.from_source.new.items, c.from_source.new.found) c.from_source.new.reader part whole c.in_err-from_source.ensures
     (λ e. sources-none c.loop-room.room (omega arith) front c.loop-room.reader whole c.loop-room.invariant e))
 
 pub returns-then-not-next_is_mark : goal.returns-then-not-next_is_mark
 returns-then-not-next_is_mark c =
-    sym c.loop-room.invariant ∙ sources-end c.loop-room.room (omega arith) (c.loop-room.items, c.loop-room.found) (c.from_source.new.items, c.from_source.new.found) c.loop-room.reader c.from_source.new.reader c.in_ok-from_source.ensures (sym c.if-not-next_is_mark.ensures)
+    sym c.loop-room.invariant ∙ sources-end c.loop-room.room (omega arith) (c.loop-room.items, c.loop-room.found)
+    (c.from_source.new.items, c.from_source.new.found) c.loop-room.reader c.from_source.new.reader c.in_ok-from_source.ensures
+    (sym c.if-not-next_is_mark.ensures)
 
 pub loop-room-preserved : goal.loop-room-preserved
 loop-room-preserved c =
-    rw c.skip.ensures (sym (sources-go_on c.loop-room.room (omega arith) (c.loop-room.items, c.loop-room.found) (c.from_source.new.items, c.from_source.new.found) c.loop-room.reader c.from_source.new.reader c.in_ok-from_source.ensures (sym c.if-not-next_is_mark.ensures)) ∙ c.loop-room.invariant)
+    rw c.skip.ensures (sym (sources-go_on c.loop-room.room (omega arith) (c.loop-room.items, c.loop-room.found)
+    (c.from_source.new.items, c.from_source.new.found) c.loop-room.reader c.from_source.new.reader c.in_ok-from_source.ensures
+    (sym c.if-not-next_is_mark.ensures)) ∙ c.loop-room.invariant)
 
 pub returns : goal.returns
 returns c = sym c.loop-room.invariant ∙ sources-over c.loop-room.room (c.loop-room.items, c.loop-room.found) c.loop-room.reader (omega arith)

@@ -10,16 +10,21 @@ some_conditions-returns-in_err-condition t c =
     let front = c.loop-room.found in
     let part = behind front (read_condition (read_conditions (c.loop-room.room - 1)) c.loop-room.reader) in
     let whole = behind c.args.found.now (read_conditions c.args.room c.args.reader.now) in
-    rw (p.1, p.2) (adding_fails c.in_err-condition.field-0.0 c.condition.new.found c.condition.new.found c.condition.new.reader part whole c.in_err-condition.ensures
+    rw (p.1, p.2) (adding_fails c.in_err-condition.field-0.0 c.condition.new.found c.condition.new.found c.condition.new.reader part whole
+    c.in_err-condition.ensures
     (λ e. conditions-none c.loop-room.room (omega arith) front c.loop-room.reader whole c.loop-room.invariant.0 e))
 
 pub some_conditions-returns-then-not-next_is_word : goal.some_conditions-returns-then-not-next_is_word
 some_conditions-returns-then-not-next_is_word t c =
-    sym c.loop-room.invariant.0 ∙ conditions-end c.loop-room.room (omega arith) c.loop-room.found c.condition.new.found c.loop-room.reader c.condition.new.reader c.in_ok-condition.ensures (sym c.if-not-next_is_word.ensures)
+    sym c.loop-room.invariant.0 ∙ conditions-end c.loop-room.room (omega arith) c.loop-room.found c.condition.new.found c.loop-room.reader
+    c.condition.new.reader c.in_ok-condition.ensures (sym c.if-not-next_is_word.ensures)
 
 pub some_conditions-loop-room-preserved : goal.some_conditions-loop-room-preserved
-some_conditions-loop-room-preserved t c =
-    (rw c.skip.ensures (sym (conditions-go_on c.loop-room.room (omega arith) c.loop-room.found c.condition.new.found c.loop-room.reader c.condition.new.reader c.in_ok-condition.ensures (sym c.if-not-next_is_word.ensures)) ∙ c.loop-room.invariant.0), omega (arith, c.loop-room.invariant.1))
+some_conditions-loop-room-preserved t c = (
+  rw c.skip.ensures (sym (conditions-go_on c.loop-room.room (omega arith) c.loop-room.found c.condition.new.found c.loop-room.reader c.condition.new.reader
+      c.in_ok-condition.ensures (sym c.if-not-next_is_word.ensures)) ∙ c.loop-room.invariant.0),
+  omega (arith, c.loop-room.invariant.1),
+)
 
 pub some_conditions-returns : goal.some_conditions-returns
 some_conditions-returns t c = sym c.loop-room.invariant.0 ∙ conditions-over c.loop-room.room c.loop-room.found c.loop-room.reader (omega arith)

@@ -9,7 +9,8 @@ abbrev pub decreases-some_conditions : goal.decreases-some_conditions
 decreases-some_conditions l = 2 * l.room
 
 abbrev pub invariant-some_conditions-loop-room : goal.invariant-some_conditions-loop-room
-invariant-some_conditions-loop-room l = (behind l.found (read_conditions l.room l.reader) ≡ behind l.fn.found (read_conditions l.fn.room l.fn.reader)) × (l.room ≤ l.fn.room)
+invariant-some_conditions-loop-room l = (behind l.found (read_conditions l.room l.reader) ≡ behind l.fn.found (read_conditions l.fn.room l.fn.reader))
+    × (l.room ≤ l.fn.room)
 
 abbrev pub decreases-some_conditions-loop-room : goal.decreases-some_conditions-loop-room
 decreases-some_conditions-loop-room l = l.room

@@ -10,16 +10,19 @@ loop-room-init g c = commas-begin g.T.Part.reads c.new-parts.result c.left-room.
 pub returns-in_err-part : goal.returns-in_err-part
 returns-in_err-part g c =
     let p = err_from_is_err_and c.from_residual.result c.from_residual.ensures.1 in
-    rw (p.1, p.2) (fails_on c.in_err-part.field-0.0 c.read.new.reader c.read.new.reader (g.T.Part.reads c.loop-room.reader) (read_list g.T.Part.reads c.args.reader.now) c.in_err-part.ensures
+    rw (p.1, p.2) (fails_on c.in_err-part.field-0.0 c.read.new.reader c.read.new.reader (g.T.Part.reads c.loop-room.reader)
+    (read_list g.T.Part.reads c.args.reader.now) c.in_err-part.ensures
     (λ e. sym c.loop-room.invariant ∙ commas-none g.T.Part.reads c.loop-room.parts c.loop-room.room (omega arith) c.loop-room.reader e))
 
 pub returns-then-not-next_is_mark : goal.returns-then-not-next_is_mark
 returns-then-not-next_is_mark g c =
-    sym c.loop-room.invariant ∙ rw c.in_ok-push.ensures.ok (commas-end g.T.Part.reads c.loop-room.parts c.loop-room.room (omega arith) c.loop-room.reader c.in_ok-part.part c.read.new.reader c.in_ok-part.ensures (sym c.if-not-next_is_mark.ensures))
+    sym c.loop-room.invariant ∙ rw c.in_ok-push.ensures.ok (commas-end g.T.Part.reads c.loop-room.parts c.loop-room.room (omega arith) c.loop-room.reader
+    c.in_ok-part.part c.read.new.reader c.in_ok-part.ensures (sym c.if-not-next_is_mark.ensures))
 
 pub loop-room-preserved : goal.loop-room-preserved
 loop-room-preserved g c =
-    rw (c.in_ok-push.ensures.ok, c.skip.ensures) (sym (commas-go_on g.T.Part.reads c.loop-room.parts c.loop-room.room (omega arith) c.loop-room.reader c.in_ok-part.part c.read.new.reader c.in_ok-part.ensures (sym c.if-not-next_is_mark.ensures)) ∙ c.loop-room.invariant)
+    rw (c.in_ok-push.ensures.ok, c.skip.ensures) (sym (commas-go_on g.T.Part.reads c.loop-room.parts c.loop-room.room (omega arith) c.loop-room.reader
+    c.in_ok-part.part c.read.new.reader c.in_ok-part.ensures (sym c.if-not-next_is_mark.ensures)) ∙ c.loop-room.invariant)
 
 pub returns : goal.returns
 returns g c = sym c.loop-room.invariant ∙ commas-over g.T.Part.reads c.loop-room.parts c.loop-room.room c.loop-room.reader (omega arith)

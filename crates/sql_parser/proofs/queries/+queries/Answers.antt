@@ -17,15 +17,21 @@ some_terms-returns-in_err-term t c =
 
 pub some_terms-returns-else-next_is_word-2 : goal.some_terms-returns-else-next_is_word-2
 some_terms-returns-else-next_is_word-2 t c =
-    sym c.loop-room.invariant.0 ∙ rw c.in_ok-tree.ensures (terms-end c.loop-room.room (omega arith) c.loop-room.front c.loop-room.reader c.in_ok-term.term c.term.new.reader c.in_ok-term.ensures (sym c.if-next_is_word.ensures) (sym c.if-next_is_word-2.ensures))
+    sym c.loop-room.invariant.0 ∙ rw c.in_ok-tree.ensures (terms-end c.loop-room.room (omega arith) c.loop-room.front c.loop-room.reader c.in_ok-term.term
+    c.term.new.reader c.in_ok-term.ensures (sym c.if-next_is_word.ensures) (sym c.if-next_is_word-2.ensures))
 
 pub some_terms-loop-room-preserved : goal.some_terms-loop-room-preserved
 some_terms-loop-room-preserved t c = (
   elim c.if-next_is_word.branch [
     | some_terms-then-next_is_word w ↦
-        rw (w.front-is, c.skip.ensures, c.in_ok-tree.ensures) (sym (terms-union c.loop-room.room (omega arith) c.loop-room.front c.loop-room.reader c.in_ok-term.term c.term.new.reader c.in_ok-term.ensures (sym c.next_is_word.ensures ∙ w.if-next_is_word.true)) ∙ c.loop-room.invariant.0)
+        rw (w.front-is, c.skip.ensures, c.in_ok-tree.ensures)
+        (sym (terms-union c.loop-room.room (omega arith) c.loop-room.front c.loop-room.reader c.in_ok-term.term c.term.new.reader c.in_ok-term.ensures
+        (sym c.next_is_word.ensures ∙ w.if-next_is_word.true)) ∙ c.loop-room.invariant.0)
     | some_terms-else-next_is_word+then-next_is_word-2 w ↦
-        rw (w.front-is, c.skip.ensures, c.in_ok-tree.ensures) (sym (terms-except c.loop-room.room (omega arith) c.loop-room.front c.loop-room.reader c.in_ok-term.term c.term.new.reader c.in_ok-term.ensures (sym c.next_is_word.ensures ∙ w.if-next_is_word.false) (sym w.next_is_word-else-next_is_word.ensures ∙ w.if-next_is_word-2.true)) ∙ c.loop-room.invariant.0)
+        rw (w.front-is, c.skip.ensures, c.in_ok-tree.ensures)
+        (sym (terms-except c.loop-room.room (omega arith) c.loop-room.front c.loop-room.reader c.in_ok-term.term c.term.new.reader c.in_ok-term.ensures
+        (sym c.next_is_word.ensures ∙ w.if-next_is_word.false) (sym w.next_is_word-else-next_is_word.ensures ∙ w.if-next_is_word-2.true))
+        ∙ c.loop-room.invariant.0)
   ],
   omega (arith, c.loop-room.invariant.1),
 )

@@ -7,10 +7,13 @@ pub returns-then-is_too_deep : goal.returns-then-is_too_deep
 returns-then-is_too_deep c = deep-parsed (symbols c.args.tokens.now) (sym c.is_too_deep.ensures ∙ c.if-is_too_deep.true)
 
 pub returns-in-Err-Syntax : goal.returns-in-Err-Syntax
-returns-in-Err-Syntax c = syntax-parsed (symbols c.args.tokens.now) (sym c.is_too_deep.ensures ∙ c.if-is_too_deep.false) (c.in-Err-Syntax.ensures.syntax (ap (λ e. Err e) c.in-Err-Syntax.field-0-is))
+returns-in-Err-Syntax c = syntax-parsed (symbols c.args.tokens.now) (sym c.is_too_deep.ensures ∙ c.if-is_too_deep.false)
+    (c.in-Err-Syntax.ensures.syntax (ap (λ e. Err e) c.in-Err-Syntax.field-0-is))
 
 pub returns-then-lacks_distinct : goal.returns-then-lacks_distinct
-returns-then-lacks_distinct c = lone-parsed (symbols c.args.tokens.now) c.in-Ok.statement (sym c.is_too_deep.ensures ∙ c.if-is_too_deep.false) c.in-Ok.ensures.ok (sym c.lacks_distinct.ensures ∙ c.if-lacks_distinct.true)
+returns-then-lacks_distinct c = lone-parsed (symbols c.args.tokens.now) c.in-Ok.statement (sym c.is_too_deep.ensures ∙ c.if-is_too_deep.false)
+    c.in-Ok.ensures.ok (sym c.lacks_distinct.ensures ∙ c.if-lacks_distinct.true)
 
 pub returns : goal.returns
-returns c = whole-parsed (symbols c.args.tokens.now) c.in-Ok.statement (sym c.is_too_deep.ensures ∙ c.if-is_too_deep.false) c.in-Ok.ensures.ok (sym c.lacks_distinct.ensures ∙ c.if-lacks_distinct.false)
+returns c = whole-parsed (symbols c.args.tokens.now) c.in-Ok.statement (sym c.is_too_deep.ensures ∙ c.if-is_too_deep.false) c.in-Ok.ensures.ok
+    (sym c.lacks_distinct.ensures ∙ c.if-lacks_distinct.false)

@@ -55,4 +55,5 @@ returns c =
     let run : c.run_end.result ≡ c.args.at + 1 + prefix_len continues_char (drop (c.args.at + 1) s) = cc in
     let known : find (starts_with eqb (drop c.args.at s)) marks ≡ mark_of c.mark_len-len.result (drop c.args.at s) = cc in
     IfOk-weaker c.plain-2.result _ (StandsAt s c.args.at)
-    (λ t e. stands-bad_char s c.args.at _ t c.requires.begins c.requires.no_word c.requires.no_number c.requires.no_quote run (known ∙ mark-none c.args.at c.mark_len-len.result s (omega arith)) e) c.plain-2.ensures
+    (λ t e. stands-bad_char s c.args.at _ t c.requires.begins c.requires.no_word c.requires.no_number c.requires.no_quote run
+    (known ∙ mark-none c.args.at c.mark_len-len.result s (omega arith)) e) c.plain-2.ensures

@@ -18,7 +18,8 @@ returns-then-not-has_kind c =
     sym (ap (option_map (λ p. p.0.name)) (c.loop-i.invariant ∙ ap (find fails) (here
     ∙ ap (λ x. (x, get_or c.args.row.now c.loop-i.i value) ∷ drop (suc c.loop-i.i) (zip c.args.columns.now c.args.row.now)) (sym c.index-columns-i.is)
     ∙ ap (λ v. (column, v) ∷ drop (suc c.loop-i.i) (zip c.args.columns.now c.args.row.now)) (sym c.index-row-i.is))
-    ∙ ap (λ b. cond (not b) (Some (column, value)) (find fails (drop (suc c.loop-i.i) (zip c.args.columns.now c.args.row.now)))) (sym c.has_kind.ensures ∙ c.if-not-has_kind.true)))
+    ∙ ap (λ b. cond (not b) (Some (column, value)) (find fails (drop (suc c.loop-i.i) (zip c.args.columns.now c.args.row.now))))
+    (sym c.has_kind.ensures ∙ c.if-not-has_kind.true)))
 
 pub loop-i-preserved : goal.loop-i-preserved
 loop-i-preserved c =
@@ -29,7 +30,8 @@ loop-i-preserved c =
     c.loop-i.invariant ∙ ap (find fails) (here
     ∙ ap (λ x. (x, get_or c.args.row.now c.loop-i.i value) ∷ drop (suc c.loop-i.i) (zip c.args.columns.now c.args.row.now)) (sym c.index-columns-i.is)
     ∙ ap (λ v. (column, v) ∷ drop (suc c.loop-i.i) (zip c.args.columns.now c.args.row.now)) (sym c.index-row-i.is))
-    ∙ ap (λ b. cond (not b) (Some (column, value)) (find fails (drop (suc c.loop-i.i) (zip c.args.columns.now c.args.row.now)))) (sym c.has_kind.ensures ∙ c.if-not-has_kind.false)
+    ∙ ap (λ b. cond (not b) (Some (column, value)) (find fails (drop (suc c.loop-i.i) (zip c.args.columns.now c.args.row.now))))
+    (sym c.has_kind.ensures ∙ c.if-not-has_kind.false)
     ∙ ap (λ j. find fails (drop j (zip c.args.columns.now c.args.row.now))) (sym (add-one c.loop-i.i))
 
 pub returns : goal.returns

@@ -19,7 +19,8 @@ refusal columns r = WrongType r.0 (unwrap_or (misfit columns r.1) [])
 fits : (columns : List Column) (row : Row) → length row ≡ length columns → misfit columns row ≡ None → RowFits columns row
 fits columns row wide none = record {
   width = wide;
-  types = list_all-from_find (λ p. has_kind p.0.kind p.1) (zip columns row) (none_from_map (λ p. p.0.name) (find (λ p. not (has_kind p.0.kind p.1)) (zip columns row)) none);
+  types = list_all-from_find (λ p. has_kind p.0.kind p.1) (zip columns row)
+      (none_from_map (λ p. p.0.name) (find (λ p. not (has_kind p.0.kind p.1)) (zip columns row)) none);
 }
 
 pub returns-in-Some-clause-refused : goal.returns-in-Some-clause-refused
@@ -27,7 +28,8 @@ returns-in-Some-clause-refused c =
     let columns = c.args.columns.now in
     let row = c.index-rows-i.result in
     let is : misfit columns row ≡ Some c.in-Some.column.now = ap (misfit columns) (sym c.as_slice.ensures) ∙ sym c.in-Some.ensures in
-    ap (option_map (refusal columns)) (c.loop-i.invariant.none ∙ scan_found (misfits columns) c.args.rows.now c.loop-i.i row c.loop-i-test.true c.index-rows-i.is (ap is_some is))
+    ap (option_map (refusal columns)) (c.loop-i.invariant.none
+    ∙ scan_found (misfits columns) c.args.rows.now c.loop-i.i row c.loop-i-test.true c.index-rows-i.is (ap is_some is))
     ∙ ap (λ o. Some (WrongType (c.loop-i.i + 1) (unwrap_or o []))) is ∙ ap (λ n. Some (WrongType (c.loop-i.i + 1) n)) (sym c.in_ok-copy-in-Some.ensures)
 
 pub loop-i-preserved : goal.loop-i-preserved
@@ -43,7 +45,8 @@ loop-i-preserved c =
 
 pub returns-clause-refused : goal.returns-clause-refused
 returns-clause-refused c =
-    ap (option_map (refusal c.args.columns.now)) (c.loop-i.invariant.none ∙ scan_end (misfits c.args.columns.now) 1 c.args.rows.now c.loop-i.i c.loop-i-test.false)
+    ap (option_map (refusal c.args.columns.now)) (c.loop-i.invariant.none
+    ∙ scan_end (misfits c.args.columns.now) 1 c.args.rows.now c.loop-i.i c.loop-i-test.false)
 
 pub returns-clause-fit : goal.returns-clause-fit
 returns-clause-fit c = all_taken (RowFits c.args.columns.now) c.args.rows.now c.loop-i.i c.loop-i-test.false c.loop-i.invariant.fit

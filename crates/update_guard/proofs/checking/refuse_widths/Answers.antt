@@ -18,7 +18,8 @@ returns-then-len-columns-clause-refused c =
     let width = length c.args.columns.now in
     let row = c.index-rows-i.result in
     let e = ap not (ne_eqb (length row) width (λ s. c.if-len-columns.true (c.len.ensures ∙ s))) in
-    ap (option_map (refusal width)) (c.loop-i.invariant.none ∙ scan_found (other_width width) c.args.rows.now c.loop-i.i row c.loop-i-test.true c.index-rows-i.is e)
+    ap (option_map (refusal width)) (c.loop-i.invariant.none
+    ∙ scan_found (other_width width) c.args.rows.now c.loop-i.i row c.loop-i-test.true c.index-rows-i.is e)
     ∙ ap (λ n. Some (WrongWidth (c.loop-i.i + 1) n width)) (sym c.len-then-len-columns.ensures)
 
 pub loop-i-preserved : goal.loop-i-preserved
@@ -27,7 +28,8 @@ loop-i-preserved c =
     let row = c.index-rows-i.result in
     let same : length row ≡ width = sym c.len.ensures ∙ c.if-len-columns.false in
     record {
-      none = c.loop-i.invariant.none ∙ scan_next (other_width width) c.args.rows.now c.loop-i.i row c.loop-i-test.true c.index-rows-i.is (ap not (eq-eqb (length row) width same));
+      none = c.loop-i.invariant.none ∙ scan_next (other_width width) c.args.rows.now c.loop-i.i row c.loop-i-test.true c.index-rows-i.is
+          (ap not (eq-eqb (length row) width same));
       wide = all_more (λ r. length r ≡ width) c.args.rows.now c.loop-i.i row c.loop-i-test.true c.index-rows-i.is c.loop-i.invariant.wide same;
     }
 

@@ -19,7 +19,8 @@ pub sweep-requires-clause-fits : goal.sweep-requires-clause-fits
 sweep-requires-clause-fits g c k d l =
     let stores = c.args.stores.now.items in
     let live : c.args.table.0 < length stores = omega (arith, c.requires.live, c.requires.kept.tables) in
-    let own : c.index_mut-store.result.now ≡ get_or stores c.args.table.0 [] = c.index_mut-store.ensures.value ∙ get_or_default stores c.args.table.0 c.index_mut-store.result.now [] live in
+    let own : c.index_mut-store.result.now ≡ get_or stores c.args.table.0 [] = c.index_mut-store.ensures.value
+    ∙ get_or_default stores c.args.table.0 c.index_mut-store.result.now [] live in
     let fit = subst (λ (rs : List Row). All (RowFits (columns_at c.args.catalogue.now c.args.table)) rs) (sym own) (c.requires.kept.fits c.args.table.0 live) in
     block_fits c.args.filter.now (get_or c.index_mut-store.result.now k d) c.requires.form c.requires.one (c.requires.wide ∙ sym (fit k d l).width)
 
@@ -27,21 +28,24 @@ pub returns-clause-rows : goal.returns-clause-rows
 returns-clause-rows g c =
     let stores = c.args.stores.now.items in
     let live : c.args.table.0 < length stores = omega (arith, c.requires.live, c.requires.kept.tables) in
-    let own : c.index_mut-store.result.now ≡ get_or stores c.args.table.0 [] = c.index_mut-store.ensures.value ∙ get_or_default stores c.args.table.0 c.index_mut-store.result.now [] live in
+    let own : c.index_mut-store.result.now ≡ get_or stores c.args.table.0 [] = c.index_mut-store.ensures.value
+    ∙ get_or_default stores c.args.table.0 c.index_mut-store.result.now [] live in
     ap (set stores c.args.table.0) (c.sweep.ensures.rows ∙ ap (kept_rows c.args.filter.now) own)
 
 pub returns-clause-gone : goal.returns-clause-gone
 returns-clause-gone g c =
     let stores = c.args.stores.now.items in
     let live : c.args.table.0 < length stores = omega (arith, c.requires.live, c.requires.kept.tables) in
-    let own : c.index_mut-store.result.now ≡ get_or stores c.args.table.0 [] = c.index_mut-store.ensures.value ∙ get_or_default stores c.args.table.0 c.index_mut-store.result.now [] live in
+    let own : c.index_mut-store.result.now ≡ get_or stores c.args.table.0 [] = c.index_mut-store.ensures.value
+    ∙ get_or_default stores c.args.table.0 c.index_mut-store.result.now [] live in
     ap (λ rs. c.sweep.result + length rs) (sym (c.sweep.ensures.rows ∙ ap (kept_rows c.args.filter.now) own)) ∙ c.sweep.ensures.gone ∙ ap length own
 
 pub returns-clause-cost : goal.returns-clause-cost
 returns-clause-cost g c =
     let stores = c.args.stores.now.items in
     let live : c.args.table.0 < length stores = omega (arith, c.requires.live, c.requires.kept.tables) in
-    let own : c.index_mut-store.result.now ≡ get_or stores c.args.table.0 [] = c.index_mut-store.ensures.value ∙ get_or_default stores c.args.table.0 c.index_mut-store.result.now [] live in
+    let own : c.index_mut-store.result.now ≡ get_or stores c.args.table.0 [] = c.index_mut-store.ensures.value
+    ∙ get_or_default stores c.args.table.0 c.index_mut-store.result.now [] live in
     c.sweep.ensures.cost ∙ ap (λ (rs : List Row). c.args.steps.now + length rs) own
 
 pub returns-clause-kept : goal.returns-clause-kept
@@ -50,10 +54,14 @@ returns-clause-kept g c =
     let schema = c.args.catalogue.now in
     let p : Row → Bool = λ row. not (meets c.args.filter.now (row ∷ [])) in
     let live : c.args.table.0 < length stores = omega (arith, c.requires.live, c.requires.kept.tables) in
-    let own : c.index_mut-store.result.now ≡ get_or stores c.args.table.0 [] = c.index_mut-store.ensures.value ∙ get_or_default stores c.args.table.0 c.index_mut-store.result.now [] live in
-    let after : c.sweep.new.rows ≡ kept_rows c.args.filter.now (get_or stores c.args.table.0 []) = c.sweep.ensures.rows ∙ ap (kept_rows c.args.filter.now) own in
+    let own : c.index_mut-store.result.now ≡ get_or stores c.args.table.0 [] = c.index_mut-store.ensures.value
+    ∙ get_or_default stores c.args.table.0 c.index_mut-store.result.now [] live in
+    let after : c.sweep.new.rows ≡ kept_rows c.args.filter.now (get_or stores c.args.table.0 []) = c.sweep.ensures.rows
+    ∙ ap (kept_rows c.args.filter.now) own in
     let before : IndexesOf schema.accesses (set stores c.args.table.0 c.index_mut-store.result.now) c.args.indexes.now.items =
-    subst (λ ss. IndexesOf schema.accesses ss c.args.indexes.now.items) (sym (ap (set stores c.args.table.0) own ∙ set-get_or stores c.args.table.0 [])) c.requires.kept.indexed in
-    let indexed = subst (λ rs. IndexesOf schema.accesses (set stores c.args.table.0 rs) c.sweep.new.indexes.items) after (c.sweep.ensures.indexes stores live before) in
+    subst (λ ss. IndexesOf schema.accesses ss c.args.indexes.now.items) (sym (ap (set stores c.args.table.0) own ∙ set-get_or stores c.args.table.0 []))
+    c.requires.kept.indexed in
+    let indexed = subst (λ rs. IndexesOf schema.accesses (set stores c.args.table.0 rs) c.sweep.new.indexes.items) after
+    (c.sweep.ensures.indexes stores live before) in
     subst (λ rs. IsGuarded schema (set stores c.args.table.0 rs) c.sweep.new.indexes.items) (sym after)
     (after_filter schema stores c.args.indexes.now.items c.sweep.new.indexes.items c.args.table p c.requires.kept live indexed)

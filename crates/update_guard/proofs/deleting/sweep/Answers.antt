@@ -42,7 +42,8 @@ loop-i-preserved g c =
             indexed = λ all live first.
                 subst (λ own. IndexesOf accesses (set all table own) w.remove_row.new.indexes.items) (after_gone p xs i row within is gone)
                 (w.remove_row.ensures.taken all (filter p (take i xs)) (drop (i + 1) xs) live
-                (subst (λ own. IndexesOf accesses (set all table own) c.loop-i.indexes.items) (before_gone p xs i row within is) (c.loop-i.invariant.indexed all live first)));
+                (subst (λ own. IndexesOf accesses (set all table own) c.loop-i.indexes.items) (before_gone p xs i row within is)
+                (c.loop-i.invariant.indexed all live first)));
           })
       | else-meets w ↦
           let stays : p row ≡ true = ap not (sym c.meets.ensures ∙ w.if-meets.false) in
@@ -52,6 +53,7 @@ loop-i-preserved g c =
             cost = cost;
             long = c.loop-i.invariant.long;
             indexed = λ all live first.
-                subst (λ own. IndexesOf accesses (set all table own) c.loop-i.indexes.items) (after_kept p xs i row within is stays) (c.loop-i.invariant.indexed all live first);
+                subst (λ own. IndexesOf accesses (set all table own) c.loop-i.indexes.items) (after_kept p xs i row within is stays)
+                (c.loop-i.invariant.indexed all live first);
           })
     ]

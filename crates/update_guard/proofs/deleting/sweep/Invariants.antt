@@ -14,5 +14,6 @@ invariant-loop-i g l = record {
   long : vec_len l.indexes ≡ length l.catalogue.accesses;
   indexed : (all : List (List Row)) → l.table.0 < length all
       → IndexesOf l.catalogue.accesses (set all l.table.0 l.initial.rows) l.initial.indexes.items
-      → IndexesOf l.catalogue.accesses (set all l.table.0 (filter (λ row. not (meets l.filter (row ∷ []))) (take l.i l.initial.rows) ++ drop l.i l.initial.rows)) l.indexes.items;
+      → IndexesOf l.catalogue.accesses (set all l.table.0 (filter (λ row. not (meets l.filter (row ∷ []))) (take l.i l.initial.rows) ++ drop l.i
+      l.initial.rows)) l.indexes.items;
 }

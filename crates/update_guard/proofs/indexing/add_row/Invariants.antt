@@ -12,7 +12,9 @@ invariant-loop-k l = record {
   long : vec_len l.indexes ≡ length l.catalogue.accesses;
   moved : (rows : List (List Row)) (front back : List Row) → l.table.0 < length rows
       → IndexesOf l.catalogue.accesses (set rows l.table.0 (front ++ back)) l.initial.indexes.items
-      → AreIndexed l.catalogue.accesses rows l.table.0 (front ++ back) (front ++ l.row ∷ back) (take l.k (ids_on l.catalogue.accesses l.table.0)) l.indexes.items;
-  fresh : (i : ℕ) (d : Index) (e : Access) → i < length l.catalogue.accesses → is_done (take l.k (ids_on l.catalogue.accesses l.table.0)) (get_or l.catalogue.accesses i e) ≡ false
+      → AreIndexed l.catalogue.accesses rows l.table.0 (front ++ back) (front ++ l.row ∷ back) (take l.k (ids_on l.catalogue.accesses l.table.0))
+      l.indexes.items;
+  fresh : (i : ℕ) (d : Index) (e : Access) → i < length l.catalogue.accesses
+      → is_done (take l.k (ids_on l.catalogue.accesses l.table.0)) (get_or l.catalogue.accesses i e) ≡ false
       → get_or l.indexes.items i d ≡ get_or l.initial.indexes.items i d;
 }

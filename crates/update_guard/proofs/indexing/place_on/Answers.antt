@@ -5,10 +5,12 @@ use Rattle.update_guard.proofs.indexing.place_on.Goals as goal
 pub place-requires : goal.place-requires
 place-requires c =
     let within : c.args.k < length c.ids_on.result.now = omega (arith, c.requires.within, ap length c.ids_on.ensures.ids) in
-    live_at c.args.catalogue.now.accesses c.args.table.0 c.args.k c.ids_on.result.now c.id_in-id.result c.ids_on.ensures.sound.ids_rise c.ids_on.ensures.ids within c.id_in-id.ensures
+    live_at c.args.catalogue.now.accesses c.args.table.0 c.args.k c.ids_on.result.now c.id_in-id.result c.ids_on.ensures.sound.ids_rise c.ids_on.ensures.ids
+    within c.id_in-id.ensures
 
 pub returns : goal.returns
 returns c =
     let within : c.args.k < length c.ids_on.result.now = omega (arith, c.requires.within, ap length c.ids_on.ensures.ids) in
-    place_on c.args.catalogue.now.accesses c.args.table.0 c.args.k c.place.result c.ids_on.result.now c.id_in-id.result c.ids_on.ensures.sound.ids_rise c.ids_on.ensures.ids within c.id_in-id.ensures
+    place_on c.args.catalogue.now.accesses c.args.table.0 c.args.k c.place.result c.ids_on.result.now c.id_in-id.result c.ids_on.ensures.sound.ids_rise
+    c.ids_on.ensures.ids within c.id_in-id.ensures
     c.place.ensures.within c.place.ensures.found

@@ -15,12 +15,16 @@ loop-k-preserved c =
       long = c.loop-k.invariant.long;
       moved = λ rows front back live was.
           let old = c.loop-k.invariant.moved rows front back live was in
-          let within : c.place_on-place.result < length c.loop-k.indexes.items = omega (arith, c.place_on-place.ensures.within, c.loop-k.invariant.long, c.loop-k.indexes.ok.0) in
+          let within : c.place_on-place.result < length c.loop-k.indexes.items = omega
+          (arith, c.place_on-place.ensures.within, c.loop-k.invariant.long, c.loop-k.indexes.ok.0) in
           let read : c.index_mut.result.now ≡ get_or c.loop-k.indexes.items c.place_on-place.result c.remove.new.self =
           c.index_mut.ensures.value ∙ get_or_default c.loop-k.indexes.items c.place_on-place.result c.index_mut.result.now c.remove.new.self within in
-          let turn = turn_of c.args.n c.loop-k.indexes.items c.remove.new.self c.place_on-place.ensures (omega arith) c.requires.within (c.remove.ensures.access ∙ ap (λ (i : Index). i.access) read) in
-          subst (λ j. AreIndexed accesses rows c.args.table.0 (front ++ back) (front ++ c.args.row.now ∷ back) (drop j (take c.args.n ids)) (set c.loop-k.indexes.items c.place_on-place.result c.remove.new.self)) (sym (add-one c.loop-k.k))
-          (turn_out rows (front ++ back) (front ++ c.args.row.now ∷ back) turn live (λ h. c.remove.ensures.rest front back (subst (λ (i : Index). IsIndexOf i (front ++ c.args.row.now ∷ back)) (sym read) h)) old);
+          let turn = turn_of c.args.n c.loop-k.indexes.items c.remove.new.self c.place_on-place.ensures (omega arith) c.requires.within
+          (c.remove.ensures.access ∙ ap (λ (i : Index). i.access) read) in
+          subst (λ j. AreIndexed accesses rows c.args.table.0 (front ++ back) (front ++ c.args.row.now ∷ back) (drop j (take c.args.n ids))
+          (set c.loop-k.indexes.items c.place_on-place.result c.remove.new.self)) (sym (add-one c.loop-k.k))
+          (turn_out rows (front ++ back) (front ++ c.args.row.now ∷ back) turn live
+          (λ h. c.remove.ensures.rest front back (subst (λ (i : Index). IsIndexOf i (front ++ c.args.row.now ∷ back)) (sym read) h)) old);
     }
 
 pub returns-clause-taken : goal.returns-clause-taken

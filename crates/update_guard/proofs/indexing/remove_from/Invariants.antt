@@ -8,6 +8,8 @@ abbrev pub invariant-loop-k : goal.invariant-loop-k
 invariant-loop-k l = record {
   long : vec_len l.indexes ≡ length l.catalogue.accesses;
   moved : (rows : List (List Row)) (front back : List Row) → l.table.0 < length rows
-      → AreIndexed l.catalogue.accesses rows l.table.0 (front ++ back) (front ++ l.row ∷ back) (take l.n (ids_on l.catalogue.accesses l.table.0)) l.initial.indexes.items
-      → AreIndexed l.catalogue.accesses rows l.table.0 (front ++ back) (front ++ l.row ∷ back) (drop l.k (take l.n (ids_on l.catalogue.accesses l.table.0))) l.indexes.items;
+      → AreIndexed l.catalogue.accesses rows l.table.0 (front ++ back) (front ++ l.row ∷ back) (take l.n (ids_on l.catalogue.accesses l.table.0))
+      l.initial.indexes.items
+      → AreIndexed l.catalogue.accesses rows l.table.0 (front ++ back) (front ++ l.row ∷ back) (drop l.k (take l.n (ids_on l.catalogue.accesses l.table.0)))
+      l.indexes.items;
 }

@@ -16,7 +16,8 @@ pub put_row-requires-clause-room : goal.put_row-requires-clause-room
 put_row-requires-clause-room c =
     let k = c.requires.known in
     room_of c.args.catalogue.now.accesses k.rows c.args.table.0 k.own (take c.loop-i.i c.args.rows.now) 1 (length c.args.rows.now)
-    c.loop-i.indexes.items k.live k.few (omega (arith, c.loop-i-test.true, length-take c.loop-i.i c.args.rows.now)) (c.loop-i.invariant.added k.rows k.own k.live k.is)
+    c.loop-i.indexes.items k.live k.few (omega (arith, c.loop-i-test.true, length-take c.loop-i.i c.args.rows.now))
+    (c.loop-i.invariant.added k.rows k.own k.live k.is)
 
 pub returns-in-Err-clause-refused : goal.returns-in-Err-clause-refused
 returns-in-Err-clause-refused c all live is hold =
@@ -25,7 +26,8 @@ returns-in-Err-clause-refused c all live is hold =
     let rows = c.args.rows.now in
     let mine = accesses_on accesses c.args.table in
     let now = set all c.args.table.0 (own ++ take c.loop-i.i rows) in
-    let whole : IndexesOf accesses (set all c.args.table.0 own) c.args.indexes.now.items = subst (λ a. IndexesOf accesses a c.args.indexes.now.items) (sym (set-get_or all c.args.table.0 [])) is in
+    let whole : IndexesOf accesses (set all c.args.table.0 own) c.args.indexes.now.items = subst (λ a. IndexesOf accesses a c.args.indexes.now.items)
+    (sym (set-get_or all c.args.table.0 [])) is in
     let indexed = c.loop-i.invariant.added all own live whole in
     let held = c.loop-i.invariant.holds all live is hold in
     let long : c.args.table.0 < length now = omega (arith, live, length-set all c.args.table.0 (own ++ take c.loop-i.i rows)) in
@@ -33,12 +35,14 @@ returns-in-Err-clause-refused c all live is hold =
     let read : get_or now c.args.table.0 [] ≡ own ++ take c.loop-i.i rows = get_or-set_same all c.args.table.0 (own ++ take c.loop-i.i rows) [] live in
     let R : Option Refusal → Type 0 = λ r. IsRefusedAs {T = Unit {0}} (Err c.in-Err.why) r in
     subst R (sym (c.loop-i.invariant.refused all live is hold ∙ bound_step mine own rows c.loop-i.i c.index-rows-i.result c.loop-i-test.true c.index-rows-i.is))
-    (refused_head (Unit {0}) c.in-Err.why (option_map (breaks_bound (c.loop-i.i + 1, c.index-rows-i.result)) (broken mine ((own ++ take c.loop-i.i rows) ++ c.index-rows-i.result ∷ []))) (refusals_from mine own rows (c.loop-i.i + 1))
+    (refused_head (Unit {0}) c.in-Err.why (option_map (breaks_bound (c.loop-i.i + 1, c.index-rows-i.result))
+    (broken mine ((own ++ take c.loop-i.i rows) ++ c.index-rows-i.result ∷ []))) (refusals_from mine own rows (c.loop-i.i + 1))
     (subst (λ xs. R (option_map (breaks_bound (c.loop-i.i + 1, c.index-rows-i.result)) (broken mine (xs ++ c.index-rows-i.result ∷ [])))) read told))
 
 pub returns-in-Err-clause-err : goal.returns-in-Err-clause-err
 returns-in-Err-clause-err c all front live is =
-    c.remove_rows.ensures.taken all front live (c.in-Err.ensures.err all (front ++ take c.loop-i.i c.args.rows.now) live (c.loop-i.invariant.added all front live is))
+    c.remove_rows.ensures.taken all front live (c.in-Err.ensures.err all (front ++ take c.loop-i.i c.args.rows.now) live
+    (c.loop-i.invariant.added all front live is))
 
 pub loop-i-preserved : goal.loop-i-preserved
 loop-i-preserved c =
@@ -50,7 +54,8 @@ loop-i-preserved c =
     λ all live is hold.
     let own = get_or all c.args.table.0 [] in
     let now = set all c.args.table.0 (own ++ take c.loop-i.i rows) in
-    let whole : IndexesOf accesses (set all c.args.table.0 own) c.args.indexes.now.items = subst (λ a. IndexesOf accesses a c.args.indexes.now.items) (sym (set-get_or all c.args.table.0 [])) is in
+    let whole : IndexesOf accesses (set all c.args.table.0 own) c.args.indexes.now.items = subst (λ a. IndexesOf accesses a c.args.indexes.now.items)
+    (sym (set-get_or all c.args.table.0 [])) is in
     let long : c.args.table.0 < length now = omega (arith, live, length-set all c.args.table.0 (own ++ take c.loop-i.i rows)) in
     let told = c.in-Ok.ensures.refused now long (c.loop-i.invariant.added all own live whole) (c.loop-i.invariant.holds all live is hold) in
     ap (λ xs. broken mine (xs ++ c.index-rows-i.result ∷ [])) (sym (get_or-set_same all c.args.table.0 (own ++ take c.loop-i.i rows) [] live))
@@ -58,7 +63,8 @@ loop-i-preserved c =
     record {
       long = omega (arith, c.put_row.ensures.len, c.loop-i.invariant.long);
       added = λ all front live is.
-          subst (λ own. IndexesOf accesses (set all c.args.table.0 own) c.put_row.new.indexes.items) (one_more front rows c.loop-i.i c.index-rows-i.result c.loop-i-test.true c.index-rows-i.is)
+          subst (λ own. IndexesOf accesses (set all c.args.table.0 own) c.put_row.new.indexes.items)
+          (one_more front rows c.loop-i.i c.index-rows-i.result c.loop-i-test.true c.index-rows-i.is)
           (c.in-Ok.ensures.added all (front ++ take c.loop-i.i rows) live (c.loop-i.invariant.added all front live is));
       holds = λ all live is hold.
           let own = get_or all c.args.table.0 [] in
@@ -67,20 +73,24 @@ loop-i-preserved c =
       refused = λ all live is hold.
           let own = get_or all c.args.table.0 [] in
           c.loop-i.invariant.refused all live is hold ∙ bound_step mine own rows c.loop-i.i c.index-rows-i.result c.loop-i-test.true c.index-rows-i.is
-          ∙ ap (λ b. option_or (option_map (breaks_bound (c.loop-i.i + 1, c.index-rows-i.result)) b) (refusals_from mine own rows (c.loop-i.i + 1))) (none all live is hold);
+          ∙ ap (λ b. option_or (option_map (breaks_bound (c.loop-i.i + 1, c.index-rows-i.result)) b) (refusals_from mine own rows (c.loop-i.i + 1)))
+          (none all live is hold);
     }
 
 pub returns-clause-refused : goal.returns-clause-refused
 returns-clause-refused c all live is hold =
     c.loop-i.invariant.refused all live is hold
-    ∙ bound_end (accesses_on c.args.catalogue.now.accesses c.args.table) (get_or all c.args.table.0 []) c.args.rows.now c.loop-i.i (omega (arith, c.loop-i-test.false))
+    ∙ bound_end (accesses_on c.args.catalogue.now.accesses c.args.table) (get_or all c.args.table.0 []) c.args.rows.now c.loop-i.i
+    (omega (arith, c.loop-i-test.false))
 
 pub returns-clause-added : goal.returns-clause-added
 returns-clause-added c all front live is =
-    subst (λ xs. IndexesOf c.args.catalogue.now.accesses (set all c.args.table.0 (front ++ xs)) c.loop-i.indexes.items) (take_all c.loop-i.i c.args.rows.now (omega (arith, c.loop-i-test.false)))
+    subst (λ xs. IndexesOf c.args.catalogue.now.accesses (set all c.args.table.0 (front ++ xs)) c.loop-i.indexes.items)
+    (take_all c.loop-i.i c.args.rows.now (omega (arith, c.loop-i-test.false)))
     (c.loop-i.invariant.added all front live is)
 
 pub returns-clause-hold : goal.returns-clause-hold
 returns-clause-hold c all live is hold =
-    subst (λ xs. HoldOver c.args.catalogue.now.accesses (set all c.args.table.0 (get_or all c.args.table.0 [] ++ xs))) (take_all c.loop-i.i c.args.rows.now (omega (arith, c.loop-i-test.false)))
+    subst (λ xs. HoldOver c.args.catalogue.now.accesses (set all c.args.table.0 (get_or all c.args.table.0 [] ++ xs)))
+    (take_all c.loop-i.i c.args.rows.now (omega (arith, c.loop-i-test.false)))
     (c.loop-i.invariant.holds all live is hold)

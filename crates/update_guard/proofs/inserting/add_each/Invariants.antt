@@ -19,5 +19,6 @@ invariant-loop-i l = record {
   refused : (all : List (List Row)) → l.table.0 < length all
       → IndexesOf l.catalogue.accesses all l.initial.indexes.items → HoldOver l.catalogue.accesses all
       → broken_bound (accesses_on l.catalogue.accesses l.table) (get_or all l.table.0 []) l.rows
-      ≡ first_of (map (λ r. option_map (breaks_bound r) (broken (accesses_on l.catalogue.accesses l.table) (get_or all l.table.0 [] ++ take r.0 l.rows))) (drop l.i (enumerate_from 1 l.rows)));
+      ≡ first_of (map (λ r. option_map (breaks_bound r) (broken (accesses_on l.catalogue.accesses l.table) (get_or all l.table.0 [] ++ take r.0 l.rows)))
+      (drop l.i (enumerate_from 1 l.rows)));
 }

@@ -21,7 +21,8 @@ refuse_widths-requires-clause-columns c =
 
 pub refuse_types-requires-clause-wide : goal.refuse_types-requires-clause-wide
 refuse_types-requires-clause-wide c =
-    subst (λ (rs : List Row). All (λ row. length row ≡ length c.as_slice-columns.result.now) rs) (c.as_slice.ensures ∙ sym c.as_slice-2.ensures) c.in_ok-refuse_widths.ensures.wide
+    subst (λ (rs : List Row). All (λ row. length row ≡ length c.as_slice-columns.result.now) rs) (c.as_slice.ensures ∙ sym c.as_slice-2.ensures)
+    c.in_ok-refuse_widths.ensures.wide
 
 pub index_mut-store-requires : goal.index_mut-store-requires
 index_mut-store-requires c = omega (arith, c.requires.live, c.requires.kept.tables, c.args.stores.now.ok.0)
@@ -51,14 +52,18 @@ pub returns-clause-refused : goal.returns-clause-refused
 returns-clause-refused c =
     let stores = c.args.stores.now.items in
     let live : c.args.table.0 < length stores = omega (arith, c.requires.live, c.requires.kept.tables) in
-    let own : c.index_mut-store.result.now ≡ get_or stores c.args.table.0 [] = c.index_mut-store.ensures.value ∙ get_or_default stores c.args.table.0 c.index_mut-store.result.now [] live in
+    let own : c.index_mut-store.result.now ≡ get_or stores c.args.table.0 [] = c.index_mut-store.ensures.value
+    ∙ get_or_default stores c.args.table.0 c.index_mut-store.result.now [] live in
     let cs = columns_at c.args.catalogue.now c.args.table in
     let columns : c.as_slice-columns.result.now ≡ cs = c.as_slice-columns.ensures ∙ c.columns.ensures.columns in
     let width : wrong_width cs c.args.rows ≡ None =
-    ap (λ x. wrong_width x c.args.rows) (sym columns) ∙ ap (wrong_width c.as_slice-columns.result.now) (sym c.as_slice.ensures) ∙ c.in_ok-refuse_widths.ensures.refused in
+    ap (λ x. wrong_width x c.args.rows) (sym columns) ∙ ap (wrong_width c.as_slice-columns.result.now) (sym c.as_slice.ensures)
+    ∙ c.in_ok-refuse_widths.ensures.refused in
     let kind : wrong_type cs c.args.rows ≡ None =
-    ap (λ x. wrong_type x c.args.rows) (sym columns) ∙ ap (wrong_type c.as_slice-columns.result.now) (sym c.as_slice-2.ensures) ∙ c.in_ok-refuse_types.ensures.refused in
-    let rest = λ (store : List Row). option_or (refused_if (nat_lt c.args.limits.now.rows (length store + length c.args.rows)) (TooMany Rows c.args.limits.now.rows))
+    ap (λ x. wrong_type x c.args.rows) (sym columns) ∙ ap (wrong_type c.as_slice-columns.result.now) (sym c.as_slice-2.ensures)
+    ∙ c.in_ok-refuse_types.ensures.refused in
+    let rest = λ (store : List Row). option_or (refused_if (nat_lt c.args.limits.now.rows (length store + length c.args.rows))
+    (TooMany Rows c.args.limits.now.rows))
     (broken_bound (accesses_on c.args.catalogue.now.accesses c.args.table) store c.args.rows) in
     let told = c.insert_rows.ensures.refused stores live (sym own) c.requires.kept.indexed c.requires.kept.hold in
     subst (IsRefusedAs c.insert_rows.result) (sym (
@@ -70,14 +75,16 @@ pub returns-clause-ok : goal.returns-clause-ok
 returns-clause-ok c =
     let stores = c.args.stores.now.items in
     let live : c.args.table.0 < length stores = omega (arith, c.requires.live, c.requires.kept.tables) in
-    let own : c.index_mut-store.result.now ≡ get_or stores c.args.table.0 [] = c.index_mut-store.ensures.value ∙ get_or_default stores c.args.table.0 c.index_mut-store.result.now [] live in
+    let own : c.index_mut-store.result.now ≡ get_or stores c.args.table.0 [] = c.index_mut-store.ensures.value
+    ∙ get_or_default stores c.args.table.0 c.index_mut-store.result.now [] live in
     on_ok c.insert_rows.result c.insert_rows.ensures.rows (λ e. ap (set stores c.args.table.0) (e ∙ ap (λ store. store ++ c.args.rows) own))
 
 pub returns-clause-err : goal.returns-clause-err
 returns-clause-err c =
     let stores = c.args.stores.now.items in
     let live : c.args.table.0 < length stores = omega (arith, c.requires.live, c.requires.kept.tables) in
-    let own : c.index_mut-store.result.now ≡ get_or stores c.args.table.0 [] = c.index_mut-store.ensures.value ∙ get_or_default stores c.args.table.0 c.index_mut-store.result.now [] live in
+    let own : c.index_mut-store.result.now ≡ get_or stores c.args.table.0 [] = c.index_mut-store.ensures.value
+    ∙ get_or_default stores c.args.table.0 c.index_mut-store.result.now [] live in
     on_err c.insert_rows.result c.insert_rows.ensures.err (λ e. ap (set stores c.args.table.0) (e ∙ own) ∙ set-get_or stores c.args.table.0 [])
 
 pub returns-clause-kept : goal.returns-clause-kept
@@ -89,7 +96,8 @@ returns-clause-kept c =
     let rows = c.args.rows in
     let new = c.insert_rows.new.indexes.items in
     let live : table < length stores = omega (arith, c.requires.live, c.requires.kept.tables) in
-    let own : c.index_mut-store.result.now ≡ get_or stores table [] = c.index_mut-store.ensures.value ∙ get_or_default stores table c.index_mut-store.result.now [] live in
+    let own : c.index_mut-store.result.now ≡ get_or stores table [] = c.index_mut-store.ensures.value
+    ∙ get_or_default stores table c.index_mut-store.result.now [] live in
     let columns : c.as_slice-columns.result.now ≡ columns_at schema c.args.table = c.as_slice-columns.ensures ∙ c.columns.ensures.columns in
     let fit : All (RowFits (columns_at schema c.args.table)) rows =
     subst (λ (cs : List Column). All (RowFits cs) rows) columns
@@ -99,7 +107,10 @@ returns-clause-kept c =
     after_insert c.insert_rows.result schema stores c.args.indexes.now.items new c.args.table rows c.insert_rows.new.store c.requires.kept live fit
     (on_ok c.insert_rows.result c.insert_rows.ensures.rows (λ e. e ∙ ap (λ store. store ++ rows) own))
     (on_ok c.insert_rows.result c.insert_rows.ensures.within (λ w. let same = ap length own in omega (arith, w, c.args.limits.now.rows_in_range.1, same)))
-    (on_ok c.insert_rows.result c.insert_rows.ensures.added (λ f. subst (λ store. IndexesOf accesses (set stores table (store ++ rows)) new) own (f stores live before)))
-    (on_ok c.insert_rows.result c.insert_rows.ensures.hold (λ f. subst (λ store. HoldOver accesses (set stores table (store ++ rows))) own (f stores live (sym own) c.requires.kept.indexed c.requires.kept.hold)))
+    (on_ok c.insert_rows.result c.insert_rows.ensures.added (λ f. subst (λ store. IndexesOf accesses (set stores table (store ++ rows)) new) own
+    (f stores live before)))
+    (on_ok c.insert_rows.result c.insert_rows.ensures.hold (λ f. subst (λ store. HoldOver accesses (set stores table (store ++ rows))) own
+    (f stores live (sym own) c.requires.kept.indexed c.requires.kept.hold)))
     (on_err c.insert_rows.result c.insert_rows.ensures.err (λ e. e ∙ own))
-    (on_err c.insert_rows.result c.insert_rows.ensures.indexes (λ f. subst (λ store. IndexesOf accesses (set stores table store) new) own (f stores live before)))
+    (on_err c.insert_rows.result c.insert_rows.ensures.indexes
+    (λ f. subst (λ store. IndexesOf accesses (set stores table store) new) own (f stores live before)))

@@ -4,7 +4,8 @@ use Rattle.update_guard.proofs.InsertFacts.{always_err}
 use Rattle.update_guard.proofs.inserting.insert_rows.Goals as goal
 
 pub returns-in_err-add_rows-clause-indexes : goal.returns-in_err-add_rows-clause-indexes
-returns-in_err-add_rows-clause-indexes c = always_err c.from_residual-in_err-add_rows.result (λ all live is. c.in_err-add_rows.ensures.err all c.args.store.now live is)
+returns-in_err-add_rows-clause-indexes c = always_err c.from_residual-in_err-add_rows.result
+    (λ all live is. c.in_err-add_rows.ensures.err all c.args.store.now live is)
 
 pub returns-in-Ok-clause-added : goal.returns-in-Ok-clause-added
 returns-in-Ok-clause-added c all live is =

@@ -17,13 +17,16 @@ returns-then-needed-bound-clause-refused g c =
     let rows = get_or c.args.rows.now a.table.0 [] in
     let lent = c.index-as_slice-table.result in
     let same : c.in_ok-access.access ≡ a = c.in_ok-access.ensures.admitted in
-    let may = may_make_access c.args.limits.now c.args.catalogue.now c.args.spec.now c.in_ok-access.ensures.refused c.requires.fetches c.args.limits.now.constraints_in_range.1 in
+    let may = may_make_access c.args.limits.now c.args.catalogue.now c.args.spec.now c.in_ok-access.ensures.refused c.requires.fetches
+    c.args.limits.now.constraints_in_range.1 in
     let live : a.table.0 < length c.args.rows.now = omega (arith, may.table, c.requires.tables) in
     let own : lent ≡ rows =
-    c.index-as_slice-table.is ∙ ap (λ xs. get_or xs c.in_ok-access.access.table.0 lent) c.as_slice.ensures ∙ ap (λ (x : Access). get_or c.args.rows.now x.table.0 lent) same
+    c.index-as_slice-table.is ∙ ap (λ xs. get_or xs c.in_ok-access.access.table.0 lent) c.as_slice.ensures
+    ∙ ap (λ (x : Access). get_or c.args.rows.now x.table.0 lent) same
     ∙ get_or_default c.args.rows.now a.table.0 lent [] live in
     let needed : c.greatest-needed.result ≡ greatest rows a.key a.fetched =
-    c.greatest-needed.ensures lent c.in_ok-index.ensures.index ∙ ap (λ (x : Access). greatest lent x.key x.fetched) (c.in_ok-index.ensures.access ∙ same) ∙ ap (λ rs. greatest rs a.key a.fetched) own in
+    c.greatest-needed.ensures lent c.in_ok-index.ensures.index ∙ ap (λ (x : Access). greatest lent x.key x.fetched) (c.in_ok-index.ensures.access ∙ same)
+    ∙ ap (λ rs. greatest rs a.key a.fetched) own in
     let bound : c.in_ok-access.access.bound ≡ a.bound = ap (λ (x : Access). x.bound) same in
     ap (λ o. option_or o (already_broken rows a)) c.in_ok-access.ensures.refused
     ∙ broken_where rows a c.greatest-needed.result needed (omega (arith, c.if-needed-bound.true, bound))
@@ -35,13 +38,16 @@ returns-clause-refused g c =
     let rows = get_or c.args.rows.now a.table.0 [] in
     let lent = c.index-as_slice-table.result in
     let same : c.in_ok-access.access ≡ a = c.in_ok-access.ensures.admitted in
-    let may = may_make_access c.args.limits.now c.args.catalogue.now c.args.spec.now c.in_ok-access.ensures.refused c.requires.fetches c.args.limits.now.constraints_in_range.1 in
+    let may = may_make_access c.args.limits.now c.args.catalogue.now c.args.spec.now c.in_ok-access.ensures.refused c.requires.fetches
+    c.args.limits.now.constraints_in_range.1 in
     let live : a.table.0 < length c.args.rows.now = omega (arith, may.table, c.requires.tables) in
     let own : lent ≡ rows =
-    c.index-as_slice-table.is ∙ ap (λ xs. get_or xs c.in_ok-access.access.table.0 lent) c.as_slice.ensures ∙ ap (λ (x : Access). get_or c.args.rows.now x.table.0 lent) same
+    c.index-as_slice-table.is ∙ ap (λ xs. get_or xs c.in_ok-access.access.table.0 lent) c.as_slice.ensures
+    ∙ ap (λ (x : Access). get_or c.args.rows.now x.table.0 lent) same
     ∙ get_or_default c.args.rows.now a.table.0 lent [] live in
     let needed : c.greatest-needed.result ≡ greatest rows a.key a.fetched =
-    c.greatest-needed.ensures lent c.in_ok-index.ensures.index ∙ ap (λ (x : Access). greatest lent x.key x.fetched) (c.in_ok-index.ensures.access ∙ same) ∙ ap (λ rs. greatest rs a.key a.fetched) own in
+    c.greatest-needed.ensures lent c.in_ok-index.ensures.index ∙ ap (λ (x : Access). greatest lent x.key x.fetched) (c.in_ok-index.ensures.access ∙ same)
+    ∙ ap (λ rs. greatest rs a.key a.fetched) own in
     let bound : c.in_ok-access.access.bound ≡ a.bound = ap (λ (x : Access). x.bound) same in
     ap (λ o. option_or o (already_broken rows a)) c.in_ok-access.ensures.refused
     ∙ whole_where rows a c.greatest-needed.result needed (omega (arith, c.if-needed-bound.false, bound))
@@ -52,13 +58,16 @@ returns-clause-index g c =
     let rows = get_or c.args.rows.now a.table.0 [] in
     let lent = c.index-as_slice-table.result in
     let same : c.in_ok-access.access ≡ a = c.in_ok-access.ensures.admitted in
-    let may = may_make_access c.args.limits.now c.args.catalogue.now c.args.spec.now c.in_ok-access.ensures.refused c.requires.fetches c.args.limits.now.constraints_in_range.1 in
+    let may = may_make_access c.args.limits.now c.args.catalogue.now c.args.spec.now c.in_ok-access.ensures.refused c.requires.fetches
+    c.args.limits.now.constraints_in_range.1 in
     let live : a.table.0 < length c.args.rows.now = omega (arith, may.table, c.requires.tables) in
     let own : lent ≡ rows =
-    c.index-as_slice-table.is ∙ ap (λ xs. get_or xs c.in_ok-access.access.table.0 lent) c.as_slice.ensures ∙ ap (λ (x : Access). get_or c.args.rows.now x.table.0 lent) same
+    c.index-as_slice-table.is ∙ ap (λ xs. get_or xs c.in_ok-access.access.table.0 lent) c.as_slice.ensures
+    ∙ ap (λ (x : Access). get_or c.args.rows.now x.table.0 lent) same
     ∙ get_or_default c.args.rows.now a.table.0 lent [] live in
     let needed : c.greatest-needed.result ≡ greatest rows a.key a.fetched =
-    c.greatest-needed.ensures lent c.in_ok-index.ensures.index ∙ ap (λ (x : Access). greatest lent x.key x.fetched) (c.in_ok-index.ensures.access ∙ same) ∙ ap (λ rs. greatest rs a.key a.fetched) own in
+    c.greatest-needed.ensures lent c.in_ok-index.ensures.index ∙ ap (λ (x : Access). greatest lent x.key x.fetched) (c.in_ok-index.ensures.access ∙ same)
+    ∙ ap (λ rs. greatest rs a.key a.fetched) own in
     let bound : c.in_ok-access.access.bound ≡ a.bound = ap (λ (x : Access). x.bound) same in
     record {
       index = c.in_ok-index.index;

@@ -28,7 +28,8 @@ count_up-requires-clause-room c =
       arith,
       c.requires,
       ap (λ (s : Index). s.total) c.self.view_is,
-      bucket_within (length c.self.inside.columns) (length c.self.inside.access.key) c.hash_values-hash.result c.self.inside.total c.self.inside.buckets.entries c.in-Some.bucket.now
+      bucket_within (length c.self.inside.columns) (length c.self.inside.access.key) c.hash_values-hash.result c.self.inside.total c.self.inside.buckets.entries
+          c.in-Some.bucket.now
           c.self.invariant.1 (sym c.in-Some.ensures.value),
     )
 
@@ -36,14 +37,19 @@ pub invariant_of-self : goal.invariant_of-self
 invariant_of-self c =
     let old = c.self.inside.buckets.entries in
     let h = c.hash_values-hash.result in
-    let e = (c.get_mut.follows.holds c.count_up.new.bucket).0 ∙ ap (set_value (nat_eq h) old) c.in_err-count_up.ensures.err ∙ set_same h old c.in-Some.bucket.now (sym c.in-Some.ensures.value) in
-    (c.self.invariant.0, subst (λ es. IsStored (length c.self.inside.columns) (length c.self.inside.access.key) es c.self.inside.total) (sym e) c.self.invariant.1)
+    let e = (c.get_mut.follows.holds c.count_up.new.bucket).0 ∙ ap (set_value (nat_eq h) old) c.in_err-count_up.ensures.err
+    ∙ set_same h old c.in-Some.bucket.now (sym c.in-Some.ensures.value) in (
+      c.self.invariant.0,
+      subst (λ es. IsStored (length c.self.inside.columns) (length c.self.inside.access.key) es c.self.inside.total) (sym e)
+          c.self.invariant.1,
+    )
 
 pub returns-in_err-count_up-clause-err : goal.returns-in_err-count_up-clause-err
 returns-in_err-count_up-clause-err c =
     let old = c.self.inside.buckets.entries in
     let h = c.hash_values-hash.result in
-    let e = (c.get_mut.follows.holds c.count_up.new.bucket).0 ∙ ap (set_value (nat_eq h) old) c.in_err-count_up.ensures.err ∙ set_same h old c.in-Some.bucket.now (sym c.in-Some.ensures.value) in
+    let e = (c.get_mut.follows.holds c.count_up.new.bucket).0 ∙ ap (set_value (nat_eq h) old) c.in_err-count_up.ensures.err
+    ∙ set_same h old c.in-Some.bucket.now (sym c.in-Some.ensures.value) in
     always_on_err c.from_residual.result
     (ap (λ es. record { access = c.self.inside.access; total = c.self.inside.total; buckets = values_of es }) e ∙ c.self.view_is)
 
@@ -53,11 +59,14 @@ invariant_of-self-in-Some c =
     let old = c.self.inside.buckets.entries in
     let h = c.hash_values-hash.result in
     let row = c.args.row.now in
-    let hash = c.hash_values-hash.ensures ∙ ap hash_of (picked c.as_slice-2.result.now access.key c.as_slice.result.now row c.as_slice-2.ensures c.as_slice.ensures) in
-    let same = picked c.as_slice-4.result.now (member_columns access) c.as_slice-3.result.now row (c.as_slice-4.ensures ∙ c.self.invariant.0) c.as_slice-3.ensures in
+    let hash = c.hash_values-hash.ensures ∙ ap hash_of (picked c.as_slice-2.result.now access.key c.as_slice.result.now row c.as_slice-2.ensures
+    c.as_slice.ensures) in
+    let same = picked c.as_slice-4.result.now (member_columns access) c.as_slice-3.result.now row (c.as_slice-4.ensures ∙ c.self.invariant.0)
+    c.as_slice-3.ensures in
     let w = c.get_mut.follows.holds c.count_up.new.bucket in
     let found : lookup (nat_eq h) old ≡ Some c.in-Some.bucket.now = sym c.in-Some.ensures.value in
-    let added = added_to access (length c.self.inside.columns) c.self.inside.total old (c.get_mut.follows.lender c.count_up.new.bucket).entries row h (ap length c.self.invariant.0) hash
+    let added = added_to access (length c.self.inside.columns) c.self.inside.total old (c.get_mut.follows.lender c.count_up.new.bucket).entries row h
+    (ap length c.self.invariant.0) hash
     c.in-Some.bucket.now c.count_up.new.bucket c.self.invariant.1 found w.0 w.4 (w.3 (ap is_some found)).0
     (subst (IsOneMore c.in-Some.bucket.now c.count_up.new.bucket) same c.in_ok-count_up.ensures.ok) in
     (c.self.invariant.0, added.stored)
@@ -68,11 +77,14 @@ returns-in-Some-clause-ok c front back is =
     let old = c.self.inside.buckets.entries in
     let h = c.hash_values-hash.result in
     let row = c.args.row.now in
-    let hash = c.hash_values-hash.ensures ∙ ap hash_of (picked c.as_slice-2.result.now access.key c.as_slice.result.now row c.as_slice-2.ensures c.as_slice.ensures) in
-    let same = picked c.as_slice-4.result.now (member_columns access) c.as_slice-3.result.now row (c.as_slice-4.ensures ∙ c.self.invariant.0) c.as_slice-3.ensures in
+    let hash = c.hash_values-hash.ensures ∙ ap hash_of (picked c.as_slice-2.result.now access.key c.as_slice.result.now row c.as_slice-2.ensures
+    c.as_slice.ensures) in
+    let same = picked c.as_slice-4.result.now (member_columns access) c.as_slice-3.result.now row (c.as_slice-4.ensures ∙ c.self.invariant.0)
+    c.as_slice-3.ensures in
     let w = c.get_mut.follows.holds c.count_up.new.bucket in
     let found : lookup (nat_eq h) old ≡ Some c.in-Some.bucket.now = sym c.in-Some.ensures.value in
-    let added = added_to access (length c.self.inside.columns) c.self.inside.total old (c.get_mut.follows.lender c.count_up.new.bucket).entries row h (ap length c.self.invariant.0) hash
+    let added = added_to access (length c.self.inside.columns) c.self.inside.total old (c.get_mut.follows.lender c.count_up.new.bucket).entries row h
+    (ap length c.self.invariant.0) hash
     c.in-Some.bucket.now c.count_up.new.bucket c.self.invariant.1 found w.0 w.4 (w.3 (ap is_some found)).0
     (subst (IsOneMore c.in-Some.bucket.now c.count_up.new.bucket) same c.in_ok-count_up.ensures.ok) in
     added.index front back (subst (λ s. IsIndexOf s (front ++ back)) (sym c.self.view_is) is)
@@ -83,13 +95,16 @@ invariant_of-self-2 c =
     let old = c.self.inside.buckets.entries in
     let h = c.hash_values-hash.result in
     let row = c.args.row.now in
-    let hash = c.hash_values-hash.ensures ∙ ap hash_of (picked c.as_slice-2.result.now access.key c.as_slice.result.now row c.as_slice-2.ensures c.as_slice.ensures) in
-    let same = picked c.as_slice-4.result.now (member_columns access) c.as_slice-3.result.now row (c.as_slice-4.ensures ∙ c.self.invariant.0) c.as_slice-3.ensures in
+    let hash = c.hash_values-hash.ensures ∙ ap hash_of (picked c.as_slice-2.result.now access.key c.as_slice.result.now row c.as_slice-2.ensures
+    c.as_slice.ensures) in
+    let same = picked c.as_slice-4.result.now (member_columns access) c.as_slice-3.result.now row (c.as_slice-4.ensures ∙ c.self.invariant.0)
+    c.as_slice-3.ensures in
     let m = c.in_ok-insert.ensures in
     let same_map = c.get_mut.follows.holds-at-none in
     let absent : lookup (nat_eq h) old ≡ None = sym c.in_default.ensures.value in
     let added = added_new access (length c.self.inside.columns) c.self.inside.total old c.insert.new.self.entries row h (ap length c.self.invariant.0) hash
-    c.in_ok-bucket.bucket c.self.invariant.1 absent (m.entries ∙ ap (λ b. insert_entry nat_eq b.entries h c.in_ok-bucket.bucket) same_map ∙ insert_entry-new nat_eq c.self.inside.buckets h c.in_ok-bucket.bucket absent) m.unique
+    c.in_ok-bucket.bucket c.self.invariant.1 absent (m.entries ∙ ap (λ b. insert_entry nat_eq b.entries h c.in_ok-bucket.bucket) same_map
+    ∙ insert_entry-new nat_eq c.self.inside.buckets h c.in_ok-bucket.bucket absent) m.unique
     (λ q. m.updates.0 q ∙ ap (λ b. cond (nat_eq h q) (Some c.in_ok-bucket.bucket) (lookup (nat_eq q) b.entries)) same_map)
     (subst (IsOneMore [] c.in_ok-bucket.bucket) same c.in_ok-bucket.ensures) in
     (c.self.invariant.0, added.stored)
@@ -100,13 +115,16 @@ returns-clause-ok c front back is =
     let old = c.self.inside.buckets.entries in
     let h = c.hash_values-hash.result in
     let row = c.args.row.now in
-    let hash = c.hash_values-hash.ensures ∙ ap hash_of (picked c.as_slice-2.result.now access.key c.as_slice.result.now row c.as_slice-2.ensures c.as_slice.ensures) in
-    let same = picked c.as_slice-4.result.now (member_columns access) c.as_slice-3.result.now row (c.as_slice-4.ensures ∙ c.self.invariant.0) c.as_slice-3.ensures in
+    let hash = c.hash_values-hash.ensures ∙ ap hash_of (picked c.as_slice-2.result.now access.key c.as_slice.result.now row c.as_slice-2.ensures
+    c.as_slice.ensures) in
+    let same = picked c.as_slice-4.result.now (member_columns access) c.as_slice-3.result.now row (c.as_slice-4.ensures ∙ c.self.invariant.0)
+    c.as_slice-3.ensures in
     let m = c.in_ok-insert.ensures in
     let same_map = c.get_mut.follows.holds-at-none in
     let absent : lookup (nat_eq h) old ≡ None = sym c.in_default.ensures.value in
     let added = added_new access (length c.self.inside.columns) c.self.inside.total old c.insert.new.self.entries row h (ap length c.self.invariant.0) hash
-    c.in_ok-bucket.bucket c.self.invariant.1 absent (m.entries ∙ ap (λ b. insert_entry nat_eq b.entries h c.in_ok-bucket.bucket) same_map ∙ insert_entry-new nat_eq c.self.inside.buckets h c.in_ok-bucket.bucket absent) m.unique
+    c.in_ok-bucket.bucket c.self.invariant.1 absent (m.entries ∙ ap (λ b. insert_entry nat_eq b.entries h c.in_ok-bucket.bucket) same_map
+    ∙ insert_entry-new nat_eq c.self.inside.buckets h c.in_ok-bucket.bucket absent) m.unique
     (λ q. m.updates.0 q ∙ ap (λ b. cond (nat_eq h q) (Some c.in_ok-bucket.bucket) (lookup (nat_eq q) b.entries)) same_map)
     (subst (IsOneMore [] c.in_ok-bucket.bucket) same c.in_ok-bucket.ensures) in
     added.index front back (subst (λ s. IsIndexOf s (front ++ back)) (sym c.self.view_is) is)

@@ -11,11 +11,13 @@ use Rattle.access_index.proofs.index.AccessIndex.greatest.Goals as goal
 
 pub greatest_in-requires-clause-ordered : goal.greatest_in-requires-clause-ordered
 greatest_in-requires-clause-ordered c =
-    (bucket_at_place (length c.self.inside.columns) (length c.self.inside.access.key) c.self.inside.buckets.entries c.loop-i.i c.index.result.now c.self.invariant.1.buckets c.index.ensures).1.ordered
+    (bucket_at_place (length c.self.inside.columns) (length c.self.inside.access.key) c.self.inside.buckets.entries c.loop-i.i c.index.result.now
+    c.self.invariant.1.buckets c.index.ensures).1.ordered
 
 pub greatest_in-requires-clause-few : goal.greatest_in-requires-clause-few
 greatest_in-requires-clause-few c =
-    let b = bucket_at_place (length c.self.inside.columns) (length c.self.inside.access.key) c.self.inside.buckets.entries c.loop-i.i c.index.result.now c.self.invariant.1.buckets c.index.ensures in
+    let b = bucket_at_place (length c.self.inside.columns) (length c.self.inside.access.key) c.self.inside.buckets.entries c.loop-i.i c.index.result.now
+    c.self.invariant.1.buckets c.index.ensures in
     let total = c.self.invariant.1.total_is in
     omega (arith, total, tuples_within c.index.result.now b.1.counted, sum_at_place c.self.inside.buckets.entries c.loop-i.i c.index.result.now c.index.ensures)
 
@@ -31,7 +33,8 @@ pub returns : goal.returns
 returns c rows =
     let access = c.self.inside.access in
     let entries = c.self.inside.buckets.entries in
-    let end : c.loop-i.i ≡ length (values_of entries) = omega (arith, c.loop-i-test.false, c.loop-i.auto.i-end, c.len-i-end.ensures, length-map entries (λ e. e.1)) in
+    let end : c.loop-i.i ≡ length (values_of entries) = omega
+    (arith, c.loop-i-test.false, c.loop-i.auto.i-end, c.len-i-end.ensures, length-map entries (λ e. e.1)) in
     subst (λ (s : Index). IsIndexOf s rows → c.loop-i.best ≡ greatest rows s.access.key s.access.fetched) c.self.view_is
     (λ is. greatest_is access (length c.self.inside.columns) c.self.inside.total entries c.self.invariant.1 rows is c.loop-i.best
     (subst (λ n. IsGreatestUpTo (length access.key) (values_of entries) n c.loop-i.best) end c.loop-i.invariant))

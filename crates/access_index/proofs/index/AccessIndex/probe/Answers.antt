@@ -25,7 +25,8 @@ group_in-group-requires g c =
 
 pub overflow_mul-place : goal.overflow_mul-place
 overflow_mul-place g c =
-    let few = few_buckets (length c.self.inside.columns) (length c.self.inside.access.key) c.self.inside.total c.self.inside.buckets.entries c.self.invariant.1 in
+    let few = few_buckets (length c.self.inside.columns) (length c.self.inside.access.key) c.self.inside.total c.self.inside.buckets.entries
+    c.self.invariant.1 in
     omega (arith, few, c.in-Some.ensures.within)
 
 pub overflow_add-place : goal.overflow_add-place
@@ -76,7 +77,8 @@ returns-clause-members g c rows =
     let here : ts ≡ bucket_at entries (hash_of key) = sym (ap (λ o. unwrap_or o []) found) ∙ ap (bucket_at entries) c.hash_values.ensures in
     let kept = c.group_in-group.ensures.members ∙ ap (λ v. filter (is_key v key) ts) c.len.ensures in
     subst (λ (s : Index). IsIndexOf s rows → members_at s c.counted-2.result ≡ group_of rows s.access key) c.self.view_is
-    (λ is. members_are (values_of entries) c.in-Some.index c.group_in-group.result.from c.group_in-group.result.len ts c.counted-2.result from c.index.ensures c.counted-2.ensures.place c.counted-2.ensures.len
+    (λ is. members_are (values_of entries) c.in-Some.index c.group_in-group.result.from c.group_in-group.result.len ts c.counted-2.result from c.index.ensures
+    c.counted-2.ensures.place c.counted-2.ensures.len
     ∙ ap tuples_in kept ∙ probed access n c.self.inside.total entries c.self.invariant.1 rows key ts is here)
 
 pub returns-clause-len : goal.returns-clause-len
@@ -94,7 +96,8 @@ returns-clause-len g c =
     let range = c.group_in-group.ensures.within in
     let from : c.group_in-group.result.from < 4294967296 = omega (arith, few, long, range) in
     subst (λ (s : Index). c.counted-2.result.len ≡ length (members_at s c.counted-2.result)) c.self.view_is
-    (members_len (values_of entries) c.in-Some.index c.group_in-group.result.from c.group_in-group.result.len ts c.counted-2.result from c.index.ensures c.counted-2.ensures.place c.counted-2.ensures.len range)
+    (members_len (values_of entries) c.in-Some.index c.group_in-group.result.from c.group_in-group.result.len ts c.counted-2.result from c.index.ensures
+    c.counted-2.ensures.place c.counted-2.ensures.len range)
 
 pub returns-clause-stands : goal.returns-clause-stands
 returns-clause-stands g c =
@@ -111,7 +114,8 @@ returns-clause-stands g c =
     let range = c.group_in-group.ensures.within in
     let from : c.group_in-group.result.from < 4294967296 = omega (arith, few, long, range) in
     subst (λ (s : Index). stands_at s c.counted-2.result) c.self.view_is
-    (members_stand (values_of entries) c.in-Some.index c.group_in-group.result.from c.group_in-group.result.len ts c.counted-2.result from c.index.ensures c.counted-2.ensures.place c.counted-2.ensures.len range)
+    (members_stand (values_of entries) c.in-Some.index c.group_in-group.result.from c.group_in-group.result.len ts c.counted-2.result from c.index.ensures
+    c.counted-2.ensures.place c.counted-2.ensures.len range)
 
 pub returns-in-None-clause-members : goal.returns-in-None-clause-members
 returns-in-None-clause-members g c rows =
@@ -121,4 +125,5 @@ returns-in-None-clause-members g c rows =
     let absent = none_from (lookup (nat_eq c.hash_values.result) entries) c.in-None.ensures.found in
     let here = sym (ap (λ o. unwrap_or o []) absent) ∙ ap (bucket_at entries) c.hash_values.ensures in
     subst (λ (s : Index). IsIndexOf s rows → members_at s c.counted.result ≡ group_of rows s.access key) c.self.view_is
-    (λ is. ap (λ m. take m (drop (c.counted.result.place % 4294967296) (tuples_in (get_or (values_of entries) (c.counted.result.place / 4294967296) [])))) c.counted.ensures.len ∙ probed access (length c.self.inside.columns) c.self.inside.total entries c.self.invariant.1 rows key [] is here)
+    (λ is. ap (λ m. take m (drop (c.counted.result.place % 4294967296) (tuples_in (get_or (values_of entries) (c.counted.result.place / 4294967296) []))))
+    c.counted.ensures.len ∙ probed access (length c.self.inside.columns) c.self.inside.total entries c.self.invariant.1 rows key [] is here)

@@ -23,11 +23,13 @@ search-requires c =
     let old = c.self.inside.buckets.entries in
     let h = c.hash_values-hash.result in
     let row = c.args.row.now in
-    let hash = c.hash_values-hash.ensures ∙ ap hash_of (picked c.as_slice-2.result.now access.key c.as_slice.result.now row c.as_slice-2.ensures c.as_slice.ensures) in
+    let hash = c.hash_values-hash.ensures ∙ ap hash_of (picked c.as_slice-2.result.now access.key c.as_slice.result.now row c.as_slice-2.ensures
+    c.as_slice.ensures) in
     let ts = c.in-Some.bucket.now in
     let found : lookup (nat_eq h) old ≡ Some ts = sym c.in-Some.ensures.value in
     let b = found_bucket n w h old ts c.self.invariant.1.buckets found in
-    let same = picked c.as_slice-4.result.now (member_columns access) c.as_slice-3.result.now row (c.as_slice-4.ensures ∙ c.self.invariant.0) c.as_slice-3.ensures in
+    let same = picked c.as_slice-4.result.now (member_columns access) c.as_slice-3.result.now row (c.as_slice-4.ensures ∙ c.self.invariant.0)
+    c.as_slice-3.ensures in
     b.ordered
 
 pub count_down-requires-clause-ordered : goal.count_down-requires-clause-ordered
@@ -39,11 +41,13 @@ count_down-requires-clause-ordered c =
     let old = c.self.inside.buckets.entries in
     let h = c.hash_values-hash.result in
     let row = c.args.row.now in
-    let hash = c.hash_values-hash.ensures ∙ ap hash_of (picked c.as_slice-2.result.now access.key c.as_slice.result.now row c.as_slice-2.ensures c.as_slice.ensures) in
+    let hash = c.hash_values-hash.ensures ∙ ap hash_of (picked c.as_slice-2.result.now access.key c.as_slice.result.now row c.as_slice-2.ensures
+    c.as_slice.ensures) in
     let ts = c.in-Some.bucket.now in
     let found : lookup (nat_eq h) old ≡ Some ts = sym c.in-Some.ensures.value in
     let b = found_bucket n w h old ts c.self.invariant.1.buckets found in
-    let same = picked c.as_slice-4.result.now (member_columns access) c.as_slice-3.result.now row (c.as_slice-4.ensures ∙ c.self.invariant.0) c.as_slice-3.ensures in
+    let same = picked c.as_slice-4.result.now (member_columns access) c.as_slice-3.result.now row (c.as_slice-4.ensures ∙ c.self.invariant.0)
+    c.as_slice-3.ensures in
     b.ordered
 
 pub count_down-requires-clause-counted : goal.count_down-requires-clause-counted
@@ -55,11 +59,13 @@ count_down-requires-clause-counted c =
     let old = c.self.inside.buckets.entries in
     let h = c.hash_values-hash.result in
     let row = c.args.row.now in
-    let hash = c.hash_values-hash.ensures ∙ ap hash_of (picked c.as_slice-2.result.now access.key c.as_slice.result.now row c.as_slice-2.ensures c.as_slice.ensures) in
+    let hash = c.hash_values-hash.ensures ∙ ap hash_of (picked c.as_slice-2.result.now access.key c.as_slice.result.now row c.as_slice-2.ensures
+    c.as_slice.ensures) in
     let ts = c.in-Some.bucket.now in
     let found : lookup (nat_eq h) old ≡ Some ts = sym c.in-Some.ensures.value in
     let b = found_bucket n w h old ts c.self.invariant.1.buckets found in
-    let same = picked c.as_slice-4.result.now (member_columns access) c.as_slice-3.result.now row (c.as_slice-4.ensures ∙ c.self.invariant.0) c.as_slice-3.ensures in
+    let same = picked c.as_slice-4.result.now (member_columns access) c.as_slice-3.result.now row (c.as_slice-4.ensures ∙ c.self.invariant.0)
+    c.as_slice-3.ensures in
     b.counted
 
 pub overflow_sub-self : goal.overflow_sub-self
@@ -71,11 +77,13 @@ overflow_sub-self c =
     let old = c.self.inside.buckets.entries in
     let h = c.hash_values-hash.result in
     let row = c.args.row.now in
-    let hash = c.hash_values-hash.ensures ∙ ap hash_of (picked c.as_slice-2.result.now access.key c.as_slice.result.now row c.as_slice-2.ensures c.as_slice.ensures) in
+    let hash = c.hash_values-hash.ensures ∙ ap hash_of (picked c.as_slice-2.result.now access.key c.as_slice.result.now row c.as_slice-2.ensures
+    c.as_slice.ensures) in
     let ts = c.in-Some.bucket.now in
     let found : lookup (nat_eq h) old ≡ Some ts = sym c.in-Some.ensures.value in
     let b = found_bucket n w h old ts c.self.invariant.1.buckets found in
-    let same = picked c.as_slice-4.result.now (member_columns access) c.as_slice-3.result.now row (c.as_slice-4.ensures ∙ c.self.invariant.0) c.as_slice-3.ensures in
+    let same = picked c.as_slice-4.result.now (member_columns access) c.as_slice-3.result.now row (c.as_slice-4.ensures ∙ c.self.invariant.0)
+    c.as_slice-3.ensures in
     let at = c.in-Ok.at in
     let d = c.get.result.now in
     let there = c.in-Ok.ensures.0 in
@@ -94,11 +102,13 @@ overflow_sub-self-2 c =
     let old = c.self.inside.buckets.entries in
     let h = c.hash_values-hash.result in
     let row = c.args.row.now in
-    let hash = c.hash_values-hash.ensures ∙ ap hash_of (picked c.as_slice-2.result.now access.key c.as_slice.result.now row c.as_slice-2.ensures c.as_slice.ensures) in
+    let hash = c.hash_values-hash.ensures ∙ ap hash_of (picked c.as_slice-2.result.now access.key c.as_slice.result.now row c.as_slice-2.ensures
+    c.as_slice.ensures) in
     let ts = c.in-Some.bucket.now in
     let found : lookup (nat_eq h) old ≡ Some ts = sym c.in-Some.ensures.value in
     let b = found_bucket n w h old ts c.self.invariant.1.buckets found in
-    let same = picked c.as_slice-4.result.now (member_columns access) c.as_slice-3.result.now row (c.as_slice-4.ensures ∙ c.self.invariant.0) c.as_slice-3.ensures in
+    let same = picked c.as_slice-4.result.now (member_columns access) c.as_slice-3.result.now row (c.as_slice-4.ensures ∙ c.self.invariant.0)
+    c.as_slice-3.ensures in
     let at = c.in-Ok.at in
     let d = c.get.result.now in
     let there = c.in-Ok.ensures.0 in
@@ -117,11 +127,13 @@ invariant_of-self-then-max-gt1 c =
     let old = c.self.inside.buckets.entries in
     let h = c.hash_values-hash.result in
     let row = c.args.row.now in
-    let hash = c.hash_values-hash.ensures ∙ ap hash_of (picked c.as_slice-2.result.now access.key c.as_slice.result.now row c.as_slice-2.ensures c.as_slice.ensures) in
+    let hash = c.hash_values-hash.ensures ∙ ap hash_of (picked c.as_slice-2.result.now access.key c.as_slice.result.now row c.as_slice-2.ensures
+    c.as_slice.ensures) in
     let ts = c.in-Some.bucket.now in
     let found : lookup (nat_eq h) old ≡ Some ts = sym c.in-Some.ensures.value in
     let b = found_bucket n w h old ts c.self.invariant.1.buckets found in
-    let same = picked c.as_slice-4.result.now (member_columns access) c.as_slice-3.result.now row (c.as_slice-4.ensures ∙ c.self.invariant.0) c.as_slice-3.ensures in
+    let same = picked c.as_slice-4.result.now (member_columns access) c.as_slice-3.result.now row (c.as_slice-4.ensures ∙ c.self.invariant.0)
+    c.as_slice-3.ensures in
     let at = c.in-Ok.at in
     let d = c.get.result.now in
     let there = c.in-Ok.ensures.0 in
@@ -146,11 +158,13 @@ returns-then-max-gt1-clause-rest c front back is =
     let old = c.self.inside.buckets.entries in
     let h = c.hash_values-hash.result in
     let row = c.args.row.now in
-    let hash = c.hash_values-hash.ensures ∙ ap hash_of (picked c.as_slice-2.result.now access.key c.as_slice.result.now row c.as_slice-2.ensures c.as_slice.ensures) in
+    let hash = c.hash_values-hash.ensures ∙ ap hash_of (picked c.as_slice-2.result.now access.key c.as_slice.result.now row c.as_slice-2.ensures
+    c.as_slice.ensures) in
     let ts = c.in-Some.bucket.now in
     let found : lookup (nat_eq h) old ≡ Some ts = sym c.in-Some.ensures.value in
     let b = found_bucket n w h old ts c.self.invariant.1.buckets found in
-    let same = picked c.as_slice-4.result.now (member_columns access) c.as_slice-3.result.now row (c.as_slice-4.ensures ∙ c.self.invariant.0) c.as_slice-3.ensures in
+    let same = picked c.as_slice-4.result.now (member_columns access) c.as_slice-3.result.now row (c.as_slice-4.ensures ∙ c.self.invariant.0)
+    c.as_slice-3.ensures in
     let at = c.in-Ok.at in
     let d = c.get.result.now in
     let there = c.in-Ok.ensures.0 in
@@ -165,7 +179,8 @@ returns-then-max-gt1-clause-rest c front back is =
     let removed = removed_from access n (total - 1) (c.get_mut.follows.lender c.count_down.new.bucket).entries old row h (ap length c.self.invariant.0) hash
     c.count_down.new.bucket ts stored found written.0 written.4 (written.3 (ap is_some found)).0 m some in
     removed.index front back
-    (subst (λ t. IsIndexOf (record { access = access; total = t; buckets = values_of old }) (front ++ row ∷ back)) one (subst (λ (s : Index). IsIndexOf s (front ++ row ∷ back)) (sym c.self.view_is) is))
+    (subst (λ t. IsIndexOf (record { access = access; total = t; buckets = values_of old }) (front ++ row ∷ back)) one
+    (subst (λ (s : Index). IsIndexOf s (front ++ row ∷ back)) (sym c.self.view_is) is))
 
 pub invariant_of-self-2 : goal.invariant_of-self-2
 invariant_of-self-2 c =
@@ -176,11 +191,13 @@ invariant_of-self-2 c =
     let old = c.self.inside.buckets.entries in
     let h = c.hash_values-hash.result in
     let row = c.args.row.now in
-    let hash = c.hash_values-hash.ensures ∙ ap hash_of (picked c.as_slice-2.result.now access.key c.as_slice.result.now row c.as_slice-2.ensures c.as_slice.ensures) in
+    let hash = c.hash_values-hash.ensures ∙ ap hash_of (picked c.as_slice-2.result.now access.key c.as_slice.result.now row c.as_slice-2.ensures
+    c.as_slice.ensures) in
     let ts = c.in-Some.bucket.now in
     let found : lookup (nat_eq h) old ≡ Some ts = sym c.in-Some.ensures.value in
     let b = found_bucket n w h old ts c.self.invariant.1.buckets found in
-    let same = picked c.as_slice-4.result.now (member_columns access) c.as_slice-3.result.now row (c.as_slice-4.ensures ∙ c.self.invariant.0) c.as_slice-3.ensures in
+    let same = picked c.as_slice-4.result.now (member_columns access) c.as_slice-3.result.now row (c.as_slice-4.ensures ∙ c.self.invariant.0)
+    c.as_slice-3.ensures in
     let at = c.in-Ok.at in
     let d = c.get.result.now in
     let there = c.in-Ok.ensures.0 in
@@ -190,11 +207,13 @@ invariant_of-self-2 c =
     let stored = subst (IsStored n w old) one c.self.invariant.1 in
     let count = all_at (λ t. 1 ≤ t.count) ts at d there b.counted in
     let m = last_one ts at d (tuple_of access row) b.ordered b.counted there (c.in-Ok.ensures.1 d ∙ same)
-    (omega (arith, count, c.if-max-gt1.false, c.max.ensures, ap (λ t. t.count) c.get.ensures)) (omega (arith, c.if-max-gt1.false, c.max.ensures, c.len.ensures)) in
+    (omega (arith, count, c.if-max-gt1.false, c.max.ensures, ap (λ t. t.count) c.get.ensures))
+    (omega (arith, c.if-max-gt1.false, c.max.ensures, c.len.ensures)) in
     let kept = (c.get_mut.follows.holds ts).0 ∙ set_same h old ts found in
     let gone = c.swap_remove.ensures in
     let removed = removed_whole access n (total - 1) c.swap_remove.new.self.entries old row h (ap length c.self.invariant.0) hash ts stored found
-    (gone.entries ∙ ap (swap_remove_entry (nat_eq h)) kept) gone.unique (λ q. gone.updates.0 q ∙ ap (λ es. cond (nat_eq h q) None (lookup (nat_eq q) es)) kept) m in
+    (gone.entries ∙ ap (swap_remove_entry (nat_eq h)) kept) gone.unique (λ q. gone.updates.0 q ∙ ap (λ es. cond (nat_eq h q) None (lookup (nat_eq q) es)) kept)
+    m in
     (c.self.invariant.0, removed.stored)
 
 pub returns-clause-rest : goal.returns-clause-rest
@@ -206,11 +225,13 @@ returns-clause-rest c front back is =
     let old = c.self.inside.buckets.entries in
     let h = c.hash_values-hash.result in
     let row = c.args.row.now in
-    let hash = c.hash_values-hash.ensures ∙ ap hash_of (picked c.as_slice-2.result.now access.key c.as_slice.result.now row c.as_slice-2.ensures c.as_slice.ensures) in
+    let hash = c.hash_values-hash.ensures ∙ ap hash_of (picked c.as_slice-2.result.now access.key c.as_slice.result.now row c.as_slice-2.ensures
+    c.as_slice.ensures) in
     let ts = c.in-Some.bucket.now in
     let found : lookup (nat_eq h) old ≡ Some ts = sym c.in-Some.ensures.value in
     let b = found_bucket n w h old ts c.self.invariant.1.buckets found in
-    let same = picked c.as_slice-4.result.now (member_columns access) c.as_slice-3.result.now row (c.as_slice-4.ensures ∙ c.self.invariant.0) c.as_slice-3.ensures in
+    let same = picked c.as_slice-4.result.now (member_columns access) c.as_slice-3.result.now row (c.as_slice-4.ensures ∙ c.self.invariant.0)
+    c.as_slice-3.ensures in
     let at = c.in-Ok.at in
     let d = c.get.result.now in
     let there = c.in-Ok.ensures.0 in
@@ -220,13 +241,16 @@ returns-clause-rest c front back is =
     let stored = subst (IsStored n w old) one c.self.invariant.1 in
     let count = all_at (λ t. 1 ≤ t.count) ts at d there b.counted in
     let m = last_one ts at d (tuple_of access row) b.ordered b.counted there (c.in-Ok.ensures.1 d ∙ same)
-    (omega (arith, count, c.if-max-gt1.false, c.max.ensures, ap (λ t. t.count) c.get.ensures)) (omega (arith, c.if-max-gt1.false, c.max.ensures, c.len.ensures)) in
+    (omega (arith, count, c.if-max-gt1.false, c.max.ensures, ap (λ t. t.count) c.get.ensures))
+    (omega (arith, c.if-max-gt1.false, c.max.ensures, c.len.ensures)) in
     let kept = (c.get_mut.follows.holds ts).0 ∙ set_same h old ts found in
     let gone = c.swap_remove.ensures in
     let removed = removed_whole access n (total - 1) c.swap_remove.new.self.entries old row h (ap length c.self.invariant.0) hash ts stored found
-    (gone.entries ∙ ap (swap_remove_entry (nat_eq h)) kept) gone.unique (λ q. gone.updates.0 q ∙ ap (λ es. cond (nat_eq h q) None (lookup (nat_eq q) es)) kept) m in
+    (gone.entries ∙ ap (swap_remove_entry (nat_eq h)) kept) gone.unique (λ q. gone.updates.0 q ∙ ap (λ es. cond (nat_eq h q) None (lookup (nat_eq q) es)) kept)
+    m in
     removed.index front back
-    (subst (λ t. IsIndexOf (record { access = access; total = t; buckets = values_of old }) (front ++ row ∷ back)) one (subst (λ (s : Index). IsIndexOf s (front ++ row ∷ back)) (sym c.self.view_is) is))
+    (subst (λ t. IsIndexOf (record { access = access; total = t; buckets = values_of old }) (front ++ row ∷ back)) one
+    (subst (λ (s : Index). IsIndexOf s (front ++ row ∷ back)) (sym c.self.view_is) is))
 
 -- a row that isn't there leaves the index, and isn't among the rows
 pub returns-in-None-clause-rest : goal.returns-in-None-clause-rest
@@ -238,9 +262,11 @@ returns-in-None-clause-rest c front back is =
     let old = c.self.inside.buckets.entries in
     let h = c.hash_values-hash.result in
     let row = c.args.row.now in
-    let hash = c.hash_values-hash.ensures ∙ ap hash_of (picked c.as_slice-2.result.now access.key c.as_slice.result.now row c.as_slice-2.ensures c.as_slice.ensures) in
+    let hash = c.hash_values-hash.ensures ∙ ap hash_of (picked c.as_slice-2.result.now access.key c.as_slice.result.now row c.as_slice-2.ensures
+    c.as_slice.ensures) in
     let here = ap (λ o. unwrap_or o []) c.in-None.ensures.value ∙ ap (bucket_at old) hash in
-    absurd (counted_there access n total old front back row c.self.invariant.1 (subst (λ (s : Index). IsIndexOf s (front ++ row ∷ back)) (sym c.self.view_is) is)
+    absurd (counted_there access n total old front back row c.self.invariant.1
+    (subst (λ (s : Index). IsIndexOf s (front ++ row ∷ back)) (sym c.self.view_is) is)
     (absent_count access old row [] here refl))
 
 pub invariant_of-self-in-Err : goal.invariant_of-self-in-Err
@@ -252,11 +278,13 @@ invariant_of-self-in-Err c =
     let old = c.self.inside.buckets.entries in
     let h = c.hash_values-hash.result in
     let row = c.args.row.now in
-    let hash = c.hash_values-hash.ensures ∙ ap hash_of (picked c.as_slice-2.result.now access.key c.as_slice.result.now row c.as_slice-2.ensures c.as_slice.ensures) in
+    let hash = c.hash_values-hash.ensures ∙ ap hash_of (picked c.as_slice-2.result.now access.key c.as_slice.result.now row c.as_slice-2.ensures
+    c.as_slice.ensures) in
     let ts = c.in-Some.bucket.now in
     let found : lookup (nat_eq h) old ≡ Some ts = sym c.in-Some.ensures.value in
     let b = found_bucket n w h old ts c.self.invariant.1.buckets found in
-    let same = picked c.as_slice-4.result.now (member_columns access) c.as_slice-3.result.now row (c.as_slice-4.ensures ∙ c.self.invariant.0) c.as_slice-3.ensures in
+    let same = picked c.as_slice-4.result.now (member_columns access) c.as_slice-3.result.now row (c.as_slice-4.ensures ∙ c.self.invariant.0)
+    c.as_slice-3.ensures in
     let kept = (c.get_mut.follows.holds ts).0 ∙ set_same h old ts found in
     (c.self.invariant.0, subst (λ es. IsStored n w es total) (sym kept) c.self.invariant.1)
 
@@ -269,12 +297,15 @@ returns-in-Err-clause-rest c front back is =
     let old = c.self.inside.buckets.entries in
     let h = c.hash_values-hash.result in
     let row = c.args.row.now in
-    let hash = c.hash_values-hash.ensures ∙ ap hash_of (picked c.as_slice-2.result.now access.key c.as_slice.result.now row c.as_slice-2.ensures c.as_slice.ensures) in
+    let hash = c.hash_values-hash.ensures ∙ ap hash_of (picked c.as_slice-2.result.now access.key c.as_slice.result.now row c.as_slice-2.ensures
+    c.as_slice.ensures) in
     let ts = c.in-Some.bucket.now in
     let found : lookup (nat_eq h) old ≡ Some ts = sym c.in-Some.ensures.value in
     let b = found_bucket n w h old ts c.self.invariant.1.buckets found in
-    let same = picked c.as_slice-4.result.now (member_columns access) c.as_slice-3.result.now row (c.as_slice-4.ensures ∙ c.self.invariant.0) c.as_slice-3.ensures in
+    let same = picked c.as_slice-4.result.now (member_columns access) c.as_slice-3.result.now row (c.as_slice-4.ensures ∙ c.self.invariant.0)
+    c.as_slice-3.ensures in
     let here = ap (λ o. unwrap_or o []) (sym found) ∙ ap (bucket_at old) hash in
     let gap = subst (λ x. IsGap ts x c.in-Err.field-0) same c.in-Err.ensures in
-    absurd (counted_there access n total old front back row c.self.invariant.1 (subst (λ (s : Index). IsIndexOf s (front ++ row ∷ back)) (sym c.self.view_is) is)
+    absurd (counted_there access n total old front back row c.self.invariant.1
+    (subst (λ (s : Index). IsIndexOf s (front ++ row ∷ back)) (sym c.self.view_is) is)
     (absent_count access old row ts here (gap_uncounted (tuple_of access row) ts c.in-Err.field-0 gap)))

@@ -25,7 +25,8 @@ returns-in-None-clause-exactly c =
     let access = c.self.inside.access in
     let row = c.args.row.now in
     let entries = c.self.inside.buckets.entries in
-    let hash = c.hash_values.ensures ∙ ap hash_of (picked c.as_slice-2.result.now access.key c.as_slice.result.now row c.as_slice-2.ensures c.as_slice.ensures) in
+    let hash = c.hash_values.ensures ∙ ap hash_of (picked c.as_slice-2.result.now access.key c.as_slice.result.now row c.as_slice-2.ensures c.as_slice.ensures)
+    in
     let none = ap (λ h. lookup (nat_eq h) entries) (sym hash) ∙ sym c.in-None.ensures.value in
     let t = told access (length c.self.inside.columns) c.self.inside.total entries c.self.invariant.1 row c.args.self.now c.self.view_is (nat_lt 0 access.bound)
     (nothing_there access (length c.self.inside.columns) c.self.inside.total entries c.self.invariant.1 row none) in
@@ -36,7 +37,8 @@ returns-in-None-clause-holds c =
     let access = c.self.inside.access in
     let row = c.args.row.now in
     let entries = c.self.inside.buckets.entries in
-    let hash = c.hash_values.ensures ∙ ap hash_of (picked c.as_slice-2.result.now access.key c.as_slice.result.now row c.as_slice-2.ensures c.as_slice.ensures) in
+    let hash = c.hash_values.ensures ∙ ap hash_of (picked c.as_slice-2.result.now access.key c.as_slice.result.now row c.as_slice-2.ensures c.as_slice.ensures)
+    in
     let none = ap (λ h. lookup (nat_eq h) entries) (sym hash) ∙ sym c.in-None.ensures.value in
     let t = told access (length c.self.inside.columns) c.self.inside.total entries c.self.invariant.1 row c.args.self.now c.self.view_is (nat_lt 0 access.bound)
     (nothing_there access (length c.self.inside.columns) c.self.inside.total entries c.self.invariant.1 row none) in
@@ -52,7 +54,8 @@ returns-then-group-self-clause-exactly c =
     let hash = c.hash_values.ensures ∙ ap hash_of key_is in
     let bucket_is : c.in-Some.bucket.now ≡ bucket_at entries (hash_of (key_of access row)) =
     ap (λ o. unwrap_or o []) c.in-Some.ensures.value ∙ ap (bucket_at entries) hash in
-    let len = group_found (bucket_at entries (hash_of (key_of access row))) c.in-Some.bucket.now (length access.key) c.len.result (key_of access row) _ c.group_in-group.result.from
+    let len = group_found (bucket_at entries (hash_of (key_of access row))) c.in-Some.bucket.now (length access.key) c.len.result (key_of access row) _
+    c.group_in-group.result.from
     c.group_in-group.result.len bucket_is c.len.ensures key_is c.group_in-group.ensures.within c.group_in-group.ensures.members in
     let would = would_by_group access n c.self.inside.total entries c.self.invariant.1 row (omega (arith, len, c.if-group-self.true)) in
     let t = told access n c.self.inside.total entries c.self.invariant.1 row c.args.self.now c.self.view_is true (λ _. would, λ _. refl) in
@@ -68,7 +71,8 @@ returns-then-group-self-clause-holds c =
     let hash = c.hash_values.ensures ∙ ap hash_of key_is in
     let bucket_is : c.in-Some.bucket.now ≡ bucket_at entries (hash_of (key_of access row)) =
     ap (λ o. unwrap_or o []) c.in-Some.ensures.value ∙ ap (bucket_at entries) hash in
-    let len = group_found (bucket_at entries (hash_of (key_of access row))) c.in-Some.bucket.now (length access.key) c.len.result (key_of access row) _ c.group_in-group.result.from
+    let len = group_found (bucket_at entries (hash_of (key_of access row))) c.in-Some.bucket.now (length access.key) c.len.result (key_of access row) _
+    c.group_in-group.result.from
     c.group_in-group.result.len bucket_is c.len.ensures key_is c.group_in-group.ensures.within c.group_in-group.ensures.members in
     let would = would_by_group access n c.self.inside.total entries c.self.invariant.1 row (omega (arith, len, c.if-group-self.true)) in
     let t = told access n c.self.inside.total entries c.self.invariant.1 row c.args.self.now c.self.view_is true (λ _. would, λ _. refl) in
@@ -84,9 +88,11 @@ returns-else-group-self-clause-exactly c =
     let hash = c.hash_values.ensures ∙ ap hash_of key_is in
     let bucket_is : c.in-Some.bucket.now ≡ bucket_at entries (hash_of (key_of access row)) =
     ap (λ o. unwrap_or o []) c.in-Some.ensures.value ∙ ap (bucket_at entries) hash in
-    let len = group_found (bucket_at entries (hash_of (key_of access row))) c.in-Some.bucket.now (length access.key) c.len.result (key_of access row) _ c.group_in-group.result.from
+    let len = group_found (bucket_at entries (hash_of (key_of access row))) c.in-Some.bucket.now (length access.key) c.len.result (key_of access row) _
+    c.group_in-group.result.from
     c.group_in-group.result.len bucket_is c.len.ensures key_is c.group_in-group.ensures.within c.group_in-group.ensures.members in
-    let tuple_is = picked c.as_slice-4.result.now (member_columns access) c.as_slice-3.result.now row (c.as_slice-4.ensures ∙ c.self.invariant.0) c.as_slice-3.ensures in
+    let tuple_is = picked c.as_slice-4.result.now (member_columns access) c.as_slice-3.result.now row (c.as_slice-4.ensures ∙ c.self.invariant.0)
+    c.as_slice-3.ensures in
     let said = subst (λ ts. Searched access n c.self.inside.total entries c.self.invariant.1 row c.search.result ts (tuple_of access row)) bucket_is
     (subst (λ x. Searched access n c.self.inside.total entries c.self.invariant.1 row c.search.result c.in-Some.bucket.now x) tuple_is c.search.ensures) in
     let exactly = searched access n c.self.inside.total entries c.self.invariant.1 row c.search.result said (omega (arith, len, c.if-group-self.false)) in
@@ -104,9 +110,11 @@ returns-else-group-self-clause-holds c =
     let hash = c.hash_values.ensures ∙ ap hash_of key_is in
     let bucket_is : c.in-Some.bucket.now ≡ bucket_at entries (hash_of (key_of access row)) =
     ap (λ o. unwrap_or o []) c.in-Some.ensures.value ∙ ap (bucket_at entries) hash in
-    let len = group_found (bucket_at entries (hash_of (key_of access row))) c.in-Some.bucket.now (length access.key) c.len.result (key_of access row) _ c.group_in-group.result.from
+    let len = group_found (bucket_at entries (hash_of (key_of access row))) c.in-Some.bucket.now (length access.key) c.len.result (key_of access row) _
+    c.group_in-group.result.from
     c.group_in-group.result.len bucket_is c.len.ensures key_is c.group_in-group.ensures.within c.group_in-group.ensures.members in
-    let tuple_is = picked c.as_slice-4.result.now (member_columns access) c.as_slice-3.result.now row (c.as_slice-4.ensures ∙ c.self.invariant.0) c.as_slice-3.ensures in
+    let tuple_is = picked c.as_slice-4.result.now (member_columns access) c.as_slice-3.result.now row (c.as_slice-4.ensures ∙ c.self.invariant.0)
+    c.as_slice-3.ensures in
     let said = subst (λ ts. Searched access n c.self.inside.total entries c.self.invariant.1 row c.search.result ts (tuple_of access row)) bucket_is
     (subst (λ x. Searched access n c.self.inside.total entries c.self.invariant.1 row c.search.result c.in-Some.bucket.now x) tuple_is c.search.ensures) in
     let exactly = searched access n c.self.inside.total entries c.self.invariant.1 row c.search.result said (omega (arith, len, c.if-group-self.false)) in

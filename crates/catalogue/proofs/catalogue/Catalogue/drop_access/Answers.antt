@@ -11,7 +11,8 @@ returns-in-Some-clause-refused c = ap (λ b. refused_if (not b) (UnknownAccess c
 
 pub returns-in_ok-copy-in-None-clause-refused : goal.returns-in_ok-copy-in-None-clause-refused
 returns-in_ok-copy-in-None-clause-refused c =
-    ap (λ b. refused_if (not b) (UnknownAccess c.args.name.now)) (sym c.in-None.ensures.named) ∙ ap (λ n. Some (UnknownAccess n)) (sym c.in_ok-copy-in-None.ensures)
+    ap (λ b. refused_if (not b) (UnknownAccess c.args.name.now)) (sym c.in-None.ensures.named)
+    ∙ ap (λ n. Some (UnknownAccess n)) (sym c.in_ok-copy-in-None.ensures)
 
 pub returns-in_ok-copy-in-None-clause-live : goal.returns-in_ok-copy-in-None-clause-live
 returns-in_ok-copy-in-None-clause-live c = λ live. absurd (true≢false (sym live ∙ sym c.in-None.ensures.named))

@@ -8,10 +8,12 @@ use Rattle.catalogue.proofs.catalogue.Catalogue.place_named.Goals as goal
 pub returns-clause-only : goal.returns-clause-only
 returns-clause-only c =
     let before : Schema = record { tables = c.self.inside.tables.items; accesses = c.self.inside.accesses; created = c.self.inside.created } in
-    let named : id_of_access_named c.self.inside.accesses c.args.name.now ≡ Some c.in_ok-id.id.0 = ap (λ s. id_of_access_named s.accesses c.args.name.now) c.self.view_is ∙ sym c.in_ok-id.ensures.id in
+    let named : id_of_access_named c.self.inside.accesses c.args.name.now
+    ≡ Some c.in_ok-id.id.0 = ap (λ s. id_of_access_named s.accesses c.args.name.now) c.self.view_is ∙ sym c.in_ok-id.ensures.id in
     let lent = c.as_slice-accesses.result.now in
     let found = access_with_id lent c.in_ok-id.id in
-    let is = dropped_here before c.args.name.now c.in_ok-id.id c.place_of_id.result found lent c.self.inside.accesses c.self.invariant.sound named c.as_slice-accesses.ensures refl
+    let is = dropped_here before c.args.name.now c.in_ok-id.id c.place_of_id.result found lent c.self.inside.accesses c.self.invariant.sound named
+    c.as_slice-accesses.ensures refl
     c.place_of_id.ensures.within c.place_of_id.ensures.found c.place_of_id.ensures.has_id
     (sym (c.place_of_id.ensures.found found) ∙ ap (λ xs. get_or xs c.place_of_id.result found) c.as_slice-accesses.ensures) in
     subst (λ (s : Schema). filter (λ a. not (access_has_name c.args.name.now a)) s.accesses ≡ remove s.accesses c.place_of_id.result) c.self.view_is

@@ -19,7 +19,8 @@ returns-in-Err-clause-err c = by (has_failed c.self.inside.reader) refl
     by false e =
         let plain = c.self.invariant e in
         left_failed c.read_byte_record.new.self
-        (c.in-Err.ensures.fails ∙ failure_stops c.self.inside.reader c.read_byte_record.new.self (error_kind c.in-Err.field-0) plain.flexible (c.in-Err.ensures.why plain.ready))
+        (c.in-Err.ensures.fails ∙ failure_stops c.self.inside.reader c.read_byte_record.new.self (error_kind c.in-Err.field-0) plain.flexible
+        (c.in-Err.ensures.why plain.ready))
 
 -- src/records.rt:44:5
 pub returns-clause-ok : goal.returns-clause-ok

@@ -10,7 +10,8 @@ pub invariant_of-self : goal.invariant_of-self
 invariant_of-self c =
     let made = c.make_table-made.ensures in
     record {
-      kept = after_create_table c.make_table-made.result c.args.self.now.catalogue c.make_table-made.new.catalogue c.args.self.now.rows c.into_vec-rows.result.items c.make_table-made.new.rows.items
+      kept = after_create_table c.make_table-made.result c.args.self.now.catalogue c.make_table-made.new.catalogue c.args.self.now.rows
+          c.into_vec-rows.result.items c.make_table-made.new.rows.items
           c.from_vec.result c.args.self.now.indexes c.args.name c.args.columns c.args.self.now.kept
           (c.into_vec-rows.ensures ∙ c.replace.ensures.value) c.from_vec.ensures made.ok made.rows made.err made.rows_stay;
     }
@@ -22,12 +23,14 @@ returns-clause-refused c =
 
 pub returns-clause-id : goal.returns-clause-id
 returns-clause-id c =
-    subst (λ n. IfOk c.make_table-made.result (λ id. id.0 ≡ n)) (sym (length-joined c.args.self.now.catalogue.tables c.args.self.now.rows c.args.self.now.kept.tables)) c.make_table-made.ensures.id
+    subst (λ n. IfOk c.make_table-made.result (λ id. id.0 ≡ n))
+    (sym (length-joined c.args.self.now.catalogue.tables c.args.self.now.rows c.args.self.now.kept.tables)) c.make_table-made.ensures.id
 
 pub returns-clause-ok : goal.returns-clause-ok
 returns-clause-ok c =
     let made = c.make_table-made.ensures in
     on_ok_both c.make_table-made.result made.ok made.rows (λ e f.
     ap (λ s. database_of s c.from_vec.result) e
-    ∙ ap (database_of (schema_with_table c.args.self.now.catalogue c.args.name c.args.columns)) (c.from_vec.ensures ∙ f ∙ ap (λ rs. rs ++ [] ∷ []) (c.into_vec-rows.ensures ∙ c.replace.ensures.value))
+    ∙ ap (database_of (schema_with_table c.args.self.now.catalogue c.args.name c.args.columns))
+    (c.from_vec.ensures ∙ f ∙ ap (λ rs. rs ++ [] ∷ []) (c.into_vec-rows.ensures ∙ c.replace.ensures.value))
     ∙ stored_with_table c.args.self.now.catalogue c.args.self.now.rows c.args.name c.args.columns c.args.self.now.kept.tables)

@@ -10,7 +10,8 @@ use Rattle.update_guard.proofs.guarded.Guarded.delete.Goals as goal
 pub delete_from-gone-requires-clause-kept : goal.delete_from-gone-requires-clause-kept
 delete_from-gone-requires-clause-kept g c =
     subst (λ rs. IsGuarded c.args.self.now.catalogue rs c.into_vec-indexes.result.items) (sym (c.into_vec-stores.ensures ∙ c.replace.ensures.value))
-    (subst (λ is. IsGuarded c.args.self.now.catalogue c.args.self.now.rows is) (sym (c.into_vec-indexes.ensures ∙ c.replace-2.ensures.value)) c.args.self.now.kept)
+    (subst (λ is. IsGuarded c.args.self.now.catalogue c.args.self.now.rows is) (sym (c.into_vec-indexes.ensures ∙ c.replace-2.ensures.value))
+    c.args.self.now.kept)
 
 pub invariant_of-self : goal.invariant_of-self
 invariant_of-self g c = record {
@@ -49,7 +50,8 @@ returns-clause-count g c =
     let db = database_of s.catalogue s.rows in
     let table = c.table_of-table.result in
     let same : get_or c.into_vec-stores.result.items table.0 [] ≡ rows_at db (block_table c.args.filter.now) =
-    ap (λ ss. get_or ss table.0 []) (c.into_vec-stores.ensures ∙ c.replace.ensures.value) ∙ sym (rows_at_stored s.catalogue s.rows table s.kept.tables) ∙ ap (rows_at db) c.table_of-table.ensures in
+    ap (λ ss. get_or ss table.0 []) (c.into_vec-stores.ensures ∙ c.replace.ensures.value) ∙ sym (rows_at_stored s.catalogue s.rows table s.kept.tables)
+    ∙ ap (rows_at db) c.table_of-table.ensures in
     subst (λ (rs : List Row). c.delete_from-gone.result + length (kept_rows c.args.filter.now rs) ≡ length rs) same c.delete_from-gone.ensures.gone
 
 pub returns-clause-cost : goal.returns-clause-cost
@@ -58,5 +60,6 @@ returns-clause-cost g c =
     let db = database_of s.catalogue s.rows in
     let table = c.table_of-table.result in
     let same : get_or c.into_vec-stores.result.items table.0 [] ≡ rows_at db (block_table c.args.filter.now) =
-    ap (λ ss. get_or ss table.0 []) (c.into_vec-stores.ensures ∙ c.replace.ensures.value) ∙ sym (rows_at_stored s.catalogue s.rows table s.kept.tables) ∙ ap (rows_at db) c.table_of-table.ensures in
+    ap (λ ss. get_or ss table.0 []) (c.into_vec-stores.ensures ∙ c.replace.ensures.value) ∙ sym (rows_at_stored s.catalogue s.rows table s.kept.tables)
+    ∙ ap (rows_at db) c.table_of-table.ensures in
     c.delete_from-gone.ensures.cost ∙ ap (λ (rs : List Row). c.args.steps.now + length rs) same

@@ -7,7 +7,8 @@ pub invariant_of-self : goal.invariant_of-self
 invariant_of-self c =
     let out = c.drop_index-outcome.ensures in
     record {
-      kept = after_drop_access c.drop_index-outcome.result c.args.self.now.catalogue c.drop_index-outcome.new.catalogue c.args.self.now.rows c.args.self.now.indexes
+      kept = after_drop_access c.drop_index-outcome.result c.args.self.now.catalogue c.drop_index-outcome.new.catalogue c.args.self.now.rows
+          c.args.self.now.indexes
           c.into_vec-indexes.result.items c.drop_index-outcome.new.indexes.items c.from_vec.result c.args.name.now c.args.self.now.kept
           (c.into_vec-indexes.ensures ∙ c.replace.ensures.value) c.from_vec.ensures out.ok out.index out.err out.indexes_stay;
     }

@@ -24,7 +24,8 @@ value-requires-clause-column c =
     let index = c.index-as_slice-place.result in
     let f = index_found s.catalogue s.rows s.indexes c.access.result c.place-place.result index p.sound s.kept.indexed p.within p.found p.has_id
     (c.index-as_slice-place.is ∙ ap (λ xs. get_or xs c.place-place.result index) c.as_slice.ensures) in
-    subst (λ (a : Access). IsTrue (has_column (member_columns a) c.args.column)) (sym (f.access_is ∙ ap (access_in s.catalogue.accesses) c.access.ensures)) c.requires.column
+    subst (λ (a : Access). IsTrue (has_column (member_columns a) c.args.column)) (sym (f.access_is ∙ ap (access_in s.catalogue.accesses) c.access.ensures))
+    c.requires.column
 
 pub returns : goal.returns
 returns c =
@@ -34,6 +35,8 @@ returns c =
     let f = index_found s.catalogue s.rows s.indexes c.access.result c.place-place.result index p.sound s.kept.indexed p.within p.found p.has_id
     (c.index-as_slice-place.is ∙ ap (λ xs. get_or xs c.place-place.result index) c.as_slice.ensures) in
     c.value.ensures
-    ∙ ap (λ (a : Access). value_in (member_columns a) (get_or (members_at index c.args.hits.now) c.args.i []) c.args.column) (f.access_is ∙ ap (access_in s.catalogue.accesses) c.access.ensures)
-    ∙ ap (λ (i : Index). value_in (member_columns (access_in s.catalogue.accesses c.args.hits.now.access)) (get_or (members_at i c.args.hits.now) c.args.i []) c.args.column)
+    ∙ ap (λ (a : Access). value_in (member_columns a) (get_or (members_at index c.args.hits.now) c.args.i []) c.args.column)
+    (f.access_is ∙ ap (access_in s.catalogue.accesses) c.access.ensures)
+    ∙ ap (λ (i : Index). value_in (member_columns (access_in s.catalogue.accesses c.args.hits.now.access)) (get_or (members_at i c.args.hits.now) c.args.i [])
+    c.args.column)
     (sym (ap (index_with_id s.indexes) (sym c.access.ensures) ∙ f.found))
