@@ -57,7 +57,8 @@ impl Rule {
         Ok(tuples)
     }
 
-    fn greatest(&self, alloc: Global, rows: &[Fact]) -> Result<usize, NoMemory> {
+    /// The number of tuples in its greatest group over some rows, which is the least limit that holds there.
+    pub fn greatest(&self, alloc: Global, rows: &[Fact]) -> Result<usize, NoMemory> {
         let mut most = 0;
         for row in rows {
             most = self.group(alloc, rows, row)?.len().max(most);

@@ -2,7 +2,7 @@
 ghost use Rattle.std.specs.Prelude.{◌≤◌};
 
 use beas_core::{AccessSpec, List, Name, NoMemory, Text};
-use drawn_scenes::{Draws, Fact, Rule, TABLES, Twin, column_name, table_name};
+use drawn_scenes::{Draws, Rule, TABLES, Twin, column_name, table_name};
 use std::alloc::Global;
 
 /// So many columns has each table.
@@ -30,15 +30,6 @@ fn draw_rule(alloc: Global, draws: &mut Draws, number: u32) -> Result<Rule, NoMe
         fetched: draw_columns(alloc, draws, 2)?,
         bound: 0,
     })
-}
-
-/// The number of tuples in a constraint's greatest group.
-fn greatest(alloc: Global, rule: &Rule, rows: &[Fact]) -> Result<usize, NoMemory> {
-    let mut most = 0;
-    for row in rows {
-        most = rule.group(alloc, rows, row)?.len().max(most);
-    }
-    Ok(most)
 }
 
 fn names_of(alloc: Global, columns: &[u8]) -> Result<List<Name>, NoMemory> {
@@ -80,7 +71,7 @@ pub fn draw_constraints(
     for place in 0..count {
         let number = first.saturating_add(u32::from(place));
         let rule = draw_rule(alloc, &mut twin.draws, number)?;
-        let most = greatest(alloc, &rule, &twin.plain.rows)?;
+        let most = rule.greatest(alloc, &twin.plain.rows)?;
         let limit = most.saturating_add(usize::from(twin.draws.below(3)));
         if let Some(spec) = spec_of(alloc, &rule, limit)? {
             specs.push(spec)?;
