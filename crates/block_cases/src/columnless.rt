@@ -1,0 +1,176 @@
+// Drawn queries whose outputs lose their columns.
+use crate::outcomes::{Outcome, outcome_of};
+use beas_core::{Fail, Limits, List, NoMemory, Query, QueryNode, Refusal, Row, Steps, Text};
+use binder::bind;
+use drawn_scenes::{Twin, creations, draw_query, draw_scene, reports, statement_of, tables_of};
+use session::Session;
+use sql_tree::Statement;
+use std::alloc::Global;
+use std::sync::ledger::Ledger;
+use update_guard::Guarded;
+
+/// So many queries are drawn for one session.
+const QUERIES: u32 = 10;
+
+/// A query with a greater number isn't executed: the reference programs take long over it.
+const BUDGET: u128 = 1000;
+
+/// How many queries came out with a row, without one, and not at all; and how many otherwise than by the reference
+/// programs.
+#[derive(Clone, Copy)]
+struct Tally {
+    with_row: u32,
+    without: u32,
+    uncovered: u32,
+    above: u32,
+    misshapen: u32,
+    differing: u32,
+}
+
+fn more(count: u32, is_more: bool) -> u32 {
+    count.saturating_add(u32::from(is_more))
+}
+
+impl Tally {
+    fn with(self, outcome: Outcome) -> Tally {
+        let rows = match outcome {
+            Outcome::Answered { rows, .. } => Some(rows),
+            _ => None,
+        };
+        let is_uncovered = matches!(outcome, Outcome::Uncovered);
+        let is_above = matches!(outcome, Outcome::Above);
+        let is_misshapen = matches!(outcome, Outcome::Misshapen);
+        let is_answered = rows == Some(0) || rows == Some(1);
+        let is_wanted = is_answered || is_uncovered || is_above || is_misshapen;
+        Tally {
+            with_row: more(self.with_row, rows == Some(1)),
+            without: more(self.without, rows == Some(0)),
+            uncovered: more(self.uncovered, is_uncovered),
+            above: more(self.above, is_above),
+            misshapen: more(self.misshapen, is_misshapen),
+            differing: more(self.differing, !is_wanted),
+        }
+    }
+
+    fn said(self, alloc: Global) -> Result<String, NoMemory> {
+        let Tally {
+            with_row,
+            without,
+            uncovered,
+            above,
+            misshapen,
+            differing,
+        } = self;
+        Ok(format!(in alloc;
+            "queries without columns: {with_row} with a row, {without} without one, {uncovered} not covered, {above} above {BUDGET} reads, {misshapen} of a wrong shape, {differing} differences"
+        )?)
+    }
+}
+
+/// Takes the columns out of the outputs of all blocks.
+fn drop_columns(alloc: Global, query: &mut Query) {
+    match &mut query.node {
+        QueryNode::Block(block) => block.output = List::new(alloc),
+        QueryNode::Union(left, right) | QueryNode::Except(left, right) => {
+            drop_columns(alloc, left);
+            drop_columns(alloc, right);
+        }
+    }
+}
+
+/// The query that a text spells, over the tables of a store.
+fn bound_query(alloc: Global, guarded: &Guarded, spelled: &str) -> Result<Query, Fail> {
+    match statement_of(alloc, spelled)? {
+        Statement::Select { tree } => {
+            bind(alloc, &guarded.catalogue, &Limits::standard(), &tree)
+        }
+        _ => Err(Fail::Refused(Refusal::Syntax)),
+    }
+}
+
+/// What comes of the query that a text spells, without columns.
+fn try_query<L: Ledger>(
+    alloc: Global,
+    guarded: &Guarded,
+    tables: &[List<Row>],
+    spelled: &str,
+    steps: &mut Steps<L>,
+) -> Result<Outcome, NoMemory> {
+    match bound_query(alloc, guarded, spelled) {
+        Ok(mut query) => {
+            drop_columns(alloc, &mut query);
+            outcome_of(alloc, guarded, tables, query, BUDGET, steps)
+        }
+        Err(Fail::Refused(_)) => Ok(Outcome::Differs),
+        Err(Fail::NoMemory) => Err(NoMemory),
+    }
+}
+
+/// Tries drawn queries over a store with these rows.
+fn try_drawn<L: Ledger>(
+    alloc: Global,
+    guarded: &Guarded,
+    twin: &mut Twin,
+    tables: &[List<Row>],
+    before: Tally,
+    steps: &mut Steps<L>,
+) -> Result<Tally, NoMemory> {
+    let mut tally = before;
+    for _ in 0..QUERIES {
+        let query = draw_query(alloc, &mut twin.draws)?;
+        tally = tally.with(try_query(alloc, guarded, tables, query.as_str(), steps)?);
+    }
+    Ok(tally)
+}
+
+/// Statements that make the tables and add drawn rows and constraints.
+fn scene_of(alloc: Global, twin: &mut Twin) -> Result<Text, NoMemory> {
+    let mut script = creations(alloc)?;
+    script.push_str(draw_scene(alloc, twin)?.script.as_str())?;
+    Ok(script)
+}
+
+/// Tries drawn queries over a session without tables, which gets drawn ones.
+fn try_scene<L: Ledger>(
+    alloc: Global,
+    session: &mut Session,
+    seed: u64,
+    before: Tally,
+    steps: &mut Steps<L>,
+) -> Result<Tally, NoMemory> {
+    let mut twin = Twin::new(alloc, seed);
+    let script = scene_of(alloc, &mut twin)?;
+    reports(alloc, session, script.as_str(), steps)?;
+    let tables = tables_of(alloc, &twin.plain)?;
+    try_drawn(alloc, &session.guarded, &mut twin, &tables, before, steps)
+}
+
+fn try_session<L: Ledger>(
+    alloc: Global,
+    seed: u64,
+    before: Tally,
+    steps: &mut Steps<L>,
+) -> Result<Tally, NoMemory> {
+    let mut session = Session::new(alloc, Limits::standard(), None, false);
+    try_scene(alloc, &mut session, seed, before, steps)
+}
+
+/// Tries drawn queries over so many sessions, and says what came of them and what differed.
+pub fn try_columnless<L: Ledger>(
+    alloc: Global,
+    sessions: u32,
+    steps: &mut Steps<L>,
+) -> Result<String, NoMemory> {
+    let mut tally = Tally {
+        with_row: 0,
+        without: 0,
+        uncovered: 0,
+        above: 0,
+        misshapen: 0,
+        differing: 0,
+    };
+    for seed in 0..sessions {
+        tally = try_session(alloc, u64::from(seed), tally, steps)?;
+    }
+    tally.said(alloc)
+}
