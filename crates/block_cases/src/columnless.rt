@@ -71,7 +71,11 @@ impl Tally {
 fn drop_columns(alloc: Global, query: &mut Query) {
     match &mut query.node {
         QueryNode::Block(block) => block.output = List::new(alloc),
-        QueryNode::Union(left, right) | QueryNode::Except(left, right) => {
+        QueryNode::Union(left, right) => {
+            drop_columns(alloc, left);
+            drop_columns(alloc, right);
+        }
+        QueryNode::Except(left, right) => {
             drop_columns(alloc, left);
             drop_columns(alloc, right);
         }
