@@ -115,7 +115,7 @@ fn answer<L: Ledger>(
 }
 
 /// The report of a query that is announced.
-fn answered<L: Ledger>(
+fn answer_report<L: Ledger>(
     alloc: Global,
     guarded: &Guarded,
     explain: bool,
@@ -157,7 +157,7 @@ pub fn select<L: Ledger>(
     ensures within { IfOk result IsWithin }
 {
     let prepared = prepared_over(alloc, guarded, limits, budget, tree)?;
-    answered(alloc, guarded, explain, prepared, steps)
+    answer_report(alloc, guarded, explain, prepared, steps)
 }
 
 /// EXPLAIN: what is announced of a query, and its plan lines. It reads nothing.

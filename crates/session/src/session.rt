@@ -103,7 +103,7 @@ impl Session {
     {
         match statement {
             Statement::Load { table, file } => self.load(alloc, files, table, file),
-            _ => reported(self.carry_out(alloc, statement, steps)),
+            _ => report_of(self.carry_out(alloc, statement, steps)),
         }
     }
 
@@ -174,15 +174,15 @@ impl Session {
     {
         let id = match known_table(alloc, &self.guarded, table) {
             Ok(id) => id,
-            Err(why) => return reported(Err(why)),
+            Err(why) => return report_of(Err(why)),
         };
         let outcome = read(alloc, files, file.as_str(), self.limits.file)?;
-        reported(load(alloc, &mut self.guarded, &self.limits, file, id, &outcome))
+        report_of(load(alloc, &mut self.guarded, &self.limits, file, id, &outcome))
     }
 }
 
 /// A refused statement is reported too.
-fn reported(outcome: Result<Report, Fail>) -> Result<Report, NoMemory>
+fn report_of(outcome: Result<Report, Fail>) -> Result<Report, NoMemory>
     ensures carried { (effect : Effect) (before after : Database) (s t : ℕ)
         → Carries effect before outcome after s t → Carried effect before result after s t }
     ensures within { IfOk outcome IsWithin → IfOk result IsWithin }

@@ -14,11 +14,11 @@ returns-in_default g c =
     let files = seen g.F.Files.told g.F.Files.content g.F.Files.faults g.F.Files.taken c.args.files.now in
     let now = stored c.carry_out.new.self.guarded in
     let once = at_once (settings_of s) db statement c.in_default.not-Load in
-    let did = did_at_once s.limits.file (act_of (settings_of s) db statement) once.0 db c.reported.result now c.args.steps.now c.carry_out.new.steps files
-    once.1 (c.reported.ensures.carried once.0 db now c.args.steps.now c.carry_out.new.steps (c.carry_out.ensures.carried once.0 once.1)) in
+    let did = did_at_once s.limits.file (act_of (settings_of s) db statement) once.0 db c.report_of.result now c.args.steps.now c.carry_out.new.steps files
+    once.1 (c.report_of.ensures.carried once.0 db now c.args.steps.now c.carry_out.new.steps (c.carry_out.ensures.carried once.0 once.1)) in
     record {
       applied = did.applied;
-      within = c.reported.ensures.within c.carry_out.ensures.within;
+      within = c.report_of.ensures.within c.carry_out.ensures.within;
       settings = c.carry_out.ensures.settings;
       unchanged = did.unchanged;
       at_most = did.at_most;

@@ -9,5 +9,5 @@ pub returns-in-Err-clause-applied : goal.returns-in-Err-clause-applied
 returns-in-Err-clause-applied g c =
     let s = c.args.self.now in
     let db = stored s.guarded in
-    load_denied s.limits.file s.limits db (table_or_refusal (schema_of db) c.args.table.now) c.args.file.now c.in-Err.why c.reported.result
-    (seen g.F.Files.told g.F.Files.content g.F.Files.faults g.F.Files.taken c.args.files.now) c.in-Err.ensures.found c.reported.ensures.carried
+    load_denied s.limits.file s.limits db (table_or_refusal (schema_of db) c.args.table.now) c.args.file.now c.in-Err.why c.report_of.result
+    (seen g.F.Files.told g.F.Files.content g.F.Files.faults g.F.Files.taken c.args.files.now) c.in-Err.ensures.found c.report_of.ensures.carried
