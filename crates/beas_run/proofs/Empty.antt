@@ -15,8 +15,8 @@ use Rattle.sql_text.specs.Tokens.{tokens_from}
 use Rattle.session.specs.Effects.{Settings}
 use Rattle.session.specs.Ties.{Seen, IsLater}
 use Rattle.sql_parser.specs.Outcome.{Reading}
-use Rattle.beas_run.specs.declared.top.NoScript.{NoScript}
-use Rattle.beas_run.specs.declared.top.NoScript.TheVariants.{Words, Unread, TooLong, NotText, NoMemory}
+use Rattle.beas_run.specs.declared.no_script.NoScript.{NoScript}
+use Rattle.beas_run.specs.declared.no_script.NoScript.TheVariants.{Words, Unread, TooLong, NotText, NoMemory}
 use Rattle.beas_run.specs.NoScripts.{status_of}
 use Rattle.beas_run.specs.Scripts.{Readings, readings_of}
 use Rattle.beas_run.specs.Runs.{seed_of, demo_seed, settings_for, settings_of_words, HasScript, HasRun, IsContent, IsScriptOf, IsWith, IsWithout, WalkedFor, longest_script}
@@ -190,7 +190,3 @@ ran_demo limits words seed budget explain script status before after asked is te
 
 pub no_seed : (words : List (List ℕ)) → args_of words ≡ None → demo_seed words ≡ None
 no_seed words e = ap (option_and_then seed_of) e
-
-pub no_seed_beside : (words : List (List ℕ)) (path : List ℕ) (budget : Option ℕ) (explain : Bool) → args_of words ≡ Some (Script path budget explain)
-    → demo_seed words ≡ None
-no_seed_beside words path budget explain e = ap (option_and_then seed_of) e

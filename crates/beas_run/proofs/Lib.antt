@@ -5,6 +5,7 @@ mod Empty
 mod Pieces
 mod Reached
 mod Reading
+mod Sources
 mod Ties
 mod Turns
 pub mod WellFormed

@@ -4,4 +4,5 @@ pub mod NoScripts
 pub mod Pieces
 pub mod Runs
 pub mod Scripts
+pub mod Sources
 pub mod Walks

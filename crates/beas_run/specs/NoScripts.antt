@@ -1,7 +1,7 @@
 -- The status of a run that has no script.
 use Rattle.std.specs.Prelude.{ℕ}
-use Rattle.beas_run.specs.declared.top.NoScript.{NoScript}
-use Rattle.beas_run.specs.declared.top.NoScript.TheVariants.{Words, Unread, TooLong, NotText, NoMemory}
+use Rattle.beas_run.specs.declared.no_script.NoScript.{NoScript}
+use Rattle.beas_run.specs.declared.no_script.NoScript.TheVariants.{Words, Unread, TooLong, NotText, NoMemory}
 
 abbrev pub status_of : NoScript → ℕ
 status_of Words = 2

@@ -11,13 +11,14 @@ ghost use Rattle.beas_run.specs.Pieces.{IsUndone};
 ghost use Rattle.beas_run.specs.Scripts.{act_for, reading_of, readings_of, readings_at};
 ghost use Rattle.beas_run.specs.Walks.{scene};
 
+use crate::cut_script::cut_script;
 use crate::script::{is_refusal, report_on};
 use beas_core::{NoMemory, Steps};
 use demo_gen::{Outcome, Summary};
 use outside::{Files, Sink, SinkError};
 use report::Report;
 use session::Session;
-use sql_text::{Piece, Token, lex, split};
+use sql_text::{Piece, Token};
 use std::alloc::Global;
 use std::sync::ledger::Ledger;
 
@@ -118,17 +119,9 @@ fn count_text<F: Files, L: Ledger>(
     ensures later { IsLater
         (seen F.told F.content F.faults F.taken files.old) (seen F.told F.content F.faults F.taken files.new) }
 {
-    let tokens = lex(alloc, script)?;
-    let pieces = split(alloc, &tokens)?;
-    count_all(
-        alloc,
-        session,
-        tokens.as_slice(),
-        pieces.as_slice(),
-        summary,
-        files,
-        steps,
-    )
+    let cut = cut_script(alloc, script)?;
+    let (tokens, pieces) = (cut.tokens.as_slice(), cut.pieces.as_slice());
+    count_all(alloc, session, tokens, pieces, summary, files, steps)
 }
 
 /// Writes the line of the totals.

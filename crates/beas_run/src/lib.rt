@@ -2,8 +2,11 @@
 //! is written, or the totals of all.
 #![tactic(auto)]
 
+mod cut_script;
 mod demonstration;
+mod no_script;
 mod script;
-mod top;
+mod script_source;
+mod whole_run;
 
-pub use top::run;
+pub use whole_run::run;

@@ -1,6 +1,8 @@
 // A script, statement by statement.
 ghost use Rattle.std.specs.Prelude.{◌≡◌, ◌≢◌, ◌<◌, ◌≤◌, ◌+◌, ◌-◌, ◌^◌, ◌++◌, ◌⊎◌, ℕ, true, length, All, IfOk, IfErr, OnOk, OnErr, IsErrOf};
 ghost use Rattle.outside.specs.Counts.{Rose};
+ghost use Rattle.outside.specs.Parts.{SentPart};
+ghost use Rattle.report.specs.Reports.{report_text};
 ghost use Rattle.update_guard.specs.Stored.{stored};
 ghost use Rattle.session.specs.Applied.{Applied, MayCost, settings_of};
 ghost use Rattle.session.specs.Ties.{IsLater, seen};
@@ -10,12 +12,13 @@ ghost use Rattle.beas_run.specs.Pieces.{IsReported, IsUnreported, IsUndone};
 ghost use Rattle.beas_run.specs.Scripts.{act_for, reading_of, readings_of, readings_at};
 ghost use Rattle.beas_run.specs.Walks.{scene, Walked};
 
+use crate::cut_script::cut_script;
 use beas_core::{Fail, NoMemory, Steps};
 use outside::{Files, Sink, SinkError};
 use report::{Report, text};
 use session::Session;
 use sql_parser::parse;
-use sql_text::{Piece, Token, lex, split};
+use sql_text::{Piece, Token};
 use std::alloc::Global;
 use std::sync::ledger::Ledger;
 
@@ -88,6 +91,29 @@ pub fn report_on<F: Files, L: Ledger>(
     }
 }
 
+/// Writes the report of the statement with this number.
+fn write_report<O: Sink>(
+    alloc: Global,
+    number: u32,
+    report: &Report,
+    out: &mut O,
+) -> Result<(), Ending>
+    ensures whole { OnOk result (O.told out.old ≡ true
+        → O.sent out.new ≡ O.sent out.old ++ report_text number report.now) }
+    ensures part { O.told out.old ≡ true
+        → SentPart (O.sent out.old) (O.sent out.new) (report_text number report.now) }
+    ensures unsent { IsErrOf result Ending.NoMemory → O.told out.old ≡ true → O.sent out.new ≡ O.sent out.old }
+    ensures told { O.told out.new ≡ O.told out.old }
+    ensures no_fault { OnOk result (O.faults out.new ≡ O.faults out.old) }
+    ensures no_memory { IsErrOf result Ending.NoMemory → O.faults out.new ≡ O.faults out.old }
+    ensures fault { IsErrOf result Ending.Fault → Rose (O.faults out.old) (O.faults out.new) }
+    ensures rise { O.faults out.old ≤ O.faults out.new }
+{
+    let lines = text(alloc, number, report)?;
+    out.put(lines.as_str().as_bytes())?;
+    Ok(())
+}
+
 /// Carries out a piece and writes its report. It tells whether the report is a refusal.
 fn carry_out<F: Files, O: Sink, L: Ledger>(
     alloc: Global,
@@ -123,9 +149,10 @@ fn carry_out<F: Files, O: Sink, L: Ledger>(
     ensures rise { O.faults out.old ≤ O.faults out.new }
 {
     let report = report_on(alloc, session, tokens, files, steps)?;
-    let lines = text(alloc, number, &report)?;
-    out.put(lines.as_str().as_bytes())?;
-    Ok(is_refusal(&report))
+    match write_report(alloc, number, &report, out) {
+        Ok(()) => Ok(is_refusal(&report)),
+        Err(why) => Err(why),
+    }
 }
 
 /// Carries out the statements at these places, and writes each report before the next statement.
@@ -200,17 +227,13 @@ fn carry_out_text<F: Files, O: Sink, L: Ledger>(
     ensures fault { IsErrOf result Ending.Fault → Rose (O.faults out.old) (O.faults out.new) }
     ensures rise { O.faults out.old ≤ O.faults out.new }
 {
-    let tokens = lex(alloc, script)?;
-    let pieces = split(alloc, &tokens)?;
-    carry_out_all(
-        alloc,
-        session,
-        tokens.as_slice(),
-        pieces.as_slice(),
-        files,
-        out,
-        steps,
-    )
+    match cut_script(alloc, script) {
+        Ok(cut) => {
+            let (tokens, pieces) = (cut.tokens.as_slice(), cut.pieces.as_slice());
+            carry_out_all(alloc, session, tokens, pieces, files, out, steps)
+        }
+        Err(NoMemory) => Err(Ending::NoMemory),
+    }
 }
 
 /// Runs a script over a session: 0 where no report is a refusal, 1 where one is, 4 where the output failed, 5 where

@@ -1,4 +1,4 @@
-use Rattle.std.proofs.Common.{◌≡◌, ◌∙◌, ap, refl, arith, Bool, List, Result, Err, length}
+use Rattle.std.proofs.Common.{◌≡◌, ◌∙◌, ap, refl, arith, Bool, List, Result, Err}
 use Rattle.std.proofs.lemmas.Result.{err_from_is_err_and}
 use Rattle.beas_core.specs.declared.errors.NoMemory.{NoMemory}
 use Rattle.demo_gen.specs.Summaries.{Totals}
@@ -6,9 +6,7 @@ use Rattle.session.specs.Effects.{Settings}
 use Rattle.sql_parser.specs.Outcome.{Reading}
 use Rattle.beas_run.specs.Demonstrations.{Tallied, ended_at}
 use Rattle.beas_run.specs.Walks.{Scene}
-use Rattle.beas_run.proofs.Counting.{length-pieces_of-le}
 use Rattle.beas_run.proofs.Reached.{same_later, unstarted}
-use Rattle.beas_run.proofs.Reading.{found_text}
 use Rattle.beas_run.proofs.demonstration.count_text.Goals as goal
 
 -- out of memory before the first statement
@@ -21,21 +19,10 @@ unbegun s readings sum before result why e =
       sum_is = λ below. absurd (omega arith);
     }
 
-pub returns-in_err-tokens-clause-tallied : goal.returns-in_err-tokens-clause-tallied
-returns-in_err-tokens-clause-tallied g c =
+pub returns-in_err-cut-clause-tallied : goal.returns-in_err-cut-clause-tallied
+returns-in_err-cut-clause-tallied g c =
     let exit = err_from_is_err_and _ c.from_residual.ensures.1 in unbegun _ _ c.args.summary.now _ _ _ exit.1
-
-pub returns-in_err-pieces-clause-tallied : goal.returns-in_err-pieces-clause-tallied
-returns-in_err-pieces-clause-tallied g c =
-    let exit = err_from_is_err_and _ c.from_residual-in_err-pieces.ensures.1 in unbegun _ _ c.args.summary.now _ _ _ exit.1
-
-pub count_all-requires-clause-few : goal.count_all-requires-clause-few
-count_all-requires-clause-few g c =
-    let few = length-pieces_of-le c.in_ok-tokens.tokens in
-    let same = ap length (c.as_slice-2.ensures ∙ c.in_ok-pieces.ensures.pieces) in
-    omega (arith, few, same, c.in_ok-tokens.ensures.few, c.requires.few)
 
 pub returns-clause-tallied : goal.returns-clause-tallied
 returns-clause-tallied g c =
-    rw (found_text _ _ _ _ _ c.in_ok-tokens.ensures.tokens c.as_slice.ensures c.as_slice-2.ensures c.in_ok-pieces.ensures.parts)
-    at c.count_all.ensures.tallied
+    rw c.in_ok-cut.ensures.read at (rw (c.as_slice.ensures, c.as_slice-2.ensures) at c.count_all.ensures.tallied)

@@ -1,8 +1,13 @@
-use Rattle.std.proofs.Common.{inr, refl}
-use Rattle.beas_run.proofs.Pieces.{none_sent, unreported, whichever}
+use Rattle.std.proofs.Common.{ap, inr, Err}
+use Rattle.beas_run.proofs.Pieces.{reported, unreported}
 use Rattle.beas_run.proofs.script.carry_out.Goals as goal
 
-pub returns-in_err-lines-clause-stopped : goal.returns-in_err-lines-clause-stopped
-returns-in_err-lines-clause-stopped g c =
-    whichever _ _ (λ why. inr
-    (unreported _ _ _ c.in_ok-report.report why _ _ c.in_ok-report.ensures.within c.in_ok-report.ensures.applied (λ told. none_sent _ _) (λ _ _. refl)))
+pub returns-in-Ok-clause-reported : goal.returns-in-Ok-clause-reported
+returns-in-Ok-clause-reported g c =
+    reported _ _ _ c.in_ok-report.report _ _ _ c.in_ok-report.ensures.within c.in_ok-report.ensures.applied c.is_refusal.ensures c.in-Ok.ensures.whole
+
+pub returns-in-Err-clause-stopped : goal.returns-in-Err-clause-stopped
+returns-in-Err-clause-stopped g c =
+    let e = c.write_report.ensures in
+    inr (unreported _ _ _ c.in_ok-report.report c.in-Err.why _ _ c.in_ok-report.ensures.within c.in_ok-report.ensures.applied e.part
+    (λ none. c.in-Err.ensures.unsent (ap Err none)))

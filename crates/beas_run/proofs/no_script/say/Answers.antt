@@ -1,6 +1,6 @@
 use Rattle.std.proofs.Common.{ap, Err}
 use Rattle.beas_run.proofs.Pieces.{none_sent}
-use Rattle.beas_run.proofs.top.say.Goals as goal
+use Rattle.beas_run.proofs.no_script.say.Goals as goal
 
 pub returns-in-Err-NoMemory-clause-part : goal.returns-in-Err-NoMemory-clause-part
 returns-in-Err-NoMemory-clause-part g c = λ told.

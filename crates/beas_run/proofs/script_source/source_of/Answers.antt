@@ -1,0 +1,15 @@
+use Rattle.std.proofs.Common.{ap, Err, ◌∙◌}
+use Rattle.beas_run.proofs.Sources.{no_memory_left, words_refused}
+use Rattle.beas_run.proofs.script_source.source_of.Goals as goal
+
+pub returns-in-Ok-clause-source : goal.returns-in-Ok-clause-source
+returns-in-Ok-clause-source g c = rw c.in-Ok.ensures.taken c.source_for.ensures.source
+
+pub returns-in-Ok-clause-none : goal.returns-in-Ok-clause-none
+returns-in-Ok-clause-none g c = rw c.in-Ok.ensures.taken c.source_for.ensures.none
+
+pub returns-in-Err-Refused-clause-none : goal.returns-in-Err-Refused-clause-none
+returns-in-Err-Refused-clause-none g c = words_refused _ _ (c.args-2.ensures.refused (c.in-Err-Refused.is ∙ ap Err c.in-Err-Refused.field-0-is))
+
+pub returns-clause-none : goal.returns-clause-none
+returns-clause-none g c = no_memory_left _ _

@@ -1,0 +1,96 @@
+use Rattle.std.proofs.Common.{refl, inl, inr, ap, ◌∙◌, arith, absurd}
+use Rattle.beas_run.proofs.Complete.{completes, completes_demo, completes_without}
+use Rattle.beas_run.proofs.Empty.{early_said, not_without, ran_nothing}
+use Rattle.beas_run.proofs.Pieces.{none_sent}
+use Rattle.beas_run.proofs.Sources.{but_faults, limits_stay, most, most_said, none_or_five, not_asked, not_with, ran_over, settings_are_words, seven_is_no_text, six_is_too_long, three_is_unread, two_is_words, two_or_five}
+use Rattle.beas_run.proofs.Ties.{later_twice}
+use Rattle.beas_run.proofs.whole_run.run.Goals as goal
+
+pub run_over-requires : goal.run_over-requires
+run_over-requires g c = let fits = c.in-Ok.ensures.source.fits in let same = ap length c.as_str.ensures in omega arith
+
+pub returns-in-Ok : goal.returns-in-Ok
+returns-in-Ok g c =
+    let e = c.in-Ok.ensures.source in
+    let o = c.run_over.ensures in
+    let run = ran_over _ _ _ _ _ _ _ _ _ _ _ _ _ _ _ e c.as_str.ensures c.as_str.utf8 o in
+    let settled = settings_are_words _ _ _ _ e.asked_is o.settings_are in
+    record {
+      ran = run;
+      untouched = λ w. absurd (not_without _ o.statuses w);
+      limits = limits_stay _ _ _ o.settings_are;
+      settings = λ _. settled;
+      settings_without = λ w. absurd (not_without _ o.statuses w);
+      settings_out_of_memory = λ _. inr settled;
+      statuses = most _ o.statuses;
+      words = λ none. absurd (not_asked _ _ e.asked_is none);
+      words_alone = λ s. absurd (not_without _ o.statuses (inl s));
+      unread = λ s. absurd (not_without _ o.statuses (inr (inl s)));
+      fault = o.fault;
+      no_fault = o.no_fault;
+      out_unused = λ w. absurd (not_without _ o.statuses w);
+      too_long = λ s. absurd (not_without _ o.statuses (inr (inr (inl s))));
+      not_text = λ s. absurd (not_without _ o.statuses (inr (inr (inr s))));
+      complete = λ name script named told is quiet out_quiet fits text. but_faults _ o.statuses (λ four. out_quiet (o.fault four));
+      complete_without = λ name script named told is quiet.
+          completes_without _ _ _ _ (most _ o.statuses) (λ s. absurd (not_without _ o.statuses (inl s))) (λ s. absurd (not_without _ o.statuses (inr (inl s))))
+          (λ s. absurd (not_without _ o.statuses (inr (inr (inl s))))) (λ s. absurd (not_without _ o.statuses (inr (inr (inr s)))))
+          name script named told is quiet _ run.has;
+      complete_demo = λ seed asked out_quiet. but_faults _ o.statuses (λ four. out_quiet (o.fault four));
+      said = λ _. none_sent _ _;
+      said_whole = λ w. absurd (not_without _ o.statuses w);
+      err_unused = λ _. refl;
+      unsaid = λ _ _. refl;
+      err_no_fault = λ _. refl;
+      later = later_twice _ _ _ e.later o.later;
+      out_told = o.told;
+      out_rise = o.rise;
+      err_told = refl;
+      err_rise = omega arith;
+    }
+
+pub returns-in-Err : goal.returns-in-Err
+returns-in-Err g c =
+    let why = c.in-Err.why in
+    let e = c.in-Err.ensures.none in
+    let s = c.say.ensures in
+    let early = early_said why _ s.status in
+    let run = ran_nothing _ _ why _ _ _ s.status (none_or_five why _ _ s.status e.seedless) (λ _. refl) refl refl e.later in
+    record {
+      ran = run;
+      untouched = λ _. record { sent = λ _. refl; steps = refl; db = refl };
+      limits = refl;
+      settings = λ w. absurd (not_with why _ s.status w);
+      settings_without = λ _. refl;
+      settings_out_of_memory = λ _. inl refl;
+      statuses = most_said why _ s.status;
+      words = λ none. two_or_five why _ s.status (e.words none);
+      words_alone = λ two. e.words_alone (two_is_words why _ s.status two);
+      unread = λ three. e.unread (three_is_unread why _ s.status three);
+      fault = λ four. absurd (early.1 four);
+      no_fault = λ _. refl;
+      out_unused = λ _. refl;
+      too_long = λ six. e.too_long (six_is_too_long why _ s.status six);
+      not_text = λ seven. e.not_text (seven_is_no_text why _ s.status seven);
+      complete = λ name script named told is quiet out_quiet.
+          completes _ _ _ _ (most_said why _ s.status) (λ n. e.words_alone (two_is_words why _ s.status n)) (λ n. e.unread (three_is_unread why _ s.status n))
+          (λ n. e.too_long (six_is_too_long why _ s.status n)) (λ n. e.not_text (seven_is_no_text why _ s.status n)) name script named told is quiet early.1;
+      complete_without = λ name script named told is quiet.
+          completes_without _ _ _ _ (most_said why _ s.status) (λ n. e.words_alone (two_is_words why _ s.status n))
+          (λ n. e.unread (three_is_unread why _ s.status n)) (λ n. e.too_long (six_is_too_long why _ s.status n))
+          (λ n. e.not_text (seven_is_no_text why _ s.status n)) name script named told is quiet _ run.has;
+      complete_demo = λ seed asked out_quiet.
+          completes_demo _ _ _ _ _ seed (most_said why _ s.status) (λ n. e.words_alone (two_is_words why _ s.status n))
+          (λ n. e.unread (three_is_unread why _ s.status n)) (λ n. e.too_long (six_is_too_long why _ s.status n))
+          (λ n. e.not_text (seven_is_no_text why _ s.status n)) asked early.1;
+      said = s.part;
+      said_whole = s.whole;
+      err_unused = λ w. absurd (not_with why _ s.status w);
+      unsaid = s.unsaid;
+      err_no_fault = s.no_fault;
+      later = e.later;
+      out_told = refl;
+      out_rise = omega arith;
+      err_told = s.told;
+      err_rise = s.rise;
+    }

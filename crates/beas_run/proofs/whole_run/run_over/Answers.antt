@@ -1,0 +1,29 @@
+use Rattle.beas_run.proofs.whole_run.run_over.Goals as goal
+
+pub returns-in-Script : goal.returns-in-Script
+returns-in-Script g c =
+    let run = c.run_script.ensures in
+    record {
+      statuses = run.statuses;
+      walked = run.walked;
+      settings_are = run.settings;
+      no_fault = run.no_fault;
+      fault = run.fault;
+      told = run.told;
+      rise = run.rise;
+      later = run.later;
+    }
+
+pub returns-in-Demo : goal.returns-in-Demo
+returns-in-Demo g c =
+    let run = c.run_demonstration.ensures in
+    record {
+      statuses = run.statuses;
+      walked = run.demonstrated;
+      settings_are = run.settings;
+      no_fault = run.no_fault;
+      fault = run.fault;
+      told = run.told;
+      rise = run.rise;
+      later = run.later;
+    }

@@ -1,0 +1,52 @@
+-- What the statements of a run come from, and what is done with them.
+--     IsUnread args before after     a demonstration reads no file
+--     IsSource asked ..              this is asked for, and this is its text
+--     HasNoScript asked why ..       why there is none
+--     RanOver args text ..           the statements of the text were carried out, or as far as the run came
+use Rattle.std.specs.Prelude.{◌≡◌, ◌≢◌, ◌<◌, ◌≤◌, ◌⊎◌, ℕ, List, length, Option, Some, None, option_and_then, IsSomeAnd}
+use Rattle.std.specs.Str.{IsUtf8}
+use Rattle.beas_core.specs.declared.limits.Limits.{Limits}
+use Rattle.command_words.specs.declared.arguments.Args.{Args}
+use Rattle.command_words.specs.declared.arguments.Args.TheVariants.{Script, Demo}
+use Rattle.outside.specs.Counts.{Rose}
+use Rattle.session.specs.Effects.{Settings}
+use Rattle.session.specs.Ties.{Seen, IsLater}
+use Rattle.beas_run.specs.declared.no_script.NoScript.{NoScript}
+use Rattle.beas_run.specs.declared.no_script.NoScript.TheVariants.{Words, Unread, TooLong, NotText, NoMemory}
+use Rattle.beas_run.specs.declared.script_source.Source.{Source}
+use Rattle.beas_run.specs.Runs.{path_of, seed_of, settings_for, longest_script, IsNoText, IsScriptOf, IsTooLong, WalkedFor}
+use Rattle.beas_run.specs.Scripts.{readings_of}
+use Rattle.beas_run.specs.Walks.{Scene}
+
+abbrev pub IsUnread : Args → Seen → Seen → Type 0
+IsUnread (Script path budget explain) before after = Unit {0}
+IsUnread (Demo seed budget explain) before after = after ≡ before
+
+pub record IsSource (asked : Option Args) (before after : Seen) (source : Source) : Type 0 where
+  pub asked_is : asked ≡ Some source.args
+  pub fits : length source.text ≤ longest_script
+  pub is : IsScriptOf (Some source.args) before source.text
+  pub unread : IsUnread source.args before after
+  pub later : IsLater before after
+
+pub record HasNoScript (asked : Option Args) (why : NoScript) (before after : Seen) : Type 0 where
+  pub words : asked ≡ None → (why ≡ Words) ⊎ (why ≡ NoMemory)
+  pub words_alone : why ≡ Words → asked ≡ None
+  pub unread : why ≡ Unread → IsSomeAnd (option_and_then path_of asked)
+      (λ name. Rose (before.faults name) (after.faults name))
+  pub too_long : why ≡ TooLong → IsSomeAnd (option_and_then path_of asked) (IsTooLong before after)
+  pub not_text : why ≡ NotText → IsSomeAnd (option_and_then path_of asked) (IsNoText before)
+  -- a demonstration lacks its text out of memory alone
+  pub seedless : (option_and_then seed_of asked ≡ None) ⊎ (why ≡ NoMemory)
+  pub later : IsLater before after
+
+pub record RanOver (args : Args) (text : List ℕ) (limits : Limits) (status : ℕ) (settings : Settings)
+    (faults_before faults_after : ℕ) (before after : Scene) : Type 0 where
+  pub statuses : (status < 2) ⊎ (status ≡ 4) ⊎ (status ≡ 5)
+  pub walked : WalkedFor (Some args) (settings_for limits args) (readings_of text) status before after
+  pub settings_are : settings ≡ settings_for limits args
+  pub no_fault : status ≢ 4 → faults_after ≡ faults_before
+  pub fault : status ≡ 4 → Rose faults_before faults_after
+  pub told : after.told ≡ before.told
+  pub rise : faults_before ≤ faults_after
+  pub later : IsLater before.files after.files

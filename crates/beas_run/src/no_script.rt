@@ -1,0 +1,68 @@
+// Why a run has no script, and what is said then.
+ghost use Rattle.std.specs.Prelude.{◌≡◌, ◌≤◌, ◌++◌, ◌⊎◌, true};
+ghost use Rattle.outside.specs.Counts.{Rose};
+ghost use Rattle.outside.specs.Parts.{SentPart};
+ghost use Rattle.beas_run.specs.NoScripts.{status_of};
+ghost use Rattle.beas_run.specs.Runs.{line, IsWithout};
+
+use command_words::usage_line;
+use outside::{Sink, SinkError};
+
+/// Why a run has no script.
+#[derive(Clone, Copy, Debug, PartialEq, Eq)]
+pub enum NoScript {
+    /// The words are refused.
+    Words,
+    /// The script can't be read.
+    Unread,
+    TooLong,
+    /// The script is not UTF-8.
+    NotText,
+    NoMemory,
+}
+
+fn status_of(why: NoScript) -> u8
+    ensures { result ≡ status_of why }
+{
+    match why {
+        NoScript::Words => 2,
+        NoScript::Unread => 3,
+        NoScript::NoMemory => 5,
+        NoScript::TooLong => 6,
+        NoScript::NotText => 7,
+    }
+}
+
+fn line_of(why: NoScript) -> &'static str
+    ensures { result.now ≡ line (status_of why) }
+{
+    match why {
+        NoScript::Words => usage_line(),
+        NoScript::Unread => "beas: cannot read the script\n",
+        // Nothing is said.
+        NoScript::NoMemory => "",
+        NoScript::TooLong => "beas: the script is longer than 16777216 bytes\n",
+        NoScript::NotText => "beas: the script is not UTF-8\n",
+    }
+}
+
+/// Says on `err` why there is no script, and gives the status. Out of memory, nothing is said.
+pub fn say<E: Sink>(why: NoScript, err: &mut E) -> u8
+    ensures status { (result ≡ status_of why) ⊎ (result ≡ 5) }
+    ensures part { E.told err.old ≡ true → SentPart (E.sent err.old) (E.sent err.new) (line result) }
+    ensures whole { IsWithout result → E.told err.old ≡ true
+        → (E.sent err.new ≡ E.sent err.old ++ line result) ⊎ Rose (E.faults err.old) (E.faults err.new) }
+    ensures unsaid { result ≡ 5 → E.told err.old ≡ true → E.sent err.new ≡ E.sent err.old }
+    ensures no_fault { result ≡ 5 → E.faults err.new ≡ E.faults err.old }
+    ensures told { E.told err.new ≡ E.told err.old }
+    ensures rise { E.faults err.old ≤ E.faults err.new }
+{
+    if why == NoScript::NoMemory {
+        return 5;
+    }
+    match err.put(line_of(why).as_bytes()) {
+        Ok(()) => status_of(why),
+        Err(SinkError::Failed) => status_of(why),
+        Err(SinkError::NoMemory) => 5,
+    }
+}

@@ -1,0 +1,110 @@
+// What the statements of a run come from: the words, and the text that they ask for.
+ghost use Rattle.std.specs.Prelude.{◌≡◌, ◌≤◌, Some, length, map, IfOk, IfErr, IsErrOf};
+ghost use Rattle.std.specs.Str.{IsUtf8};
+ghost use Rattle.std.specs.String.{string_bytes};
+ghost use Rattle.command_words.specs.Words.{args_of};
+ghost use Rattle.outside.specs.Counts.{Rose};
+ghost use Rattle.session.specs.Ties.{IsLater, seen};
+ghost use Rattle.beas_run.specs.Runs.{longest_script, IsContent, IsNoText, IsScriptOf, IsTooLong};
+ghost use Rattle.beas_run.specs.Sources.{HasNoScript, IsSource, IsUnread};
+
+use crate::no_script::NoScript;
+use beas_core::{Bytes, NoMemory, Text};
+use command_words::{Args, Usage, args};
+use demo_gen::demo;
+use outside::{Files, FilesError};
+use std::alloc::Global;
+
+/// How many bytes a script may have.
+const LONGEST_SCRIPT: u64 = 16_777_216;
+
+/// What the words ask for, and the text of its statements.
+#[derive(Debug, Drop)]
+pub struct Source {
+    pub args: Args,
+    pub text: Text,
+}
+
+/// The text of a script that can be read and is one.
+fn read_named<F: Files>(alloc: Global, name: &str, files: &mut F) -> Result<Text, NoScript>
+    ensures fits { IfOk result (λ text. length text ≤ longest_script) }
+    ensures content { IfOk result (λ text. IsContent
+        (seen F.told F.content F.faults F.taken files.old) text name.now) }
+    ensures named { IsErrOf result NoScript.Words → ⊥ }
+    ensures unread { IsErrOf result NoScript.Unread → Rose (F.faults files.old name.now) (F.faults files.new name.now) }
+    ensures too_long { IsErrOf result NoScript.TooLong → IsTooLong
+        (seen F.told F.content F.faults F.taken files.old) (seen F.told F.content F.faults F.taken files.new) name.now }
+    ensures not_text { IsErrOf result NoScript.NotText
+        → IsNoText (seen F.told F.content F.faults F.taken files.old) name.now }
+    ensures later { IsLater
+        (seen F.told F.content F.faults F.taken files.old) (seen F.told F.content F.faults F.taken files.new) }
+{
+    match files.read(alloc, name, LONGEST_SCRIPT) {
+        Ok(bytes) => require_text(bytes),
+        Err(FilesError::Failed) => Err(NoScript::Unread),
+        Err(FilesError::TooLong { .. }) => Err(NoScript::TooLong),
+        Err(FilesError::NoMemory) => Err(NoScript::NoMemory),
+    }
+}
+
+/// The bytes as a text, unless they are none.
+fn require_text(bytes: Bytes) -> Result<Text, NoScript>
+    ensures text { IfOk result (λ text. text ≡ bytes) }
+    ensures no_text { IfErr result (λ why. (why ≡ NoScript.NotText) × (IsUtf8 bytes → ⊥)) }
+{
+    match String::from_utf8(bytes.into_vec()) {
+        Ok(text) => Ok(Text::from_string(text)),
+        Err(_) => Err(NoScript::NotText),
+    }
+}
+
+/// The text that is asked for.
+fn text_for<F: Files>(alloc: Global, args: &Args, files: &mut F) -> Result<Text, NoScript>
+    ensures fits { IfOk result (λ text. length text ≤ longest_script) }
+    ensures asked { IfOk result (IsScriptOf (Some args.now) (seen F.told F.content F.faults F.taken files.old)) }
+    ensures none { IfErr result (λ why. HasNoScript (Some args.now) why
+        (seen F.told F.content F.faults F.taken files.old) (seen F.told F.content F.faults F.taken files.new)) }
+    ensures unread { IsUnread args.now
+        (seen F.told F.content F.faults F.taken files.old) (seen F.told F.content F.faults F.taken files.new) }
+    ensures later { IsLater
+        (seen F.told F.content F.faults F.taken files.old) (seen F.told F.content F.faults F.taken files.new) }
+{
+    match args {
+        Args::Script { path, .. } => read_named(alloc, path.as_str(), files),
+        Args::Demo { seed, .. } => match demo(alloc, *seed) {
+            Ok(text) => Ok(text),
+            Err(NoMemory) => Err(NoScript::NoMemory),
+        },
+    }
+}
+
+/// What is asked for, with its text.
+fn source_for<F: Files>(alloc: Global, args: Args, files: &mut F) -> Result<Source, NoScript>
+    ensures source { IfOk result (IsSource (Some args)
+        (seen F.told F.content F.faults F.taken files.old) (seen F.told F.content F.faults F.taken files.new)) }
+    ensures none { IfErr result (λ why. HasNoScript (Some args) why
+        (seen F.told F.content F.faults F.taken files.old) (seen F.told F.content F.faults F.taken files.new)) }
+{
+    match text_for(alloc, &args, files) {
+        Ok(text) => Ok(Source { args, text }),
+        Err(why) => Err(why),
+    }
+}
+
+/// What the words ask for, with its text.
+pub fn source_of<F: Files>(
+    alloc: Global,
+    words: &[String],
+    files: &mut F,
+) -> Result<Source, NoScript>
+    ensures source { IfOk result (IsSource (args_of (map string_bytes words.now))
+        (seen F.told F.content F.faults F.taken files.old) (seen F.told F.content F.faults F.taken files.new)) }
+    ensures none { IfErr result (λ why. HasNoScript (args_of (map string_bytes words.now)) why
+        (seen F.told F.content F.faults F.taken files.old) (seen F.told F.content F.faults F.taken files.new)) }
+{
+    match args(alloc, words) {
+        Ok(args) => source_for(alloc, args, files),
+        Err(Usage::Refused) => Err(NoScript::Words),
+        Err(Usage::NoMemory) => Err(NoScript::NoMemory),
+    }
+}
