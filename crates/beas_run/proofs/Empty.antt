@@ -103,7 +103,7 @@ ran_nothing limits words why status before after said none sent steps db later =
 
 -- ---- a script that was read, or made
 
-not_without : (status : ℕ) → (status < 2) ⊎ (status ≡ 4) ⊎ (status ≡ 5) → IsWithout status → ⊥
+pub not_without : (status : ℕ) → (status < 2) ⊎ (status ≡ 4) ⊎ (status ≡ 5) → IsWithout status → ⊥
 not_without status ended without = omega arith
 
 has_read : (script : List ℕ) (status : ℕ) (asked : Option Args) (files : Seen)

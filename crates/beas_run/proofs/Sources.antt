@@ -1,5 +1,5 @@
 -- What a run does with what the words ask for, and what it says where there is no text.
-use Rattle.std.proofs.Common.{◌≡◌, ◌≢◌, ◌≤◌, ◌<◌, ◌⊎◌, ◌∙◌, ap, sym, subst, refl, inl, inr, ℕ, Bool, List, Option, Some, None, false, length, arith, absurd}
+use Rattle.std.proofs.Common.{◌≡◌, ◌≢◌, ◌≤◌, ◌<◌, ◌⊎◌, ◌∙◌, ap, sym, subst, refl, inl, inr, ℕ, Bool, List, Option, Some, None, false, length, arith}
 use Rattle.std.specs.Prelude.{option_and_then}
 use Rattle.std.specs.Option.{option_map_or}
 use Rattle.std.specs.Str.{IsUtf8}
@@ -62,6 +62,19 @@ file_unread path budget explain why before after named unread too_long not_text 
   seedless = inl refl;
   later = later;
 }
+
+-- ---- the way and the settings that are asked for
+
+pub way_for : (args asked : Args) (limits : Limits) (text : List ℕ) (status : ℕ) (before after : Scene) → args ≡ asked
+    → WalkedFor (Some asked) (settings_for limits asked) (readings_of text) status before after
+    → WalkedFor (Some args) (settings_for limits args) (readings_of text) status before after
+way_for args asked limits text status before after e walked =
+    let P : Args → Type 0 = λ a. WalkedFor (Some a) (settings_for limits a) (readings_of text) status before after in
+    subst P (sym e) walked
+
+pub settings_for_same : (args asked : Args) (limits : Limits) (settings : Settings) → args ≡ asked
+    → settings ≡ settings_for limits asked → settings ≡ settings_for limits args
+settings_for_same args asked limits settings e same = same ∙ ap (settings_for limits) (sym e)
 
 -- ---- the statements of a text were carried out
 

@@ -25,4 +25,4 @@ returns-in_err-cut-clause-tallied g c =
 
 pub returns-clause-tallied : goal.returns-clause-tallied
 returns-clause-tallied g c =
-    rw c.in_ok-cut.ensures.read at (rw (c.as_slice.ensures, c.as_slice-2.ensures) at c.count_all.ensures.tallied)
+    rw c.in_ok-cut.ensures.read at (rw (c.as_slice-tokens.ensures, c.as_slice-pieces.ensures) at c.count_all.ensures.tallied)

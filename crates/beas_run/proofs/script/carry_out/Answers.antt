@@ -6,8 +6,8 @@ pub returns-in-Ok-clause-reported : goal.returns-in-Ok-clause-reported
 returns-in-Ok-clause-reported g c =
     reported _ _ _ c.in_ok-report.report _ _ _ c.in_ok-report.ensures.within c.in_ok-report.ensures.applied c.is_refusal.ensures c.in-Ok.ensures.whole
 
-pub returns-in-Err-clause-stopped : goal.returns-in-Err-clause-stopped
-returns-in-Err-clause-stopped g c =
+pub returns-clause-stopped : goal.returns-clause-stopped
+returns-clause-stopped g c =
     let e = c.write_report.ensures in
     inr (unreported _ _ _ c.in_ok-report.report c.in-Err.why _ _ c.in_ok-report.ensures.within c.in_ok-report.ensures.applied e.part
     (λ none. c.in-Err.ensures.unsent (ap Err none)))

@@ -11,5 +11,5 @@ returns-in-Ok-clause-none g c = rw c.in-Ok.ensures.taken c.source_for.ensures.no
 pub returns-in-Err-Refused-clause-none : goal.returns-in-Err-Refused-clause-none
 returns-in-Err-Refused-clause-none g c = words_refused _ _ (c.args-2.ensures.refused (c.in-Err-Refused.is ∙ ap Err c.in-Err-Refused.field-0-is))
 
-pub returns-clause-none : goal.returns-clause-none
-returns-clause-none g c = no_memory_left _ _
+pub returns-in-Err-NoMemory-clause-none : goal.returns-in-Err-NoMemory-clause-none
+returns-in-Err-NoMemory-clause-none g c = no_memory_left _ _

@@ -1,4 +1,5 @@
-use Rattle.std.proofs.Common.{refl, inl, inr, ap, ◌∙◌, arith, absurd}
+use Rattle.std.proofs.Common.{refl, inl, inr, ap, arith, length}
+use Rattle.session.specs.Ties.{seen}
 use Rattle.beas_run.proofs.Complete.{completes, completes_demo, completes_without}
 use Rattle.beas_run.proofs.Empty.{early_said, not_without, ran_nothing}
 use Rattle.beas_run.proofs.Pieces.{none_sent}
@@ -7,13 +8,13 @@ use Rattle.beas_run.proofs.Ties.{later_twice}
 use Rattle.beas_run.proofs.whole_run.run.Goals as goal
 
 pub run_over-requires : goal.run_over-requires
-run_over-requires g c = let fits = c.in-Ok.ensures.source.fits in let same = ap length c.as_str.ensures in omega arith
+run_over-requires g c = let fits = c.in-Ok.ensures.source.fits in let same = ap length c.as_str-text.ensures in omega arith
 
 pub returns-in-Ok : goal.returns-in-Ok
 returns-in-Ok g c =
     let e = c.in-Ok.ensures.source in
     let o = c.run_over.ensures in
-    let run = ran_over _ _ _ _ _ _ _ _ _ _ _ _ _ _ _ e c.as_str.ensures c.as_str.utf8 o in
+    let run = ran_over _ _ _ _ _ _ _ _ _ _ _ _ _ _ _ e c.as_str-text.ensures c.as_str-text.utf8 o in
     let settled = settings_are_words _ _ _ _ e.asked_is o.settings_are in
     record {
       ran = run;
@@ -33,7 +34,7 @@ returns-in-Ok g c =
       not_text = λ s. absurd (not_without _ o.statuses (inr (inr (inr s))));
       complete = λ name script named told is quiet out_quiet fits text. but_faults _ o.statuses (λ four. out_quiet (o.fault four));
       complete_without = λ name script named told is quiet.
-          completes_without _ _ _ _ (most _ o.statuses) (λ s. absurd (not_without _ o.statuses (inl s))) (λ s. absurd (not_without _ o.statuses (inr (inl s))))
+          completes_without _ _ _ (seen g.F.Files.told g.F.Files.content g.F.Files.faults g.F.Files.taken c.run_over.new.files) (most _ o.statuses) (λ s. absurd (not_without _ o.statuses (inl s))) (λ s. absurd (not_without _ o.statuses (inr (inl s))))
           (λ s. absurd (not_without _ o.statuses (inr (inr (inl s))))) (λ s. absurd (not_without _ o.statuses (inr (inr (inr s)))))
           name script named told is quiet _ run.has;
       complete_demo = λ seed asked out_quiet. but_faults _ o.statuses (λ four. out_quiet (o.fault four));

@@ -1,3 +1,4 @@
+use Rattle.beas_run.proofs.Sources.{settings_for_same, way_for}
 use Rattle.beas_run.proofs.whole_run.run_over.Goals as goal
 
 pub returns-in-Script : goal.returns-in-Script
@@ -5,8 +6,8 @@ returns-in-Script g c =
     let run = c.run_script.ensures in
     record {
       statuses = run.statuses;
-      walked = run.walked;
-      settings_are = run.settings;
+      walked = way_for c.args.args.now _ _ _ _ _ _ c.in-Script.is run.walked;
+      settings_are = settings_for_same c.args.args.now _ _ _ c.in-Script.is run.settings;
       no_fault = run.no_fault;
       fault = run.fault;
       told = run.told;
@@ -19,8 +20,8 @@ returns-in-Demo g c =
     let run = c.run_demonstration.ensures in
     record {
       statuses = run.statuses;
-      walked = run.demonstrated;
-      settings_are = run.settings;
+      walked = way_for c.args.args.now _ _ _ _ _ _ c.in-Demo.is run.demonstrated;
+      settings_are = settings_for_same c.args.args.now _ _ _ c.in-Demo.is run.settings;
       no_fault = run.no_fault;
       fault = run.fault;
       told = run.told;
