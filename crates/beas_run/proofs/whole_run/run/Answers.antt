@@ -34,7 +34,8 @@ returns-in-Ok g c =
       not_text = λ s. absurd (not_without _ o.statuses (inr (inr (inr s))));
       complete = λ name script named told is quiet out_quiet fits text. but_faults _ o.statuses (λ four. out_quiet (o.fault four));
       complete_without = λ name script named told is quiet.
-          completes_without _ _ _ (seen g.F.Files.told g.F.Files.content g.F.Files.faults g.F.Files.taken c.run_over.new.files) (most _ o.statuses) (λ s. absurd (not_without _ o.statuses (inl s))) (λ s. absurd (not_without _ o.statuses (inr (inl s))))
+          completes_without _ _ _ (seen g.F.Files.told g.F.Files.content g.F.Files.faults g.F.Files.taken c.run_over.new.files)
+          (most _ o.statuses) (λ s. absurd (not_without _ o.statuses (inl s))) (λ s. absurd (not_without _ o.statuses (inr (inl s))))
           (λ s. absurd (not_without _ o.statuses (inr (inr (inl s))))) (λ s. absurd (not_without _ o.statuses (inr (inr (inr s)))))
           name script named told is quiet _ run.has;
       complete_demo = λ seed asked out_quiet. but_faults _ o.statuses (λ four. out_quiet (o.fault four));
