@@ -1,7 +1,7 @@
 -- Joined rows are the extensions of valuations.
 use Rattle.std.specs.Ordering.{nat_cmp}
 use Rattle.std.proofs.Common.{◌≡◌, ◌==◌, ◌&&◌, ◌<◌, ◌≤◌, ◌+◌, ◌*◌, ℕ, suc, pos, Bool, true, false, not, cond, List, [], ◌∷◌, ◌++◌, length, get_or, take, map, All, inl, inr, refl, ap, sym, subst, ◌∙◌, arith, add-one, Contains, ◌-◌, get_or-append-add, zero}
-use Rattle.std.specs.List.{filter, range_with_len, list_all, zip, flat_map}
+use Rattle.std.specs.List.{filter, range_with_len, list_all, zip, flat_map, sum_by}
 use Rattle.std.proofs.Math.Seq.{take-suc}
 use Rattle.std.proofs.lemmas.Bool.{eqb-true}
 use Rattle.std.proofs.lemmas.Nat.{mul-le}
@@ -21,7 +21,7 @@ use Rattle.beas_core.specs.Full.{same_value}
 use Rattle.beas_core.specs.Groups.{group_of, member_columns, project}
 use Rattle.beas_core.specs.Coverage.{has, class_at, key_classes}
 use Rattle.beas_core.specs.Derivations.{access_in, member_classes, use_of, bound_by, key_is_bound}
-use Rattle.beas_core.specs.Reads.{key_for, keys_for}
+use Rattle.beas_core.specs.Reads.{key_for, keys_for, probe_reads, step_reads}
 use Rattle.beas_core.specs.Valuations.{value_of, agrees, classes_in, as_bindings}
 use Rattle.beas_core.proofs.Groups.{length-project}
 use Rattle.beas_core.proofs.Sets.{Has, Has-get_or, Has-map, Has-distinct, Has-from_distinct, Has-from_map, Has-from_filter, IsInOrder-distinct, Contains-from_has, length-distinct-le}
@@ -249,6 +249,13 @@ module _ (normal : Normal) (accesses : List Access) (s : DStep) (classes : List 
     pub keys_are : distinct row_cmp (map (project key) found) ≡ keys_for normal accesses s set found
     keys_are = ap (distinct row_cmp) (map_same (project key) (key_for normal accesses s set) found key_is)
 
+    -- what the probes of the keys read, where key and valuations are read through slices
+    pub share_is : (k : List ColumnId) (rs : List Row) → k ≡ key → rs ≡ found
+        → sum_by (probe_reads rows (access_in accesses s.access)) (distinct row_cmp (map (project k) rs)) ≡ step_reads rows normal accesses s set found
+    share_is k rs e f =
+        let share : List ColumnId → List Row → ℕ = λ k rs. sum_by (probe_reads rows (access_in accesses s.access)) (distinct row_cmp (map (project k) rs)) in
+        ap (λ x. share x rs) e ∙ ap (share key) f ∙ ap (sum_by (probe_reads rows (access_in accesses s.access))) keys_are
+
     abbrev joins_of : Row → List Row
     joins_of row = joins join.sources.items join.checks.items row
         (group_of (rows (access_in accesses s.access).table) (access_in accesses s.access) (project key row))
@@ -273,6 +280,15 @@ module _ (normal : Normal) (accesses : List Access) (s : DStep) (classes : List 
     pub extensions_are : distinct row_cmp (flat_map joins_of found) ≡ extensions rows normal accesses s set found
     extensions_are = ap (distinct row_cmp) (flat_same joins_of (extensions_of rows normal accesses s set) found one_joined)
 
+    pub found_are : (k : List ColumnId) (rs : List Row) → k ≡ key → rs ≡ found
+        → distinct row_cmp (flat_map (λ row. joins join.sources.items join.checks.items row
+        (group_of (rows (access_in accesses s.access).table) (access_in accesses s.access) (project k row))) rs)
+        ≡ distinct row_cmp (flat_map joins_of found)
+    found_are k rs e f =
+        let a = access_in accesses s.access in
+        let joined : List ColumnId → Row → List Row = λ k row. joins join.sources.items join.checks.items row (group_of (rows a.table) a (project k row)) in
+        ap (λ x. distinct row_cmp (flat_map (joined x) rs)) e ∙ ap (λ x. distinct row_cmp (flat_map (joined key) x)) f
+
     pub extensions_wide : All (λ row. length row ≡ length join.classes) (distinct row_cmp (flat_map joins_of found))
     extensions_wide k d l =
         let all = distinct row_cmp (flat_map joins_of found) in
@@ -283,20 +299,6 @@ module _ (normal : Normal) (accesses : List Access) (s : DStep) (classes : List 
         (project key from.0)) in
         let m = Has-from_map (joined_by join.sources.items from.0) tuples row from.2 in
         ap length m.2 ∙ length-map join.sources.items (at_place from.0 m.0) ∙ ap length is.sources_are ∙ length-map join.classes (place_of joined)
-
-    pub keys_wide : All (λ k. length k ≡ length (access_in accesses s.access).key) (distinct row_cmp (map (project key) found))
-    keys_wide k d l =
-        let all = distinct row_cmp (map (project key) found) in
-        let m = Has-from_map (project key) found (get_or all k d)
-        (Has-from_distinct row_cmp_total row_cmp_tells (map (project key) found) (get_or all k d) (Has-get_or all k d l)) in
-        ap length m.2 ∙ length-project key m.0 ∙ ap length keyed
-        ∙ length-map (access_in accesses s.access).key (λ c. column_of classes (class_at normal s.atom c))
-
-    pub keys_few : (bound : ℕ) → length (distinct row_cmp (map (project key) found)) * bound ≤ length found * bound
-    keys_few bound =
-        let a = length-distinct-le row_cmp_total row_cmp_tells (map (project key) found) in
-        let b = length-map found (project key) in
-        mul-le (length (distinct row_cmp (map (project key) found))) bound (length found) bound (omega (arith, a, b)) (omega arith)
 
     pub key_bound : All (λ row. All (λ column. column.0 < length row) key) found
     key_bound i d l j e k =
@@ -311,12 +313,19 @@ module _ (normal : Normal) (accesses : List Access) (s : DStep) (classes : List 
         let is_column = ap (λ (c : ColumnId). c.0) m.2 in
         omega (arith, p, w, is_column)
 
-    pub all_within : All (λ row. IsWithin (length row + length join.columns.items) join) found
-    all_within i d l = subst (λ n. IsWithin n join) (sym (same (length (get_or found i d)) (length classes) (length join.columns.items)
-        (length (member_columns (access_in accesses s.access))) (wide i d l) (ap length is.columns_are))) is.within
-      where
-        same : (a b m n : ℕ) → a ≡ b → m ≡ n → a + m ≡ b + n
-        same a b m n e f = omega (arith, e, f)
+-- keys are as wide as their columns are many, and no more than the rows
+pub keys_wide : (key : List ColumnId) (found : List Row) (n : ℕ) → length key ≡ n → All (λ k. length k ≡ n) (distinct row_cmp (map (project key) found))
+keys_wide key found n wide k d l =
+    let all = distinct row_cmp (map (project key) found) in
+    let m = Has-from_map (project key) found (get_or all k d)
+    (Has-from_distinct row_cmp_total row_cmp_tells (map (project key) found) (get_or all k d) (Has-get_or all k d l)) in
+    ap length m.2 ∙ length-project key m.0 ∙ wide
+
+pub keys_few : (key : List ColumnId) (found : List Row) (bound : ℕ) → length (distinct row_cmp (map (project key) found)) * bound ≤ length found * bound
+keys_few key found bound =
+    let a = length-distinct-le row_cmp_total row_cmp_tells (map (project key) found) in
+    let b = length-map found (project key) in
+    mul-le (length (distinct row_cmp (map (project key) found))) bound (length found) bound (omega (arith, a, b)) (omega arith)
 
 -- the key of each row stands among the keys
 pub key_there : (key : List ColumnId) (found : List Row) (i : ℕ) (row : Row) → i < length found → row ≡ get_or found i row

@@ -14,7 +14,7 @@ use beas_core::{AccessId, AccessPort, ColumnId, Duplicate, Hits, List, NoMemory,
 use std::alloc::Global;
 
 // The value of a joined row at a place.
-fn joined_value<'a, P: AccessPort>(
+fn value_at<'a, P: AccessPort>(
     port: &'a P,
     columns: &[ColumnId],
     row: &'a [Value],
@@ -51,8 +51,8 @@ fn is_same<P: AccessPort>(
     ensures { let tuple = slice_index_or (P.members port.now hits.now) i [] in
         result ≡ same_value (at_place row.now tuple check.0) (at_place row.now tuple check.1) }
 {
-    let left = joined_value(port, columns, row, hits, i, check.0);
-    let right = joined_value(port, columns, row, hits, i, check.1);
+    let left = value_at(port, columns, row, hits, i, check.0);
+    let right = value_at(port, columns, row, hits, i, check.1);
     *left == *right
 }
 
@@ -90,7 +90,7 @@ fn joined_row<P: AccessPort>(
 {
     let mut joined = Vec::with_capacity(alloc, join.sources.len())?;
     for place in &join.sources {
-        let value = joined_value(port, &join.columns, row, hits, i, *place);
+        let value = value_at(port, &join.columns, row, hits, i, *place);
         joined.push(value.copy(alloc)?)?;
     }
     Ok(List::from_vec(joined))

@@ -8,7 +8,7 @@ use beas_core::{ColumnId, Duplicate, List, NoMemory, Row, Value, sort_distinct};
 use std::alloc::Global;
 
 // The values of a row in some columns. One past the row's end is made up, since nothing reaches it.
-fn picked(alloc: Global, columns: &[ColumnId], row: &[Value]) -> Result<Row, NoMemory>
+fn values_in(alloc: Global, columns: &[ColumnId], row: &[Value]) -> Result<Row, NoMemory>
     ensures { IfOk result (λ values. values ≡ project columns.now row.now) }
 {
     let mut values = Vec::with_capacity(alloc, columns.len())?;
@@ -23,7 +23,7 @@ fn picked(alloc: Global, columns: &[ColumnId], row: &[Value]) -> Result<Row, NoM
 }
 
 /// The values of rows in some columns, as a set in order.
-pub fn distinct_picked(
+pub fn distinct_values(
     alloc: Global,
     columns: &[ColumnId],
     rows: &[Row],
@@ -32,7 +32,7 @@ pub fn distinct_picked(
 {
     let mut found = Vec::with_capacity(alloc, rows.len())?;
     for row in rows {
-        found.push(picked(alloc, columns, row.as_slice())?)?;
+        found.push(values_in(alloc, columns, row.as_slice())?)?;
     }
     Ok(sort_distinct(found))
 }

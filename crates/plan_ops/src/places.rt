@@ -37,6 +37,7 @@ fn column_in(block: &Normal, classes: &[u16], class: u16) -> ColumnId
     requires { classes.now ≡ classes_in (set_of block.now classes.now) }
     ensures { result ≡ column_of classes.now class }
 {
+    // Read for what its type tells: there are fewer than 2^16 classes, so that each place has a column's number.
     let _count = block.count;
     ColumnId(place_in(classes, class) as u16)
 }

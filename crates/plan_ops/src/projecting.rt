@@ -5,7 +5,7 @@ ghost use Rattle.beas_core.specs.Sets.{distinct};
 ghost use Rattle.beas_core.specs.Valuations.{output_row};
 ghost use Rattle.plan_ops.specs.Over.{IsOver, bound_set};
 
-use crate::picking::distinct_picked;
+use crate::picking::distinct_values;
 use crate::places::columns_at;
 use crate::valuations::Valuations;
 use beas_core::{List, NoMemory, Normal, Row};
@@ -23,6 +23,6 @@ pub fn project(alloc: Global, block: &Normal, from: &Valuations) -> Result<List<
         from.classes.as_slice(),
         block.output.as_slice(),
     )?;
-    let rows = distinct_picked(alloc, &columns, from.rows.as_slice())?;
+    let rows = distinct_values(alloc, &columns, from.rows.as_slice())?;
     Ok(List::from_vec(rows))
 }
