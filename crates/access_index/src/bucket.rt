@@ -112,7 +112,7 @@ pub fn search<W: Values>(bucket: &Bucket, tuple: &W) -> Result<usize, usize>
 }
 
 /// The values that columns pick from a row, as a row.
-fn copied(alloc: Global, tuple: &Picked) -> Result<Row, NoMemory>
+fn copy_of(alloc: Global, tuple: &Picked) -> Result<Row, NoMemory>
     ensures { IfOk result (λ copy. copy ≡ project tuple.now.columns.now tuple.now.row.now) }
 {
     let mut copy = Vec::with_capacity(alloc, tuple.len())?;
@@ -130,7 +130,7 @@ fn copied(alloc: Global, tuple: &Picked) -> Result<Row, NoMemory>
 pub fn of_one(alloc: Global, tuple: &Picked) -> Result<Bucket, NoMemory>
     ensures { IfOk result (λ bucket. IsOneMore [] bucket (project tuple.now.columns.now tuple.now.row.now)) }
 {
-    let tuple = copied(alloc, tuple)?;
+    let tuple = copy_of(alloc, tuple)?;
     let mut bucket = BlockedList::new(alloc);
     bucket.insert(alloc, 0, Tally { tuple, count: 1 })?;
     Ok(bucket)
@@ -151,7 +151,7 @@ pub fn count_up(alloc: Global, bucket: &mut Bucket, tuple: &Picked) -> Result<()
             Ok(())
         }
         Err(at) => {
-            let tuple = copied(alloc, tuple)?;
+            let tuple = copy_of(alloc, tuple)?;
             bucket.insert(alloc, at, Tally { tuple, count: 1 })
         }
     }

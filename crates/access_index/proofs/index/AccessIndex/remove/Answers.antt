@@ -19,17 +19,11 @@ search-requires c =
     let access = c.self.inside.access in
     let n = length c.self.inside.columns in
     let w = length access.key in
-    let total = c.self.inside.total in
     let old = c.self.inside.buckets.entries in
     let h = c.hash_values-hash.result in
-    let row = c.args.row.now in
-    let hash = c.hash_values-hash.ensures ∙ ap hash_of (picked c.as_slice-2.result.now access.key c.as_slice.result.now row c.as_slice-2.ensures
-    c.as_slice.ensures) in
     let ts = c.in-Some.bucket.now in
     let found : lookup (nat_eq h) old ≡ Some ts = sym c.in-Some.ensures.value in
     let b = found_bucket n w h old ts c.self.invariant.1.buckets found in
-    let same = picked c.as_slice-4.result.now (member_columns access) c.as_slice-3.result.now row (c.as_slice-4.ensures ∙ c.self.invariant.0)
-    c.as_slice-3.ensures in
     b.ordered
 
 pub count_down-requires-clause-ordered : goal.count_down-requires-clause-ordered
@@ -37,17 +31,11 @@ count_down-requires-clause-ordered c =
     let access = c.self.inside.access in
     let n = length c.self.inside.columns in
     let w = length access.key in
-    let total = c.self.inside.total in
     let old = c.self.inside.buckets.entries in
     let h = c.hash_values-hash.result in
-    let row = c.args.row.now in
-    let hash = c.hash_values-hash.ensures ∙ ap hash_of (picked c.as_slice-2.result.now access.key c.as_slice.result.now row c.as_slice-2.ensures
-    c.as_slice.ensures) in
     let ts = c.in-Some.bucket.now in
     let found : lookup (nat_eq h) old ≡ Some ts = sym c.in-Some.ensures.value in
     let b = found_bucket n w h old ts c.self.invariant.1.buckets found in
-    let same = picked c.as_slice-4.result.now (member_columns access) c.as_slice-3.result.now row (c.as_slice-4.ensures ∙ c.self.invariant.0)
-    c.as_slice-3.ensures in
     b.ordered
 
 pub count_down-requires-clause-counted : goal.count_down-requires-clause-counted
@@ -55,17 +43,11 @@ count_down-requires-clause-counted c =
     let access = c.self.inside.access in
     let n = length c.self.inside.columns in
     let w = length access.key in
-    let total = c.self.inside.total in
     let old = c.self.inside.buckets.entries in
     let h = c.hash_values-hash.result in
-    let row = c.args.row.now in
-    let hash = c.hash_values-hash.ensures ∙ ap hash_of (picked c.as_slice-2.result.now access.key c.as_slice.result.now row c.as_slice-2.ensures
-    c.as_slice.ensures) in
     let ts = c.in-Some.bucket.now in
     let found : lookup (nat_eq h) old ≡ Some ts = sym c.in-Some.ensures.value in
     let b = found_bucket n w h old ts c.self.invariant.1.buckets found in
-    let same = picked c.as_slice-4.result.now (member_columns access) c.as_slice-3.result.now row (c.as_slice-4.ensures ∙ c.self.invariant.0)
-    c.as_slice-3.ensures in
     b.counted
 
 pub overflow_sub-self : goal.overflow_sub-self
@@ -76,21 +58,12 @@ overflow_sub-self c =
     let total = c.self.inside.total in
     let old = c.self.inside.buckets.entries in
     let h = c.hash_values-hash.result in
-    let row = c.args.row.now in
-    let hash = c.hash_values-hash.ensures ∙ ap hash_of (picked c.as_slice-2.result.now access.key c.as_slice.result.now row c.as_slice-2.ensures
-    c.as_slice.ensures) in
     let ts = c.in-Some.bucket.now in
     let found : lookup (nat_eq h) old ≡ Some ts = sym c.in-Some.ensures.value in
     let b = found_bucket n w h old ts c.self.invariant.1.buckets found in
-    let same = picked c.as_slice-4.result.now (member_columns access) c.as_slice-3.result.now row (c.as_slice-4.ensures ∙ c.self.invariant.0)
-    c.as_slice-3.ensures in
-    let at = c.in-Ok.at in
-    let d = c.get.result.now in
     let there = c.in-Ok.ensures.0 in
     let long = tuples_within ts b.counted in
     let most = bucket_within n w h total old ts c.self.invariant.1 found in
-    let one : total ≡ (total - 1) + 1 = omega (arith, there, long, most) in
-    let stored = subst (IsStored n w old) one c.self.invariant.1 in
     omega (arith, there, long, most)
 
 pub overflow_sub-self-2 : goal.overflow_sub-self-2
@@ -101,21 +74,12 @@ overflow_sub-self-2 c =
     let total = c.self.inside.total in
     let old = c.self.inside.buckets.entries in
     let h = c.hash_values-hash.result in
-    let row = c.args.row.now in
-    let hash = c.hash_values-hash.ensures ∙ ap hash_of (picked c.as_slice-2.result.now access.key c.as_slice.result.now row c.as_slice-2.ensures
-    c.as_slice.ensures) in
     let ts = c.in-Some.bucket.now in
     let found : lookup (nat_eq h) old ≡ Some ts = sym c.in-Some.ensures.value in
     let b = found_bucket n w h old ts c.self.invariant.1.buckets found in
-    let same = picked c.as_slice-4.result.now (member_columns access) c.as_slice-3.result.now row (c.as_slice-4.ensures ∙ c.self.invariant.0)
-    c.as_slice-3.ensures in
-    let at = c.in-Ok.at in
-    let d = c.get.result.now in
     let there = c.in-Ok.ensures.0 in
     let long = tuples_within ts b.counted in
     let most = bucket_within n w h total old ts c.self.invariant.1 found in
-    let one : total ≡ (total - 1) + 1 = omega (arith, there, long, most) in
-    let stored = subst (IsStored n w old) one c.self.invariant.1 in
     omega (arith, there, long, most)
 
 pub invariant_of-self-then-max-gt1 : goal.invariant_of-self-then-max-gt1
@@ -257,10 +221,8 @@ pub returns-in-None-clause-rest : goal.returns-in-None-clause-rest
 returns-in-None-clause-rest c front back is =
     let access = c.self.inside.access in
     let n = length c.self.inside.columns in
-    let w = length access.key in
     let total = c.self.inside.total in
     let old = c.self.inside.buckets.entries in
-    let h = c.hash_values-hash.result in
     let row = c.args.row.now in
     let hash = c.hash_values-hash.ensures ∙ ap hash_of (picked c.as_slice-2.result.now access.key c.as_slice.result.now row c.as_slice-2.ensures
     c.as_slice.ensures) in
@@ -277,14 +239,8 @@ invariant_of-self-in-Err c =
     let total = c.self.inside.total in
     let old = c.self.inside.buckets.entries in
     let h = c.hash_values-hash.result in
-    let row = c.args.row.now in
-    let hash = c.hash_values-hash.ensures ∙ ap hash_of (picked c.as_slice-2.result.now access.key c.as_slice.result.now row c.as_slice-2.ensures
-    c.as_slice.ensures) in
     let ts = c.in-Some.bucket.now in
     let found : lookup (nat_eq h) old ≡ Some ts = sym c.in-Some.ensures.value in
-    let b = found_bucket n w h old ts c.self.invariant.1.buckets found in
-    let same = picked c.as_slice-4.result.now (member_columns access) c.as_slice-3.result.now row (c.as_slice-4.ensures ∙ c.self.invariant.0)
-    c.as_slice-3.ensures in
     let kept = (c.get_mut.follows.holds ts).0 ∙ set_same h old ts found in
     (c.self.invariant.0, subst (λ es. IsStored n w es total) (sym kept) c.self.invariant.1)
 
@@ -292,7 +248,6 @@ pub returns-in-Err-clause-rest : goal.returns-in-Err-clause-rest
 returns-in-Err-clause-rest c front back is =
     let access = c.self.inside.access in
     let n = length c.self.inside.columns in
-    let w = length access.key in
     let total = c.self.inside.total in
     let old = c.self.inside.buckets.entries in
     let h = c.hash_values-hash.result in
@@ -301,7 +256,6 @@ returns-in-Err-clause-rest c front back is =
     c.as_slice.ensures) in
     let ts = c.in-Some.bucket.now in
     let found : lookup (nat_eq h) old ≡ Some ts = sym c.in-Some.ensures.value in
-    let b = found_bucket n w h old ts c.self.invariant.1.buckets found in
     let same = picked c.as_slice-4.result.now (member_columns access) c.as_slice-3.result.now row (c.as_slice-4.ensures ∙ c.self.invariant.0)
     c.as_slice-3.ensures in
     let here = ap (λ o. unwrap_or o []) (sym found) ∙ ap (bucket_at old) hash in
