@@ -86,10 +86,9 @@ pub fn meets(block: &Block, row: &Row) -> bool
     requires { BlockFits row.now block.now }
     ensures { result ≡ meets block.now (row.now ∷ []) }
 {
-    let equalities = meets_equalities(row, block.equalities.as_slice());
-    let constants = meets_constants(row, block.constants.as_slice());
-    let comparisons = meets_comparisons(row, block.comparisons.as_slice());
-    equalities & constants & comparisons
+    meets_equalities(row, block.equalities.as_slice())
+        && meets_constants(row, block.constants.as_slice())
+        && meets_comparisons(row, block.comparisons.as_slice())
 }
 
 /// The table of a block of one atom.

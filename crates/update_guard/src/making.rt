@@ -1,5 +1,6 @@
 // Tables and constraints are made, each with its rows or its index, or not at all.
-ghost use Rattle.std.specs.Prelude.{◌≡◌, ◌≢◌, ◌+◌, ◌<◌, ◌≤◌, ◌++◌, ◌∷◌, if◌then◌else◌, [], length, vec_len, vec_capacity, IfOk, OnOk, OnErr, Err, slice_index_or};
+ghost use Rattle.std.specs.Prelude.{◌≡◌, ◌≢◌, ◌+◌, ◌<◌, ◌≤◌, ◌++◌, ◌∷◌, if◌then◌else◌, [], length, vec_len, IfOk, IfErr, OnOk, OnErr, Err, None, slice_index_or};
+ghost use Rattle.beas_core.specs.Groups.{Holds};
 ghost use Rattle.std.specs.Option.{is_none, option_or};
 ghost use Rattle.beas_core.specs.declared.errors.Fail.TheVariants.{NoMemory as Want};
 ghost use Rattle.access_index.specs.Index.{IsIndexOf, Index};
@@ -8,22 +9,13 @@ ghost use Rattle.catalogue.specs.Refusing.{IsRefusedAs, add_table_refusal, admit
 ghost use Rattle.update_guard.specs.Making.{AddsIndex, DropsIndex};
 
 use access_index::AccessIndex;
-use beas_core::{AccessId, AccessSpec, Column, Fail, Limits, List, Name, Refusal, Steps, TableId};
+use beas_core::{
+    Access, AccessId, AccessSpec, Column, Fail, Limits, List, Name, Refusal, Steps, TableId,
+};
 use catalogue::Catalogue;
 use row_store::Rows;
 use std::alloc::Global;
 use std::sync::ledger::Ledger;
-
-/// Adds an item at the end, in the room that is there.
-fn push_in_room<T: Drop>(items: &mut Vec<T>, item: T)
-    requires { vec_len items.old < vec_capacity items.old }
-    ensures { items.new.items ≡ items.old.items ++ item ∷ [] }
-{
-    match items.push(item) {
-        Ok(()) => {}
-        Err(_) => unreachable!(),
-    }
-}
 
 /// Makes a table, and a place for its rows.
 pub fn make_table(
@@ -44,7 +36,56 @@ pub fn make_table(
 {
     rows.reserve(1)?;
     let id = catalogue.add_table(alloc, limits, name, columns)?;
-    push_in_room(rows, Rows::new(alloc));
+    rows.push_reserved(Rows::new(alloc));
+    Ok(id)
+}
+
+/// The index of rows for a constraint, which is refused where it doesn't hold over them.
+fn index_that_holds<L: Ledger>(
+    alloc: Global,
+    access: Access,
+    rows: &Rows,
+    steps: &mut Steps<L>,
+) -> Result<AccessIndex, Fail>
+    ensures refused { IsRefusedAs result (already_broken rows.now access) }
+    ensures access { IfOk result (λ index. index.access ≡ access) }
+    ensures index { IfOk result (λ index. IsIndexOf index rows.now) }
+    ensures holds { OnOk result (Holds rows.now access) }
+    ensures read { OnOk result (steps.new ≡ steps.old + length rows.now) }
+    ensures refused_read { IfErr result (λ why. why ≢ Want → steps.new ≡ steps.old + length rows.now) }
+    ensures at_most { steps.new ≤ steps.old + length rows.now }
+    ensures no_fewer { steps.old ≤ steps.new }
+{
+    let bound = access.bound;
+    let index = AccessIndex::build(alloc, access, rows, steps)?;
+    let needed = index.greatest();
+    if needed > bound {
+        return Err(Fail::Refused(Refusal::AlreadyBroken { needed, bound }));
+    }
+    Ok(index)
+}
+
+/// Adds a constraint that a statement may make, and its index at the end.
+fn put_access(
+    alloc: Global,
+    catalogue: &mut Catalogue,
+    indexes: &mut Vec<AccessIndex>,
+    limits: &Limits,
+    spec: &AccessSpec,
+    index: AccessIndex,
+) -> Result<AccessId, Fail>
+    requires fetches { 1 ≤ length spec.now.fetched }
+    requires may { admit_refusal limits.now catalogue.old spec.now ≡ None }
+    ensures refused { IsRefusedAs result None }
+    ensures id { IfOk result (λ id. id.0 ≡ catalogue.old.created) }
+    ensures ok { OnOk result (catalogue.new ≡ schema_with_access catalogue.old (admitted catalogue.old spec.now)) }
+    ensures index { OnOk result (indexes.new.items ≡ indexes.old.items ++ index ∷ []) }
+    ensures err { OnErr result (catalogue.new ≡ catalogue.old) }
+    ensures indexes_stay { OnErr result (indexes.new.items ≡ indexes.old.items) }
+{
+    indexes.reserve(1)?;
+    let id = catalogue.add_access(alloc, limits, spec)?;
+    indexes.push_reserved(index);
     Ok(id)
 }
 
@@ -78,17 +119,11 @@ pub fn make_access<L: Ledger>(
     ensures no_fewer { steps.old ≤ steps.new }
 {
     let access = catalogue.admit(alloc, limits, spec)?;
-    let bound = access.bound;
     let table = access.table.0 as usize;
-    let index = AccessIndex::build(alloc, access, &rows.as_slice()[table], steps)?;
-    let needed = index.greatest();
-    if needed > bound {
-        return Err(Fail::Refused(Refusal::AlreadyBroken { needed, bound }));
+    match index_that_holds(alloc, access, &rows.as_slice()[table], steps) {
+        Ok(index) => put_access(alloc, catalogue, indexes, limits, spec, index),
+        Err(why) => Err(why),
     }
-    indexes.reserve(1)?;
-    let id = catalogue.add_access(alloc, limits, spec)?;
-    push_in_room(indexes, index);
-    Ok(id)
 }
 
 /// Drops a constraint and its index.

@@ -1,18 +1,21 @@
-use Rattle.std.proofs.Common.{◌≡◌, ◌∙◌, ◌<◌, ◌++◌, ◌∷◌, List, [], length, get_or, ap, sym, subst, arith, Some}
-use Rattle.std.specs.Option.{option_or}
+use Rattle.std.proofs.Common.{◌≡◌, ◌∙◌, ◌<◌, ◌≤◌, ◌+◌, ℕ, List, [], length, get_or, ap, sym, subst, arith, Option, if◌then◌else◌}
+use Rattle.std.specs.Prelude.{Err}
+use Rattle.std.specs.Option.{option_or, is_none}
 use Rattle.std.proofs.lemmas.List.{get_or_default}
-use Rattle.beas_core.specs.declared.refusal.Refusal.TheVariants.{AlreadyBroken}
+use Rattle.beas_core.specs.declared.refusal.Refusal.{Refusal}
 use Rattle.beas_core.specs.declared.schema.Access.{Access}
+use Rattle.beas_core.specs.declared.schema.AccessId.{AccessId}
 use Rattle.beas_core.specs.Types.{Row}
-use Rattle.beas_core.specs.Groups.{greatest}
-use Rattle.access_index.specs.Index.{IsIndexOf}
-use Rattle.catalogue.specs.Refusing.{admitted, already_broken}
+use Rattle.beas_core.specs.Groups.{Holds}
+use Rattle.access_index.specs.Index.{Index, IsIndexOf}
+use Rattle.catalogue.specs.Refusing.{IsRefusedAs, admit_refusal, admitted, already_broken}
 use Rattle.catalogue.proofs.MayMake.{may_make_access}
-use Rattle.update_guard.proofs.BoundFacts.{broken_where, whole_where, held_where}
+use Rattle.update_guard.proofs.GuardFacts.{on_ok}
+use Rattle.update_guard.proofs.InsertFacts.{refused_alike}
 use Rattle.update_guard.proofs.making.make_access.Goals as goal
 
-pub returns-then-needed-bound-clause-refused : goal.returns-then-needed-bound-clause-refused
-returns-then-needed-bound-clause-refused g c =
+pub returns-in-Err-clause-refused : goal.returns-in-Err-clause-refused
+returns-in-Err-clause-refused g c =
     let a = admitted c.args.catalogue.now c.args.spec.now in
     let rows = get_or c.args.rows.now a.table.0 [] in
     let lent = c.index-as_slice-table.result in
@@ -24,16 +27,15 @@ returns-then-needed-bound-clause-refused g c =
     c.index-as_slice-table.is ∙ ap (λ xs. get_or xs c.in_ok-access.access.table.0 lent) c.as_slice.ensures
     ∙ ap (λ (x : Access). get_or c.args.rows.now x.table.0 lent) same
     ∙ get_or_default c.args.rows.now a.table.0 lent [] live in
-    let needed : c.greatest-needed.result ≡ greatest rows a.key a.fetched =
-    c.greatest-needed.ensures lent c.in_ok-index.ensures.index ∙ ap (λ (x : Access). greatest lent x.key x.fetched) (c.in_ok-index.ensures.access ∙ same)
-    ∙ ap (λ rs. greatest rs a.key a.fetched) own in
-    let bound : c.in_ok-access.access.bound ≡ a.bound = ap (λ (x : Access). x.bound) same in
-    ap (λ o. option_or o (already_broken rows a)) c.in_ok-access.ensures.refused
-    ∙ broken_where rows a c.greatest-needed.result needed (omega (arith, c.if-needed-bound.true, bound))
-    ∙ ap (λ b. Some (AlreadyBroken c.greatest-needed.result b)) (sym bound)
+    let told : option_or (admit_refusal c.args.limits.now c.args.catalogue.now c.args.spec.now) (already_broken rows a)
+    ≡ already_broken lent c.in_ok-access.access =
+    ap (λ o. option_or o (already_broken rows a)) c.in_ok-access.ensures.refused ∙ ap (λ rs. already_broken rs a) (sym own)
+    ∙ ap (already_broken lent) (sym same) in
+    let R : Option Refusal → Type 0 = λ r. IsRefusedAs {T = AccessId} (Err c.in-Err.why) r in
+    subst R (sym told) (refused_alike Index AccessId c.in-Err.why (already_broken lent c.in_ok-access.access) c.in-Err.ensures.refused)
 
-pub returns-clause-refused : goal.returns-clause-refused
-returns-clause-refused g c =
+pub returns-in-Err-clause-cost : goal.returns-in-Err-clause-cost
+returns-in-Err-clause-cost g c n =
     let a = admitted c.args.catalogue.now c.args.spec.now in
     let rows = get_or c.args.rows.now a.table.0 [] in
     let lent = c.index-as_slice-table.result in
@@ -45,15 +47,11 @@ returns-clause-refused g c =
     c.index-as_slice-table.is ∙ ap (λ xs. get_or xs c.in_ok-access.access.table.0 lent) c.as_slice.ensures
     ∙ ap (λ (x : Access). get_or c.args.rows.now x.table.0 lent) same
     ∙ get_or_default c.args.rows.now a.table.0 lent [] live in
-    let needed : c.greatest-needed.result ≡ greatest rows a.key a.fetched =
-    c.greatest-needed.ensures lent c.in_ok-index.ensures.index ∙ ap (λ (x : Access). greatest lent x.key x.fetched) (c.in_ok-index.ensures.access ∙ same)
-    ∙ ap (λ rs. greatest rs a.key a.fetched) own in
-    let bound : c.in_ok-access.access.bound ≡ a.bound = ap (λ (x : Access). x.bound) same in
-    ap (λ o. option_or o (already_broken rows a)) c.in_ok-access.ensures.refused
-    ∙ whole_where rows a c.greatest-needed.result needed (omega (arith, c.if-needed-bound.false, bound))
+    let share = ap length own ∙ sym (ap (λ (o : Option Refusal). if is_none o then length rows else 0) c.in_ok-access.ensures.refused) in
+    c.in-Err.ensures.refused_read (λ e. n (ap Err e)) ∙ ap (λ k. c.args.steps.now + k) share
 
-pub returns-clause-index : goal.returns-clause-index
-returns-clause-index g c =
+pub returns-in-Err-clause-at_most : goal.returns-in-Err-clause-at_most
+returns-in-Err-clause-at_most g c =
     let a = admitted c.args.catalogue.now c.args.spec.now in
     let rows = get_or c.args.rows.now a.table.0 [] in
     let lent = c.index-as_slice-table.result in
@@ -65,14 +63,77 @@ returns-clause-index g c =
     c.index-as_slice-table.is ∙ ap (λ xs. get_or xs c.in_ok-access.access.table.0 lent) c.as_slice.ensures
     ∙ ap (λ (x : Access). get_or c.args.rows.now x.table.0 lent) same
     ∙ get_or_default c.args.rows.now a.table.0 lent [] live in
-    let needed : c.greatest-needed.result ≡ greatest rows a.key a.fetched =
-    c.greatest-needed.ensures lent c.in_ok-index.ensures.index ∙ ap (λ (x : Access). greatest lent x.key x.fetched) (c.in_ok-index.ensures.access ∙ same)
-    ∙ ap (λ rs. greatest rs a.key a.fetched) own in
-    let bound : c.in_ok-access.access.bound ≡ a.bound = ap (λ (x : Access). x.bound) same in
-    record {
-      index = c.in_ok-index.index;
-      added = c.push_in_room.ensures ∙ ap (λ xs. xs ++ c.in_ok-index.index ∷ []) c.in_ok-reserve.ensures.items;
-      access_is = c.in_ok-index.ensures.access ∙ same;
-      index_is = subst (λ (rs : List Row). IsIndexOf c.in_ok-index.index rs) own c.in_ok-index.ensures.index;
-      holds = held_where rows a c.greatest-needed.result needed (omega (arith, c.if-needed-bound.false, bound));
-    }
+    let share = ap length own ∙ sym (ap (λ (o : Option Refusal). if is_none o then length rows else 0) c.in_ok-access.ensures.refused) in
+    subst (λ (k : ℕ). c.index_that_holds.new.steps ≤ c.args.steps.now + k) share c.in-Err.ensures.at_most
+
+pub returns-in-Ok-clause-refused : goal.returns-in-Ok-clause-refused
+returns-in-Ok-clause-refused g c =
+    let a = admitted c.args.catalogue.now c.args.spec.now in
+    let rows = get_or c.args.rows.now a.table.0 [] in
+    let lent = c.index-as_slice-table.result in
+    let same : c.in_ok-access.access ≡ a = c.in_ok-access.ensures.admitted in
+    let may = may_make_access c.args.limits.now c.args.catalogue.now c.args.spec.now c.in_ok-access.ensures.refused c.requires.fetches
+    c.args.limits.now.constraints_in_range.1 in
+    let live : a.table.0 < length c.args.rows.now = omega (arith, may.table, c.requires.tables) in
+    let own : lent ≡ rows =
+    c.index-as_slice-table.is ∙ ap (λ xs. get_or xs c.in_ok-access.access.table.0 lent) c.as_slice.ensures
+    ∙ ap (λ (x : Access). get_or c.args.rows.now x.table.0 lent) same
+    ∙ get_or_default c.args.rows.now a.table.0 lent [] live in
+    let told : option_or (admit_refusal c.args.limits.now c.args.catalogue.now c.args.spec.now) (already_broken rows a)
+    ≡ already_broken lent c.in_ok-access.access =
+    ap (λ o. option_or o (already_broken rows a)) c.in_ok-access.ensures.refused ∙ ap (λ rs. already_broken rs a) (sym own)
+    ∙ ap (already_broken lent) (sym same) in
+    subst (IsRefusedAs c.put_access.result) (sym (told ∙ c.in-Ok.ensures.refused)) c.put_access.ensures.refused
+
+pub returns-in-Ok-clause-index : goal.returns-in-Ok-clause-index
+returns-in-Ok-clause-index g c =
+    let a = admitted c.args.catalogue.now c.args.spec.now in
+    let rows = get_or c.args.rows.now a.table.0 [] in
+    let lent = c.index-as_slice-table.result in
+    let same : c.in_ok-access.access ≡ a = c.in_ok-access.ensures.admitted in
+    let may = may_make_access c.args.limits.now c.args.catalogue.now c.args.spec.now c.in_ok-access.ensures.refused c.requires.fetches
+    c.args.limits.now.constraints_in_range.1 in
+    let live : a.table.0 < length c.args.rows.now = omega (arith, may.table, c.requires.tables) in
+    let own : lent ≡ rows =
+    c.index-as_slice-table.is ∙ ap (λ xs. get_or xs c.in_ok-access.access.table.0 lent) c.as_slice.ensures
+    ∙ ap (λ (x : Access). get_or c.args.rows.now x.table.0 lent) same
+    ∙ get_or_default c.args.rows.now a.table.0 lent [] live in
+    on_ok c.put_access.result c.put_access.ensures.index (λ e. record {
+      index = c.in-Ok.index;
+      added = e;
+      access_is = c.in-Ok.ensures.access ∙ same;
+      index_is = subst (λ (rs : List Row). IsIndexOf c.in-Ok.index rs) own c.in-Ok.ensures.index;
+      holds = subst (λ (x : Access). Holds rows x) same (subst (λ (rs : List Row). Holds rs c.in_ok-access.access) own c.in-Ok.ensures.holds);
+    })
+
+pub returns-in-Ok-clause-cost : goal.returns-in-Ok-clause-cost
+returns-in-Ok-clause-cost g c n =
+    let a = admitted c.args.catalogue.now c.args.spec.now in
+    let rows = get_or c.args.rows.now a.table.0 [] in
+    let lent = c.index-as_slice-table.result in
+    let same : c.in_ok-access.access ≡ a = c.in_ok-access.ensures.admitted in
+    let may = may_make_access c.args.limits.now c.args.catalogue.now c.args.spec.now c.in_ok-access.ensures.refused c.requires.fetches
+    c.args.limits.now.constraints_in_range.1 in
+    let live : a.table.0 < length c.args.rows.now = omega (arith, may.table, c.requires.tables) in
+    let own : lent ≡ rows =
+    c.index-as_slice-table.is ∙ ap (λ xs. get_or xs c.in_ok-access.access.table.0 lent) c.as_slice.ensures
+    ∙ ap (λ (x : Access). get_or c.args.rows.now x.table.0 lent) same
+    ∙ get_or_default c.args.rows.now a.table.0 lent [] live in
+    let share = ap length own ∙ sym (ap (λ (o : Option Refusal). if is_none o then length rows else 0) c.in_ok-access.ensures.refused) in
+    c.in-Ok.ensures.read ∙ ap (λ k. c.args.steps.now + k) share
+
+pub returns-in-Ok-clause-at_most : goal.returns-in-Ok-clause-at_most
+returns-in-Ok-clause-at_most g c =
+    let a = admitted c.args.catalogue.now c.args.spec.now in
+    let rows = get_or c.args.rows.now a.table.0 [] in
+    let lent = c.index-as_slice-table.result in
+    let same : c.in_ok-access.access ≡ a = c.in_ok-access.ensures.admitted in
+    let may = may_make_access c.args.limits.now c.args.catalogue.now c.args.spec.now c.in_ok-access.ensures.refused c.requires.fetches
+    c.args.limits.now.constraints_in_range.1 in
+    let live : a.table.0 < length c.args.rows.now = omega (arith, may.table, c.requires.tables) in
+    let own : lent ≡ rows =
+    c.index-as_slice-table.is ∙ ap (λ xs. get_or xs c.in_ok-access.access.table.0 lent) c.as_slice.ensures
+    ∙ ap (λ (x : Access). get_or c.args.rows.now x.table.0 lent) same
+    ∙ get_or_default c.args.rows.now a.table.0 lent [] live in
+    let share = ap length own ∙ sym (ap (λ (o : Option Refusal). if is_none o then length rows else 0) c.in_ok-access.ensures.refused) in
+    subst (λ (k : ℕ). c.index_that_holds.new.steps ≤ c.args.steps.now + k) share c.in-Ok.ensures.at_most
