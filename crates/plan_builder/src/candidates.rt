@@ -87,6 +87,7 @@ fn next_adding<'a>(
             return Some(found);
         }
     }
+    // Read for what it shows: none is left.
     let _left = waiting.as_slice();
     None
 }

@@ -39,6 +39,7 @@ pub fn best_serving<'a>(
 {
     let mut best: Option<UseAt<'a>> = None;
     for found in uses {
+        // Neither test takes long or fails, and as values they are proved once, not once on each way through `&&`.
         let may = serves_now(block, set, atom, found);
         let better = beats(found, &best);
         if may & better {
