@@ -67,7 +67,7 @@ fn sources_of(
 {
     let mut sources = Vec::with_capacity(alloc, classes.len())?;
     for class in classes {
-        sources.push(places[usize::from(*class)])?;
+        sources.push_reserved(places[usize::from(*class)]);
     }
     Ok(sources)
 }

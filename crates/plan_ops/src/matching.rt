@@ -91,7 +91,7 @@ fn joined_row<P: AccessPort>(
     let mut joined = Vec::with_capacity(alloc, join.sources.len())?;
     for place in &join.sources {
         let value = value_at(port, &join.columns, row, hits, i, *place);
-        joined.push(value.copy(alloc)?)?;
+        joined.push_reserved(value.copy(alloc)?);
     }
     Ok(List::from_vec(joined))
 }

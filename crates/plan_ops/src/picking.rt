@@ -17,7 +17,7 @@ fn values_in(alloc: Global, columns: &[ColumnId], row: &[Value]) -> Result<Row, 
             Some(value) => value.copy(alloc)?,
             None => Value::Int(0),
         };
-        values.push(value)?;
+        values.push_reserved(value);
     }
     Ok(List::from_vec(values))
 }
@@ -32,7 +32,7 @@ pub fn distinct_values(
 {
     let mut found = Vec::with_capacity(alloc, rows.len())?;
     for row in rows {
-        found.push(values_in(alloc, columns, row.as_slice())?)?;
+        found.push_reserved(values_in(alloc, columns, row.as_slice())?);
     }
     Ok(sort_distinct(found))
 }

@@ -56,7 +56,7 @@ pub fn columns_in(
 {
     let mut found = Vec::with_capacity(alloc, columns.len())?;
     for column in columns {
-        found.push(column_in(block, classes, class_at(block, atom, *column)))?;
+        found.push_reserved(column_in(block, classes, class_at(block, atom, *column)));
     }
     Ok(found)
 }
@@ -74,7 +74,7 @@ pub fn columns_at(
 {
     let mut found = Vec::with_capacity(alloc, places.len())?;
     for place in places {
-        found.push(column_in(block, classes, class_at(block, place.atom, place.column)))?;
+        found.push_reserved(column_in(block, classes, class_at(block, place.atom, place.column)));
     }
     Ok(found)
 }

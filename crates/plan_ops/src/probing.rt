@@ -42,7 +42,7 @@ pub fn groups_of<P: AccessPort, L: Ledger>(
         let hits = port.probe(id, key.as_slice(), steps);
         // A probe that finds nothing counts as one read.
         *reads += u128::from(hits.len().max(1));
-        groups.push(hits)?;
+        groups.push_reserved(hits);
     }
     Ok(groups)
 }

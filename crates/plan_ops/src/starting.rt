@@ -17,7 +17,7 @@ fn classes_equated(alloc: Global, constants: &[(u16, Value)]) -> Result<Vec<u16>
 {
     let mut classes = Vec::with_capacity(alloc, constants.len())?;
     for constant in constants {
-        classes.push(constant.0)?;
+        classes.push_reserved(constant.0);
     }
     Ok(classes)
 }
@@ -53,7 +53,7 @@ fn constant_row(
     let mut row = Vec::with_capacity(alloc, classes.len())?;
     for class in classes {
         let first = &constants[places[usize::from(*class)]];
-        row.push(first.1.copy(alloc)?)?;
+        row.push_reserved(first.1.copy(alloc)?);
     }
     Ok(List::from_vec(row))
 }

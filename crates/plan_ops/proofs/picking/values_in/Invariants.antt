@@ -1,6 +1,11 @@
-use Rattle.std.proofs.Common.{◌≡◌, take}
+use Rattle.std.proofs.Common.{◌≡◌, take, length}
+use Rattle.std.specs.Prelude.{vec_len, vec_capacity}
 use Rattle.beas_core.specs.Groups.{project}
 use Rattle.plan_ops.proofs.picking.values_in.Given as goal
 
 abbrev pub invariant-loop-column : goal.invariant-loop-column
-invariant-loop-column l = l.values.items ≡ project (take l.column-index l.columns) l.row
+invariant-loop-column l = record {
+  items : l.values.items ≡ project (take l.column-index l.columns) l.row;
+  len : vec_len l.values ≡ l.column-index;
+  room : vec_capacity l.values ≡ length l.columns;
+}

@@ -1,42 +1,11 @@
 use Rattle.std.proofs.Common.{◌≡◌, ◌≤◌, ◌+◌, ◌*◌, ◌∙◌, max, ap, sym, subst, arith, length, take}
 use Rattle.std.specs.List.{sum_by, AllZip}
-use Rattle.std.proofs.lemmas.List.Sums.{sum_by-take-le}
 use Rattle.beas_core.specs.Derivations.{access_in}
 use Rattle.beas_core.specs.Groups.{group_of}
 use Rattle.beas_core.specs.Reads.{probe_reads}
 use Rattle.plan_ops.specs.Joins.{IsGroup}
-use Rattle.plan_ops.proofs.ProbeFacts.{summed_more, few_more, group_of_hits, zip_more, counts_err}
+use Rattle.plan_ops.proofs.ProbeFacts.{summed_more, few_more, group_of_hits, zip_more}
 use Rattle.plan_ops.proofs.probing.groups_of.Goals as goal
-
-pub returns-in_err-push-clause-reads : goal.returns-in_err-push-clause-reads
-returns-in_err-push-clause-reads g c =
-    let rows = g.P.AccessPort.rows c.args.port.now in
-    let access = access_in (g.P.AccessPort.accesses c.args.port.now) c.args.id in
-    let f = probe_reads rows access in
-    let i = c.loop-key.key-index in
-    let len : max 1 c.probe-hits.result.len ≡ f c.key-item.result = ap (max 1) (c.probe-hits.ensures.len
-    ∙ ap length (c.probe-hits.ensures.members ∙ ap (group_of (rows access.table) access) c.as_slice.ensures)) in
-    let n : c.from.result ≡ f c.key-item.result = omega (arith, c.from.ensures, c.max.ensures, c.len.ensures, len) in
-    let sum = summed_more f c.args.keys.now access.bound i c.loop-key-test.true c.key-item.result c.key-item.is in
-    let all = sum_by-take-le f c.args.keys.now (i + 1) in
-    let reads = c.loop-key.invariant.reads in
-    counts_err c.from_residual-in_err-push.result c.args.reads.now (c.loop-key.reads + c.from.result) (sum_by f c.args.keys.now)
-    c.from_residual-in_err-push.ensures.0 (omega (arith, reads)) (omega (arith, reads, n, sum, all))
-
-pub returns-in_err-push-clause-steps : goal.returns-in_err-push-clause-steps
-returns-in_err-push-clause-steps g c =
-    let rows = g.P.AccessPort.rows c.args.port.now in
-    let access = access_in (g.P.AccessPort.accesses c.args.port.now) c.args.id in
-    let f = probe_reads rows access in
-    let i = c.loop-key.key-index in
-    let len : max 1 c.probe-hits.result.len ≡ f c.key-item.result = ap (max 1) (c.probe-hits.ensures.len
-    ∙ ap length (c.probe-hits.ensures.members ∙ ap (group_of (rows access.table) access) c.as_slice.ensures)) in
-    let cost = c.probe-hits.ensures.cost ∙ ap (λ n. c.loop-key.steps + n) len in
-    let sum = summed_more f c.args.keys.now access.bound i c.loop-key-test.true c.key-item.result c.key-item.is in
-    let all = sum_by-take-le f c.args.keys.now (i + 1) in
-    let steps = c.loop-key.invariant.steps in
-    counts_err c.from_residual-in_err-push.result c.args.steps.now c.probe-hits.new.steps (sum_by f c.args.keys.now)
-    c.from_residual-in_err-push.ensures.0 (omega (arith, steps, cost)) (omega (arith, steps, cost, sum, all))
 
 pub loop-key-preserved : goal.loop-key-preserved
 loop-key-preserved g c =
@@ -60,8 +29,10 @@ loop-key-preserved g c =
       reads = omega (arith, reads, n, sum);
       steps = omega (arith, steps, cost, sum);
       few = subst (λ s. s ≤ (i + 1) * access.bound) (sym sum) more;
-      groups = subst (AllZip R (take (i + 1) c.args.keys.now)) (sym c.in_ok-push.ensures.items)
+      groups = subst (AllZip R (take (i + 1) c.args.keys.now)) (sym c.push_reserved.ensures.items)
           (zip_more R c.args.keys.now c.loop-key.groups.items i key c.probe-hits.result c.loop-key-test.true c.key-item.is c.loop-key.invariant.groups
           (group_of_hits rows accesses (g.P.AccessPort.stands c.args.port.now) (g.P.AccessPort.members c.args.port.now) c.args.id key c.probe-hits.result
           c.requires.live c.probe-hits.ensures.access c.probe-hits.ensures.stands c.probe-hits.ensures.len found));
+      len = c.push_reserved.ensures.len ∙ ap (λ n. n + 1) c.loop-key.invariant.len;
+      room = c.push_reserved.ensures.capacity ∙ c.loop-key.invariant.room;
     }

@@ -1,4 +1,5 @@
-use Rattle.std.proofs.Common.{◌≡◌, ◌≤◌, ◌+◌, ◌*◌, take}
+use Rattle.std.proofs.Common.{◌≡◌, ◌≤◌, ◌+◌, ◌*◌, take, length}
+use Rattle.std.specs.Prelude.{vec_len, vec_capacity}
 use Rattle.std.specs.List.{sum_by, AllZip}
 use Rattle.beas_core.specs.Derivations.{access_in}
 use Rattle.beas_core.specs.Reads.{probe_reads}
@@ -15,4 +16,6 @@ invariant-loop-key g l = record {
       ≤ l.key-index * (access_in (g.P.AccessPort.accesses l.port) l.id).bound;
   groups : AllZip (IsGroup (g.P.AccessPort.rows l.port) (g.P.AccessPort.accesses l.port) (g.P.AccessPort.stands l.port) (g.P.AccessPort.members l.port) l.id)
       (take l.key-index l.keys) l.groups.items;
+  len : vec_len l.groups ≡ l.key-index;
+  room : vec_capacity l.groups ≡ length l.keys;
 }

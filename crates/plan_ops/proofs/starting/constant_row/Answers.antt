@@ -1,4 +1,4 @@
-use Rattle.std.proofs.Common.{◌++◌, ◌∷◌, [], ◌∙◌, ap, arith, length, get_or, map, rules}
+use Rattle.std.proofs.Common.{◌+◌, ◌++◌, ◌∷◌, [], ◌∙◌, ap, arith, length, get_or, map, rules}
 use Rattle.beas_core.specs.Types.{Binding, Row}
 use Rattle.beas_core.specs.Valuations.{value_of}
 use Rattle.plan_ops.proofs.ConstantFacts.{constant_value, mapped_more}
@@ -36,5 +36,9 @@ loop-class-preserved c =
     let value = c.in_ok-copy.ensures ∙ ap (λ (b : Binding). b.1) c.index-constants-places.is
     ∙ ap (λ n. (get_or c.args.constants.now n c.index-constants-places.result).1) read
     ∙ constant_value c.args.constants.now class c.index-constants-places.result (c.requires.equated c.loop-class.class-index 0 c.loop-class-test.true) in
-    c.in_ok-push.ensures.items ∙ ap (λ (vs : Row). vs ++ c.in_ok-copy.field-0 ∷ []) c.loop-class.invariant
-    ∙ mapped_more (value_of c.args.constants.now) c.args.classes.now c.loop-class.class-index 0 c.in_ok-copy.field-0 c.loop-class-test.true value
+    record {
+      items = c.push_reserved.ensures.items ∙ ap (λ (vs : Row). vs ++ c.in_ok-copy.field-0 ∷ []) c.loop-class.invariant.items
+          ∙ mapped_more (value_of c.args.constants.now) c.args.classes.now c.loop-class.class-index 0 c.in_ok-copy.field-0 c.loop-class-test.true value;
+      len = c.push_reserved.ensures.len ∙ ap (λ n. n + 1) c.loop-class.invariant.len;
+      room = c.push_reserved.ensures.capacity ∙ c.loop-class.invariant.room;
+    }
