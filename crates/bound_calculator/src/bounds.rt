@@ -6,7 +6,7 @@ ghost use Rattle.beas_core.specs.Shapes.{EachIdOnce};
 use beas_core::{Access, AccessId};
 
 #[tactic(auto, using(crate::proofs::AccessById::found_here, crate::proofs::AccessById::found_later, crate::proofs::AccessById::found_nowhere))]
-fn walked(accesses: &[Access], id: AccessId) -> u32
+fn bound_by_walk(accesses: &[Access], id: AccessId) -> u32
     ensures { result ≡ (access_in accesses.now id).bound }
 {
     for access in accesses {
@@ -26,6 +26,6 @@ pub fn bound_of(accesses: &[Access], id: AccessId) -> u32
 {
     match accesses.binary_search_by_key(&id.0, |access| access.id.0) {
         Ok(at) => accesses[at].bound,
-        Err(_) => walked(accesses, id),
+        Err(_) => bound_by_walk(accesses, id),
     }
 }
