@@ -4,7 +4,7 @@ ghost use Rattle.std.specs.List.{enumerate_from, position_or_len, range_with_len
 ghost use Rattle.beas_core.specs.Classes.{is_joined, places_of, firsts, leaders, class_of, normal_of};
 ghost use Rattle.reference_normal_form.specs.Joined.{has_place, joined_with};
 
-use crate::needed::needed;
+use crate::needed::needed_columns_by_atom;
 use crate::places::{has_place, joined_with, places_of};
 use beas_core::{Block, ColumnId, Duplicate, List, NoMemory, Normal, Place, Value};
 use std::alloc::Global;
@@ -179,8 +179,27 @@ fn constants(
     Ok(all)
 }
 
-/// The normal form of a block. Classes are numbered in order of their first place, by atom and then column.
+// The normal form of a block, where `groups` has the places of each class.
 #[tactic(auto, unfolding(beas_core::specs::Classes::normal_of))]
+fn normal_over(alloc: Global, block: &Block, groups: &[List<Place>]) -> Result<Normal, NoMemory>
+    requires atoms { length block.now.atoms < 65536 }
+    requires groups { groups.now ≡ map (joined_with block.now.equalities) (leaders block.now) }
+    requires few { length groups.now < 65536 }
+    requires count { length groups.now ≡ length (leaders block.now) }
+    ensures { IfOk result (λ normal. normal ≡ normal_of block.now) }
+{
+    Ok(Normal {
+        atoms: block.atoms.copy(alloc)?,
+        classes: classes(alloc, block, groups)?,
+        count: groups.len() as u16,
+        constants: constants(alloc, block, groups)?,
+        needed: needed_columns_by_atom(alloc, block)?,
+        comparisons: block.comparisons.copy(alloc)?,
+        output: block.output.copy(alloc)?,
+    })
+}
+
+/// The normal form of a block. Classes are numbered in order of their first place, by atom and then column.
 pub fn normal_of(alloc: Global, block: &Block) -> Result<Normal, NoMemory>
     requires atoms { length block.now.atoms < 65536 }
     requires places { length (places_of block.now.atoms) < 65536 }
@@ -188,13 +207,5 @@ pub fn normal_of(alloc: Global, block: &Block) -> Result<Normal, NoMemory>
 {
     let leaders = leaders(alloc, block)?;
     let groups = groups_of(alloc, block.equalities.as_slice(), leaders.as_slice())?;
-    Ok(Normal {
-        atoms: block.atoms.copy(alloc)?,
-        classes: classes(alloc, block, groups.as_slice())?,
-        count: groups.len() as u16,
-        constants: constants(alloc, block, groups.as_slice())?,
-        needed: needed(alloc, block)?,
-        comparisons: block.comparisons.copy(alloc)?,
-        output: block.output.copy(alloc)?,
-    })
+    normal_over(alloc, block, groups.as_slice())
 }

@@ -11,9 +11,7 @@ use std::alloc::Global;
 pub fn same_place(left: Place, right: Place) -> bool
     ensures { result ≡ same_place left right }
 {
-    let atom = left.atom == right.atom;
-    let column = left.column.0 == right.column.0;
-    atom & column
+    left.atom == right.atom && left.column.0 == right.column.0
 }
 
 /// Whether a place is one of these.

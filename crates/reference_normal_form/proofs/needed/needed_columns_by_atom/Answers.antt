@@ -1,6 +1,6 @@
 use Rattle.beas_core.specs.Classes.{needed_columns}
 use Rattle.reference_normal_form.proofs.ListSteps.{mapped_more, mapped_end}
-use Rattle.reference_normal_form.proofs.needed.needed.Goals as goal
+use Rattle.reference_normal_form.proofs.needed.needed_columns_by_atom.Goals as goal
 
 pub loop-number-preserved : goal.loop-number-preserved
 loop-number-preserved c =
