@@ -5,7 +5,7 @@ ghost use Rattle.update_guard.specs.Stored.{stored};
 
 use beas_core::{Access, DStep, List, NoMemory, Normal, Prepared, Row, Steps};
 use plan_executor::execute;
-use reference_coverage::{announced, constant_classes, derivation};
+use reference_coverage::{announced_number, constant_classes, derivation};
 use reference_evaluation::{full_of, reads_of};
 use std::alloc::Global;
 use std::sync::ledger::Ledger;
@@ -34,7 +34,7 @@ fn reads_of_all(
 fn announced_of_all(accesses: &[Access], prepared: &Prepared) -> Option<u128> {
     let mut number: u128 = 0;
     for plan in prepared.derivations.as_slice() {
-        number = number.saturating_add(announced(accesses, 1, plan.steps.as_slice())?);
+        number = number.saturating_add(announced_number(accesses, 1, plan.steps.as_slice())?);
     }
     Some(number)
 }

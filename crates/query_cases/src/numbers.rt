@@ -3,7 +3,7 @@ ghost use Rattle.std.specs.Prelude.{◌<◌, length, IfOk};
 
 use beas_core::{Access, Block, Fail, List, Name, NoMemory, Normal, NotCovered, Refusal, Row};
 use drawn_scenes::column_name;
-use reference_coverage::{announced, constant_classes, covered_set, derivation, reason};
+use reference_coverage::{announced_number, constant_classes, covered_set, derivation, reason};
 use reference_evaluation::reads_of;
 use reference_normal_form::{normal_of, places_of};
 use std::alloc::Global;
@@ -55,7 +55,7 @@ fn block_numbers(
     let Some(steps) = derivation(alloc, &normal, accesses, start.as_slice())? else {
         return Ok(None);
     };
-    let number = announced(accesses, 1, steps.as_slice());
+    let number = announced_number(accesses, 1, steps.as_slice());
     let reads = reads_of(alloc, tables, &normal, accesses, &None, steps.as_slice())?;
     match (number, reads) {
         (Some(announced), Some(reads)) => Ok(Some(Numbers { announced, reads })),

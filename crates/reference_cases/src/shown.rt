@@ -1,7 +1,7 @@
 // What the reference programs give for a case, as text.
 use beas_core::{Access, DStep, List, Normal, NotCovered, Row, Value};
 use named_blocks::{NamedBlock, NamedCase, Wrong};
-use reference_coverage::{announced, constant_classes, covered_set, derivation, reason};
+use reference_coverage::{announced_number, constant_classes, covered_set, derivation, reason};
 use reference_evaluation::{full_of, reads_of};
 use reference_normal_form::{normal_of, places_of};
 use std::alloc::Global;
@@ -122,7 +122,7 @@ fn with_block(
     let reads = reads_of(alloc, &case.rows, normal, accesses, &None, steps)?;
     Ok(Totals {
         are_covered: totals.are_covered,
-        number: sum(totals.number, announced(accesses, 1, steps)),
+        number: sum(totals.number, announced_number(accesses, 1, steps)),
         reads: sum(totals.reads, reads),
     })
 }
@@ -218,7 +218,7 @@ fn show_number(shown: &mut String, word: &str, number: Option<u128>) -> Result<(
 // What one step costs, where so many valuations stand before it.
 fn cost_of(accesses: &[Access], size: Option<u128>, step: DStep) -> Option<u128> {
     match size {
-        Some(size) => announced(accesses, size, &[step]),
+        Some(size) => announced_number(accesses, size, &[step]),
         None => None,
     }
 }

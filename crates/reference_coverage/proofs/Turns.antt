@@ -66,3 +66,6 @@ module _ (normal : Normal) (accesses : List Access) (set : ClassSet) where
         → serving_steps normal accesses steps set (atom ∷ atoms) ≡ step_of normal set u ∷ serving_steps normal accesses steps (with_use normal set u) atoms
     serving_some u h = turn ∙ ap (λ o. then_step o (serving_steps normal accesses steps set atoms)
         (λ v. step_of normal set v ∷ serving_steps normal accesses steps (with_use normal set v) atoms)) h
+
+-- how a turn of the first kind ends, or goes on
+pub ruleset adding_cases = (adding_done, adding_out, adding_stuck, adding_more)

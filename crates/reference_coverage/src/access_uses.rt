@@ -11,27 +11,28 @@ use std::marker::Model;
 
 /// A use of an access constraint on an atom.
 #[derive(Drop)]
-pub struct AccessUse {
+pub struct AccessUse<'a> {
     pub atom: u16,
-    pub access: Access,
+    pub access: &'a Access,
 }
 
-impl Model for AccessUse {
+impl<'a> Model for AccessUse<'a> {
     ghost use Rattle.beas_core.specs.Types.{Use};
 
     ghost Value = { Use };
 
-    ghost view = { λ u. record { atom = u.atom; access = u.access } };
-
-    ghost inverse = { λ u. record { atom = u.atom; access = u.access } };
+    ghost view = { λ u. record { atom = u.atom; access = u.access.now } };
 }
 
-impl Duplicate for AccessUse {
-    fn copy(&self, alloc: Global) -> Result<AccessUse, NoMemory> {
-        Ok(AccessUse {
+impl<'a> AccessUse<'a> {
+    /// The same use once more, which takes no memory.
+    pub fn again(&self) -> AccessUse<'a>
+        ensures { result ≡ self.now }
+    {
+        AccessUse {
             atom: self.atom,
-            access: self.access.copy(alloc)?,
-        })
+            access: self.access,
+        }
     }
 }
 
@@ -51,12 +52,11 @@ pub fn member_columns(alloc: Global, access: &Access) -> Result<List<ColumnId>, 
 }
 
 // Adds the uses on one atom.
-fn push_uses(
-    alloc: Global,
-    found: &mut List<AccessUse>,
+fn push_uses<'a>(
+    found: &mut List<AccessUse<'a>>,
     number: u16,
     atom: Atom,
-    accesses: &[Access],
+    accesses: &'a [Access],
 ) -> Result<(), NoMemory>
     ensures { OnOk result (found.new ≡ found.old
         ++ map (λ access. record { atom = number; access = access })
@@ -66,7 +66,7 @@ fn push_uses(
         if access.table.0 == atom.table.0 {
             found.push(AccessUse {
                 atom: number,
-                access: access.copy(alloc)?,
+                access,
             })?;
         }
     }
@@ -74,17 +74,17 @@ fn push_uses(
 }
 
 /// Each atom with each constraint on its table.
-pub fn uses(
+pub fn uses<'a>(
     alloc: Global,
     normal: &Normal,
-    accesses: &[Access],
-) -> Result<List<AccessUse>, NoMemory>
+    accesses: &'a [Access],
+) -> Result<List<AccessUse<'a>>, NoMemory>
     requires { length normal.now.atoms < 65536 }
     ensures { IfOk result (λ found. found ≡ uses normal.now accesses.now) }
 {
     let mut found = List::new(alloc);
     for (number, atom) in normal.atoms.as_slice().iter().enumerate() {
-        push_uses(alloc, &mut found, number as u16, *atom, accesses)?;
+        push_uses(&mut found, number as u16, *atom, accesses)?;
     }
     Ok(found)
 }

@@ -102,8 +102,7 @@ pub fn constant_classes(alloc: Global, normal: &Normal) -> Result<List<bool>, No
 {
     let none = vec![in alloc; false; usize::from(normal.count)]?;
     let classes = classes_of_constants(alloc, normal)?;
-    let set = with_classes(alloc, &none, &classes)?;
-    Ok(set)
+    with_classes(alloc, &none, &classes)
 }
 
 /// The classes that a block starts with: those that are equated with a constant, and where it is guided those of its
@@ -121,8 +120,7 @@ pub fn start_classes(
         return Ok(constants);
     }
     let classes = output_classes(alloc, normal)?;
-    let set = with_classes(alloc, constants.as_slice(), &classes)?;
-    Ok(set)
+    with_classes(alloc, constants.as_slice(), &classes)
 }
 
 /// The classes of a set, ascending.

@@ -37,9 +37,8 @@ fn use_gives(normal: &Normal, set: &[bool], given: &AccessUse, class: u16) -> bo
 {
     let key = given.access.key.as_slice();
     let fetched = given.access.fetched.as_slice();
-    let enabled = holds_columns(normal, set, given.atom, key);
-    let fetches = some_has_class(normal, given.atom, fetched, class);
-    enabled & fetches
+    holds_columns(normal, set, given.atom, key)
+        && some_has_class(normal, given.atom, fetched, class)
 }
 
 fn some_use_gives(normal: &Normal, set: &[bool], found: &[AccessUse], class: u16) -> bool
@@ -65,9 +64,8 @@ fn grow(
 {
     let mut more = List::new(alloc);
     for class in 0..normal.count {
-        let held = has_class(set, class);
-        let given = some_use_gives(normal, set, found, class);
-        more.push(held | given)?;
+        let held = has_class(set, class) || some_use_gives(normal, set, found, class);
+        more.push(held)?;
     }
     Ok(more)
 }
@@ -124,18 +122,15 @@ pub fn serves(normal: &Normal, set: &[bool], given: &AccessUse) -> bool
 {
     let key = given.access.key.as_slice();
     let fetched = given.access.fetched.as_slice();
-    let held = holds_columns(normal, set, given.atom, key);
-    let whole = columns_hold_needed(normal, given.atom, key, fetched);
-    held & whole
+    holds_columns(normal, set, given.atom, key)
+        && columns_hold_needed(normal, given.atom, key, fetched)
 }
 
 /// Whether a use is on this atom and serves it.
 pub fn serves_atom(normal: &Normal, set: &[bool], given: &AccessUse, atom: u16) -> bool
     ensures { result ≡ (given.now.atom == atom) && serves normal.now set.now given.now }
 {
-    let here = given.atom == atom;
-    let served = serves(normal, set, given);
-    here & served
+    given.atom == atom && serves(normal, set, given)
 }
 
 fn is_served(
@@ -176,12 +171,27 @@ fn needed_places(alloc: Global, normal: &Normal) -> Result<List<Place>, NoMemory
     Ok(places)
 }
 
-fn first_open<'a>(normal: &Normal, set: &[bool], places: &'a [Place]) -> Option<&'a Place>
+fn open_place<'a>(normal: &Normal, set: &[bool], places: &'a [Place]) -> Option<&'a Place>
     ensures { option_copied result ≡ find (is_open normal.now set.now) places.now }
 {
     places
         .iter()
         .find(|place| !has_class(set, class_of(normal, **place)))
+}
+
+fn first_open_of(normal: &Normal, set: &[bool], places: &[Place]) -> Option<Place>
+    ensures { result ≡ find (is_open normal.now set.now) places.now }
+{
+    open_place(normal, set, places).copied()
+}
+
+// The first needed column whose class isn't in the set.
+fn first_open(alloc: Global, normal: &Normal, set: &[bool]) -> Result<Option<Place>, NoMemory>
+    requires { length normal.now.needed < 65536 }
+    ensures { IfOk result (λ first. first ≡ find (is_open normal.now set.now) (needed_places normal.now)) }
+{
+    let places = needed_places(alloc, normal)?;
+    Ok(first_open_of(normal, set, places.as_slice()))
 }
 
 /// The atoms of a block, by number.
@@ -197,19 +207,26 @@ pub fn atoms_of(alloc: Global, normal: &Normal) -> Result<Vec<u16>, NoMemory>
     Ok(numbers)
 }
 
-fn first_unserved<'a>(
+// The first atom that no constraint serves.
+fn first_unserved(
+    alloc: Global,
     normal: &Normal,
     accesses: &[Access],
-    found: &[AccessUse],
     set: &[bool],
-    atoms: &'a [u16],
-) -> Option<&'a u16>
-    requires { found.now ≡ uses normal.now accesses.now }
-    ensures { option_copied result ≡ find (λ atom. not (is_served normal.now accesses.now set.now atom)) atoms.now }
+) -> Result<Option<u16>, NoMemory>
+    requires { length normal.now.atoms < 65536 }
+    ensures { IfOk result (λ unserved. unserved
+        ≡ find (λ atom. not (is_served normal.now accesses.now set.now atom)) (atoms_of normal.now)) }
 {
-    atoms
-        .iter()
-        .find(|atom| !is_served(normal, accesses, found, set, **atom))
+    let found = uses(alloc, normal, accesses)?;
+    let unserved = (0..normal.atoms.len() as u16).find(|atom| !is_served(
+        normal,
+        accesses,
+        found.as_slice(),
+        set,
+        *atom,
+    ));
+    Ok(unserved)
 }
 
 /// The first needed column whose class isn't in the set, else the first atom that no constraint serves.
@@ -224,34 +241,36 @@ pub fn reason(
     requires needed { length normal.now.needed < 65536 }
     ensures { IfOk result (λ why. why ≡ reason normal.now accesses.now set.now) }
 {
-    let places = needed_places(alloc, normal)?;
-    let found = uses(alloc, normal, accesses)?;
-    let atoms = atoms_of(alloc, normal)?;
-    let open = first_open(normal, set, places.as_slice());
-    let unserved = first_unserved(normal, accesses, found.as_slice(), set, &atoms);
-    match (open, unserved) {
-        (Some(place), _) => Ok(Some(NotCovered::ColumnOpen {
+    if let Some(place) = first_open(alloc, normal, set)? {
+        return Ok(Some(NotCovered::ColumnOpen {
             atom: place.atom,
             column: place.column,
-        })),
-        (None, Some(atom)) => Ok(Some(NotCovered::AtomUnindexed { atom: *atom })),
-        (None, None) => Ok(None),
+        }));
     }
+    let unserved = first_unserved(alloc, normal, accesses, set)?;
+    Ok(unserved.map(|atom| NotCovered::AtomUnindexed { atom }))
 }
 
+// Whether each atom has a constraint that serves it.
 fn all_served(
+    alloc: Global,
     normal: &Normal,
     accesses: &[Access],
-    found: &[AccessUse],
     set: &[bool],
-    atoms: &[u16],
-) -> bool
-    requires { found.now ≡ uses normal.now accesses.now }
-    ensures { result ≡ list_all (is_served normal.now accesses.now set.now) atoms.now }
+) -> Result<bool, NoMemory>
+    requires { length normal.now.atoms < 65536 }
+    ensures { IfOk result (λ served. served
+        ≡ list_all (is_served normal.now accesses.now set.now) (atoms_of normal.now)) }
 {
-    atoms
-        .iter()
-        .all(|atom| is_served(normal, accesses, found, set, *atom))
+    let found = uses(alloc, normal, accesses)?;
+    let served = (0..normal.atoms.len() as u16).all(|atom| is_served(
+        normal,
+        accesses,
+        found.as_slice(),
+        set,
+        atom,
+    ));
+    Ok(served)
 }
 
 /// Whether the set holds each needed column's class, and each atom has a constraint that serves it.
@@ -266,18 +285,20 @@ pub fn is_covered(
     requires needed { length normal.now.needed < 65536 }
     ensures { IfOk result (λ covered. covered ≡ is_covered normal.now accesses.now set.now) }
 {
-    let places = needed_places(alloc, normal)?;
-    let found = uses(alloc, normal, accesses)?;
-    let atoms = atoms_of(alloc, normal)?;
-    let open = some_open(normal, set, places.as_slice());
-    let served = all_served(normal, accesses, found.as_slice(), set, &atoms);
-    Ok(!open & served)
+    let open = some_open(alloc, normal, set)?;
+    let served = all_served(alloc, normal, accesses, set)?;
+    Ok(!open && served)
 }
 
-fn some_open(normal: &Normal, set: &[bool], places: &[Place]) -> bool
-    ensures { result ≡ list_any (is_open normal.now set.now) places.now }
+// Whether the class of some needed column isn't in the set.
+fn some_open(alloc: Global, normal: &Normal, set: &[bool]) -> Result<bool, NoMemory>
+    requires { length normal.now.needed < 65536 }
+    ensures { IfOk result (λ some. some ≡ list_any (is_open normal.now set.now) (needed_places normal.now)) }
 {
-    places
+    let places = needed_places(alloc, normal)?;
+    let open = places
+        .as_slice()
         .iter()
-        .any(|place| !has_class(set, class_of(normal, *place)))
+        .any(|place| !has_class(set, class_of(normal, *place)));
+    Ok(open)
 }

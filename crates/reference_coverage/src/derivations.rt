@@ -2,7 +2,7 @@
 ghost use Rattle.std.specs.Prelude.{◌≡◌, ◌<◌, ◌&&◌, ◌==◌, ◌∷◌, map, filter, length, nat_lt, IfOk, option_map};
 ghost use Rattle.std.specs.List.{best_of};
 ghost use Rattle.std.specs.Option.{option_copied};
-ghost use Rattle.beas_core.specs.Coverage.{class_at, holds_classes, holds_needed, key_classes, serves, with_classes};
+ghost use Rattle.beas_core.specs.Coverage.{atoms_of, class_at, holds_classes, holds_needed, key_classes, serves, with_classes};
 ghost use Rattle.beas_core.specs.Derivations.{access_in, use_of, least_bound, adds_class, step_of, with_use, enabled_uses, adding_steps, serving_steps, is_served_by, bound_by, bound_after, derivation};
 ghost use Rattle.beas_core.specs.Groups.{member_columns};
 ghost use Rattle.reference_coverage.specs.Turns.{serving_choice};
@@ -11,7 +11,7 @@ use crate::access_uses::{AccessUse, access_with, member_columns, uses};
 use crate::classes::{classes_at, with_classes};
 use crate::coverage::{atoms_of, columns_hold_needed, holds_columns, is_covered, serves_atom};
 use crate::lists::{append, with_first};
-use beas_core::{Access, AccessId, ColumnId, DStep, Duplicate, List, NoMemory, Normal};
+use beas_core::{Access, AccessId, ColumnId, DStep, List, NoMemory, Normal};
 use std::alloc::Global;
 
 /// The key columns of the constraint with this id and then its fetched ones, none where there is no such constraint.
@@ -45,24 +45,24 @@ fn step_holds_needed(normal: &Normal, accesses: &[Access], step: &DStep) -> bool
 }
 
 // The first of those with the least bound.
-fn best_of<'a>(first: &'a AccessUse, others: &'a [AccessUse]) -> &'a AccessUse
-    ensures { result.now ≡ best_of (λ v w. nat_lt v.access.bound w.access.bound) first.now others.now }
+fn best_of<'a>(first: AccessUse<'a>, others: &[AccessUse<'a>]) -> AccessUse<'a>
+    ensures { result ≡ best_of (λ v w. nat_lt v.access.bound w.access.bound) first.entry others.now }
 {
     let mut best = first;
     for other in others {
         if other.access.bound < best.access.bound {
-            best = other;
+            best = other.again();
         }
     }
     best
 }
 
-fn least_bound(alloc: Global, found: &[AccessUse]) -> Result<Option<AccessUse>, NoMemory>
-    ensures { IfOk result (λ chosen. chosen ≡ least_bound found.now) }
+fn least_bound<'a>(found: &[AccessUse<'a>]) -> Option<AccessUse<'a>>
+    ensures { result ≡ least_bound found.now }
 {
     match found {
-        [] => Ok(None),
-        [first, rest @ ..] => Ok(Some(best_of(first, rest).copy(alloc)?)),
+        [] => None,
+        [first, rest @ ..] => Some(best_of(first.again(), rest)),
     }
 }
 
@@ -76,9 +76,8 @@ fn is_enabled(normal: &Normal, set: &[bool], chosen: &AccessUse) -> bool
     ensures { result ≡ (holds_classes set.now (key_classes normal.now chosen.now) && adds_class normal.now set.now
         chosen.now) }
 {
-    let held = holds_columns(normal, set, chosen.atom, chosen.access.key.as_slice());
-    let adds = adds_class(normal, set, chosen);
-    held & adds
+    holds_columns(normal, set, chosen.atom, chosen.access.key.as_slice())
+        && adds_class(normal, set, chosen)
 }
 
 fn step_of(normal: &Normal, set: &[bool], chosen: &AccessUse) -> DStep
@@ -99,10 +98,9 @@ fn with_use(
 ) -> Result<List<bool>, NoMemory>
     ensures { IfOk result (λ more. more ≡ with_use normal.now set.now chosen.now) }
 {
-    let columns = member_columns(alloc, &chosen.access)?;
+    let columns = member_columns(alloc, chosen.access)?;
     let classes = classes_at(alloc, normal, chosen.atom, columns.as_slice())?;
-    let more = with_classes(alloc, set, &classes)?;
-    Ok(more)
+    with_classes(alloc, set, &classes)
 }
 
 fn bound_by(
@@ -117,8 +115,7 @@ fn bound_by(
 {
     let columns = columns_of(alloc, accesses, step.access)?;
     let classes = classes_at(alloc, normal, step.atom, columns.as_slice())?;
-    let more = with_classes(alloc, set, &classes)?;
-    Ok(more)
+    with_classes(alloc, set, &classes)
 }
 
 /// The classes that are bound after some steps.
@@ -152,12 +149,12 @@ fn after_step(
     }
 }
 
-fn least_enabled(
+fn least_enabled<'a>(
     alloc: Global,
     normal: &Normal,
-    accesses: &[Access],
+    accesses: &'a [Access],
     set: &[bool],
-) -> Result<Option<AccessUse>, NoMemory>
+) -> Result<Option<AccessUse<'a>>, NoMemory>
     requires { length normal.now.atoms < 65536 }
     ensures { IfOk result (λ chosen. chosen ≡ least_bound (enabled_uses normal.now accesses.now set.now)) }
 {
@@ -165,14 +162,13 @@ fn least_enabled(
     let mut ready = Vec::new(alloc);
     for candidate in found.as_slice() {
         if is_enabled(normal, set, candidate) {
-            ready.push(candidate.copy(alloc)?)?;
+            ready.push(candidate.again())?;
         }
     }
-    let chosen = least_bound(alloc, &ready)?;
-    Ok(chosen)
+    Ok(least_bound(&ready))
 }
 
-#[tactic(auto, using(crate::proofs::Turns::adding_done, crate::proofs::Turns::adding_out, crate::proofs::Turns::adding_stuck, crate::proofs::Turns::adding_more))]
+#[tactic(auto, using(crate::proofs::Turns::adding_cases))]
 fn adding_steps(
     alloc: Global,
     turns: u16,
@@ -207,14 +203,14 @@ fn is_served_by(normal: &Normal, accesses: &[Access], steps: &[DStep], atom: u16
     steps.iter().any(|step| step.atom == atom && step_holds_needed(normal, accesses, step))
 }
 
-fn least_serving(
+fn least_serving<'a>(
     alloc: Global,
     normal: &Normal,
-    accesses: &[Access],
+    accesses: &'a [Access],
     steps: &[DStep],
     set: &[bool],
     atom: u16,
-) -> Result<Option<AccessUse>, NoMemory>
+) -> Result<Option<AccessUse<'a>>, NoMemory>
     requires { length normal.now.atoms < 65536 }
     ensures { IfOk result (λ chosen. chosen ≡ serving_choice normal.now accesses.now steps.now set.now atom) }
 {
@@ -225,11 +221,10 @@ fn least_serving(
     let mut ready = Vec::new(alloc);
     for candidate in found.as_slice() {
         if serves_atom(normal, set, candidate, atom) {
-            ready.push(candidate.copy(alloc)?)?;
+            ready.push(candidate.again())?;
         }
     }
-    let chosen = least_bound(alloc, &ready)?;
-    Ok(chosen)
+    Ok(least_bound(&ready))
 }
 
 #[tactic(auto, using(crate::proofs::Turns::serving_none, crate::proofs::Turns::serving_some))]
@@ -266,6 +261,23 @@ fn serving_steps(
     }
 }
 
+// The steps that serve the atoms that none of some steps serves.
+fn serving_after(
+    alloc: Global,
+    normal: &Normal,
+    accesses: &[Access],
+    start: &[bool],
+    steps: &[DStep],
+) -> Result<List<DStep>, NoMemory>
+    requires { length normal.now.atoms < 65536 }
+    ensures { IfOk result (λ more. more ≡ serving_steps normal.now accesses.now steps.now
+        (bound_after normal.now accesses.now start.now steps.now) (atoms_of normal.now)) }
+{
+    let set = bound_after(alloc, normal, accesses, start, steps)?;
+    let atoms = atoms_of(alloc, normal)?;
+    serving_steps(alloc, normal, accesses, steps, set.as_slice(), &atoms)
+}
+
 /// The canonical derivation from a start set of classes, nothing where the block isn't covered.
 #[tactic(auto, unfolding(beas_core::specs::Derivations::derivation, beas_core::specs::Derivations::greedy_steps))]
 pub fn derivation(
@@ -278,20 +290,10 @@ pub fn derivation(
     requires needed { length normal.now.needed < 65536 }
     ensures { IfOk result (λ steps. steps ≡ derivation normal.now accesses.now start.now) }
 {
-    let first = adding_steps(alloc, normal.count, normal, accesses, start)?;
-    match first {
+    match adding_steps(alloc, normal.count, normal, accesses, start)? {
         None => Ok(None),
         Some(steps) => {
-            let set = bound_after(alloc, normal, accesses, start, steps.as_slice())?;
-            let atoms = atoms_of(alloc, normal)?;
-            let more = serving_steps(
-                alloc,
-                normal,
-                accesses,
-                steps.as_slice(),
-                set.as_slice(),
-                &atoms,
-            )?;
+            let more = serving_after(alloc, normal, accesses, start, steps.as_slice())?;
             Ok(Some(append(steps, more)?))
         }
     }

@@ -23,7 +23,7 @@ fn next_size(adds: bool, cost: u128, size: u128) -> u128
 }
 
 /// The reads of the steps at most, where `size` valuations stand before them; nothing where that passes 2^128 - 1.
-pub fn announced(accesses: &[Access], size: u128, steps: &[DStep]) -> Option<u128>
+pub fn announced_number(accesses: &[Access], size: u128, steps: &[DStep]) -> Option<u128>
     ensures { MatchOption result (2 ^ 128 ≤ announced accesses.now size steps.now)
         (λ n. n ≡ announced accesses.now size steps.now) }
 {
@@ -31,7 +31,7 @@ pub fn announced(accesses: &[Access], size: u128, steps: &[DStep]) -> Option<u12
         [] => Some(0),
         [first, rest @ ..] => {
             let cost = size.checked_mul(u128::from(bound_of(accesses, first.access)))?;
-            let later = announced(accesses, next_size(first.adds, cost, size), rest)?;
+            let later = announced_number(accesses, next_size(first.adds, cost, size), rest)?;
             cost.checked_add(later)
         }
     }
