@@ -1,7 +1,6 @@
 // Blocks: SELECT with its items, FROM items and conditions.
 ghost use Rattle.std.specs.Prelude.{◌≡◌, ◌∷◌, [], ◌++◌, codes, length};
-ghost use Rattle.sql_parser.specs.Reading.{Gives, Adds, starts, behind, behind_both, read_alias, read_item, read_joined, read_crossed, starts_join, read_join, read_joins, read_source, read_sources, read_output, behind_distinct, read_block};
-ghost use Rattle.sql_tree.specs.Words.{DISTINCT};
+ghost use Rattle.sql_parser.specs.Reading.{Gives, Adds, behind, behind_both, read_alias, read_item, read_joined, read_crossed, starts_join, read_join, read_joins, read_source, read_sources, read_output, read_block};
 
 use crate::conditions::{conditions, where_conditions};
 use crate::parts::commas;
@@ -14,8 +13,7 @@ use std::alloc::Global;
 fn alias(reader: &mut Reader, alloc: Global, table: &Name) -> Result<Name, ReadError>
     ensures { Gives result reader.new (read_alias table.now reader.old) }
 {
-    if reader.next_is_word("as") {
-        reader.skip();
+    if reader.takes_word("as") {
         return reader.name(alloc);
     }
     if reader.next_is_name() {
@@ -33,8 +31,9 @@ fn from_item(reader: &mut Reader, alloc: Global) -> Result<FromItem, ReadError>
     Ok(FromItem { table, alias })
 }
 
+/// Reads what stands after the words of a join with conditions, and adds it.
 #[tactic(auto, unfolding(crate::specs::Reading::read_joined, crate::specs::Reading::behind, crate::specs::Reading::behind_both))]
-fn joined(
+fn inner_join(
     reader: &mut Reader,
     alloc: Global,
     items: &mut List<FromItem>,
@@ -49,8 +48,9 @@ fn joined(
     conditions(reader, alloc, found)
 }
 
+/// Reads what stands after CROSS, and adds it.
 #[tactic(auto, unfolding(crate::specs::Reading::read_crossed, crate::specs::Reading::behind, crate::specs::Reading::behind_both))]
-fn crossed(
+fn cross_join(
     reader: &mut Reader,
     alloc: Global,
     items: &mut List<FromItem>,
@@ -82,17 +82,15 @@ fn join(
     ensures { Adds result (items.new, found.new) reader.new
         (behind_both (items.old, found.old) (read_join reader.old)) }
 {
-    if reader.next_is_word("join") {
-        reader.skip();
-        return joined(reader, alloc, items, found);
+    if reader.takes_word("join") {
+        return inner_join(reader, alloc, items, found);
     }
-    if reader.next_is_word("inner") {
-        reader.skip();
+    if reader.takes_word("inner") {
         reader.want_word("join")?;
-        return joined(reader, alloc, items, found);
+        return inner_join(reader, alloc, items, found);
     }
     reader.skip();
-    crossed(reader, alloc, items, found)
+    cross_join(reader, alloc, items, found)
 }
 
 fn joins(
@@ -104,7 +102,7 @@ fn joins(
     ensures { Adds result (items.new, found.new) reader.new (behind_both (items.old, found.old)
         (read_joins (length reader.old) reader.old)) }
 {
-    let mut room = reader.left();
+    let mut room = reader.tokens_left();
     'more: while next_is_join(reader) {
         if room == 0 {
             return Err(ReadError::Syntax);
@@ -139,36 +137,22 @@ fn from_sources(
     ensures { Adds result (items.new, found.new) reader.new (behind_both (items.old, found.old)
         (read_sources (length reader.old) reader.old)) }
 {
-    let mut room = reader.left();
+    let mut room = reader.tokens_left();
     while room > 0 {
         room -= 1;
         from_source(reader, alloc, items, found)?;
-        if !reader.next_is_mark(",") {
+        if !reader.takes_mark(",") {
             return Ok(());
         }
-        reader.skip();
     }
     Err(ReadError::Syntax)
-}
-
-#[tactic(auto, unfolding(crate::specs::Reading::behind_distinct))]
-fn distinct(reader: &mut Reader) -> bool
-    ensures found { result ≡ starts DISTINCT reader.old }
-    ensures rest { reader.new ≡ behind_distinct reader.old }
-{
-    let found = reader.next_is_word("distinct");
-    if found {
-        reader.skip();
-    }
-    found
 }
 
 #[tactic(auto, unfolding(crate::specs::Reading::read_output))]
 fn output(reader: &mut Reader, alloc: Global) -> Result<(bool, List<ColumnRef>), ReadError>
     ensures { Gives result reader.new (read_output reader.old) }
 {
-    if reader.next_is_mark("*") {
-        reader.skip();
+    if reader.takes_mark("*") {
         return Ok((true, List::new(alloc)));
     }
     let items = commas::<ColumnRef>(reader, alloc)?;
@@ -176,23 +160,22 @@ fn output(reader: &mut Reader, alloc: Global) -> Result<(bool, List<ColumnRef>),
 }
 
 /// Reads a block.
-#[tactic(auto, unfolding(crate::specs::Reading::read_block, crate::specs::Reading::behind, crate::specs::Reading::behind_both))]
+#[tactic(auto, unfolding(crate::specs::Reading::read_block, crate::specs::Reading::behind_distinct, crate::specs::Reading::behind, crate::specs::Reading::behind_both))]
 pub fn block(reader: &mut Reader, alloc: Global) -> Result<BlockTree, ReadError>
     ensures { Gives result reader.new (read_block reader.old) }
 {
     reader.want_word("select")?;
-    let distinct = distinct(reader);
+    let distinct = reader.takes_word("distinct");
     let (star, items) = output(reader, alloc)?;
-    reader.want_word("from")?;
-    let mut from_items = List::new(alloc);
-    let mut conditions = List::new(alloc);
-    from_sources(reader, alloc, &mut from_items, &mut conditions)?;
-    where_conditions(reader, alloc, &mut conditions)?;
-    Ok(BlockTree {
+    let mut tree = BlockTree {
         distinct,
         star,
         items,
-        from_items,
-        conditions,
-    })
+        from_items: List::new(alloc),
+        conditions: List::new(alloc),
+    };
+    reader.want_word("from")?;
+    from_sources(reader, alloc, &mut tree.from_items, &mut tree.conditions)?;
+    where_conditions(reader, alloc, &mut tree.conditions)?;
+    Ok(tree)
 }

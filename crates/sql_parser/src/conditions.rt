@@ -48,12 +48,11 @@ fn comparison(reader: &mut Reader, alloc: Global, left: Side) -> Result<Cond, Re
 }
 
 #[tactic(auto, unfolding(crate::specs::Reading::read_simple))]
-fn simple(reader: &mut Reader, alloc: Global) -> Result<Cond, ReadError>
+fn simple_condition(reader: &mut Reader, alloc: Global) -> Result<Cond, ReadError>
     ensures { Gives result reader.new (read_simple reader.old) }
 {
     let left = side(reader, alloc)?;
-    if reader.next_is_word("between") {
-        reader.skip();
+    if reader.takes_word("between") {
         return range(reader, alloc, left);
     }
     comparison(reader, alloc, left)
@@ -69,13 +68,12 @@ fn condition(
 ) -> Result<(), ReadError>
     ensures { Adds result found.new reader.new (behind found.old (read_condition (read_conditions room) reader.old)) }
 {
-    if reader.next_is_mark("(") {
-        reader.skip();
+    if reader.takes_mark("(") {
         some_conditions(reader, alloc, room, found)?;
         reader.want_mark(")")?;
         return Ok(());
     }
-    let condition = simple(reader, alloc)?;
+    let condition = simple_condition(reader, alloc)?;
     found.push(condition)?;
     Ok(())
 }
@@ -93,10 +91,9 @@ fn some_conditions(
     while room > 0 {
         room -= 1;
         condition(reader, alloc, room, found)?;
-        if !reader.next_is_word("and") {
+        if !reader.takes_word("and") {
             return Ok(());
         }
-        reader.skip();
     }
     Err(ReadError::Syntax)
 }
@@ -109,7 +106,7 @@ pub fn conditions(
 ) -> Result<(), ReadError>
     ensures { Adds result found.new reader.new (behind found.old (read_all_conditions reader.old)) }
 {
-    let room = reader.left();
+    let room = reader.tokens_left();
     some_conditions(reader, alloc, room, found)
 }
 
@@ -122,9 +119,8 @@ pub fn where_conditions(
 ) -> Result<(), ReadError>
     ensures { Adds result found.new reader.new (behind found.old (read_where reader.old)) }
 {
-    if !reader.next_is_word("where") {
+    if !reader.takes_word("where") {
         return Ok(());
     }
-    reader.skip();
     conditions(reader, alloc, found)
 }

@@ -19,7 +19,7 @@ fn without_zero(digits: &str) -> Option<&str>
 }
 
 /// Digits without their leading zeros, of which one digit is kept.
-pub fn trimmed(alloc: Global, digits: &Text) -> Result<Text, NoMemory>
+pub fn significant_digits(alloc: Global, digits: &Text) -> Result<Text, NoMemory>
     ensures { IfOk result (λ kept. kept ≡ trimmed digits.now) }
 {
     let mut digits = digits.as_str();

@@ -3,7 +3,7 @@ ghost use Rattle.std.specs.Prelude.{◌≡◌, List, Option, ◌∷◌, [], code
 ghost use Rattle.sql_parser.specs.Reading.{Gives, read_commas, read_list, read_id, read_column, read_kind, read_signed, read_literal, read_tuple, read_ref, read_maybe_ids, starts_quoted, closed};
 ghost use Rattle.sql_tree.specs.Symbols.{Symbol};
 
-use crate::numbers::trimmed;
+use crate::numbers::significant_digits;
 use crate::reader::{ReadError, Reader};
 use beas_core::{ColType, Column, List as Items, Name};
 use sql_tree::{ColumnRef, Literal};
@@ -24,15 +24,14 @@ pub fn commas<T: Part>(reader: &mut Reader, alloc: Global) -> Result<Items<T>, R
     ensures { Gives result reader.new (read_list T.reads reader.old) }
 {
     let mut parts = Items::new(alloc);
-    let mut room = reader.left();
+    let mut room = reader.tokens_left();
     while room > 0 {
         room -= 1;
         let part = T::read(reader, alloc)?;
         parts.push(part)?;
-        if !reader.next_is_mark(",") {
+        if !reader.takes_mark(",") {
             return Ok(parts);
         }
-        reader.skip();
     }
     Err(ReadError::Syntax)
 }
@@ -60,16 +59,10 @@ pub fn maybe_names(reader: &mut Reader, alloc: Global) -> Result<Items<Name>, Re
 fn column_kind(reader: &mut Reader) -> Result<ColType, ReadError>
     ensures { Gives result reader.new (read_kind reader.old) }
 {
-    if reader.next_is_word("integer") {
-        reader.skip();
+    if reader.takes_word("integer") || reader.takes_word("int") {
         return Ok(ColType::Integer);
     }
-    if reader.next_is_word("int") {
-        reader.skip();
-        return Ok(ColType::Integer);
-    }
-    if reader.next_is_word("text") {
-        reader.skip();
+    if reader.takes_word("text") {
         return Ok(ColType::Words);
     }
     Err(ReadError::Syntax)
@@ -91,7 +84,7 @@ fn signed_number(reader: &mut Reader, alloc: Global, negative: bool) -> Result<L
     ensures { Gives result reader.new (read_signed negative reader.old) }
 {
     let written = reader.number(alloc)?;
-    let digits = trimmed(alloc, &written)?;
+    let digits = significant_digits(alloc, &written)?;
     let negative = negative && digits.as_str() != "0";
     Ok(Literal::Number { negative, digits })
 }
@@ -102,16 +95,14 @@ impl Part for Literal {
     #[tactic(auto, unfolding(crate::specs::Reading::read_literal))]
     fn read(reader: &mut Reader, alloc: Global) -> Result<Literal, ReadError> {
         if reader.next_is_quoted() {
-            let text = reader.quoted(alloc)?;
+            let text = reader.quoted_text(alloc)?;
             return Ok(Literal::Words { text });
         }
-        if reader.next_is_mark("-") {
-            reader.skip();
+        if reader.takes_mark("-") {
             return signed_number(reader, alloc, true);
         }
-        if reader.next_is_mark("+") {
-            reader.skip();
-        }
+        // A plus changes nothing.
+        reader.takes_mark("+");
         signed_number(reader, alloc, false)
     }
 }
@@ -134,13 +125,12 @@ impl Part for ColumnRef {
     #[tactic(auto, unfolding(crate::specs::Reading::read_ref))]
     fn read(reader: &mut Reader, alloc: Global) -> Result<ColumnRef, ReadError> {
         let first = reader.name(alloc)?;
-        if !reader.next_is_mark(".") {
+        if !reader.takes_mark(".") {
             return Ok(ColumnRef {
                 table: None,
                 column: first,
             });
         }
-        reader.skip();
         let column = reader.name(alloc)?;
         Ok(ColumnRef {
             table: Some(first),

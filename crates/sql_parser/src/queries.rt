@@ -55,8 +55,7 @@ fn block_term(reader: &mut Reader, alloc: Global) -> Result<SelectTree, ReadErro
 fn term(reader: &mut Reader, alloc: Global, room: usize) -> Result<SelectTree, ReadError>
     ensures { Gives result reader.new (read_term (read_query room Front.Nothing) reader.old) }
 {
-    if reader.next_is_mark("(") {
-        reader.skip();
+    if reader.takes_mark("(") {
         let tree = some_terms(reader, alloc, room)?;
         reader.want_mark(")")?;
         return Ok(tree);
@@ -73,14 +72,13 @@ fn some_terms(reader: &mut Reader, alloc: Global, mut room: usize) -> Result<Sel
         room -= 1;
         let term = term(reader, alloc, room)?;
         let tree = join_to(alloc, front, term)?;
-        if reader.next_is_word("union") {
+        if reader.takes_word("union") {
             front = Front::BeforeUnion(tree);
-        } else if reader.next_is_word("except") {
+        } else if reader.takes_word("except") {
             front = Front::BeforeExcept(tree);
         } else {
             return Ok(tree);
         }
-        reader.skip();
     }
     Err(ReadError::Syntax)
 }
@@ -89,6 +87,6 @@ fn some_terms(reader: &mut Reader, alloc: Global, mut room: usize) -> Result<Sel
 pub fn query(reader: &mut Reader, alloc: Global) -> Result<SelectTree, ReadError>
     ensures { Gives result reader.new (read_whole_query reader.old) }
 {
-    let room = reader.left();
+    let room = reader.tokens_left();
     some_terms(reader, alloc, room)
 }

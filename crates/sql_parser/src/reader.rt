@@ -1,5 +1,5 @@
 // The tokens that are still to be read.
-ghost use Rattle.std.specs.Prelude.{◌≡◌, ◌∷◌, [], codes, length, IsTrue, OnOk};
+ghost use Rattle.std.specs.Prelude.{◌≡◌, ◌∷◌, [], codes, length, if◌then◌else◌, IsTrue, OnOk};
 ghost use Rattle.sql_parser.specs.Reading.{Gives, Passes, starts, rest_of, expect, read_id, read_number, read_quoted, starts_id, starts_quoted, read_sign, sign_of};
 ghost use Rattle.sql_tree.specs.Symbols.{word, mark, symbols};
 
@@ -65,7 +65,7 @@ impl<'a> Reader<'a> {
     }
 
     /// How many tokens are left.
-    pub fn left(&self) -> usize
+    pub fn tokens_left(&self) -> usize
         ensures { result ≡ length self.now }
     {
         self.rest.len()
@@ -103,26 +103,50 @@ impl<'a> Reader<'a> {
         }
     }
 
+    /// Goes after this word, where it is next, and says whether it was.
+    pub fn takes_word(&mut self, text: &str) -> bool
+        ensures found { result ≡ starts (word text.now) self.old }
+        ensures rest { self.new ≡ (if result then rest_of self.old else self.old) }
+    {
+        let found = self.next_is_word(text);
+        if found {
+            self.skip();
+        }
+        found
+    }
+
+    /// Goes after this mark, where it is next, and says whether it was.
+    pub fn takes_mark(&mut self, text: &str) -> bool
+        ensures found { result ≡ starts (mark text.now) self.old }
+        ensures rest { self.new ≡ (if result then rest_of self.old else self.old) }
+    {
+        let found = self.next_is_mark(text);
+        if found {
+            self.skip();
+        }
+        found
+    }
+
     /// Goes after a word, which must be next.
     pub fn want_word(&mut self, text: &str) -> Result<(), ReadError>
         ensures { Passes result self.new (expect (word text.now) self.old) }
     {
-        if !self.next_is_word(text) {
-            return Err(ReadError::Syntax);
+        if self.takes_word(text) {
+            Ok(())
+        } else {
+            Err(ReadError::Syntax)
         }
-        self.skip();
-        Ok(())
     }
 
     /// Goes after a mark, which must be next.
     pub fn want_mark(&mut self, text: &str) -> Result<(), ReadError>
         ensures { Passes result self.new (expect (mark text.now) self.old) }
     {
-        if !self.next_is_mark(text) {
-            return Err(ReadError::Syntax);
+        if self.takes_mark(text) {
+            Ok(())
+        } else {
+            Err(ReadError::Syntax)
         }
-        self.skip();
-        Ok(())
     }
 
     /// Reads an identifier.
@@ -156,7 +180,7 @@ impl<'a> Reader<'a> {
 
     /// Reads a text between quotes.
     #[tactic(auto, unfolding(crate::specs::Reading::read_quoted))]
-    pub fn quoted(&mut self, alloc: Global) -> Result<Text, ReadError>
+    pub fn quoted_text(&mut self, alloc: Global) -> Result<Text, ReadError>
         ensures { Gives result self.new (read_quoted self.old) }
     {
         match self.rest.split_first() {

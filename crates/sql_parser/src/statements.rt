@@ -31,7 +31,7 @@ fn key(reader: &mut Reader, alloc: Global) -> Result<List<Name>, ReadError>
 }
 
 #[tactic(auto, unfolding(crate::specs::Reading::read_fetched, crate::specs::Reading::closed))]
-fn fetched(reader: &mut Reader, alloc: Global) -> Result<List<Name>, ReadError>
+fn fetch_list(reader: &mut Reader, alloc: Global) -> Result<List<Name>, ReadError>
     ensures { Gives result reader.new (read_fetched reader.old) }
 {
     reader.want_word("fetch")?;
@@ -59,7 +59,7 @@ fn create_access(reader: &mut Reader, alloc: Global) -> Result<Statement, ReadEr
     reader.want_word("on")?;
     let table = reader.name(alloc)?;
     let key = key(reader, alloc)?;
-    let fetched = fetched(reader, alloc)?;
+    let fetched = fetch_list(reader, alloc)?;
     reader.want_word("limit")?;
     let limit = reader.number(alloc)?;
     let spec = AccessSpec {
@@ -76,8 +76,7 @@ fn create_access(reader: &mut Reader, alloc: Global) -> Result<Statement, ReadEr
 fn create(reader: &mut Reader, alloc: Global) -> Result<Statement, ReadError>
     ensures { Gives result reader.new (read_create reader.old) }
 {
-    if reader.next_is_word("table") {
-        reader.skip();
+    if reader.takes_word("table") {
         return create_table(reader, alloc);
     }
     create_access(reader, alloc)
@@ -98,7 +97,7 @@ fn load(reader: &mut Reader, alloc: Global) -> Result<Statement, ReadError>
 {
     let table = reader.name(alloc)?;
     reader.want_word("from")?;
-    let file = reader.quoted(alloc)?;
+    let file = reader.quoted_text(alloc)?;
     Ok(Statement::Load { table, file })
 }
 
@@ -137,7 +136,7 @@ fn group(reader: &mut Reader, alloc: Global, table: Name) -> Result<Statement, R
     ensures { Gives result reader.new (read_group table reader.old) }
 {
     let key = key(reader, alloc)?;
-    let fetched = fetched(reader, alloc)?;
+    let fetched = fetch_list(reader, alloc)?;
     Ok(Statement::DiscoverGroup {
         table,
         key,
@@ -150,8 +149,7 @@ fn discover(reader: &mut Reader, alloc: Global) -> Result<Statement, ReadError>
     ensures { Gives result reader.new (read_discover reader.old) }
 {
     let table = reader.name(alloc)?;
-    if reader.next_is_word("limit") {
-        reader.skip();
+    if reader.takes_word("limit") {
         return pairs(reader, alloc, table);
     }
     group(reader, alloc, table)
@@ -178,32 +176,25 @@ fn select(reader: &mut Reader, alloc: Global) -> Result<Statement, ReadError>
 pub fn statement(reader: &mut Reader, alloc: Global) -> Result<Statement, ReadError>
     ensures { Gives result reader.new (read_statement reader.old) }
 {
-    if reader.next_is_word("create") {
-        reader.skip();
+    if reader.takes_word("create") {
         return create(reader, alloc);
     }
-    if reader.next_is_word("drop") {
-        reader.skip();
+    if reader.takes_word("drop") {
         return drop_access(reader, alloc);
     }
-    if reader.next_is_word("load") {
-        reader.skip();
+    if reader.takes_word("load") {
         return load(reader, alloc);
     }
-    if reader.next_is_word("insert") {
-        reader.skip();
+    if reader.takes_word("insert") {
         return insert(reader, alloc);
     }
-    if reader.next_is_word("delete") {
-        reader.skip();
+    if reader.takes_word("delete") {
         return delete(reader, alloc);
     }
-    if reader.next_is_word("discover") {
-        reader.skip();
+    if reader.takes_word("discover") {
         return discover(reader, alloc);
     }
-    if reader.next_is_word("explain") {
-        reader.skip();
+    if reader.takes_word("explain") {
         return explain(reader, alloc);
     }
     select(reader, alloc)

@@ -23,7 +23,7 @@ fn all_of(tokens: &[Token], alloc: Global) -> Result<Statement, ReadError>
 {
     let mut reader = Reader::new(tokens);
     let found = statement(&mut reader, alloc)?;
-    if reader.left() > 0 {
+    if reader.tokens_left() > 0 {
         return Err(ReadError::Syntax);
     }
     Ok(found)

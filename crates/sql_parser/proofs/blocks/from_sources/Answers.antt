@@ -15,17 +15,17 @@ returns-in_err-from_source c =
     (c.from_source.new.items, c.from_source.new.found) c.from_source.new.reader part whole c.in_err-from_source.ensures
     (λ e. sources-none c.loop-room.room (omega arith) front c.loop-room.reader whole c.loop-room.invariant e))
 
-pub returns-then-not-next_is_mark : goal.returns-then-not-next_is_mark
-returns-then-not-next_is_mark c =
+pub returns-then-not-takes_mark : goal.returns-then-not-takes_mark
+returns-then-not-takes_mark c =
     sym c.loop-room.invariant ∙ sources-end c.loop-room.room (omega arith) (c.loop-room.items, c.loop-room.found)
     (c.from_source.new.items, c.from_source.new.found) c.loop-room.reader c.from_source.new.reader c.in_ok-from_source.ensures
-    (sym c.if-not-next_is_mark.ensures)
+    (sym c.takes_mark.ensures.found)
 
 pub loop-room-preserved : goal.loop-room-preserved
 loop-room-preserved c =
-    rw c.skip.ensures (sym (sources-go_on c.loop-room.room (omega arith) (c.loop-room.items, c.loop-room.found)
+    rw c.takes_mark.ensures.rest (sym (sources-go_on c.loop-room.room (omega arith) (c.loop-room.items, c.loop-room.found)
     (c.from_source.new.items, c.from_source.new.found) c.loop-room.reader c.from_source.new.reader c.in_ok-from_source.ensures
-    (sym c.if-not-next_is_mark.ensures)) ∙ c.loop-room.invariant)
+    (sym c.takes_mark.ensures.found)) ∙ c.loop-room.invariant)
 
 pub returns : goal.returns
 returns c = sym c.loop-room.invariant ∙ sources-over c.loop-room.room (c.loop-room.items, c.loop-room.found) c.loop-room.reader (omega arith)

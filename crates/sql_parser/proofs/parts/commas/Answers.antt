@@ -5,7 +5,7 @@ use Rattle.sql_parser.specs.Reading.{read_list}
 use Rattle.sql_parser.proofs.parts.commas.Goals as goal
 
 pub loop-room-init : goal.loop-room-init
-loop-room-init g c = commas-begin g.T.Part.reads c.new-parts.result c.left-room.result c.args.reader.now c.new-parts.ensures c.left-room.ensures
+loop-room-init g c = commas-begin g.T.Part.reads c.new-parts.result c.tokens_left-room.result c.args.reader.now c.new-parts.ensures c.tokens_left-room.ensures
 
 pub returns-in_err-part : goal.returns-in_err-part
 returns-in_err-part g c =
@@ -14,15 +14,15 @@ returns-in_err-part g c =
     (read_list g.T.Part.reads c.args.reader.now) c.in_err-part.ensures
     (λ e. sym c.loop-room.invariant ∙ commas-none g.T.Part.reads c.loop-room.parts c.loop-room.room (omega arith) c.loop-room.reader e))
 
-pub returns-then-not-next_is_mark : goal.returns-then-not-next_is_mark
-returns-then-not-next_is_mark g c =
+pub returns-then-not-takes_mark : goal.returns-then-not-takes_mark
+returns-then-not-takes_mark g c =
     sym c.loop-room.invariant ∙ rw c.in_ok-push.ensures.ok (commas-end g.T.Part.reads c.loop-room.parts c.loop-room.room (omega arith) c.loop-room.reader
-    c.in_ok-part.part c.read.new.reader c.in_ok-part.ensures (sym c.if-not-next_is_mark.ensures))
+    c.in_ok-part.part c.read.new.reader c.in_ok-part.ensures (sym c.takes_mark.ensures.found))
 
 pub loop-room-preserved : goal.loop-room-preserved
 loop-room-preserved g c =
-    rw (c.in_ok-push.ensures.ok, c.skip.ensures) (sym (commas-go_on g.T.Part.reads c.loop-room.parts c.loop-room.room (omega arith) c.loop-room.reader
-    c.in_ok-part.part c.read.new.reader c.in_ok-part.ensures (sym c.if-not-next_is_mark.ensures)) ∙ c.loop-room.invariant)
+    rw (c.in_ok-push.ensures.ok, c.takes_mark.ensures.rest) (sym (commas-go_on g.T.Part.reads c.loop-room.parts c.loop-room.room (omega arith) c.loop-room.reader
+    c.in_ok-part.part c.read.new.reader c.in_ok-part.ensures (sym c.takes_mark.ensures.found)) ∙ c.loop-room.invariant)
 
 pub returns : goal.returns
 returns g c = sym c.loop-room.invariant ∙ commas-over g.T.Part.reads c.loop-room.parts c.loop-room.room c.loop-room.reader (omega arith)
