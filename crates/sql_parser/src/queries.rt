@@ -72,13 +72,14 @@ fn some_terms(reader: &mut Reader, alloc: Global, mut room: usize) -> Result<Sel
         room -= 1;
         let term = term(reader, alloc, room)?;
         let tree = join_to(alloc, front, term)?;
-        if reader.takes_word("union") {
+        if reader.next_is_word("union") {
             front = Front::BeforeUnion(tree);
-        } else if reader.takes_word("except") {
+        } else if reader.next_is_word("except") {
             front = Front::BeforeExcept(tree);
         } else {
             return Ok(tree);
         }
+        reader.skip();
     }
     Err(ReadError::Syntax)
 }
