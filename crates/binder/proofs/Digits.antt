@@ -1,11 +1,17 @@
--- Digits whose value no u64 has.
-use Rattle.std.proofs.Common.{◌≡◌, ◌<◌, ◌≤◌, ◌^◌, ℕ, List, Bool, true, false, Err, None, Result, length, refl, arith, ltb}
+-- Digits, and those whose value no u64 has.
+use Rattle.std.proofs.Common.{◌≡◌, ◌<◌, ◌≤◌, ◌^◌, ℕ, List, [], ◌∷◌, ◌&&◌, Bool, true, false, Err, None, Result, length, refl, ap, arith, ltb}
+use Rattle.std.specs.Char.{is_ascii_digit}
+use Rattle.std.specs.List.{list_all}
 use Rattle.std.specs.Str.{all_ascii_digits}
 use Rattle.std.specs.Str.Parse.{ParsesUnsigned, digits_value}
 use Rattle.std.proofs.lemmas.Bool.Decides.{nat_tests}
 use Rattle.std.proofs.lemmas.Result.{OkIff-at_err}
 use Rattle.std.proofs.lemmas.Str.Parse.{IsNumeralModel, numerals_by_value, tells_all_ascii_digits, parse_digits}
 use Rattle.binder.specs.Literals.{in_range, signed}
+
+pub digits_each : (bs : List ℕ) → list_all is_ascii_digit bs ≡ all_ascii_digits bs
+digits_each [] = refl
+digits_each (b ∷ bs) = ap (λ rest. is_ascii_digit b && rest) (digits_each bs)
 
 own : IsNumeralModel (λ ds. all_ascii_digits ds ≡ true) (digits_value 10)
 own = numerals_by_value (λ ds. all_ascii_digits ds ≡ true) tells_all_ascii_digits

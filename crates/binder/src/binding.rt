@@ -44,11 +44,7 @@ fn push_blocks<'a>(tree: &'a SelectTree, blocks: &mut Vec<&'a BlockTree>) -> Res
             blocks.push(block)?;
             Ok(())
         }
-        SelectNode::Union(left, right) => {
-            push_blocks(left, blocks)?;
-            push_blocks(right, blocks)
-        }
-        SelectNode::Except(left, right) => {
+        SelectNode::Union(left, right) | SelectNode::Except(left, right) => {
             push_blocks(left, blocks)?;
             push_blocks(right, blocks)
         }
@@ -73,11 +69,11 @@ fn look_up_all(
     ensures blocks { IfOk result (λ found. found.items ≡ map (λ b. looked_up catalogue.now b.now) blocks.now) }
     ensures repeated { Tells result (flat_map (λ b. repeated_aliases b.now) blocks.now) }
 {
-    let mut found = Vec::new(alloc);
+    let mut all = Vec::new(alloc);
     for block in blocks {
-        found.push(look_up(alloc, catalogue, block)?)?;
+        all.push(look_up(alloc, catalogue, block)?)?;
     }
-    Ok(found)
+    Ok(all)
 }
 
 /// Refuses the first place of a kind in these blocks, if there is one.
@@ -142,15 +138,37 @@ fn bound_blocks(alloc: Global, blocks: &[LookedUp]) -> Result<Vec<Block>, NoMemo
     requires { All BlockIsSmall blocks.now }
     ensures { IfOk result (λ bound. bound.items ≡ map bound_block blocks.now) }
 {
-    let mut bound = Vec::new(alloc);
+    let mut all = Vec::new(alloc);
     for block in blocks {
-        bound.push(bound_block(alloc, block)?)?;
+        all.push(bound_block(alloc, block)?)?;
     }
-    Ok(bound)
+    Ok(all)
 }
 
-/// Joins the last blocks as the tree does, from the right to the left.
-fn joined(alloc: Global, tree: &SelectTree, blocks: &mut Vec<Block>) -> Result<Query, NoMemory>
+/// Joins the last blocks as the sides of a tree do. Those of the right side are the last, so it comes first.
+#[cycle(join_blocks)]
+fn join_sides(
+    alloc: Global,
+    left: &SelectTree,
+    right: &SelectTree,
+    blocks: &mut Vec<Block>,
+) -> Result<(Box<Query>, Box<Query>), NoMemory>
+    requires { length (blocks_of left.now ++ blocks_of right.now) ≤ vec_len blocks.old }
+    ensures rest { OnOk result (vec_len blocks.new + length (blocks_of left.now ++ blocks_of right.now)
+        ≡ vec_len blocks.old) }
+    ensures sides { IfOk result (λ sides. (front : List Bound) (bind : Source → Bound)
+        → blocks.old.items ≡ front ++ map bind (blocks_of left.now ++ blocks_of right.now)
+        → (blocks.new.items ≡ front) × (sides.0.value ≡ with_blocks bind left.now)
+        × (sides.1.value ≡ with_blocks bind right.now)) }
+{
+    let right = Box::new(alloc, join_blocks(alloc, right, blocks)?)?;
+    let left = Box::new(alloc, join_blocks(alloc, left, blocks)?)?;
+    Ok((left, right))
+}
+
+/// Joins the last blocks as the tree does.
+#[cycle(join_blocks)]
+fn join_blocks(alloc: Global, tree: &SelectTree, blocks: &mut Vec<Block>) -> Result<Query, NoMemory>
     requires { length (blocks_of tree.now) ≤ vec_len blocks.old }
     ensures left { OnOk result (vec_len blocks.new + length (blocks_of tree.now) ≡ vec_len blocks.old) }
     ensures query { IfOk result (λ query. (front : List Bound) (bind : Source → Bound)
@@ -167,15 +185,13 @@ fn joined(alloc: Global, tree: &SelectTree, blocks: &mut Vec<Block>) -> Result<Q
             })
         }
         SelectNode::Union(left, right) => {
-            let right = Box::new(alloc, joined(alloc, right, blocks)?)?;
-            let left = Box::new(alloc, joined(alloc, left, blocks)?)?;
+            let (left, right) = join_sides(alloc, left, right, blocks)?;
             Ok(Query {
                 node: QueryNode::Union(left, right),
             })
         }
         SelectNode::Except(left, right) => {
-            let right = Box::new(alloc, joined(alloc, right, blocks)?)?;
-            let left = Box::new(alloc, joined(alloc, left, blocks)?)?;
+            let (left, right) = join_sides(alloc, left, right, blocks)?;
             Ok(Query {
                 node: QueryNode::Except(left, right),
             })
@@ -199,11 +215,12 @@ fn looked_up_blocks(
     look_up_all(alloc, catalogue, &blocks)
 }
 
-/// Tells what is true of each catalogue. The call is there for its clause, so it changes and returns nothing.
-pub fn is_sound(catalogue: &Catalogue)
+/// Recalls that the schema of a catalogue is sound. That holds of each catalogue, but a caller knows it only by the
+/// clause of a call on it. `bind` and `bind_delete` need it, so this call is there for its clause and changes nothing.
+pub fn recall_soundness(catalogue: &Catalogue)
     ensures { SchemaIsSound catalogue.now }
 {
-    // Asked for what its clauses tell: the catalogue is sound.
+    // The accesses aren't used: the call's own clauses tell that the catalogue is sound.
     let _accesses = catalogue.accesses();
 }
 
@@ -223,9 +240,9 @@ pub fn bind(
     ensures over { IfOk result (QueryIsOver catalogue.now) }
     ensures count { IfOk result (λ query. length (blocks_in query) ≡ length (blocks_of tree.now)) }
 {
-    is_sound(catalogue);
-    let found = looked_up_blocks(alloc, catalogue, tree)?;
-    refuse_all(alloc, limits, &found)?;
-    let mut bound = bound_blocks(alloc, &found)?;
-    Ok(joined(alloc, tree, &mut bound)?)
+    recall_soundness(catalogue);
+    let blocks = looked_up_blocks(alloc, catalogue, tree)?;
+    refuse_all(alloc, limits, &blocks)?;
+    let mut bound = bound_blocks(alloc, &blocks)?;
+    Ok(join_blocks(alloc, tree, &mut bound)?)
 }

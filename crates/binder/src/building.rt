@@ -23,7 +23,7 @@ fn place_of(column: BoundColumn) -> Place
 }
 
 /// The sign of a comparison with its sides exchanged.
-fn turned(sign: Sign) -> Sign
+fn mirrored_sign(sign: Sign) -> Sign
     ensures { result ≡ turned sign }
 {
     match sign {
@@ -72,7 +72,7 @@ fn with_value(left: BoundColumn, sign: Sign, value: Value) -> Part
 }
 
 /// What a comparison adds.
-fn compared(
+fn part_of(
     alloc: Global,
     left: &Meaning,
     sign: Sign,
@@ -88,7 +88,7 @@ fn compared(
             Ok(Some(with_value(*left, sign, value.copy(alloc)?)))
         }
         (Meaning::Fixed(value), Meaning::At(right)) => {
-            Ok(Some(with_value(*right, turned(sign), value.copy(alloc)?)))
+            Ok(Some(with_value(*right, mirrored_sign(sign), value.copy(alloc)?)))
         }
         _ => Ok(None),
     }
@@ -104,7 +104,7 @@ fn add_part(block: &mut Block, part: Part) -> Result<(), NoMemory>
     }
 }
 
-fn add_compared(
+fn add_comparison(
     alloc: Global,
     block: &mut Block,
     left: &Meaning,
@@ -115,7 +115,7 @@ fn add_compared(
     requires right { IsSmall right.now }
     ensures { OnOk result (Adds block.old block.new (option_to_list (compared left.now sign right.now))) }
 {
-    match compared(alloc, left, sign, right)? {
+    match part_of(alloc, left, sign, right)? {
         Some(part) => add_part(block, part),
         None => Ok(()),
     }
@@ -127,11 +127,11 @@ fn add_condition(alloc: Global, block: &mut Block, condition: &Condition) -> Res
 {
     match condition {
         Condition::Compare { left, sign, right } => {
-            add_compared(alloc, block, left, *sign, right)
+            add_comparison(alloc, block, left, *sign, right)
         }
         Condition::Between { value, low, high } => {
-            add_compared(alloc, block, value, Sign::AtLeast, low)?;
-            add_compared(alloc, block, value, Sign::AtMost, high)
+            add_comparison(alloc, block, value, Sign::AtLeast, low)?;
+            add_comparison(alloc, block, value, Sign::AtMost, high)
         }
     }
 }

@@ -6,7 +6,7 @@ ghost use Rattle.binder.specs.Binding.{delete_block, delete_refusals, bound_dele
 ghost use Rattle.binder.specs.LookedUp.{looked_up};
 ghost use Rattle.binder.specs.Refusing.{Tells};
 
-use crate::binding::is_sound;
+use crate::binding::recall_soundness;
 use crate::building::bound_block;
 use crate::kinds::{Flaw, Kind};
 use crate::looking_up::{atoms_of, conditions_of, want_table};
@@ -85,9 +85,9 @@ pub fn bind_delete(
     ensures over { IfOk result (BlockIsOver catalogue.now) }
     ensures one { IfOk result (λ block. length block.atoms ≡ 1) }
 {
-    is_sound(catalogue);
+    recall_soundness(catalogue);
     want_table(alloc, catalogue, table)?;
-    let found = look_up(alloc, catalogue, table, conditions.as_slice())?;
-    refuse_kinds(alloc, &KINDS, limits, &found)?;
-    Ok(bound_block(alloc, &found)?)
+    let block = look_up(alloc, catalogue, table, conditions.as_slice())?;
+    refuse_kinds(alloc, &KINDS, limits, &block)?;
+    Ok(bound_block(alloc, &block)?)
 }

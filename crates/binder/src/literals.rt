@@ -32,26 +32,24 @@ pub fn literal_value(alloc: Global, literal: &Literal) -> Result<Value, Fail>
     ensures value { IfOk result (λ value. value_of (literal_meaning literal.now) ≡ Some value) }
     ensures refused { Tells result (number_refusals literal.now) }
 {
-    match literal {
-        Literal::Number { negative, digits } => match number(*negative, digits.as_str()) {
-            Some(value) => Ok(value),
-            None => Err(Fail::Refused(Refusal::NumberRange {
-                negative: *negative,
-                digits: digits.copy(alloc)?,
-            })),
-        },
-        Literal::Words { text } => Ok(Value::Str(text.copy(alloc)?)),
+    match literal_meaning(alloc, literal)? {
+        Meaning::Fixed(value) => Ok(value),
+        Meaning::OutOfRange { negative, digits } => {
+            Err(Fail::Refused(Refusal::NumberRange { negative, digits }))
+        }
+        // The others are for names, and a literal is none.
+        _ => unreachable!(),
     }
 }
 
 fn number(negative: bool, digits: &str) -> Option<Value>
     ensures { result ≡ number_value negative digits.now }
 {
-    signed(negative, digits).map(Value::Int)
+    signed_number(negative, digits).map(Value::Int)
 }
 
 #[tactic(auto, unfolding(crate::specs::Literals::signed))]
-fn signed(negative: bool, digits: &str) -> Option<i64>
+fn signed_number(negative: bool, digits: &str) -> Option<i64>
     ensures { result ≡ signed negative digits.now }
 {
     if digits.is_empty() || !all_digits(digits.as_bytes()) {
@@ -66,12 +64,7 @@ fn signed(negative: bool, digits: &str) -> Option<i64>
 fn all_digits(text: &[u8]) -> bool
     ensures { result ≡ all_ascii_digits text.now }
 {
-    for byte in text {
-        if !byte.is_ascii_digit() {
-            return false;
-        }
-    }
-    true
+    text.iter().all(|byte| byte.is_ascii_digit())
 }
 
 fn in_range(negative: bool, magnitude: u64) -> Option<i64>

@@ -42,12 +42,8 @@ fn atom_of(catalogue: &Catalogue, item: &FromItem) -> Atom
     ensures { result ≡ atom_of catalogue.now item.now }
 {
     let columns = columns_named(catalogue, &item.table);
-    let table = match catalogue.table(&item.table) {
-        Some(table) => table,
-        None => TableId(0),
-    };
     Atom {
-        table,
+        table: catalogue.table(&item.table).unwrap_or(TableId(0)),
         width: columns.len() as u16,
     }
 }
@@ -89,11 +85,11 @@ pub fn conditions_of(
 ) -> Result<List<Condition>, NoMemory>
     ensures { IfOk result (λ bound. bound ≡ map (condition (names_of scope.now)) conditions.now) }
 {
-    let mut bound = List::new(alloc);
+    let mut all = List::new(alloc);
     for condition in conditions {
-        bound.push(scope.condition(alloc, condition)?)?;
+        all.push(scope.condition(alloc, condition)?)?;
     }
-    Ok(bound)
+    Ok(all)
 }
 
 /// The column that something stands for.
@@ -170,14 +166,14 @@ pub fn look_up(alloc: Global, catalogue: &Catalogue, block: &BlockTree) -> Resul
 {
     let items = block.from_items.as_slice();
     let scope = scope_of(alloc, catalogue, items)?;
-    let found = meanings_of(alloc, &scope, block.items.as_slice())?;
-    let kinds = output_kinds(alloc, catalogue, block, found.as_slice())?;
+    let meanings = meanings_of(alloc, &scope, block.items.as_slice())?;
+    let kinds = output_kinds(alloc, catalogue, block, meanings.as_slice())?;
     let conditions = conditions_of(alloc, &scope, block.conditions.as_slice())?;
     let atoms = atoms_of(alloc, catalogue, items)?;
     Ok(LookedUp {
         atoms,
         star: block.star,
-        items: found,
+        items: meanings,
         kinds,
         conditions,
     })

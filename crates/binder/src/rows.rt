@@ -26,11 +26,11 @@ fn bound_rows(alloc: Global, rows: &[List<Literal>]) -> Result<List<Row>, Fail>
     ensures rows { IfOk result (λ bound. bound ≡ bound_rows rows.now) }
     ensures refused { Tells result (flat_map (flat_map number_refusals) rows.now) }
 {
-    let mut bound = List::new(alloc);
+    let mut all = List::new(alloc);
     for row in rows {
-        bound.push(bound_row(alloc, row.as_slice())?)?;
+        all.push(bound_row(alloc, row.as_slice())?)?;
     }
-    Ok(bound)
+    Ok(all)
 }
 
 fn refuse_long_literal(limit: u32, literal: &Literal) -> Result<(), Fail>

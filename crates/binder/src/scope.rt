@@ -40,10 +40,10 @@ pub fn columns_named<'a>(catalogue: &'a Catalogue, name: &Name) -> &'a [Column]
 }
 
 /// What a name stands for where it stands for this column too.
-fn one_more(found: Option<Found>, column: BoundColumn) -> Found
-    ensures { result ≡ one_more found column }
+fn one_more(before: Option<Found>, column: BoundColumn) -> Found
+    ensures { result ≡ one_more before column }
 {
-    match found {
+    match before {
         Some(_) => Found::Several,
         None => Found::One(column),
     }
@@ -72,32 +72,32 @@ fn find_in(atom: usize, columns: &[Column], name: &str) -> Option<Found>
 
 /// Adds a column to those with its name.
 fn add_column<'a>(
-    found: &mut HashMap<&'a str, Found>,
+    by_name: &mut HashMap<&'a str, Found>,
     name: &'a str,
     column: BoundColumn,
 ) -> Result<(), NoMemory>
-    ensures { OnOk result ((q : List ℕ) → found_at found.new q
-        ≡ (if bytes_eq name.now q then Some (one_more (found_at found.old name.now) column)
-        else found_at found.old q)) }
+    ensures { OnOk result ((q : List ℕ) → found_at by_name.new q
+        ≡ (if bytes_eq name.now q then Some (one_more (found_at by_name.old name.now) column)
+        else found_at by_name.old q)) }
 {
-    let more = one_more(found.get(name).copied(), column);
-    found.insert(name, more)?;
+    let more = one_more(by_name.get(name).copied(), column);
+    by_name.insert(name, more)?;
     Ok(())
 }
 
 /// Adds the columns of an atom to those with their names.
 fn add_columns<'a>(
-    found: &mut HashMap<&'a str, Found>,
+    by_name: &mut HashMap<&'a str, Found>,
     atom: usize,
     columns: &'a [Column],
 ) -> Result<(), NoMemory>
-    ensures { OnOk result ((q : List ℕ) (before : List Bound) → found_at found.old q ≡ found_in before
-        → found_at found.new q ≡ found_in (before ++ columns_in atom q columns.now)) }
+    ensures { OnOk result ((q : List ℕ) (before : List Bound) → found_at by_name.old q ≡ found_in before
+        → found_at by_name.new q ≡ found_in (before ++ columns_in atom q columns.now)) }
 {
     for (place, column) in columns.iter().enumerate() {
         let kind = column.kind;
         add_column(
-            found,
+            by_name,
             column.name.as_str(),
             BoundColumn {
                 atom,
@@ -155,7 +155,8 @@ impl<'a> Scope<'a> {
         add_columns(&mut self.columns, atom, columns)
     }
 
-    fn found(&self, reference: &ColumnRef) -> Option<Found>
+    /// What the maps have of a ref.
+    fn find(&self, reference: &ColumnRef) -> Option<Found>
         ensures { result ≡ found_by self.now reference.now }
     {
         match &reference.table {
@@ -171,7 +172,7 @@ impl<'a> Scope<'a> {
     pub fn meaning(&self, alloc: Global, reference: &ColumnRef) -> Result<Meaning, NoMemory>
         ensures { IfOk result (λ meaning. meaning ≡ names_of self.now reference.now) }
     {
-        match self.found(reference) {
+        match self.find(reference) {
             Some(Found::One(column)) => Ok(Meaning::At(column)),
             Some(Found::Several) => Ok(Meaning::Ambiguous {
                 column: reference.column.copy(alloc)?,

@@ -13,75 +13,75 @@ use Rattle.catalogue.specs.Queries.{QueryIsOver}
 use Rattle.binder.proofs.TellsFacts.{err_first, err_second, first_none}
 use Rattle.binder.proofs.binding.bind.Goals as goal
 
-pub returns-in_err-found-clause-refused : goal.returns-in_err-found-clause-refused
+pub returns-in_err-blocks-clause-refused : goal.returns-in_err-blocks-clause-refused
 unfolding refusals
-returns-in_err-found-clause-refused c = let p = err_from_is_err_and c.from_residual.result c.from_residual.ensures.1 in rw (p.1, p.2)
+returns-in_err-blocks-clause-refused c = let p = err_from_is_err_and c.from_residual.result c.from_residual.ensures.1 in rw (p.1, p.2)
     (err_first (Unit {0}) (Unit {0}) _ (flat_map (unknown_tables c.args.catalogue.now) (blocks_of c.args.tree.now) ++ flat_map repeated_aliases
-    (blocks_of c.args.tree.now)) _ c.in_err-found.ensures.refused)
+    (blocks_of c.args.tree.now)) _ c.in_err-blocks.ensures.refused)
 
 pub refuse_all-requires-clause-conditions : goal.refuse_all-requires-clause-conditions
 refuse_all-requires-clause-conditions c =
     conditions_few c.args.catalogue.now (blocks_of c.args.tree.now) c.deref.result.now (c.deref.ensures.value
-    ∙ c.in_ok-found.ensures.blocks) c.requires.conditions
+    ∙ c.in_ok-blocks.ensures.blocks) c.requires.conditions
 
 pub returns-in_err-refuse_all-clause-refused : goal.returns-in_err-refuse_all-clause-refused
 unfolding refusals
 returns-in_err-refuse_all-clause-refused c =
     let p = err_from_is_err_and c.from_residual-in_err-refuse_all.result c.from_residual-in_err-refuse_all.ensures.1 in
-    let is = c.deref.ensures.value ∙ c.in_ok-found.ensures.blocks in
+    let is = c.deref.ensures.value ∙ c.in_ok-blocks.ensures.blocks in
     rw (p.1, p.2) (err_second (Unit {0}) (Unit {0}) _ (flat_map (unknown_tables c.args.catalogue.now) (blocks_of c.args.tree.now)
     ++ flat_map repeated_aliases (blocks_of c.args.tree.now)) _
-    c.in_ok-found.ensures.refused (rw is at c.in_err-refuse_all.ensures))
+    c.in_ok-blocks.ensures.refused (rw is at c.in_err-refuse_all.ensures))
 
 pub bound_blocks-requires : goal.bound_blocks-requires
 bound_blocks-requires c =
     blocks_small c.args.limits.now c.args.catalogue.now (blocks_of c.args.tree.now) c.deref-2.result.now (c.deref-2.ensures.value
-    ∙ c.in_ok-found.ensures.blocks)
-    c.args.limits.now.atoms_in_range.1 c.is_sound.ensures
+    ∙ c.in_ok-blocks.ensures.blocks)
+    c.args.limits.now.atoms_in_range.1 c.recall_soundness.ensures
     (ap (λ blocks. first (looked_refusals c.args.limits.now blocks)) (c.deref-2.ensures.value ∙ sym c.deref.ensures.value) ∙ c.in_ok-refuse_all.ensures)
 
 pub returns-clause-refused : goal.returns-clause-refused
 unfolding refusals
 returns-clause-refused c =
     first_none (flat_map (unknown_tables c.args.catalogue.now) (blocks_of c.args.tree.now) ++ flat_map repeated_aliases
-    (blocks_of c.args.tree.now)) _ c.in_ok-found.ensures.refused
-    ∙ ap (λ blocks. first (looked_refusals c.args.limits.now blocks)) (sym (c.deref.ensures.value ∙ c.in_ok-found.ensures.blocks))
+    (blocks_of c.args.tree.now)) _ c.in_ok-blocks.ensures.refused
+    ∙ ap (λ blocks. first (looked_refusals c.args.limits.now blocks)) (sym (c.deref.ensures.value ∙ c.in_ok-blocks.ensures.blocks))
     ∙ c.in_ok-refuse_all.ensures
 
 pub returns-clause-query : goal.returns-clause-query
 returns-clause-query c =
-    (c.in_ok-joined.ensures.query [] (λ b. bound_block (looked_up c.args.catalogue.now b))
-    (blocks_are c.args.catalogue.now (blocks_of c.args.tree.now) c.in_ok-found.found.items c.deref-2.result.now c.in_ok-bound.bound.items
-    c.in_ok-found.ensures.blocks c.deref-2.ensures.value c.in_ok-bound.ensures)).1
+    (c.in_ok-join_blocks.ensures.query [] (λ b. bound_block (looked_up c.args.catalogue.now b))
+    (blocks_are c.args.catalogue.now (blocks_of c.args.tree.now) c.in_ok-blocks.blocks.items c.deref-2.result.now c.in_ok-bound.bound.items
+    c.in_ok-blocks.ensures.blocks c.deref-2.ensures.value c.in_ok-bound.ensures)).1
 
 pub returns-clause-well_formed : goal.returns-clause-well_formed
 unfolding refusals
 returns-clause-well_formed c = λ some.
     subst QueryIsWellFormed
-    (sym (c.in_ok-joined.ensures.query [] (λ b. bound_block (looked_up c.args.catalogue.now b))
-    (blocks_are c.args.catalogue.now (blocks_of c.args.tree.now) c.in_ok-found.found.items c.deref-2.result.now c.in_ok-bound.bound.items
-    c.in_ok-found.ensures.blocks c.deref-2.ensures.value c.in_ok-bound.ensures)).1)
-    (query_fits c.args.limits.now c.args.catalogue.now c.args.tree.now c.is_sound.ensures c.args.limits.now.atoms_in_range.1 some
+    (sym (c.in_ok-join_blocks.ensures.query [] (λ b. bound_block (looked_up c.args.catalogue.now b))
+    (blocks_are c.args.catalogue.now (blocks_of c.args.tree.now) c.in_ok-blocks.blocks.items c.deref-2.result.now c.in_ok-bound.bound.items
+    c.in_ok-blocks.ensures.blocks c.deref-2.ensures.value c.in_ok-bound.ensures)).1)
+    (query_fits c.args.limits.now c.args.catalogue.now c.args.tree.now c.recall_soundness.ensures c.args.limits.now.atoms_in_range.1 some
     (none_left (flat_map (unknown_tables c.args.catalogue.now) (blocks_of c.args.tree.now)) (flat_map repeated_aliases
-    (blocks_of c.args.tree.now)) c.in_ok-found.ensures.refused)
-    (ap (λ blocks. first (looked_refusals c.args.limits.now blocks)) (sym (c.deref.ensures.value ∙ c.in_ok-found.ensures.blocks))
+    (blocks_of c.args.tree.now)) c.in_ok-blocks.ensures.refused)
+    (ap (λ blocks. first (looked_refusals c.args.limits.now blocks)) (sym (c.deref.ensures.value ∙ c.in_ok-blocks.ensures.blocks))
     ∙ c.in_ok-refuse_all.ensures))
 
 pub returns-clause-over : goal.returns-clause-over
 unfolding refusals
 returns-clause-over c =
     subst (QueryIsOver c.args.catalogue.now)
-    (sym (c.in_ok-joined.ensures.query [] (λ b. bound_block (looked_up c.args.catalogue.now b))
-    (blocks_are c.args.catalogue.now (blocks_of c.args.tree.now) c.in_ok-found.found.items c.deref-2.result.now c.in_ok-bound.bound.items
-    c.in_ok-found.ensures.blocks c.deref-2.ensures.value c.in_ok-bound.ensures)).1)
+    (sym (c.in_ok-join_blocks.ensures.query [] (λ b. bound_block (looked_up c.args.catalogue.now b))
+    (blocks_are c.args.catalogue.now (blocks_of c.args.tree.now) c.in_ok-blocks.blocks.items c.deref-2.result.now c.in_ok-bound.bound.items
+    c.in_ok-blocks.ensures.blocks c.deref-2.ensures.value c.in_ok-bound.ensures)).1)
     (query_over c.args.catalogue.now c.args.tree.now
     (none_left (flat_map (unknown_tables c.args.catalogue.now) (blocks_of c.args.tree.now)) (flat_map repeated_aliases
-    (blocks_of c.args.tree.now)) c.in_ok-found.ensures.refused))
+    (blocks_of c.args.tree.now)) c.in_ok-blocks.ensures.refused))
 
 pub returns-clause-count : goal.returns-clause-count
 returns-clause-count c =
     ap (λ q. length (query.blocks_of q))
-    (c.in_ok-joined.ensures.query [] (λ b. bound_block (looked_up c.args.catalogue.now b))
-    (blocks_are c.args.catalogue.now (blocks_of c.args.tree.now) c.in_ok-found.found.items c.deref-2.result.now c.in_ok-bound.bound.items
-    c.in_ok-found.ensures.blocks c.deref-2.ensures.value c.in_ok-bound.ensures)).1
+    (c.in_ok-join_blocks.ensures.query [] (λ b. bound_block (looked_up c.args.catalogue.now b))
+    (blocks_are c.args.catalogue.now (blocks_of c.args.tree.now) c.in_ok-blocks.blocks.items c.deref-2.result.now c.in_ok-bound.bound.items
+    c.in_ok-blocks.ensures.blocks c.deref-2.ensures.value c.in_ok-bound.ensures)).1
     ∙ as_many_blocks c.args.catalogue.now c.args.tree.now

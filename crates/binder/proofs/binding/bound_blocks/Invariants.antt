@@ -3,4 +3,4 @@ use Rattle.binder.specs.LookedUp.{bound_block}
 use Rattle.binder.proofs.binding.bound_blocks.Given as goal
 
 abbrev pub invariant-loop-block : goal.invariant-loop-block
-invariant-loop-block l = l.bound.items ≡ map bound_block (take l.block-index l.blocks)
+invariant-loop-block l = l.all.items ≡ map bound_block (take l.block-index l.blocks)

@@ -7,6 +7,6 @@ use Rattle.binder.proofs.binding.look_up_all.Given as goal
 
 abbrev pub invariant-loop-block : goal.invariant-loop-block
 invariant-loop-block l = record {
-  so_far : l.found.items ≡ map (λ b. looked_up l.catalogue b.now) (take l.block-index l.blocks);
+  so_far : l.all.items ≡ map (λ b. looked_up l.catalogue b.now) (take l.block-index l.blocks);
   once : first_from (λ b. repeated_aliases b.now) l.blocks l.block-index ≡ first (flat_map (λ b. repeated_aliases b.now) l.blocks);
 }

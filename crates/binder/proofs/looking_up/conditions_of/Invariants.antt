@@ -4,4 +4,4 @@ use Rattle.binder.specs.Scopes.{names_of}
 use Rattle.binder.proofs.looking_up.conditions_of.Given as goal
 
 abbrev pub invariant-loop-condition : goal.invariant-loop-condition
-invariant-loop-condition l = l.bound ≡ map (condition (names_of l.scope)) (take l.condition-index l.conditions)
+invariant-loop-condition l = l.all ≡ map (condition (names_of l.scope)) (take l.condition-index l.conditions)

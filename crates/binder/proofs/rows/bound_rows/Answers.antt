@@ -7,7 +7,7 @@ use Rattle.binder.proofs.TellsFacts.{from_start, next_ok, err_next, at_end}
 use Rattle.binder.proofs.rows.bound_rows.Goals as goal
 
 pub loop-row-init : goal.loop-row-init
-loop-row-init c = record { so_far = c.new-bound.ensures; in_range = from_start (flat_map number_refusals) c.args.rows.now }
+loop-row-init c = record { so_far = c.new-all.ensures; in_range = from_start (flat_map number_refusals) c.args.rows.now }
 
 pub returns-in_err-bound_row-clause-refused : goal.returns-in_err-bound_row-clause-refused
 returns-in_err-bound_row-clause-refused c = let p = err_from_is_err_and c.from_residual.result c.from_residual.ensures.1 in rw (p.1, p.2)

@@ -7,6 +7,6 @@ use Rattle.binder.proofs.rows.bound_rows.Given as goal
 
 abbrev pub invariant-loop-row : goal.invariant-loop-row
 invariant-loop-row l = record {
-  so_far : l.bound ≡ bound_rows (take l.row-index l.rows);
+  so_far : l.all ≡ bound_rows (take l.row-index l.rows);
   in_range : first_from (flat_map number_refusals) l.rows l.row-index ≡ first (flat_map (flat_map number_refusals) l.rows);
 }

@@ -11,6 +11,6 @@ loop-place-init c = λ name before is. is ∙ ap found_in (sym (append-nil befor
 
 pub loop-place-preserved : goal.loop-place-preserved
 loop-place-preserved c = λ name before is.
-    map_more (found_at c.loop-place.found)
-    (found_at c.add_column.new.found) c.args.atom c.args.columns.now c.loop-place.place c.index-columns-place.result name before
+    map_more (found_at c.loop-place.by_name)
+    (found_at c.add_column.new.by_name) c.args.atom c.args.columns.now c.loop-place.place c.index-columns-place.result name before
     c.loop-place-test.true c.index-columns-place.is (c.loop-place.invariant name before is) (rw c.as_str.ensures at (c.in_ok-add_column.ensures name))

@@ -2,7 +2,7 @@ use Rattle.std.proofs.Common.{sym, ◌∙◌, ap, None}
 use Rattle.std.specs.Option.{option_map_or}
 use Rattle.binder.specs.Meanings.{columns_in}
 use Rattle.binder.specs.Scopes.{found_in, found_at, found_among}
-use Rattle.binder.proofs.scope.Scope.found.Goals as goal
+use Rattle.binder.proofs.scope.Scope.find.Goals as goal
 
 pub returns-in-Some-get : goal.returns-in-Some-get
 returns-in-Some-get c =
