@@ -3,7 +3,7 @@ use crate::meaning::BoundColumn;
 use beas_core::Column;
 
 /// The columns with a name, where there is at least one.
-#[derive(Clone, Copy, Debug)]
+#[derive(Clone, Copy)]
 pub enum Found {
     One(BoundColumn),
     Several,

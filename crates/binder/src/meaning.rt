@@ -2,7 +2,7 @@
 use beas_core::{Atom, ColType, Comparison, List, Name, Place, Sign, Text, Value};
 
 /// A column of an atom of a block, both counted from 0, and the type of its values.
-#[derive(Clone, Copy, Debug)]
+#[derive(Clone, Copy)]
 pub struct BoundColumn {
     pub atom: usize,
     pub column: usize,
@@ -10,7 +10,7 @@ pub struct BoundColumn {
 }
 
 /// What a ref or a literal stands for, or why it stands for nothing.
-#[derive(Debug, Drop)]
+#[derive(Drop)]
 pub enum Meaning {
     At(BoundColumn),
     Fixed(Value),
