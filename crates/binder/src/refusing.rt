@@ -161,10 +161,7 @@ fn is_mixed(condition: &Condition) -> bool
     match condition {
         Condition::Compare { left, right, .. } => kinds_differ(left, right),
         Condition::Between { value, low, high } => {
-            if kinds_differ(value, low) {
-                return true;
-            }
-            kinds_differ(value, high)
+            kinds_differ(value, low) || kinds_differ(value, high)
         }
     }
 }
