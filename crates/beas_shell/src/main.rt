@@ -3,14 +3,9 @@
 
 ghost use Rattle.std.specs.Prelude.{◌≡◌, ◌<◌};
 
-mod interrupted;
-mod real_files;
-mod real_sink;
-
 use beas_core::{Limits, Steps};
 use beas_run::run;
-use real_files::RealFiles;
-use real_sink::RealSink;
+use real_streams::{RealFiles, RealSink};
 use session::Session;
 use std::env;
 use std::io::{self, ErrorKind};

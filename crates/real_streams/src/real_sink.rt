@@ -1,0 +1,114 @@
+// Writers of the system, of which nothing is told but a count.
+ghost use Rattle.std.specs.Prelude.{◌≡◌, ◌+◌, ◌-◌, ◌^◌, ◌<◌, ◌≤◌, [], false, Err, length, min, take, IfOk, OnOk, OnErr, IsErrOf};
+ghost use Rattle.std.specs.Io.KnownBytes.{Appends, Keeps, WriteAppends};
+ghost use Rattle.std.specs.Io.{WritesAtMost};
+ghost use Rattle.real_streams.specs.Given.{GavePart};
+
+use crate::interrupted::is_interrupted;
+use outside::{Sink, SinkError};
+use std::io::{self, ErrorKind, Write};
+
+/// A writer of the system. The bytes that it took aren't told.
+#[derive(Debug, Drop)]
+pub struct RealSink<W> {
+    writer: W,
+    faults: u64,
+}
+
+impl<W: Write> RealSink<W> {
+    /// A sink into this writer, without a fault so far.
+    pub fn new(writer: W) -> RealSink<W>
+        ensures writer { result.writer ≡ writer }
+        ensures faults { result.faults ≡ 0 }
+    {
+        RealSink { writer, faults: 0 }
+    }
+
+    /// The writer, as it is after the puts so far.
+    pub fn writer(&self) -> &W
+        ensures { result.now ≡ self.now.writer }
+    {
+        &self.writer
+    }
+
+    /// How many puts failed.
+    pub fn faults(&self) -> u64
+        ensures { result ≡ self.now.faults }
+    {
+        self.faults
+    }
+
+    /// Counts a fault.
+    fn fail(&mut self) -> SinkError
+        ensures failed { result ≡ SinkError.Failed }
+        ensures faults { self.new.faults ≡ min (self.old.faults + 1) (2 ^ 64 - 1) }
+        ensures writer { self.new.writer ≡ self.old.writer }
+    {
+        self.faults = self.faults.saturating_add(1);
+        SinkError::Failed
+    }
+
+    /// Writes a part of the bytes, at least one, and says how many they were.
+    fn write_part(&mut self, bytes: &[u8]) -> Result<usize, SinkError>
+        requires { 0 < length bytes.now }
+        ensures some { IfOk result (λ count. 0 < count) }
+        ensures within { IfOk result (λ count. count ≤ length bytes.now) }
+        ensures sent { IfOk result (λ count. Appends (W.contents self.old.writer) (W.contents self.new.writer)
+            (take count bytes.now)) }
+        ensures kept { OnErr result (Keeps (W.contents self.old.writer) (W.contents self.new.writer)) }
+        ensures no_fault { OnOk result (self.new.faults ≡ self.old.faults) }
+        ensures failed { OnErr result ((result ≡ Err SinkError.Failed)
+            × (self.new.faults ≡ min (self.old.faults + 1) (2 ^ 64 - 1))) }
+    {
+        match write_some(&mut self.writer, bytes) {
+            Ok(0) => Err(self.fail()),
+            Ok(count) => Ok(count),
+            Err(_) => Err(self.fail()),
+        }
+    }
+}
+
+/// Writes a part of the bytes, or none. A write that was interrupted is tried again.
+#[tactic(auto, using(crate::proofs::Given::keeps_same, crate::proofs::Given::keeps_both, crate::proofs::Given::keeps_appends))]
+fn write_some<W: Write>(writer: &mut W, bytes: &[u8]) -> io::Result<usize>
+    ensures bound { WritesAtMost result bytes.now }
+    ensures bytes { WriteAppends (W.contents writer.old) (W.contents writer.new) result bytes.now }
+{
+    'tries: for _ in 0..u64::MAX {
+        match writer.write(bytes) {
+            Ok(count) => return Ok(count),
+            Err(error) if is_interrupted(&error) => {}
+            Err(error) => return Err(error),
+        }
+    }
+    Err(io::Error::from(ErrorKind::Interrupted))
+}
+
+impl<W: Write> Sink for RealSink<W> {
+    ghost told = { λ _. false };
+
+    ghost sent = { λ _. [] };
+
+    ghost faults = { λ sink. sink.faults };
+
+    fn put(&mut self, bytes: &[u8]) -> Result<(), SinkError>
+        ensures ok { OnOk result (Appends (W.contents self.old.writer) (W.contents self.new.writer) bytes.now) }
+        ensures part { GavePart (W.contents self.old.writer) (W.contents self.new.writer) bytes.now }
+        ensures no_fault { OnOk result (self.new.faults ≡ self.old.faults) }
+        ensures failed { OnErr result ((result ≡ Err SinkError.Failed)
+            × (self.new.faults ≡ min (self.old.faults + 1) (2 ^ 64 - 1))) }
+        ensures rise { self.old.faults ≤ self.new.faults }
+    {
+        let mut rest = bytes;
+        'parts: for _ in 0..u64::MAX {
+            if rest.is_empty() {
+                return Ok(());
+            }
+            match self.write_part(rest) {
+                Ok(count) => rest = &rest[count..],
+                Err(why) => return Err(why),
+            }
+        }
+        Err(self.fail())
+    }
+}
