@@ -34,36 +34,43 @@ fn words_of(rt: &HostRuntime) -> io::Result<Vec<String>> {
     Ok(words)
 }
 
-/// Runs what the words ask for, over a session without tables, the system's files and streams, and one counter of
-/// reads.
+/// The words after the program's name.
+fn after_first(words: &[String]) -> &[String] {
+    match words {
+        [_, named @ ..] => named,
+        [] => words,
+    }
+}
+
+/// Runs what the words ask for, over a session without tables and the system's files and streams.
+fn run_words<L: Ledger>(rt: &HostRuntime, words: &[String], steps: &mut Steps<L>) -> u8 {
+    let mut session = Session::new(rt.alloc(), Limits::standard(), None, false);
+    let mut files = RealFiles::new(rt);
+    let mut out = RealSink::new(rt.stdout());
+    let mut err = RealSink::new(rt.stderr());
+    run(
+        rt.alloc(),
+        &mut session,
+        words,
+        &mut files,
+        &mut out,
+        &mut err,
+        steps,
+    )
+}
+
+/// Runs what the words of the command line ask for, with one counter of reads.
 fn start<L: Ledger>(rt: &HostRuntime, blank: Blank) -> u8
     requires name { blank.name ≡ L.name }
     requires parts { blank.parts ≡ L.parts }
     requires some { 0 < blank.parts }
 {
-    let words = match words_of(rt) {
-        Ok(words) => words,
-        Err(why) if why.kind() == ErrorKind::OutOfMemory => return NO_MEMORY,
-        Err(_) => return NO_WORDS,
-    };
-    let named = match words.as_slice() {
-        [_, named @ ..] => named,
-        [] => words.as_slice(),
-    };
-    let mut session = Session::new(rt.alloc(), Limits::standard(), None, false);
-    let mut files = RealFiles::new(rt);
-    let mut out = RealSink::new(rt.stdout());
-    let mut err = RealSink::new(rt.stderr());
     let mut steps = Steps::<L>::start(blank);
-    run(
-        rt.alloc(),
-        &mut session,
-        named,
-        &mut files,
-        &mut out,
-        &mut err,
-        &mut steps,
-    )
+    match words_of(rt) {
+        Ok(words) => run_words(rt, after_first(words.as_slice()), &mut steps),
+        Err(why) if why.kind() == ErrorKind::OutOfMemory => NO_MEMORY,
+        Err(_) => NO_WORDS,
+    }
 }
 
 fn main(rt: HostRuntime) -> ExitCode {
