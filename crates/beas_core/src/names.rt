@@ -46,6 +46,7 @@ impl Name {
     pub fn law_is_name(&self)
         ensures { IsTrue (is_name self.now) }
     {
+        // Read for what its type tells: a name's text is an identifier.
         let _text = &self.text;
     }
 

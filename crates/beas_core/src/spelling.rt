@@ -102,10 +102,10 @@ fn all_continue(text: &[u8]) -> bool
 fn is_a_word(text: &[u8]) -> bool
     ensures { result ≡ is_word text.now }
 {
-    let begun = begins_word(first_byte(text));
+    let begins = begins_word(first_byte(text));
     let goes_on = all_continue(text);
     let fits = text.len() <= 64;
-    begun & goes_on & fits
+    begins && goes_on && fits
 }
 
 fn is_among(words: &[&str], word: &str) -> bool

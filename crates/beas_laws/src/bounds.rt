@@ -28,6 +28,7 @@ fn ask_for_steps<P: AccessPort>(port: &P, steps: &[DStep])
     ensures { All (StepHolds (P.rows port.now) (P.accesses port.now)) steps.now }
 {
     for step in steps {
+        // Asked for what it tells: the constraint holds.
         let _access = port.access(step.access);
     }
 }

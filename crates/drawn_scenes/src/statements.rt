@@ -17,7 +17,7 @@ const LONGEST: usize = 16_777_216;
 
 /// The statement that some tokens spell.
 #[tactic(auto, using(beas_run::proofs::WellFormed::parsed_well))]
-fn parsed(alloc: Global, tokens: &[Token]) -> Result<Statement, Fail>
+fn parse_well(alloc: Global, tokens: &[Token]) -> Result<Statement, Fail>
     requires { length tokens.now < 2 ^ 32 - 1 }
     ensures { IfOk result StatementIsWellFormed }
 {
@@ -32,7 +32,7 @@ pub fn statement_of(alloc: Global, spelled: &str) -> Result<Statement, Fail>
         return Err(Fail::Refused(Refusal::Syntax));
     }
     let tokens = lex(alloc, spelled)?;
-    parsed(alloc, tokens.as_slice())
+    parse_well(alloc, tokens.as_slice())
 }
 
 /// Carries out the statement that some tokens spell, and says what is reported of it.
@@ -45,7 +45,7 @@ fn report_of<L: Ledger>(
 ) -> Result<Report, NoMemory>
     requires { length tokens.now < 2 ^ 32 - 1 }
 {
-    match parsed(alloc, tokens) {
+    match parse_well(alloc, tokens) {
         Ok(statement) => session.apply(alloc, files, &statement, steps),
         Err(Fail::Refused(why)) => Ok(Report::Refused { why }),
         Err(Fail::NoMemory) => Err(NoMemory),

@@ -23,7 +23,7 @@ fn limit(named: &str, name: &str, most: u64, before: u64) -> u64
 }
 
 /// The limits with the one that is named lowered.
-fn lowered(limits: &Limits, name: &str, most: u64) -> Limits
+fn with_limit(limits: &Limits, name: &str, most: u64) -> Limits
     requires { 1 ≤ most }
 {
     Limits {
@@ -48,7 +48,7 @@ fn session_of(alloc: Global, lines: &str) -> Session {
             if name == "budget" {
                 session.budget = Some(most);
             }
-            session.limits = lowered(&session.limits, name, most.max(1));
+            session.limits = with_limit(&session.limits, name, most.max(1));
         }
     }
     session

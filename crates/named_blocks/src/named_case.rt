@@ -70,7 +70,7 @@ impl NamedCase {
                     Some(named) => QueryNode::Block(named.block.copy(alloc)?),
                     None => return Err(Wrong::Line(0)),
                 },
-                sign => joined(alloc, *sign, &mut stack)?,
+                sign => join(alloc, *sign, &mut stack)?,
             };
             stack.push(Query { node })?;
         }
@@ -82,7 +82,7 @@ impl NamedCase {
 }
 
 // The last two queries, joined by a sign.
-fn joined(alloc: Global, sign: Part, stack: &mut Vec<Query>) -> Result<QueryNode, Wrong> {
+fn join(alloc: Global, sign: Part, stack: &mut Vec<Query>) -> Result<QueryNode, Wrong> {
     let (right, left) = match (stack.pop(), stack.pop()) {
         (Some(right), Some(left)) => (Box::new(alloc, right)?, Box::new(alloc, left)?),
         _ => return Err(Wrong::Line(0)),

@@ -23,6 +23,7 @@ pub fn plan_text(
     requires { PlanFits catalogue.now.accesses prepared.now }
     ensures { IfOk result (λ text. text ≡ plan_text catalogue.now prepared.now) }
 {
+    // Read for what its type tells: the announced number fits 128 bits, and so do the numbers of the steps.
     let _bound = prepared.bound;
     let mut text = blocks_text(alloc, prepared.derivations.as_slice(), catalogue)?;
     text.push_str("plan answer ")?;

@@ -66,7 +66,7 @@ fn row_of_nothing(alloc: Global) -> Result<List<Row>, NoMemory> {
     Ok(rows)
 }
 
-fn explained(alloc: Global, plan: &str) -> Result<Report, Stop> {
+fn explanation(alloc: Global, plan: &str) -> Result<Report, Stop> {
     let plan = Text::from_str(alloc, plan)?;
     Ok(Report::Explained {
         bound: 315_000,
@@ -74,7 +74,7 @@ fn explained(alloc: Global, plan: &str) -> Result<Report, Stop> {
     })
 }
 
-fn answered(alloc: Global, plan: &str, header: &[&str], rows: List<Row>) -> Result<Report, Stop> {
+fn answer(alloc: Global, plan: &str, header: &[&str], rows: List<Row>) -> Result<Report, Stop> {
     let plan = Text::from_str(alloc, plan)?;
     let header = names(alloc, header)?;
     Ok(Report::Answered {
@@ -98,11 +98,11 @@ fn report_of(alloc: Global, place: u32) -> Result<Report, Stop> {
         4 => Ok(Report::Pairs {
             found: pairs(alloc)?,
         }),
-        5 => explained(alloc, "plan block 1\nplan answer 1\n"),
-        6 => answered(alloc, "", &["cid", "city"], rows(alloc, &RECORDS)?),
-        7 => answered(alloc, "plan answer 1\n", &["b"], List::new(alloc)),
-        8 => answered(alloc, "", &["b"], single_texts(alloc)?),
-        _ => answered(alloc, "", &[], row_of_nothing(alloc)?),
+        5 => explanation(alloc, "plan block 1\nplan answer 1\n"),
+        6 => answer(alloc, "", &["cid", "city"], rows(alloc, &RECORDS)?),
+        7 => answer(alloc, "plan answer 1\n", &["b"], List::new(alloc)),
+        8 => answer(alloc, "", &["b"], single_texts(alloc)?),
+        _ => answer(alloc, "", &[], row_of_nothing(alloc)?),
     }
 }
 
