@@ -18,13 +18,19 @@ fn out_of(wrong: &Wrong) -> io::Error {
     }
 }
 
-fn main(rt: HostRuntime) -> io::Result<()> {
+/// The text of standard input.
+fn given_text(rt: &HostRuntime) -> io::Result<String> {
     let mut text = String::new(rt.alloc());
     for line in rt.lines(rt.alloc()) {
         let line = line?;
         text.push_str(line.as_str())?;
         text.push('\n')?;
     }
+    Ok(text)
+}
+
+fn main(rt: HostRuntime) -> io::Result<()> {
+    let text = given_text(&rt)?;
     let cases = match cases_of(rt.alloc(), text.as_str()) {
         Ok(cases) => cases,
         Err(Wrong::Line(number)) => return println!(rt; "line {number} can't be read"),

@@ -1,5 +1,5 @@
 // What the reference programs give for a case, as text.
-use beas_core::{Access, DStep, List, Normal, NotCovered, Row, Value};
+use beas_core::{Access, ColumnId, DStep, List, Normal, NotCovered, Row, Value};
 use named_blocks::{NamedBlock, NamedCase, Wrong};
 use reference_coverage::{announced_number, constant_classes, covered_set, derivation, reason};
 use reference_evaluation::{full_of, reads_of};
@@ -44,16 +44,21 @@ fn show_total(shown: &mut String, word: &str, total: Option<u128>) -> Result<(),
     Ok(())
 }
 
+fn show_row(shown: &mut String, row: &[Value]) -> Result<(), Wrong> {
+    shown.push_str("  row")?;
+    for value in row {
+        match value {
+            Value::Int(number) => write!(shown, " {number}")?,
+            Value::Str(text) => write!(shown, " '{}", text.as_str())?,
+        }
+    }
+    shown.push('\n')?;
+    Ok(())
+}
+
 fn show_rows(shown: &mut String, rows: &[Row]) -> Result<(), Wrong> {
     for row in rows {
-        shown.push_str("  row")?;
-        for value in row.as_slice() {
-            match value {
-                Value::Int(number) => write!(shown, " {number}")?,
-                Value::Str(text) => write!(shown, " '{}", text.as_str())?,
-            }
-        }
-        shown.push('\n')?;
+        show_row(shown, row.as_slice())?;
     }
     Ok(())
 }
@@ -144,14 +149,34 @@ fn column_name<'a>(case: &'a NamedCase, named: &NamedBlock, atom: u16, column: u
     }
 }
 
+fn show_numbers(shown: &mut String, numbers: &[u16]) -> Result<(), Wrong> {
+    for number in numbers {
+        write!(shown, " {number}")?;
+    }
+    shown.push('\n')?;
+    Ok(())
+}
+
 fn show_classes(shown: &mut String, named: &NamedBlock, normal: &Normal) -> Result<(), Wrong> {
     for (name, classes) in named.atoms.iter().zip(normal.classes.as_slice()) {
         write!(shown, "  classes of {name}:")?;
-        for class in classes.as_slice() {
-            write!(shown, " {class}")?;
-        }
-        shown.push('\n')?;
+        show_numbers(shown, classes.as_slice())?;
     }
+    Ok(())
+}
+
+fn show_columns(
+    shown: &mut String,
+    case: &NamedCase,
+    named: &NamedBlock,
+    atom: u16,
+    columns: &[ColumnId],
+) -> Result<(), Wrong> {
+    write!(shown, "  needed of {}:", atom_name(named, atom))?;
+    for column in columns {
+        write!(shown, " {}", column_name(case, named, atom, column.0))?;
+    }
+    shown.push('\n')?;
     Ok(())
 }
 
@@ -163,11 +188,7 @@ fn show_needed(
 ) -> Result<(), Wrong> {
     let mut atom: u16 = 0;
     for columns in normal.needed.as_slice() {
-        write!(shown, "  needed of {}:", atom_name(named, atom))?;
-        for column in columns.as_slice() {
-            write!(shown, " {}", column_name(case, named, atom, column.0))?;
-        }
-        shown.push('\n')?;
+        show_columns(shown, case, named, atom, columns.as_slice())?;
         atom = atom.saturating_add(1);
     }
     Ok(())

@@ -129,23 +129,41 @@ fn refuse_key(rt: &HostRuntime, key: Row) -> Result<(), Stop> {
     )
 }
 
-pub fn write_all(rt: &HostRuntime) -> Result<(), Stop> {
-    let alloc = rt.alloc();
+fn write_those_of_numbers(rt: &HostRuntime) -> Result<(), Stop> {
     for place in 0..14 {
         refuse(rt, of_numbers(place))?;
     }
+    Ok(())
+}
+
+fn write_those_of_names(rt: &HostRuntime) -> Result<(), Stop> {
     for place in 0..9 {
-        refuse(rt, of_name(place, name(alloc, "n_1")?))?;
+        refuse(rt, of_name(place, name(rt.alloc(), "n_1")?))?;
     }
+    Ok(())
+}
+
+fn write_those_of_texts(rt: &HostRuntime) -> Result<(), Stop> {
     for place in 0..4 {
-        refuse(
-            rt,
-            of_text(place as u32, Text::from_str(alloc, WRITTEN[place])?),
-        )?;
+        let text = Text::from_str(rt.alloc(), WRITTEN[place])?;
+        refuse(rt, of_text(place as u32, text))?;
     }
+    Ok(())
+}
+
+fn write_those_of_limits(rt: &HostRuntime) -> Result<(), Stop> {
     for what in COUNTED {
         refuse(rt, Refusal::TooMany { what, limit: 64 })?;
     }
+    Ok(())
+}
+
+pub fn write_all(rt: &HostRuntime) -> Result<(), Stop> {
+    let alloc = rt.alloc();
+    write_those_of_numbers(rt)?;
+    write_those_of_names(rt)?;
+    write_those_of_texts(rt)?;
+    write_those_of_limits(rt)?;
     let table = Some(name(alloc, "t")?);
     let column = name(alloc, "c")?;
     refuse(rt, Refusal::UnknownColumn { table, column })?;
