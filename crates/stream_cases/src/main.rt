@@ -4,8 +4,8 @@
 //! A line is words with one space between them, and then acts with a comma between them. One that begins with `#` is a
 //! comment.
 //!
-//! - `read LIMIT TEXT ACTS` reads a reader of the text whole, `endless LIMIT` one that never ends, and `file LIMIT PATH`
-//!   a file. Told is what was read, or why not, with the counts of faults and of bytes that were taken.
+//! - `read LIMIT TEXT ACTS` reads a reader of the text whole, `endless LIMIT` one that never ends, and
+//!   `file LIMIT PATH` a file. Told is what was read, or why not, with the counts of faults and of bytes that were taken.
 //! - `write PIECE ACTS` puts a piece, which may be empty, into a writer. Told is whether it was taken whole, with the
 //!   count of faults and what the writer holds.
 //!
