@@ -3,7 +3,7 @@ ghost use Rattle.std.specs.Prelude.{◌<◌, length, IfOk, IfSome};
 
 use beas_core::{Access, Block, DStep, List, NoMemory, Normal, Query, Row};
 use normal_form::blocks;
-use reference_coverage::{announced, constant_classes, derivation};
+use reference_coverage::{announced_number, constant_classes, derivation};
 use reference_evaluation::reads_of;
 use reference_normal_form::{normal_of, places_of};
 use std::alloc::Global;
@@ -66,7 +66,7 @@ fn numbers_by(
     steps: &[DStep],
     budget: u128,
 ) -> Result<Numbers, NoMemory> {
-    let bound = announced(accesses, 1, steps);
+    let bound = announced_number(accesses, 1, steps);
     let reads = match bound {
         Some(bound) if bound > budget => Some(0),
         _ => reads_of(alloc, tables, normal, accesses, &None, steps)?,
