@@ -5,7 +5,8 @@
 //! comment.
 //!
 //! - `read LIMIT TEXT ACTS` reads a reader of the text whole, `endless LIMIT` one that never ends, and
-//!   `file LIMIT PATH` a file. Told is what was read, or why not, with the counts of faults and of bytes that were taken.
+//!   `file LIMIT PATH` a file. Told is what was read, or why not, with the counts of faults and of bytes that were
+//!   taken.
 //! - `write PIECE ACTS` puts a piece, which may be empty, into a writer. Told is whether it was taken whole, with the
 //!   count of faults and what the writer holds.
 //!
