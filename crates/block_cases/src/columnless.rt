@@ -52,7 +52,7 @@ impl Tally {
         }
     }
 
-    fn said(self, alloc: Global) -> Result<String, NoMemory> {
+    fn line(self, alloc: Global) -> Result<String, NoMemory> {
         let Tally {
             with_row,
             without,
@@ -176,5 +176,5 @@ pub fn try_columnless<L: Ledger>(
     for seed in 0..sessions {
         tally = try_session(alloc, u64::from(seed), tally, steps)?;
     }
-    tally.said(alloc)
+    tally.line(alloc)
 }

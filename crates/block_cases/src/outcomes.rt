@@ -49,7 +49,7 @@ fn prepared_over(alloc: Global, guarded: &Guarded, query: Query) -> Result<Prepa
 }
 
 /// What comes of a query that was prepared, and whose reads are to be these.
-fn answered<L: Ledger>(
+fn outcome_by_reads<L: Ledger>(
     alloc: Global,
     guarded: &Guarded,
     tables: &[List<Row>],
@@ -73,7 +73,7 @@ fn answered<L: Ledger>(
 }
 
 /// What comes of a query that was prepared, and of which the reference programs say this.
-fn executed<L: Ledger>(
+fn outcome_within<L: Ledger>(
     alloc: Global,
     guarded: &Guarded,
     tables: &[List<Row>],
@@ -89,7 +89,7 @@ fn executed<L: Ledger>(
             if prepared.bound > budget {
                 return Ok(Outcome::Above);
             }
-            answered(alloc, guarded, tables, prepared, numbers.reads, steps)
+            outcome_by_reads(alloc, guarded, tables, prepared, numbers.reads, steps)
         }
         _ => Ok(Outcome::Differs),
     }
@@ -119,7 +119,7 @@ pub fn outcome_of<L: Ledger>(
     let accesses = guarded.catalogue.accesses().as_slice();
     let wanted = numbers_of(alloc, tables, accesses, &query, budget)?;
     match prepared_over(alloc, guarded, query) {
-        Ok(prepared) => executed(alloc, guarded, tables, &prepared, wanted, budget, steps),
+        Ok(prepared) => outcome_within(alloc, guarded, tables, &prepared, wanted, budget, steps),
         Err(Fail::Refused(why)) => Ok(refused(&why, wanted)),
         Err(Fail::NoMemory) => Err(NoMemory),
     }
