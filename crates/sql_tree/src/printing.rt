@@ -95,7 +95,7 @@ impl Part for Literal {
                 }
                 writer.number(digits)
             }
-            Literal::Words { text } => writer.quoted(text),
+            Literal::Words { text } => writer.quoted_text(text),
         }
     }
 }
@@ -380,7 +380,7 @@ fn write_load(writer: &mut Writer, table: &Name, file: &Text) -> Result<(), NoMe
     writer.word("LOAD")?;
     writer.name(table)?;
     writer.word("FROM")?;
-    writer.quoted(file)
+    writer.quoted_text(file)
 }
 
 #[tactic(auto, unfolding(crate::specs::Writing::put_all))]

@@ -83,7 +83,7 @@ impl Writer {
     }
 
     /// Adds a text between quotes.
-    pub fn quoted(&mut self, text: &Text) -> Result<(), NoMemory>
+    pub fn quoted_text(&mut self, text: &Text) -> Result<(), NoMemory>
         ensures { OnOk result (self.new ≡ put self.old (content text.now)) }
     {
         self.space(false)?;
