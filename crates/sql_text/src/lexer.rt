@@ -87,7 +87,7 @@ fn lexeme(alloc: Global, source: &str, at: usize) -> Result<Token, NoMemory>
         return number(alloc, source, at);
     }
     if byte == b'\'' {
-        return quoted(alloc, source, at);
+        return quoted_token(alloc, source, at);
     }
     mark(alloc, source, at)
 }
@@ -118,7 +118,7 @@ fn number(alloc: Global, source: &str, at: usize) -> Result<Token, NoMemory>
 }
 
 // The quoted text from a place on, or all the rest as a bad token where it has no end.
-fn quoted(alloc: Global, source: &str, at: usize) -> Result<Token, NoMemory>
+fn quoted_token(alloc: Global, source: &str, at: usize) -> Result<Token, NoMemory>
     requires size { length source.now ≤ LONGEST_SCRIPT }
     requires begins { BeginsToken source.now at }
     requires class { slice_index source.now at ≡ quote }

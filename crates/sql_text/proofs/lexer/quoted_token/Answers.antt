@@ -5,7 +5,7 @@ use Rattle.std.proofs.lemmas.Str.{IsCharBoundary-after_ascii}
 use Rattle.sql_text.specs.Cuts.{StandsAt}
 use Rattle.sql_text.specs.Tokens.{quoted_text, doubled}
 use Rattle.sql_text.proofs.Leads.{stands-quoted, stands-unclosed}
-use Rattle.sql_text.proofs.lexer.quoted.Goals as goal
+use Rattle.sql_text.proofs.lexer.quoted_token.Goals as goal
 
 pub read_content-requires-clause-cut : goal.read_content-requires-clause-cut
 read_content-requires-clause-cut c =
