@@ -96,7 +96,7 @@ fn outcome_within<L: Ledger>(
 }
 
 /// What comes of a query that was refused, and of which the reference programs say this.
-fn refused(why: &Refusal, wanted: Option<Numbers>) -> Outcome {
+fn outcome_of_refusal(why: &Refusal, wanted: Option<Numbers>) -> Outcome {
     match (why.number(), wanted) {
         (19, None) => Outcome::Uncovered,
         (20, Some(Numbers { bound: None, .. })) => Outcome::TooLarge,
@@ -120,7 +120,7 @@ pub fn outcome_of<L: Ledger>(
     let wanted = numbers_of(alloc, tables, accesses, &query, budget)?;
     match prepared_over(alloc, guarded, query) {
         Ok(prepared) => outcome_within(alloc, guarded, tables, &prepared, wanted, budget, steps),
-        Err(Fail::Refused(why)) => Ok(refused(&why, wanted)),
+        Err(Fail::Refused(why)) => Ok(outcome_of_refusal(&why, wanted)),
         Err(Fail::NoMemory) => Err(NoMemory),
     }
 }

@@ -132,12 +132,17 @@ fn push_rows(
     Ok(())
 }
 
+fn push_tables(text: &mut Text, case: &NamedCase) -> Result<(), NoMemory> {
+    for (table, rows) in case.tables.iter().zip(&case.rows) {
+        push_table(text, table, rows.as_slice())?;
+    }
+    Ok(())
+}
+
 /// Statements that make the tables, the constraints under their ids and the rows of a case.
 pub fn script_of(alloc: Global, case: &NamedCase) -> Result<Text, NoMemory> {
     let mut text = Text::new(alloc);
-    for (table, rows) in case.tables.iter().zip(&case.rows) {
-        push_table(&mut text, table, rows.as_slice())?;
-    }
+    push_tables(&mut text, case)?;
     push_accesses(alloc, &mut text, case)?;
     for (table, rows) in case.tables.iter().zip(&case.rows) {
         push_rows(alloc, &mut text, table, rows.as_slice())?;

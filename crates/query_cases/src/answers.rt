@@ -65,7 +65,7 @@ fn answer_of<L: Ledger>(
 }
 
 /// What is to be reported of a query with these rows.
-fn answered(
+fn answer_report(
     alloc: Global,
     guarded: &Guarded,
     tables: &[List<Row>],
@@ -98,5 +98,5 @@ pub fn wanted_report<L: Ledger>(
         return Err(Fail::Refused(Refusal::Syntax));
     }
     let rows = answer_of(alloc, guarded, tables, &query, steps)?;
-    answered(alloc, guarded, tables, &query, rows)
+    answer_report(alloc, guarded, tables, &query, rows)
 }
