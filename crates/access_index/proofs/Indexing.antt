@@ -22,7 +22,7 @@ use Rattle.beas_core.proofs.Groups.{same_row_true, same_row_itself, length-proje
 use Rattle.access_index.specs.declared.tally.Tally.{Tally}
 use Rattle.access_index.specs.Hashing.{hash_of}
 use Rattle.access_index.specs.Buckets.{tuples_in, count_for, count_in, one_if, is_key, AllCounted, IsBest, IsGroupLen, group_len, IsStored}
-use Rattle.access_index.specs.Index.{Index, IsIndexOf, tallies, tuple_of, key_of, rows_with, tallied, index_of}
+use Rattle.access_index.specs.Index.{Index, IsIndexOf, tallies, tuple_of, key_of, rows_with, tally_of, index_of}
 use Rattle.access_index.proofs.Counting.{count_kept, same_counts}
 use Rattle.access_index.proofs.Storing.{bucket_at, count_at, own_bucket, found_bucket, place_of}
 
@@ -86,25 +86,25 @@ module _ (access : Access) where
           ap (take (length access.key)) r.2 ∙ take_tuple r.0 ∙ same_row_true (project access.key r.0) key f.1,
         )
 
-    count_lacks : (g : List (List Value)) → (Has g x → ⊥) → count_in (map (tallied access rows) g) x ≡ 0
+    count_lacks : (g : List (List Value)) → (Has g x → ⊥) → count_in (map (tally_of access rows) g) x ≡ 0
     count_lacks [] out = refl
     count_lacks (y ∷ g) out = by (same_row y x) refl (count_lacks g (λ h. out (inr h)))
       where
-        by : (b : Bool) → same_row y x ≡ b → count_in (map (tallied access rows) g) x ≡ 0 → count_in (map (tallied access rows) (y ∷ g)) x ≡ 0
+        by : (b : Bool) → same_row y x ≡ b → count_in (map (tally_of access rows) g) x ≡ 0 → count_in (map (tally_of access rows) (y ∷ g)) x ≡ 0
         by true e rest = absurd (out (inl (sym (same_row_true y x e))))
         by false e rest =
             let here = ap (λ b. cond b (rows_with access rows y) 0) e in
-            omega (arith, here, rest, sum_by-cons (count_for x) (tallied access rows y) (map (tallied access rows) g))
+            omega (arith, here, rest, sum_by-cons (count_for x) (tally_of access rows y) (map (tally_of access rows) g))
 
-    count_has : (g : List (List Value)) → IsInOrder row_cmp g → Has g x → count_in (map (tallied access rows) g) x ≡ rows_with access rows x
+    count_has : (g : List (List Value)) → IsInOrder row_cmp g → Has g x → count_in (map (tally_of access rows) g) x ≡ rows_with access rows x
     count_has [] o h = absurd h
     count_has (y ∷ g) o (inl e) =
         let here = ap (λ b. cond b (rows_with access rows y) 0) (ap (same_row y) e ∙ same_row_itself y) in
         let rest = count_lacks g (λ h. not_less_itself row_cmp_total row_cmp_tells y x (sym e) (all_at (λ z. row_cmp y z ≡ Less) g x o.0 h)) in
-        omega (arith, here, rest, ap (rows_with access rows) e, sum_by-cons (count_for x) (tallied access rows y) (map (tallied access rows) g))
+        omega (arith, here, rest, ap (rows_with access rows) e, sum_by-cons (count_for x) (tally_of access rows y) (map (tally_of access rows) g))
     count_has (y ∷ g) o (inr h) =
         let here = ap (λ d. cond (is_eq d) (rows_with access rows y) 0) (all_at (λ z. row_cmp y z ≡ Less) g x o.0 h) in
-        omega (arith, here, count_has g o.1 h, sum_by-cons (count_for x) (tallied access rows y) (map (tallied access rows) g))
+        omega (arith, here, count_has g o.1 h, sum_by-cons (count_for x) (tally_of access rows y) (map (tally_of access rows) g))
 
     pub group_in_order : IsInOrder row_cmp (group_of rows access key)
     group_in_order = IsInOrder-distinct row_cmp_total row_cmp_tells
@@ -122,7 +122,7 @@ module _ (access : Access) where
             count_lacks (group_of rows access key)
             (λ h. let t = tuple_has h in let s = ap (λ y. same_row y key) (t.1) ∙ same_row_itself key in let f = sym e ∙ s in cc)
 
-  tuples_of_map : (rows g : List (List Value)) → tuples_in (map (tallied access rows) g) ≡ g
+  tuples_of_map : (rows g : List (List Value)) → tuples_in (map (tally_of access rows) g) ≡ g
   tuples_of_map rows [] = refl
   tuples_of_map rows (y ∷ g) = ap (λ ys. y ∷ ys) (tuples_of_map rows g)
 
@@ -131,7 +131,7 @@ module _ (access : Access) where
   group_tuples rows key = tuples_of_map rows (group_of rows access key)
 
   counted_map : (rows : List (List Value)) (key : List Value) (g : List (List Value)) → ((x : List Value) → Has g x → Has (group_of rows access key) x)
-      → AllCounted (map (tallied access rows) g)
+      → AllCounted (map (tally_of access rows) g)
   counted_map rows key [] f = tt
   counted_map rows key (y ∷ g) f = (let t = tuple_has rows key y (f y (inl refl)) in t.0, counted_map rows key g (λ x h. f x (inr h)))
 
@@ -301,7 +301,7 @@ kept_member test (t ∷ ts) l = by (test t) refl l (kept_member test ts)
 module _ (access : Access) (n total : ℕ) (entries : List (ℕ × List Tally)) (stored : IsStored n (length access.key) entries total) (rows : List (List Value))
     (is : IsIndexOf (index_seen access n total entries stored rows) rows) where
   len_of_group : (key : List Value) → length (tallies (index_seen access n total entries stored rows) key) ≡ length (group_of rows access key)
-  len_of_group key = ap length (is.tallies_are key) ∙ length-map (group_of rows access key) (tallied access rows)
+  len_of_group key = ap length (is.tallies_are key) ∙ length-map (group_of rows access key) (tally_of access rows)
 
   bucket_len : (best : ℕ) → IsGreatestUpTo (length access.key) (values_of entries) (length (values_of entries)) best → (key : List Value)
       → length (group_of rows access key) ≤ best

@@ -4,17 +4,17 @@ use Rattle.beas_core.specs.declared.value.Value.{Value}
 use Rattle.beas_core.specs.declared.value.Value.TheVariants.{Int, Str}
 
 -- a number mixed into a hash, with a factor that is odd and has no pattern in its bits
-unfoldable pub mixed : ℕ → ℕ → ℕ
-mixed state word = (bit_xor state word * 0x9E3779B97F4A7C15) % 2 ^ 64
+unfoldable pub mix : ℕ → ℕ → ℕ
+mix state word = (bit_xor state word * 0x9E3779B97F4A7C15) % 2 ^ 64
 
 abbrev pub with_value : ℕ → Value → ℕ
-with_value state (Int n) = mixed state (unsigned_abs n)
-with_value state (Str text) = fold mixed state text
+with_value state (Int n) = mix state (unsigned_abs n)
+with_value state (Str text) = fold mix state text
 
 unfoldable pub hash_of : List Value → ℕ
 hash_of values = fold with_value 0x243F6A8885A308D3 values
 
 -- a value that may be absent, which counts as the integer 0
-abbrev pub filled : Option Value → Value
-filled None = Int (pos 0)
-filled (Some value) = value
+abbrev pub or_zero : Option Value → Value
+or_zero None = Int (pos 0)
+or_zero (Some value) = value

@@ -24,11 +24,11 @@ key_of access row = project access.key row
 abbrev pub rows_with : Access → List (List Value) → List Value → ℕ
 rows_with access rows tuple = count_by (λ row. same_row (tuple_of access row) tuple) rows
 
-abbrev pub tallied : Access → List (List Value) → List Value → Tally
-tallied access rows tuple = record { tuple = tuple; count = rows_with access rows tuple }
+abbrev pub tally_of : Access → List (List Value) → List Value → Tally
+tally_of access rows tuple = record { tuple = tuple; count = rows_with access rows tuple }
 
 abbrev pub index_of : Access → List (List Value) → List Value → List Tally
-index_of access rows key = map (tallied access rows) (group_of rows access key)
+index_of access rows key = map (tally_of access rows) (group_of rows access key)
 
 -- what contracts see of an index
 pub record Index : Type 0 where

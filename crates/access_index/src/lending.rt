@@ -4,7 +4,7 @@ ghost use Rattle.std.specs.List.Sorted.{IsPermutation};
 ghost use Rattle.std.specs.Option.{option_copied};
 ghost use Rattle.beas_core.specs.Groups.{project};
 ghost use Rattle.beas_core.specs.Order.{row_cmp, value_cmp};
-ghost use Rattle.access_index.specs.Hashing.{filled};
+ghost use Rattle.access_index.specs.Hashing.{or_zero};
 
 use crate::values::compare_filled;
 use beas_core::{ColumnId, NoMemory, Row, Steps, Value};
@@ -15,7 +15,7 @@ use std::sync::ledger::Ledger;
 
 /// The order of two values that may be absent.
 fn compare_cells(left: Option<&Value>, right: Option<&Value>) -> Ordering
-    ensures { result ≡ value_cmp (filled (option_copied left.entry)) (filled (option_copied right.entry)) }
+    ensures { result ≡ value_cmp (or_zero (option_copied left.entry)) (or_zero (option_copied right.entry)) }
 {
     match left {
         Some(left) => compare_filled(left, right),

@@ -5,7 +5,7 @@ ghost use Rattle.beas_core.specs.declared.value.Value.{Value as Cell};
 ghost use Rattle.beas_core.specs.declared.value.Value.TheVariants.{Int as OfInt, Str as OfStr};
 ghost use Rattle.beas_core.specs.Order.{row_cmp, value_cmp};
 ghost use Rattle.beas_core.specs.Groups.{project};
-ghost use Rattle.access_index.specs.Hashing.{filled, hash_of, mixed, with_value};
+ghost use Rattle.access_index.specs.Hashing.{or_zero, hash_of, mix, with_value};
 
 use beas_core::{ColumnId, Value, compare};
 use std::cmp::Ordering;
@@ -20,7 +20,7 @@ pub trait Values: Drop {
     /// The value at a place, or none where it stands for the integer 0.
     fn at(&self, place: usize) -> Option<&Value>
         requires { place < length (list self.now) }
-        ensures { filled (option_copied result) ≡ slice_index_or (list self.now) place (OfInt (pos 0)) };
+        ensures { or_zero (option_copied result) ≡ slice_index_or (list self.now) place (OfInt (pos 0)) };
 }
 
 /// Values as they are.
@@ -62,7 +62,7 @@ impl Values for Picked<'_> {
 
 /// The order of a value and one that may be absent.
 pub fn compare_filled(left: &Value, right: Option<&Value>) -> Ordering
-    ensures { result ≡ value_cmp left.now (filled (option_copied right.entry)) }
+    ensures { result ≡ value_cmp left.now (or_zero (option_copied right.entry)) }
 {
     match right {
         Some(right) => compare(left, right),
@@ -90,9 +90,9 @@ pub fn compare_values<W: Values>(left: &[Value], right: &W) -> Ordering
     Ordering::Equal
 }
 
-#[tactic(auto, unfolding(crate::specs::Hashing::mixed))]
+#[tactic(auto, unfolding(crate::specs::Hashing::mix))]
 fn mix(state: u64, word: u64) -> u64
-    ensures { result ≡ mixed state word }
+    ensures { result ≡ mix state word }
 {
     (state ^ word).wrapping_mul(0x9E37_79B9_7F4A_7C15)
 }
@@ -108,7 +108,7 @@ fn mix_bytes(state: u64, bytes: &[u8]) -> u64
 }
 
 fn mix_value(state: u64, value: Option<&Value>) -> u64
-    ensures { result ≡ with_value state (filled (option_copied value.entry)) }
+    ensures { result ≡ with_value state (or_zero (option_copied value.entry)) }
 {
     match value {
         Some(Value::Int(number)) => mix(state, number.unsigned_abs()),

@@ -11,7 +11,7 @@ use Rattle.beas_core.specs.Types.{ClassSet, Use}
 use Rattle.beas_core.specs.Coverage.{has, key_classes, class_at}
 use Rattle.beas_core.specs.declared.schema.ColumnId.{ColumnId}
 use Rattle.attribute_closure.specs.declared.uses.UseAt.{UseAt}
-use Rattle.attribute_closure.specs.Uses.{seen, use_at, no_use}
+use Rattle.attribute_closure.specs.Uses.{as_use, use_at, no_use}
 use Rattle.attribute_closure.specs.Keys.{bit, times, among, number_at, list_at, lacking, some_left, AreCounted, CountedDown, WaitsFor}
 use Rattle.attribute_closure.proofs.Counting.{times_push, among_push, count_append, enough, inside_waiting, added, written}
 
@@ -347,21 +347,21 @@ module _ (normal : Normal) (us : List Use) (m : List ℕ) (waiting waiting2 : Li
       (subst (λ xs. AreCounted normal (take i us ++ u ∷ []) (replicate normal.count false) xs waiting2 r) (sym (em ∙ ap (λ k. m ++ k ∷ []) keys))
       (taken_on normal (take i us) m waiting waiting2 r u so waits_here (λ h. some (keys ∙ h))))
 
-pub length_seen : (us : List UseAt) → length (map seen us) ≡ length us
+pub length_seen : (us : List UseAt) → length (map as_use us) ≡ length us
 length_seen [] = refl
 length_seen (u ∷ us) = ap suc (length_seen us)
 
-pub seen_at : (us : List UseAt) (i : ℕ) (u : UseAt) → i < length us → u ≡ get_or us i u → seen u ≡ use_at (map seen us) i
-seen_at us i u l e = ap seen e ∙ by us i l
+pub seen_at : (us : List UseAt) (i : ℕ) (u : UseAt) → i < length us → u ≡ get_or us i u → as_use u ≡ use_at (map as_use us) i
+seen_at us i u l e = ap as_use e ∙ by us i l
   where
-    by : (vs : List UseAt) (k : ℕ) → k < length vs → seen (get_or vs k u) ≡ use_at (map seen vs) k
+    by : (vs : List UseAt) (k : ℕ) → k < length vs → as_use (get_or vs k u) ≡ use_at (map as_use vs) k
     by [] k m = absurd (omega (arith, m))
     by (v ∷ vs) zero m = refl
     by (v ∷ vs) (suc k) m = by vs k (omega arith)
 
 pub found_at : (list us : List UseAt) (ready r : List ℕ) (n : ℕ) (x : UseAt) → us ≡ list → r ≡ ready → x ≡ get_or us (get_or r n 0) x
-    → number_at ready n < length (map seen list)
-    → seen x ≡ use_at (map seen list) (number_at ready n)
+    → number_at ready n < length (map as_use list)
+    → as_use x ≡ use_at (map as_use list) (number_at ready n)
 found_at list us ready r n x eu er is l =
     seen_at list (number_at ready n) x (omega (arith, length_seen list)) (is ∙ ap (λ xs. get_or xs (get_or r n 0) x) eu
     ∙ ap (λ ks. get_or list (get_or ks n 0) x) er)

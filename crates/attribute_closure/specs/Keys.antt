@@ -10,7 +10,7 @@ use Rattle.beas_core.specs.Types.{ClassSet, Use}
 use Rattle.beas_core.specs.declared.schema.Access.{Access}
 use Rattle.beas_core.specs.Coverage.{has, key_classes, fetched_classes, holds_classes, Within, IsClosed}
 use Rattle.attribute_closure.specs.declared.keys.Keys.{Keys}
-use Rattle.attribute_closure.specs.Uses.{seen, use_at}
+use Rattle.attribute_closure.specs.Uses.{as_use, use_at}
 
 abbrev pub bit : Bool → ℕ
 bit true = 1
@@ -52,7 +52,7 @@ pub record AreCounted (normal : Normal) (us : List Use) (set : ClassSet) (missin
   pub together : length ready + some_left missing ≡ length us
 
 abbrev pub KeysAreCounted : Normal → Keys → Type 0
-KeysAreCounted normal keys = AreCounted normal (map seen keys.uses) keys.set.items keys.missing.items keys.waiting.items keys.ready
+KeysAreCounted normal keys = AreCounted normal (map as_use keys.uses) keys.set.items keys.missing.items keys.waiting.items keys.ready
 
 -- a list that goes on as another began
 abbrev pub GoesOn : List ℕ → List ℕ → Type 0

@@ -3,8 +3,8 @@ use Rattle.std.specs.Prelude.{ℕ, List, [], map, slice_index_or}
 use Rattle.beas_core.specs.Types.{Use}
 use Rattle.attribute_closure.specs.declared.uses.UseAt.{UseAt}
 
-abbrev pub seen : UseAt → Use
-seen u = record { atom = u.atom; access = u.access.now }
+abbrev pub as_use : UseAt → Use
+as_use u = record { atom = u.atom; access = u.access.now }
 
 -- one that fetches nothing, for numbers that no use has
 abbrev pub no_use : Use

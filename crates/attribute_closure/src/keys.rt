@@ -1,7 +1,7 @@
 // How many key classes of each use of a constraint a growing set of classes lacks.
 ghost use Rattle.std.specs.Prelude.{◌≡◌, ◌<◌, ◌≤◌, [], ℕ, All, IfOk, OnOk, length, map, replicate, slice_set, true, false};
 ghost use Rattle.beas_core.specs.Coverage.{ClassesInRange, key_classes, uses, with_classes, class_at as class_of_column};
-ghost use Rattle.attribute_closure.specs.Uses.{seen};
+ghost use Rattle.attribute_closure.specs.Uses.{as_use};
 ghost use Rattle.attribute_closure.specs.Keys.{AreCounted, CountedDown, GoesOn, KeysAreCounted, WaitsFor, number_at, times};
 
 use crate::classes::class_at;
@@ -52,7 +52,7 @@ fn wait(
     requires ranges { ClassesInRange block.now }
     requires lists { length waiting.old ≡ block.now.count }
     ensures { OnOk result
-        (WaitsFor block.now.count number (key_classes block.now (seen found.entry)) waiting.old waiting.new) }
+        (WaitsFor block.now.count number (key_classes block.now (as_use found.entry)) waiting.old waiting.new) }
 {
     for column in found.access.key.as_slice() {
         let class = usize::from(class_at(block, found.atom, *column));
@@ -75,7 +75,7 @@ fn take_up(
     requires waiting { waiting.old ≡ replicate block.now.count [] }
     requires ready { ready.old ≡ [] }
     ensures { OnOk result
-        (AreCounted block.now (map seen uses.now) (replicate block.now.count false) missing.new.items waiting.new
+        (AreCounted block.now (map as_use uses.now) (replicate block.now.count false) missing.new.items waiting.new
         ready.new) }
 {
     for (number, found) in uses.iter().enumerate() {
@@ -105,7 +105,7 @@ impl<'a> Keys<'a> {
         requires ranges { ClassesInRange block.now }
         requires atoms { length block.now.atoms < 65536 }
         ensures counted { IfOk result (λ keys. KeysAreCounted block.now keys) }
-        ensures uses { IfOk result (λ keys. map seen keys.uses ≡ uses block.now accesses.now) }
+        ensures uses { IfOk result (λ keys. map as_use keys.uses ≡ uses block.now accesses.now) }
         ensures set { IfOk result (λ keys. keys.set.items ≡ replicate block.now.count false) }
     {
         let uses = uses_of(alloc, block, accesses)?;

@@ -4,7 +4,7 @@ ghost use Rattle.std.specs.List.{list_all, list_any};
 ghost use Rattle.beas_core.specs.declared.plan.NotCovered.TheVariants.{AtomUnindexed};
 ghost use Rattle.beas_core.specs.Coverage.{atoms_of, holds_needed as needed_are_held, is_open, is_served, needed_places, serves as serves_atom, reason as reason_of};
 ghost use Rattle.beas_core.specs.Groups.{has_column, member_columns};
-ghost use Rattle.attribute_closure.specs.Uses.{seen};
+ghost use Rattle.attribute_closure.specs.Uses.{as_use};
 
 use crate::classes::{class_at, has_class, holds_columns};
 use crate::uses::UseAt;
@@ -37,7 +37,7 @@ fn all_stand(key: &[ColumnId], fetched: &[ColumnId], needed: &[ColumnId]) -> boo
 
 /// Whether key and fetched columns of a use's constraint hold all needed columns of its atom.
 pub fn holds_needed(block: &Normal, found: &UseAt<'_>) -> bool
-    ensures { result ≡ needed_are_held block.now (seen found.now) }
+    ensures { result ≡ needed_are_held block.now (as_use found.now) }
 {
     let key = found.access.key.as_slice();
     let fetched = found.access.fetched.as_slice();
@@ -50,7 +50,7 @@ pub fn holds_needed(block: &Normal, found: &UseAt<'_>) -> bool
 /// Whether a use serves its atom for a set of classes: the set holds the key's classes, and the needed columns are all
 /// in key or fetched.
 pub fn serves(block: &Normal, set: &[bool], found: &UseAt<'_>) -> bool
-    ensures { result ≡ serves_atom block.now set.now (seen found.now) }
+    ensures { result ≡ serves_atom block.now set.now (as_use found.now) }
 {
     holds_columns(block, set, found.atom, found.access.key.as_slice()) && holds_needed(block, found)
 }

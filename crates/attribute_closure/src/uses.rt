@@ -2,7 +2,7 @@
 ghost use Rattle.std.specs.Prelude.{◌≡◌, ◌==◌, ◌<◌, ◌++◌, IfOk, OnOk, filter, length, map};
 ghost use Rattle.beas_core.specs.Coverage.{uses};
 ghost use Rattle.beas_core.specs.Types.{Use};
-ghost use Rattle.attribute_closure.specs.Uses.{seen};
+ghost use Rattle.attribute_closure.specs.Uses.{as_use};
 
 use beas_core::{Access, List, NoMemory, Normal, TableId};
 use std::alloc::Global;
@@ -21,8 +21,8 @@ fn push_uses<'a>(
     table: TableId,
     found: &mut List<UseAt<'a>>,
 ) -> Result<(), NoMemory>
-    ensures { OnOk result (map seen found.new
-        ≡ map seen found.old
+    ensures { OnOk result (map as_use found.new
+        ≡ map as_use found.old
         ++ map (λ access. record { atom = atom; access = access })
         (filter (λ access. access.table.0 == table.0) accesses.now)) }
 {
@@ -42,7 +42,7 @@ pub fn uses_of<'a>(
     accesses: &'a [Access],
 ) -> Result<List<UseAt<'a>>, NoMemory>
     requires { length block.now.atoms < 65536 }
-    ensures { IfOk result (λ found. map seen found ≡ uses block.now accesses.now) }
+    ensures { IfOk result (λ found. map as_use found ≡ uses block.now accesses.now) }
 {
     let mut found = List::new(alloc);
     for (number, atom) in block.atoms.as_slice().iter().enumerate() {

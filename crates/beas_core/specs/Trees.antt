@@ -26,33 +26,33 @@ postfix (Either left right) = postfix left ++ (postfix right ++ inr true ∷ [])
 postfix (Minus left right) = postfix left ++ (postfix right ++ inr false ∷ [])
 
 -- the trees that a postfix text leaves on a stack
-abbrev stacked : List (Block ⊎ Bool) → List QueryTree → List QueryTree
-stacked [] stack = stack
-stacked (inl b ∷ rest) stack = stacked rest (Single b ∷ stack)
-stacked (inr true ∷ rest) (right ∷ left ∷ stack) = stacked rest (Either left right ∷ stack)
-stacked (inr false ∷ rest) (right ∷ left ∷ stack) = stacked rest (Minus left right ∷ stack)
-stacked (inr sign ∷ rest) (right ∷ []) = []
-stacked (inr sign ∷ rest) [] = []
+abbrev stack_after : List (Block ⊎ Bool) → List QueryTree → List QueryTree
+stack_after [] stack = stack
+stack_after (inl b ∷ rest) stack = stack_after rest (Single b ∷ stack)
+stack_after (inr true ∷ rest) (right ∷ left ∷ stack) = stack_after rest (Either left right ∷ stack)
+stack_after (inr false ∷ rest) (right ∷ left ∷ stack) = stack_after rest (Minus left right ∷ stack)
+stack_after (inr sign ∷ rest) (right ∷ []) = []
+stack_after (inr sign ∷ rest) [] = []
 
-stacked-postfix : (t : QueryTree) (rest : List (Block ⊎ Bool)) (stack : List QueryTree) → stacked (postfix t ++ rest) stack ≡ stacked rest (t ∷ stack)
+stacked-postfix : (t : QueryTree) (rest : List (Block ⊎ Bool)) (stack : List QueryTree) → stack_after (postfix t ++ rest) stack ≡ stack_after rest (t ∷ stack)
 stacked-postfix (Single b) rest stack = refl
 stacked-postfix (Either l r) rest stack =
-    ap (λ ts. stacked ts stack) (append_assoc (postfix l) (postfix r ++ inr true ∷ []) rest
+    ap (λ ts. stack_after ts stack) (append_assoc (postfix l) (postfix r ++ inr true ∷ []) rest
     ∙ ap (λ ts. postfix l ++ ts) (append_assoc (postfix r) (inr true ∷ []) rest))
     ∙ stacked-postfix l (postfix r ++ (inr true ∷ rest)) stack ∙ stacked-postfix r (inr true ∷ rest) (l ∷ stack)
 stacked-postfix (Minus l r) rest stack =
-    ap (λ ts. stacked ts stack) (append_assoc (postfix l) (postfix r ++ inr false ∷ []) rest
+    ap (λ ts. stack_after ts stack) (append_assoc (postfix l) (postfix r ++ inr false ∷ []) rest
     ∙ ap (λ ts. postfix l ++ ts) (append_assoc (postfix r) (inr false ∷ []) rest))
     ∙ stacked-postfix l (postfix r ++ (inr false ∷ rest)) stack ∙ stacked-postfix r (inr false ∷ rest) (l ∷ stack)
 
-alone : (t : QueryTree) → stacked (postfix t) [] ≡ t ∷ []
-alone t = ap (λ ts. stacked ts []) (sym (append-nil (postfix t))) ∙ stacked-postfix t [] []
+alone : (t : QueryTree) → stack_after (postfix t) [] ≡ t ∷ []
+alone t = ap (λ ts. stack_after ts []) (sym (append-nil (postfix t))) ∙ stacked-postfix t [] []
 
 same_head : (s t : QueryTree) → s ∷ [] ≡ t ∷ [] → s ≡ t
 same_head s t e = cc
 
 pub postfix_tells : (s t : QueryTree) → postfix s ≡ postfix t → s ≡ t
-postfix_tells s t e = same_head s t (sym (alone s) ∙ ap (λ ts. stacked ts []) e ∙ alone t)
+postfix_tells s t e = same_head s t (sym (alone s) ∙ ap (λ ts. stack_after ts []) e ∙ alone t)
 
 abbrev pub coded_tree : Coded QueryTree
 coded_tree = coded_via (coded_list (coded⊎ the_row.coded coded_bool)) postfix postfix_tells

@@ -65,12 +65,12 @@ is_consistent normal set bindings = agrees bindings && list_all (comparison_is_m
 abbrev pub classes_in : ClassSet → List ℕ
 classes_in set = filter (has set) (range_with_len 0 (length set))
 
-abbrev pub valued : Normal → ClassSet → List Bindings → List Row
-valued normal set found = distinct row_cmp (map (λ w. map (value_of w) (classes_in set)) (filter (is_consistent normal set) found))
+abbrev pub valued_rows : Normal → ClassSet → List Bindings → List Row
+valued_rows normal set found = distinct row_cmp (map (λ w. map (value_of w) (classes_in set)) (filter (is_consistent normal set) found))
 
 unfoldable pub valuations : TableRows → Normal → List Access → Guide → List DStep → List Row
 valuations rows normal accesses guide steps =
-    valued normal (bound_after normal accesses (start_classes normal (is_some guide)) steps) (ways rows normal accesses (starts normal guide) steps)
+    valued_rows normal (bound_after normal accesses (start_classes normal (is_some guide)) steps) (ways rows normal accesses (starts normal guide) steps)
 
 -- the values of the classes of a set, as bindings
 abbrev pub as_bindings : ClassSet → Row → Bindings

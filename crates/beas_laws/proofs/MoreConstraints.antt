@@ -12,7 +12,7 @@ use Rattle.beas_core.specs.declared.plan.Prepared.{Prepared}
 use Rattle.beas_core.specs.Types.{ClassSet, TableRows}
 use Rattle.beas_core.specs.Shapes.{AccessIsWellFormed, EachIdOnce, width_of}
 use Rattle.beas_core.specs.Derivations.{access_in, is_live}
-use Rattle.beas_core.specs.Numbers.{announced, size_after, own_announced_of_all}
+use Rattle.beas_core.specs.Numbers.{announced_from, size_after, own_announced_of_all}
 use Rattle.beas_core.specs.Fits.{PlanIsSound, OwnPlanIsSound, Fits}
 use Rattle.beas_core.proofs.Accesses.{access_in-member}
 use Rattle.beas_core.proofs.Sets.{Has, Has-from_contains, Contains-from_has, all_from}
@@ -45,14 +45,14 @@ module _ (few many : List Access) (once : EachIdOnce many) (within : (access : A
             (All-contains (formed few) plan.steps s plan_sound.well_formed (Contains-from_has plan.steps s m))));
       }
 
-  announced_stays : (steps : List DStep) (b : ℕ) → Agree steps → announced many b steps ≡ announced few b steps
+  announced_stays : (steps : List DStep) (b : ℕ) → Agree steps → announced_from many b steps ≡ announced_from few b steps
   announced_stays [] b same = refl
   announced_stays (s ∷ steps) b same =
       let bound = ap (λ (a : Access). a.bound) (same s (inl refl)) in
       let size : size_after many b s ≡ size_after few b s = ap (λ n. cond s.adds (b * n) b) bound in
       let later = announced_stays steps (size_after many b s) (λ t m. same t (inr m)) in
-      ap (λ n. b * n + announced many (size_after many b s) steps) bound
-      ∙ ap (λ n. b * (access_in few s.access).bound + n) (later ∙ ap (λ n. announced few n steps) size)
+      ap (λ n. b * n + announced_from many (size_after many b s) steps) bound
+      ∙ ap (λ n. b * (access_in few s.access).bound + n) (later ∙ ap (λ n. announced_from few n steps) size)
 
   plans_stay : (normals : List Normal) (plans : List Derivation) → AllZip (OwnPlanIsSound few) normals plans → AllZip (OwnPlanIsSound many) normals plans
   plans_stay [] [] h = h
@@ -67,7 +67,7 @@ module _ (few many : List Access) (once : EachIdOnce many) (within : (access : A
   number_stays (normal ∷ normals) [] h = refl
   number_stays (normal ∷ normals) (plan ∷ plans) h =
       ap (λ n. n + own_announced_of_all many plans) (announced_stays plan.steps 1 (steps_agree normal _ plan h.0))
-      ∙ ap (λ n. announced few 1 plan.steps + n) (number_stays normals plans h.1)
+      ∙ ap (λ n. announced_from few 1 plan.steps + n) (number_stays normals plans h.1)
 
   pub still_fits : (rows : TableRows) (prepared : Prepared) → Fits few rows prepared → Fits many rows prepared
   still_fits rows prepared fits = record {

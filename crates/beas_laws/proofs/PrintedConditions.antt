@@ -6,7 +6,7 @@ use Rattle.std.proofs.lemmas.List.{append-nil, map-append}
 use Rattle.beas_core.specs.declared.query.Sign.{Sign}
 use Rattle.sql_tree.specs.declared.tree.Cond.{Cond}
 use Rattle.sql_tree.specs.declared.tree.Cond.TheVariants.{Compare, Between}
-use Rattle.sql_tree.specs.Canonical.{Lexeme, keyword, sign, parted, sign_text, condition_of, where_of, side_of, ref_of}
+use Rattle.sql_tree.specs.Canonical.{Lexeme, keyword, sign, parts_with, sign_text, condition_of, where_of, side_of, ref_of}
 use Rattle.sql_tree.specs.Symbols.{Symbol, mark}
 use Rattle.sql_tree.specs.Grammar.{IsSign, equal, differs, not_equal, less, at_most, more, at_least, IsCondition, comparison, range, parentheses, IsConditions, last_condition, conjunction, IsWhere, no_where, where_}
 use Rattle.sql_tree.specs.Words.{AND, BETWEEN, CLOSE}
@@ -90,16 +90,16 @@ where-again a cs no_where h = tt
 where-again a cs (where_ {a = b} c) h = conditions-again b cs c h.1
 
 joined_again : (c : Cond) (cs : List Cond) → ConditionAgain c → Each ConditionAgain cs
-    → Again IsConditions (parted (keyword (codes "AND")) condition_of) (c ∷ cs)
+    → Again IsConditions (parts_with (keyword (codes "AND")) condition_of) (c ∷ cs)
 joined_again c [] h hs = record {
   spelled = last_condition (subst (λ ls. IsAlone (map symbol ls) c) (sym (append-nil (condition_of c))) h.spelled);
   clean = clean-append h.clean none;
 }
 joined_again c (d ∷ ds) h hs =
-    let others : Again IsConditions (parted (keyword (codes "AND")) condition_of) (d ∷ ds) = joined_again d ds hs.0 hs.1 in
+    let others : Again IsConditions (parts_with (keyword (codes "AND")) condition_of) (d ∷ ds) = joined_again d ds hs.0 hs.1 in
     record {
       spelled = subst (λ a. IsConditions a (c ∷ d ∷ ds)) (sym
-          (map-append symbol (condition_of c) (keyword (codes "AND") ∷ parted (keyword (codes "AND")) condition_of (d ∷ ds))))
+          (map-append symbol (condition_of c) (keyword (codes "AND") ∷ parts_with (keyword (codes "AND")) condition_of (d ∷ ds))))
           (conjunction h.spelled others.spelled);
       clean = clean-append h.clean (clean-keyword (codes "AND") refl others.clean);
     }

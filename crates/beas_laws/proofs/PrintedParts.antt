@@ -12,9 +12,9 @@ use Rattle.sql_tree.specs.declared.tree.Literal.{Literal}
 use Rattle.sql_tree.specs.declared.tree.Literal.TheVariants.{Number}
 use Rattle.sql_tree.specs.declared.tree.ColumnRef.{ColumnRef}
 use Rattle.sql_tree.specs.declared.tree.Side.{Side}
-use Rattle.sql_tree.specs.Canonical.{Lexeme, keyword, name, sign, listed, names_of, in_parentheses, column_of, literal_of, tuple_of, ref_of, side_of}
+use Rattle.sql_tree.specs.Canonical.{Lexeme, keyword, name, sign, comma_list, names_of, in_parentheses, column_of, literal_of, tuple_of, ref_of, side_of}
 use Rattle.sql_tree.specs.Symbols.{Symbol, number}
-use Rattle.sql_tree.specs.Grammar.{Commas, last, comma, IsId, id, IsMaybeIds, no_ids, ids, IsColumn, integer, int, text, trimmed, IsLiteral, plain, positive, negative, between_quotes, IsTuple, tuple, IsRef, bare, dotted, IsSide, placed, written}
+use Rattle.sql_tree.specs.Grammar.{Commas, last, comma, IsId, id, IsMaybeIds, no_ids, ids, IsColumn, integer, int, text, significant_digits, IsLiteral, plain, positive, negative, between_quotes, IsTuple, tuple, IsRef, bare, dotted, IsSide, placed, written}
 use Rattle.sql_tree.specs.Words.{CLOSE, COMMA, MINUS, OPEN}
 use Rattle.beas_laws.proofs.Clean.{symbol, open_mark, close_mark, comma_mark, point_mark, AreClean, none, keyword_then, name_then, digits_then, minus_then, content_then, sign_then, clean-append}
 use Rattle.beas_laws.proofs.Lexicals.{IsWordText, IsDigitText, IsLexical, AreLexical, front, back}
@@ -51,22 +51,22 @@ each_again f (last {a} {x} s) l = (f a x s l, tt)
 each_again f (comma {a} {b} {x} s t) l = (f a x s (front IsLexical a (COMMA ∷ b) l), each_again f t (back IsLexical a (COMMA ∷ b) l).1)
 
 pub listed_again : {X : Type 0} {Spelled : List Symbol → X → Type 0} {part : X → List Lexeme} (x : X) (xs : List X) → Again Spelled part x
-    → Each (Again Spelled part) xs → Again (Commas Spelled) (listed part) (x ∷ xs)
+    → Each (Again Spelled part) xs → Again (Commas Spelled) (comma_list part) (x ∷ xs)
 listed_again {Spelled = Spelled} {part = part} x [] h hs = record {
   spelled = last (subst (λ ls. Spelled (map symbol ls) x) (sym (append-nil (part x))) h.spelled);
   clean = clean-append h.clean none;
 }
 listed_again {Spelled = Spelled} {part = part} x (y ∷ ys) h hs =
-    let more : Again (Commas Spelled) (listed part) (y ∷ ys) = listed_again y ys hs.0 hs.1 in
+    let more : Again (Commas Spelled) (comma_list part) (y ∷ ys) = listed_again y ys hs.0 hs.1 in
     record {
-      spelled = subst (λ a. Commas Spelled a (x ∷ y ∷ ys)) (sym (map-append symbol (part x) (sign (codes ",") ∷ listed part (y ∷ ys))))
+      spelled = subst (λ a. Commas Spelled a (x ∷ y ∷ ys)) (sym (map-append symbol (part x) (sign (codes ",") ∷ comma_list part (y ∷ ys))))
           (comma h.spelled more.spelled);
       clean = clean-append h.clean (sign_then comma_mark more.clean);
     }
 
 pub commas-again : {X : Type 0} {Spelled : List Symbol → X → Type 0} {part : X → List Lexeme}
     → ((a : List Symbol) (x : X) → Spelled a x → AreLexical a → Again Spelled part x)
-    → {a : List Symbol} {xs : List X} → Commas Spelled a xs → AreLexical a → Again (Commas Spelled) (listed part) xs
+    → {a : List Symbol} {xs : List X} → Commas Spelled a xs → AreLexical a → Again (Commas Spelled) (comma_list part) xs
 commas-again f (last {a} {x} s) l = listed_again x [] (f a x s l) tt
 commas-again f (comma {a} {b} {x} {xs} s t) l =
     listed_again x xs (f a x s (front IsLexical a (COMMA ∷ b) l)) (each_again f t (back IsLexical a (COMMA ∷ b) l).1)
@@ -88,22 +88,22 @@ column-again a c (int (id r)) l = record { spelled = integer (id r); clean = nam
 column-again a c (text (id r)) l = record { spelled = text (id r); clean = name_then l.0 (clean-keyword (codes "TEXT") refl none) }
 
 -- ---- literals
-trimmed-step : (d e : ℕ) (ds : List ℕ) → eqb d 48 ≡ true → trimmed (d ∷ e ∷ ds) ≡ trimmed (e ∷ ds)
+trimmed-step : (d e : ℕ) (ds : List ℕ) → eqb d 48 ≡ true → significant_digits (d ∷ e ∷ ds) ≡ significant_digits (e ∷ ds)
 trimmed-step d e ds h = rw h refl
 
-trimmed-kept : (d e : ℕ) (ds : List ℕ) → eqb d 48 ≡ false → trimmed (d ∷ e ∷ ds) ≡ d ∷ e ∷ ds
+trimmed-kept : (d e : ℕ) (ds : List ℕ) → eqb d 48 ≡ false → significant_digits (d ∷ e ∷ ds) ≡ d ∷ e ∷ ds
 trimmed-kept d e ds h = rw h refl
 
-trimmed-twice : (ds : List ℕ) → trimmed (trimmed ds) ≡ trimmed ds
+trimmed-twice : (ds : List ℕ) → significant_digits (significant_digits ds) ≡ significant_digits ds
 trimmed-twice [] = refl
 trimmed-twice (d ∷ []) = refl
 trimmed-twice (d ∷ e ∷ ds) =
     elim (cases_Bool (eqb d 48)) [
-      | inl h ↦ ap trimmed (trimmed-step d e ds h) ∙ trimmed-twice (e ∷ ds) ∙ sym (trimmed-step d e ds h)
-      | inr h ↦ ap trimmed (trimmed-kept d e ds h)
+      | inl h ↦ ap significant_digits (trimmed-step d e ds h) ∙ trimmed-twice (e ∷ ds) ∙ sym (trimmed-step d e ds h)
+      | inr h ↦ ap significant_digits (trimmed-kept d e ds h)
     ]
 
-trimmed-digits : (ds : List ℕ) → IsDigitText ds → IsDigitText (trimmed ds)
+trimmed-digits : (ds : List ℕ) → IsDigitText ds → IsDigitText (significant_digits ds)
 trimmed-digits [] h = h
 trimmed-digits (d ∷ []) h = h
 trimmed-digits (d ∷ e ∷ ds) h =
@@ -114,32 +114,33 @@ trimmed-digits (d ∷ e ∷ ds) h =
       | inr z ↦ subst IsDigitText (sym (trimmed-kept d e ds z)) h
     ]
 
-unsigned-again : (ds : List ℕ) → IsDigitText ds → Again IsLiteral literal_of (Number false (trimmed ds))
+unsigned-again : (ds : List ℕ) → IsDigitText ds → Again IsLiteral literal_of (Number false (significant_digits ds))
 unsigned-again ds h = record {
-  spelled = subst (λ t. IsLiteral (number (trimmed ds) ∷ []) (Number false t)) (trimmed-twice ds) (plain {d = trimmed ds});
+  spelled = subst (λ t. IsLiteral (number (significant_digits ds) ∷ []) (Number false t)) (trimmed-twice ds) (plain {d = significant_digits ds});
   clean = digits_then (trimmed-digits ds h) none;
 }
 
-minus-again : (ds : List ℕ) (zero : Bool) → bytes_eq (trimmed ds) (codes "0") ≡ zero → IsDigitText ds
-    → Again IsLiteral literal_of (Number (not zero) (trimmed ds))
+minus-again : (ds : List ℕ) (zero : Bool) → bytes_eq (significant_digits ds) (codes "0") ≡ zero → IsDigitText ds
+    → Again IsLiteral literal_of (Number (not zero) (significant_digits ds))
 minus-again ds true e h = unsigned-again ds h
 minus-again ds false e h = record {
-  spelled = subst (λ z. IsLiteral (MINUS ∷ number (trimmed ds) ∷ []) (Number (not z) (trimmed ds))) e
-      (subst (λ t. IsLiteral (MINUS ∷ number (trimmed ds) ∷ []) (Number (not (bytes_eq t (codes "0"))) t)) (trimmed-twice ds) (negative {d = trimmed ds}));
+  spelled = subst (λ z. IsLiteral (MINUS ∷ number (significant_digits ds) ∷ []) (Number (not z) (significant_digits ds))) e
+      (subst (λ t. IsLiteral (MINUS ∷ number (significant_digits ds) ∷ []) (Number (not (bytes_eq t (codes "0"))) t)) (trimmed-twice ds)
+      (negative {d = significant_digits ds}));
   clean = minus_then (trimmed-digits ds h) none;
 }
 
 pub literal-again : (a : List Symbol) (x : Literal) → IsLiteral a x → AreLexical a → Again IsLiteral literal_of x
 literal-again a x (plain {d}) l = unsigned-again d l.0
 literal-again a x (positive {d}) l = unsigned-again d l.1.0
-literal-again a x (negative {d}) l = minus-again d (bytes_eq (trimmed d) (codes "0")) refl l.1.0
+literal-again a x (negative {d}) l = minus-again d (bytes_eq (significant_digits d) (codes "0")) refl l.1.0
 literal-again a x between_quotes l = record { spelled = between_quotes; clean = content_then none }
 
 pub tuple-again : (a : List Symbol) (xs : List Literal) → IsTuple a xs → AreLexical a → Again IsTuple tuple_of xs
 tuple-again a xs (tuple {a = inner} h) l =
-    let again : Again (Commas IsLiteral) (listed literal_of) xs = commas-again literal-again h (front IsLexical inner (CLOSE ∷ []) l.1) in
+    let again : Again (Commas IsLiteral) (comma_list literal_of) xs = commas-again literal-again h (front IsLexical inner (CLOSE ∷ []) l.1) in
     record {
-      spelled = subst (λ b. IsTuple (OPEN ∷ b) xs) (sym (closed (listed literal_of xs))) (tuple again.spelled);
+      spelled = subst (λ b. IsTuple (OPEN ∷ b) xs) (sym (closed (comma_list literal_of xs))) (tuple again.spelled);
       clean = clean-closed again.clean;
     }
 

@@ -11,7 +11,7 @@ use Rattle.sql_tree.specs.declared.tree.Cond.{Cond}
 use Rattle.sql_tree.specs.declared.tree.FromItem.{FromItem}
 use Rattle.sql_tree.specs.declared.tree.BlockTree.{BlockTree}
 use Rattle.sql_tree.specs.Trees.{Tree, Block, Union, Except}
-use Rattle.sql_tree.specs.Canonical.{Lexeme, keyword, sign, listed, where_of, item_of, output_of, distinct_of, block_of as block_lexemes, operand_of, tree_lexemes}
+use Rattle.sql_tree.specs.Canonical.{Lexeme, keyword, sign, comma_list, where_of, item_of, output_of, distinct_of, block_of as block_lexemes, operand_of, tree_lexemes}
 use Rattle.sql_tree.specs.Symbols.{Symbol, word, mark}
 use Rattle.sql_tree.specs.Grammar.{Commas, last, comma, id, IsItem, alone, alias, as_alias, IsJoins, no_join, join, inner_join, cross_join, Source, IsSource, joined_source, IsDistinct, all_rows, distinct_rows, IsOutput, all_columns, columns, IsBlock, select_block, block_of, IsTerm, single, nested, IsQuery, term, union, except}
 use Rattle.sql_tree.specs.Words.{CLOSE, COMMA, EXCEPT, FROM, JOIN, ON, SELECT, UNION}
@@ -144,7 +144,7 @@ block-again a b (select_block {a = x} {b = y} {c = z} {d = v} {distinct = distin
     let d_again = distinct-again x distinct d in
     let o_again = output-again y star rs o (back IsLexical (SELECT ∷ x) y to_output) in
     let sources = sources-again s (back IsLexical (SELECT ∷ x ++ y) (FROM ∷ z) to_sources).1 in
-    let f_again : Again (Commas (λ s i. IsSource s (lone i))) (listed item_of) (sources.first ∷ sources.others) =
+    let f_again : Again (Commas (λ s i. IsSource s (lone i))) (comma_list item_of) (sources.first ∷ sources.others) =
     listed_again sources.first sources.others (item-lone sources.first sources.first_again) (items-lone sources.others sources.others_again) in
     let conditions : List Cond = flat_map (λ s. s.1) ss ++ cs in
     let w_again = where_again conditions (each-append ConditionAgain (flat_map (λ s. s.1) ss) cs sources.conditions
@@ -157,8 +157,8 @@ block-again a b (select_block {a = x} {b = y} {c = z} {d = v} {distinct = distin
     ∙ ap (λ cs. as_block items (cs ++ conditions)) (lone-conditions items) in
     let again : Again IsBlock block_lexemes (as_block items conditions) = record {
       spelled = subst (λ t. IsBlock t (as_block items conditions))
-          (sym (block-shape (distinct_of distinct) (output_of star rs) (listed item_of items) (where_of conditions)))
-          (subst (λ t. IsBlock (((SELECT ∷ map symbol (distinct_of distinct) ++ map symbol (output_of star rs)) ++ FROM ∷ map symbol (listed item_of items))
+          (sym (block-shape (distinct_of distinct) (output_of star rs) (comma_list item_of items) (where_of conditions)))
+          (subst (λ t. IsBlock (((SELECT ∷ map symbol (distinct_of distinct) ++ map symbol (output_of star rs)) ++ FROM ∷ map symbol (comma_list item_of items))
           ++ map symbol (where_of conditions)) t) same made);
       clean = clean-append (clean-append (clean-append (clean-keyword (codes "SELECT") refl d_again.clean) o_again.clean)
           (clean-keyword (codes "FROM") refl f_again.clean)) w_again.clean;

@@ -7,7 +7,7 @@ use Rattle.beas_core.specs.declared.schema.Column.{Column}
 use Rattle.sql_tree.specs.declared.tree.Literal.{Literal}
 use Rattle.sql_tree.specs.declared.tree.Statement.{Statement}
 use Rattle.sql_tree.specs.declared.tree.Statement.TheVariants.{CreateTable, CreateAccess, Insert, DiscoverGroup}
-use Rattle.sql_tree.specs.Canonical.{Lexeme, keyword, sign, names_of, listed, in_parentheses, column_of, tuple_of, limit_of, lexemes_of}
+use Rattle.sql_tree.specs.Canonical.{Lexeme, keyword, sign, names_of, comma_list, in_parentheses, column_of, tuple_of, limit_of, lexemes_of}
 use Rattle.sql_tree.specs.Symbols.{Symbol, word, number}
 use Rattle.sql_tree.specs.Grammar.{Commas, IsId, id, IsMaybeIds, IsColumn, IsTuple, Spells, create_table, create_access, drop_access, load, insert, delete, discover_group, discover_pairs, select, explain}
 use Rattle.sql_tree.specs.Words.{ACCESS, CLOSE, CREATE, DISCOVER, FETCH, LIMIT, ON, OPEN, TABLE}
@@ -47,9 +47,10 @@ SpellsAgain statement = Again Spells lexemes_of statement
 table-again : (n : List ℕ) (b : List Symbol) (cs : List Column) → IsId (word n ∷ []) n → IsNameText n → Commas IsColumn b cs → AreLexical b
     → SpellsAgain (CreateTable n cs)
 table-again n b cs i h columns l =
-    let again : Again (Commas IsColumn) (listed column_of) cs = commas-again column-again columns l in
+    let again : Again (Commas IsColumn) (comma_list column_of) cs = commas-again column-again columns l in
     record {
-      spelled = subst (λ a. Spells (CREATE ∷ TABLE ∷ word n ∷ OPEN ∷ a) (CreateTable n cs)) (sym (closed (listed column_of cs))) (create_table i again.spelled);
+      spelled = subst (λ a. Spells (CREATE ∷ TABLE ∷ word n ∷ OPEN ∷ a) (CreateTable n cs)) (sym (closed (comma_list column_of cs)))
+          (create_table i again.spelled);
       clean = clean-keyword (codes "CREATE") refl (clean-keyword (codes "TABLE") refl (name_then h (clean-closed again.clean)));
     }
 
@@ -77,7 +78,7 @@ group-again t key fetched i h key_again fetched_again = record {
 insert-again : (t : List ℕ) (b : List Symbol) (rows : List (List Literal)) → IsId (word t ∷ []) t → IsNameText t → Commas IsTuple b rows → AreLexical b
     → SpellsAgain (Insert t rows)
 insert-again t b rows i h tuples l =
-    let again : Again (Commas IsTuple) (listed tuple_of) rows = commas-again tuple-again tuples l in
+    let again : Again (Commas IsTuple) (comma_list tuple_of) rows = commas-again tuple-again tuples l in
     record {
       spelled = insert i again.spelled;
       clean = clean-keyword (codes "INSERT") refl

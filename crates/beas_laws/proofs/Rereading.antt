@@ -7,9 +7,9 @@ use Rattle.std.proofs.lemmas.Bool.Decides.{nat_tests}
 use Rattle.sql_text.specs.declared.token.Token.{Token}
 use Rattle.sql_text.specs.declared.token.TokenKind.{TokenKind}
 use Rattle.sql_text.specs.declared.token.TokenKind.TheVariants.{Word, Number, Quoted, Mark}
-use Rattle.sql_text.specs.Tokens.{lead, quoted as quoted_bytes, quote, doubled, first_then, tokens_from, tokens_of, Lead}
+use Rattle.sql_text.specs.Tokens.{lead, in_quotes as quoted_bytes, quote, double_quotes, first_then, tokens_from, tokens_of, Lead}
 use Rattle.sql_text.specs.Tokens.Lead.{Gap, Lexeme as Found}
-use Rattle.sql_tree.specs.Canonical.{Lexeme, sign, holds_left, holds_right, gap, written}
+use Rattle.sql_tree.specs.Canonical.{Lexeme, sign, holds_left, holds_right, gap, text_of_lexemes}
 use Rattle.sql_tree.specs.Symbols.{Symbol, word, number, quoted, mark, symbol_of, symbols}
 use Rattle.beas_laws.proofs.Clean.{symbol, IsMarkText, open_mark, close_mark, comma_mark, point_mark, star_mark, equal_mark, differs_mark, less_mark, at_most_mark, more_mark, at_least_mark, AreClean, none, keyword_then, name_then, digits_then, minus_then, content_then, sign_then}
 use Rattle.beas_laws.proofs.Leading.{ends, lead-of_word, lead-of_number, lead-of_quoted, digit-no_minus}
@@ -67,7 +67,7 @@ number-read [] rest h e = absurd (false≢true h.first)
 number-read (b ∷ bs) rest h e = one_token Number (b ∷ bs) b bs rest (lead-of_number b bs rest h e)
 
 quoted-read : (text rest : List ℕ) → ends rest ≡ true → read (quoted_bytes text ++ rest) ≡ quoted text ∷ read rest
-quoted-read text rest e = one_token Quoted text quote (doubled text ++ quote ∷ []) rest (lead-of_quoted text rest e)
+quoted-read text rest e = one_token Quoted text quote (double_quotes text ++ quote ∷ []) rest (lead-of_quoted text rest e)
 
 minus-lead : (b : ℕ) (bs : List ℕ) → eqb 45 b ≡ false → lead (45 ∷ b ∷ bs) ≡ Found Mark 1 (codes "-")
 unfolding lead
@@ -94,7 +94,7 @@ more-lead [] e = refl
 more-lead (b ∷ bs) e = rw (ends-no_equal b e) refl
 
 -- what follows a lexeme that lets a space follow it ends it
-sign-ends : {text : List ℕ} → IsMarkText text → (rest : List Lexeme) → ends (written false (sign text ∷ rest)) ≡ true
+sign-ends : {text : List ℕ} → IsMarkText text → (rest : List Lexeme) → ends (text_of_lexemes false (sign text ∷ rest)) ≡ true
 sign-ends open_mark rest = refl
 sign-ends close_mark rest = refl
 sign-ends comma_mark rest = refl
@@ -107,7 +107,7 @@ sign-ends at_most_mark rest = refl
 sign-ends more_mark rest = refl
 sign-ends at_least_mark rest = refl
 
-written-ends : {rest : List Lexeme} → AreClean rest → ends (written false rest) ≡ true
+written-ends : {rest : List Lexeme} → AreClean rest → ends (text_of_lexemes false rest) ≡ true
 written-ends none = refl
 written-ends (keyword_then h c) = refl
 written-ends (name_then h c) = refl
@@ -117,39 +117,39 @@ written-ends (content_then c) = refl
 written-ends (sign_then {rest = rest} h c) = sign-ends h rest
 
 sign-read : {text : List ℕ} → IsMarkText text → (rest : List Lexeme) → AreClean rest
-    → read (text ++ written (holds_right (sign text)) rest) ≡ mark text ∷ read (written (holds_right (sign text)) rest)
+    → read (text ++ text_of_lexemes (holds_right (sign text)) rest) ≡ mark text ∷ read (text_of_lexemes (holds_right (sign text)) rest)
 unfolding lead
-sign-read open_mark rest c = one_token Mark (codes "(") 40 [] (written true rest) refl
-sign-read close_mark rest c = one_token Mark (codes ")") 41 [] (written false rest) refl
-sign-read comma_mark rest c = one_token Mark (codes ",") 44 [] (written false rest) refl
-sign-read point_mark rest c = one_token Mark (codes ".") 46 [] (written true rest) refl
-sign-read star_mark rest c = one_token Mark (codes "*") 42 [] (written false rest) refl
-sign-read equal_mark rest c = one_token Mark (codes "=") 61 [] (written false rest) refl
-sign-read differs_mark rest c = one_token Mark (codes "<>") 60 (62 ∷ []) (written false rest) refl
-sign-read less_mark rest c = one_token Mark (codes "<") 60 [] (written false rest) (less-lead (written false rest) (written-ends c))
-sign-read at_most_mark rest c = one_token Mark (codes "<=") 60 (61 ∷ []) (written false rest) refl
-sign-read more_mark rest c = one_token Mark (codes ">") 62 [] (written false rest) (more-lead (written false rest) (written-ends c))
-sign-read at_least_mark rest c = one_token Mark (codes ">=") 62 (61 ∷ []) (written false rest) refl
+sign-read open_mark rest c = one_token Mark (codes "(") 40 [] (text_of_lexemes true rest) refl
+sign-read close_mark rest c = one_token Mark (codes ")") 41 [] (text_of_lexemes false rest) refl
+sign-read comma_mark rest c = one_token Mark (codes ",") 44 [] (text_of_lexemes false rest) refl
+sign-read point_mark rest c = one_token Mark (codes ".") 46 [] (text_of_lexemes true rest) refl
+sign-read star_mark rest c = one_token Mark (codes "*") 42 [] (text_of_lexemes false rest) refl
+sign-read equal_mark rest c = one_token Mark (codes "=") 61 [] (text_of_lexemes false rest) refl
+sign-read differs_mark rest c = one_token Mark (codes "<>") 60 (62 ∷ []) (text_of_lexemes false rest) refl
+sign-read less_mark rest c = one_token Mark (codes "<") 60 [] (text_of_lexemes false rest) (less-lead (text_of_lexemes false rest) (written-ends c))
+sign-read at_most_mark rest c = one_token Mark (codes "<=") 60 (61 ∷ []) (text_of_lexemes false rest) refl
+sign-read more_mark rest c = one_token Mark (codes ">") 62 [] (text_of_lexemes false rest) (more-lead (text_of_lexemes false rest) (written-ends c))
+sign-read at_least_mark rest c = one_token Mark (codes ">=") 62 (61 ∷ []) (text_of_lexemes false rest) refl
 
 -- Lexemes are read back from their text.
-pub read-written : (held : Bool) {lexemes : List Lexeme} → AreClean lexemes → read (written held lexemes) ≡ map symbol lexemes
+pub read-written : (held : Bool) {lexemes : List Lexeme} → AreClean lexemes → read (text_of_lexemes held lexemes) ≡ map symbol lexemes
 read-written held none = nothing-read
 read-written held (keyword_then {text} {rest} h c) =
-    gap-skipped (held || false) text (written false rest) ∙ word-read text (written false rest) h (written-ends c)
+    gap-skipped (held || false) text (text_of_lexemes false rest) ∙ word-read text (text_of_lexemes false rest) h (written-ends c)
     ∙ ap (λ others. word (map to_ascii_lowercase text) ∷ others) (read-written false c)
 read-written held (name_then {text} {rest} h c) =
-    gap-skipped (held || false) text (written false rest) ∙ word-read text (written false rest) h.spelled (written-ends c)
-    ∙ ap (λ folded. word folded ∷ read (written false rest)) h.folded ∙ ap (λ others. word text ∷ others) (read-written false c)
+    gap-skipped (held || false) text (text_of_lexemes false rest) ∙ word-read text (text_of_lexemes false rest) h.spelled (written-ends c)
+    ∙ ap (λ folded. word folded ∷ read (text_of_lexemes false rest)) h.folded ∙ ap (λ others. word text ∷ others) (read-written false c)
 read-written held (digits_then {text} {rest} h c) =
-    gap-skipped (held || false) text (written false rest) ∙ number-read text (written false rest) h (written-ends c)
+    gap-skipped (held || false) text (text_of_lexemes false rest) ∙ number-read text (text_of_lexemes false rest) h (written-ends c)
     ∙ ap (λ others. number text ∷ others) (read-written false c)
 read-written held (minus_then {text} {rest} h c) =
-    gap-skipped (held || false) (codes "-") (text ++ written false rest) ∙ minus-read text (written false rest) h
-    ∙ ap (λ others. mark (codes "-") ∷ others) (number-read text (written false rest) h (written-ends c)
+    gap-skipped (held || false) (codes "-") (text ++ text_of_lexemes false rest) ∙ minus-read text (text_of_lexemes false rest) h
+    ∙ ap (λ others. mark (codes "-") ∷ others) (number-read text (text_of_lexemes false rest) h (written-ends c)
     ∙ ap (λ others. number text ∷ others) (read-written false c))
 read-written held (content_then {text} {rest} c) =
-    gap-skipped (held || false) (quoted_bytes text) (written false rest) ∙ quoted-read text (written false rest) (written-ends c)
+    gap-skipped (held || false) (quoted_bytes text) (text_of_lexemes false rest) ∙ quoted-read text (text_of_lexemes false rest) (written-ends c)
     ∙ ap (λ others. quoted text ∷ others) (read-written false c)
 read-written held (sign_then {text} {rest} h c) =
-    gap-skipped (held || holds_left (sign text)) text (written (holds_right (sign text)) rest) ∙ sign-read h rest c
+    gap-skipped (held || holds_left (sign text)) text (text_of_lexemes (holds_right (sign text)) rest) ∙ sign-read h rest c
     ∙ ap (λ others. mark text ∷ others) (read-written (holds_right (sign text)) c)

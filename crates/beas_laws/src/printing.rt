@@ -4,15 +4,15 @@ ghost use Rattle.sql_text.specs.Tokens.{tokens_of};
 ghost use Rattle.sql_tree.specs.declared.tree.Statement.{Statement as Tree};
 ghost use Rattle.sql_tree.specs.Symbols.{symbols};
 ghost use Rattle.sql_tree.specs.Grammar.{Spells};
-ghost use Rattle.sql_tree.specs.Canonical.{printed};
+ghost use Rattle.sql_tree.specs.Canonical.{canonical_text};
 ghost use Rattle.beas_laws.specs.Spelled.{IsSpelledByTokens};
 
 use sql_tree::Statement;
 
 /// Where some tokens spell a statement, the tokens of its canonical text spell it, and no other.
 pub fn law_printed(statement: &Statement)
-    ensures spelled { IsSpelledByTokens statement.now → Spells (symbols (tokens_of (printed statement.now)))
+    ensures spelled { IsSpelledByTokens statement.now → Spells (symbols (tokens_of (canonical_text statement.now)))
         statement.now }
     ensures no_other { IsSpelledByTokens statement.now → (other : Tree)
-        → Spells (symbols (tokens_of (printed statement.now))) other → other ≡ statement.now }
+        → Spells (symbols (tokens_of (canonical_text statement.now))) other → other ≡ statement.now }
 {}

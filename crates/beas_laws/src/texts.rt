@@ -4,7 +4,7 @@ ghost use Rattle.beas_core.specs.declared.refusal.Refusal.{Refusal as Why};
 ghost use Rattle.sql_text.specs.Tokens.{tokens_of};
 ghost use Rattle.sql_tree.specs.declared.tree.Statement.{Statement as Tree};
 ghost use Rattle.sql_tree.specs.Symbols.{symbols};
-ghost use Rattle.sql_tree.specs.Canonical.{printed};
+ghost use Rattle.sql_tree.specs.Canonical.{canonical_text};
 ghost use Rattle.sql_parser.specs.Outcome.{Parses};
 
 use beas_core::{Fail, Text};
@@ -18,7 +18,7 @@ use std::alloc::Global;
 pub fn canonical(alloc: Global, source: &str) -> Result<Text, Fail>
     requires { length source.now ≤ 16777216 }
     ensures text { IfOk result (λ text. (s : Tree) × Parses (symbols (tokens_of source.now)) (Ok s)
-        × (text ≡ printed s)) }
+        × (text ≡ canonical_text s)) }
     ensures refused { (why : Why) → IsErrOf result (Fail.Refused why)
         → Parses (symbols (tokens_of source.now)) (Err why) }
 {

@@ -12,7 +12,7 @@ use Rattle.session.specs.Effects.{Settings, Act}
 use Rattle.session.specs.Ties.{Seen, IsLater}
 use Rattle.session.specs.Turns.{Turn, turn_of, is_refusal, IsWithin}
 use Rattle.sql_parser.specs.Outcome.{Reading}
-use Rattle.beas_run.specs.Demonstrations.{outcome_of, totals_in, summary_of, unwritten, ended_at, IsCounted, Tallied, Demonstrated}
+use Rattle.beas_run.specs.Demonstrations.{outcome_of, totals_in, summary_of, without_output, ended_at, IsCounted, Tallied, Demonstrated}
 use Rattle.beas_run.specs.Pieces.{IsReported, IsUndone}
 use Rattle.beas_run.specs.Scripts.{act_for, turns}
 use Rattle.beas_run.specs.Walks.{Scene}
@@ -104,7 +104,7 @@ below_two false = omega arith
 -- what is put is the line of the totals of its turns
 pub demonstrated : (s : Settings) (readings : List Reading) (refused : Bool) (status : ℕ) (sum : Totals) (db : Database) (steps : ℕ) (after : Scene)
     (told : Bool) (sent : List ℕ) (files : Seen)
-    → Tallied s readings (ended_at (Ok refused)) sum (record { db = db; steps = steps; told = false; sent = []; files = files }) (unwritten after)
+    → Tallied s readings (ended_at (Ok refused)) sum (record { db = db; steps = steps; told = false; sent = []; files = files }) (without_output after)
     → (status ≡ ended_at (Ok refused)) ⊎ (status ≡ 4) ⊎ (status ≡ 5)
     → (status < 2 → told ≡ true → after.sent ≡ sent ++ summary_text sum) → (told ≡ true → SentPart sent after.sent (summary_text sum))
     → (status ≡ 5 → told ≡ true → after.sent ≡ sent)
@@ -133,7 +133,8 @@ demonstrated s readings refused status sum db steps after told sent files tally 
 -- out of memory before the line is put
 pub unfinished : (s : Settings) (readings : List Reading) (sum : Totals) (db : Database) (steps : ℕ) (after : Scene) (sent : List ℕ) (told : Bool)
     (files : Seen)
-    → Tallied s readings 5 sum (record { db = db; steps = steps; told = false; sent = []; files = files }) (unwritten after) → (told ≡ true → after.sent ≡ sent)
+    → Tallied s readings 5 sum (record { db = db; steps = steps; told = false; sent = []; files = files }) (without_output after)
+    → (told ≡ true → after.sent ≡ sent)
     → Demonstrated s readings 5 (record { db = db; steps = steps; told = told; sent = sent; files = files }) after
 unfinished s readings sum db steps after sent told files tally same = record {
   ended = 5;

@@ -20,7 +20,7 @@ use Rattle.beas_run.specs.declared.no_script.NoScript.TheVariants.{Words, Unread
 use Rattle.beas_run.specs.NoScripts.{status_of}
 use Rattle.beas_run.specs.Scripts.{Readings, readings_of}
 use Rattle.beas_run.specs.Runs.{seed_of, demo_seed, settings_for, settings_of_words, HasScript, HasRun, IsContent, IsScriptOf, IsWith, IsWithout, WalkedFor, longest_script}
-use Rattle.beas_run.specs.Demonstrations.{Demonstrated, summary_of, unwritten}
+use Rattle.beas_run.specs.Demonstrations.{Demonstrated, summary_of, without_output}
 use Rattle.beas_run.specs.Walks.{Scene, Walked}
 use Rattle.beas_run.proofs.Reached.{unstarted, walked_from}
 use Rattle.beas_run.proofs.Reading.{found}
@@ -78,7 +78,7 @@ idle (Some (Script path budget explain)) s before after status sent steps db lat
 idle (Some (Demo seed budget explain)) s before after status sent steps db later early fault (inl none) = absurd (some≢none seed none)
 idle (Some (Demo seed budget explain)) s before after status sent steps db later early fault (inr five) = record {
   ended = 5;
-  walked = unstarted s [] (unwritten before) (unwritten after) 5 (λ _. refl) steps db later (omega arith) (omega arith);
+  walked = unstarted s [] (without_output before) (without_output after) 5 (λ _. refl) steps db later (omega arith) (omega arith);
   whole = λ below. absurd (omega arith);
   part = λ on. rw (sent on) (none_of before.sent (summary_of []));
   unsent = λ _ _. sent;

@@ -33,8 +33,8 @@ totals_in turns = totals_of (map (λ t. outcome_of t.effect.report) turns)
 abbrev pub summary_of : List Turn → List ℕ
 summary_of turns = summary_text (totals_in turns)
 
-abbrev pub unwritten : Scene → Scene
-unwritten scene = record scene { told = false; sent = [] }
+abbrev pub without_output : Scene → Scene
+without_output scene = record scene { told = false; sent = [] }
 
 pub record IsCounted (limit : ℕ) (act : Act) (refused : Bool) (sum_before sum_after : Totals) (before after : Scene)
     : Type 0 where
@@ -59,7 +59,7 @@ pub record Demonstrated (settings : Settings) (readings : List Reading) (status 
     : Type 0 where
   -- how the statements ended: by memory, or in the status that their reports make
   pub ended : ℕ
-  pub walked : Walked settings readings ended (unwritten before) (unwritten after)
+  pub walked : Walked settings readings ended (without_output before) (without_output after)
   pub whole : status < 2 → (status ≡ ended)
       × (before.told ≡ true
       → after.sent ≡ before.sent ++ summary_of (turns settings before.db readings walked.outcomes))

@@ -16,7 +16,7 @@ use Rattle.sql_text.specs.declared.token.Piece.{Piece}
 use Rattle.sql_text.specs.Tokens.{tokens_of}
 use Rattle.sql_text.specs.Pieces.{statements_of}
 use Rattle.sql_tree.specs.Symbols.{symbols}
-use Rattle.sql_parser.specs.Outcome.{Reading, Parses, parsed}
+use Rattle.sql_parser.specs.Outcome.{Reading, Parses, outcome}
 
 -- the pieces of a script that hold a token
 abbrev pub pieces : List ℕ → List (List Token)
@@ -27,7 +27,7 @@ Readings script readings = AllZip (λ tokens reading. Parses (symbols tokens) re
 
 -- the same, as they are found
 abbrev pub reading_of : List Token → Reading
-reading_of tokens = parsed (symbols tokens)
+reading_of tokens = outcome (symbols tokens)
 
 abbrev pub readings_of : List ℕ → List Reading
 readings_of script = map reading_of (pieces script)

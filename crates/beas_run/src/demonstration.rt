@@ -3,9 +3,9 @@ ghost use Rattle.std.specs.Prelude.{◌≡◌, ◌≢◌, ◌<◌, ◌≤◌, �
 ghost use Rattle.demo_gen.specs.Summaries.{summary_text, totals_of};
 ghost use Rattle.outside.specs.Counts.{Rose};
 ghost use Rattle.outside.specs.Parts.{SentPart};
-ghost use Rattle.update_guard.specs.Stored.{stored};
+ghost use Rattle.update_guard.specs.Stored.{contents};
 ghost use Rattle.session.specs.Applied.{settings_of};
-ghost use Rattle.session.specs.Ties.{IsLater, seen};
+ghost use Rattle.session.specs.Ties.{IsLater, view};
 ghost use Rattle.beas_run.specs.Demonstrations.{outcome_of, ended_at, IsCounted, Tallied, Demonstrated};
 ghost use Rattle.beas_run.specs.Pieces.{IsUndone};
 ghost use Rattle.beas_run.specs.Scripts.{act_for, reading_of, readings_of, readings_at};
@@ -54,17 +54,17 @@ fn count_one<F: Files, L: Ledger>(
     requires short { length tokens.now < 2 ^ 32 - 1 }
     requires room { summary.old.statements + 1 < 2 ^ 32 }
     ensures counted { IfOk result (λ refused. IsCounted session.old.limits.file
-        (act_for (settings_of session.old) (stored session.old.guarded) (reading_of tokens.now))
+        (act_for (settings_of session.old) (contents session.old.guarded) (reading_of tokens.now))
         refused summary.old summary.new
-        (scene session.old steps.old false [] (seen F.told F.content F.faults F.taken files.old))
-        (scene session.new steps.new false [] (seen F.told F.content F.faults F.taken files.new))) }
+        (scene session.old steps.old false [] (view F.told F.content F.faults F.taken files.old))
+        (scene session.new steps.new false [] (view F.told F.content F.faults F.taken files.new))) }
     ensures undone { OnErr result (IsUndone
-        (act_for (settings_of session.old) (stored session.old.guarded) (reading_of tokens.now))
-        (scene session.old steps.old false [] (seen F.told F.content F.faults F.taken files.old))
-        (scene session.new steps.new false [] (seen F.told F.content F.faults F.taken files.new))) }
+        (act_for (settings_of session.old) (contents session.old.guarded) (reading_of tokens.now))
+        (scene session.old steps.old false [] (view F.told F.content F.faults F.taken files.old))
+        (scene session.new steps.new false [] (view F.told F.content F.faults F.taken files.new))) }
     ensures settings { settings_of session.new ≡ settings_of session.old }
     ensures later { IsLater
-        (seen F.told F.content F.faults F.taken files.old) (seen F.told F.content F.faults F.taken files.new) }
+        (view F.told F.content F.faults F.taken files.old) (view F.told F.content F.faults F.taken files.new) }
 {
     let report = report_on(alloc, session, tokens, files, steps)?;
     summary.add(outcome_of(&report));
@@ -87,11 +87,11 @@ fn count_all<F: Files, L: Ledger>(
     requires none { summary.old ≡ totals_of [] }
     ensures tallied { Tallied
         (settings_of session.old) (readings_at tokens.now pieces.now) (ended_at result) summary.new
-        (scene session.old steps.old false [] (seen F.told F.content F.faults F.taken files.old))
-        (scene session.new steps.new false [] (seen F.told F.content F.faults F.taken files.new)) }
+        (scene session.old steps.old false [] (view F.told F.content F.faults F.taken files.old))
+        (scene session.new steps.new false [] (view F.told F.content F.faults F.taken files.new)) }
     ensures settings { settings_of session.new ≡ settings_of session.old }
     ensures later { IsLater
-        (seen F.told F.content F.faults F.taken files.old) (seen F.told F.content F.faults F.taken files.new) }
+        (view F.told F.content F.faults F.taken files.old) (view F.told F.content F.faults F.taken files.new) }
 {
     let mut refused = false;
     for piece in pieces {
@@ -113,11 +113,11 @@ fn count_text<F: Files, L: Ledger>(
     requires few { length script.now ≤ 16777216 }
     requires none { summary.old ≡ totals_of [] }
     ensures tallied { Tallied (settings_of session.old) (readings_of script.now) (ended_at result) summary.new
-        (scene session.old steps.old false [] (seen F.told F.content F.faults F.taken files.old))
-        (scene session.new steps.new false [] (seen F.told F.content F.faults F.taken files.new)) }
+        (scene session.old steps.old false [] (view F.told F.content F.faults F.taken files.old))
+        (scene session.new steps.new false [] (view F.told F.content F.faults F.taken files.new)) }
     ensures settings { settings_of session.new ≡ settings_of session.old }
     ensures later { IsLater
-        (seen F.told F.content F.faults F.taken files.old) (seen F.told F.content F.faults F.taken files.new) }
+        (view F.told F.content F.faults F.taken files.old) (view F.told F.content F.faults F.taken files.new) }
 {
     let cut = cut_script(alloc, script)?;
     let (tokens, pieces) = (cut.tokens.as_slice(), cut.pieces.as_slice());
@@ -159,13 +159,13 @@ pub fn run_demonstration<F: Files, O: Sink, L: Ledger>(
     requires { length script.now ≤ 16777216 }
     ensures demonstrated { Demonstrated (settings_of session.old) (readings_of script.now) result
         (scene session.old steps.old (O.told out.old) (O.sent out.old)
-        (seen F.told F.content F.faults F.taken files.old))
+        (view F.told F.content F.faults F.taken files.old))
         (scene session.new steps.new (O.told out.new) (O.sent out.new)
-        (seen F.told F.content F.faults F.taken files.new)) }
+        (view F.told F.content F.faults F.taken files.new)) }
     ensures statuses { (result < 2) ⊎ (result ≡ 4) ⊎ (result ≡ 5) }
     ensures settings { settings_of session.new ≡ settings_of session.old }
     ensures later { IsLater
-        (seen F.told F.content F.faults F.taken files.old) (seen F.told F.content F.faults F.taken files.new) }
+        (view F.told F.content F.faults F.taken files.old) (view F.told F.content F.faults F.taken files.new) }
     ensures told { O.told out.new ≡ O.told out.old }
     ensures no_fault { result ≢ 4 → O.faults out.new ≡ O.faults out.old }
     ensures fault { result ≡ 4 → Rose (O.faults out.old) (O.faults out.new) }

@@ -3,9 +3,9 @@ ghost use Rattle.std.specs.Prelude.{◌≡◌, ◌≢◌, ◌<◌, ◌≤◌, �
 ghost use Rattle.outside.specs.Counts.{Rose};
 ghost use Rattle.outside.specs.Parts.{SentPart};
 ghost use Rattle.report.specs.Reports.{report_text};
-ghost use Rattle.update_guard.specs.Stored.{stored};
+ghost use Rattle.update_guard.specs.Stored.{contents};
 ghost use Rattle.session.specs.Applied.{Applied, MayCost, settings_of};
-ghost use Rattle.session.specs.Ties.{IsLater, seen};
+ghost use Rattle.session.specs.Ties.{IsLater, view};
 ghost use Rattle.session.specs.Turns.{is_refusal, IsWithin};
 ghost use Rattle.beas_run.specs.Endings.{status_of};
 ghost use Rattle.beas_run.specs.Pieces.{IsReported, IsUnreported, IsUndone};
@@ -72,17 +72,17 @@ pub fn report_on<F: Files, L: Ledger>(
 ) -> Result<Report, NoMemory>
     requires { length tokens.now < 2 ^ 32 - 1 }
     ensures applied { IfOk result (λ report. Applied session.old.limits.file
-        (act_for (settings_of session.old) (stored session.old.guarded) (reading_of tokens.now))
-        report (stored session.new.guarded) steps.old steps.new
-        (seen F.told F.content F.faults F.taken files.old) (seen F.told F.content F.faults F.taken files.new)) }
+        (act_for (settings_of session.old) (contents session.old.guarded) (reading_of tokens.now))
+        report (contents session.new.guarded) steps.old steps.new
+        (view F.told F.content F.faults F.taken files.old) (view F.told F.content F.faults F.taken files.new)) }
     ensures within { IfOk result IsWithin }
     ensures settings { settings_of session.new ≡ settings_of session.old }
-    ensures unchanged { OnErr result (stored session.new.guarded ≡ stored session.old.guarded) }
+    ensures unchanged { OnErr result (contents session.new.guarded ≡ contents session.old.guarded) }
     ensures no_fewer { steps.old ≤ steps.new }
-    ensures at_most { MayCost (act_for (settings_of session.old) (stored session.old.guarded) (reading_of tokens.now))
+    ensures at_most { MayCost (act_for (settings_of session.old) (contents session.old.guarded) (reading_of tokens.now))
         steps.old steps.new }
     ensures later { IsLater
-        (seen F.told F.content F.faults F.taken files.old) (seen F.told F.content F.faults F.taken files.new) }
+        (view F.told F.content F.faults F.taken files.old) (view F.told F.content F.faults F.taken files.new) }
 {
     match parse(alloc, tokens) {
         Ok(statement) => session.apply(alloc, files, &statement, steps),
@@ -126,22 +126,22 @@ fn carry_out<F: Files, O: Sink, L: Ledger>(
 ) -> Result<bool, Ending>
     requires { length tokens.now < 2 ^ 32 - 1 }
     ensures reported { IfOk result (λ refused. IsReported session.old.limits.file
-        (act_for (settings_of session.old) (stored session.old.guarded) (reading_of tokens.now)) number refused
+        (act_for (settings_of session.old) (contents session.old.guarded) (reading_of tokens.now)) number refused
         (scene session.old steps.old (O.told out.old) (O.sent out.old)
-        (seen F.told F.content F.faults F.taken files.old))
+        (view F.told F.content F.faults F.taken files.old))
         (scene session.new steps.new (O.told out.new) (O.sent out.new)
-        (seen F.told F.content F.faults F.taken files.new))) }
+        (view F.told F.content F.faults F.taken files.new))) }
     ensures stopped { IfErr result (λ why.
         let before = scene session.old steps.old (O.told out.old) (O.sent out.old)
-        (seen F.told F.content F.faults F.taken files.old) in
+        (view F.told F.content F.faults F.taken files.old) in
         let after = scene session.new steps.new (O.told out.new) (O.sent out.new)
-        (seen F.told F.content F.faults F.taken files.new) in
-        let act = act_for (settings_of session.old) (stored session.old.guarded) (reading_of tokens.now) in
+        (view F.told F.content F.faults F.taken files.new) in
+        let act = act_for (settings_of session.old) (contents session.old.guarded) (reading_of tokens.now) in
         ((why ≡ Ending.NoMemory) × IsUndone act before after)
         ⊎ IsUnreported session.old.limits.file act number why before after) }
     ensures settings { settings_of session.new ≡ settings_of session.old }
     ensures later { IsLater
-        (seen F.told F.content F.faults F.taken files.old) (seen F.told F.content F.faults F.taken files.new) }
+        (view F.told F.content F.faults F.taken files.old) (view F.told F.content F.faults F.taken files.new) }
     ensures told { O.told out.new ≡ O.told out.old }
     ensures no_fault { OnOk result (O.faults out.new ≡ O.faults out.old) }
     ensures no_memory { IsErrOf result Ending.NoMemory → O.faults out.new ≡ O.faults out.old }
@@ -170,12 +170,12 @@ fn carry_out_all<F: Files, O: Sink, L: Ledger>(
     requires within { All (λ p. (p.from < p.to) × (p.to ≤ length tokens.now)) pieces.now }
     ensures walked { Walked (settings_of session.old) (readings_at tokens.now pieces.now) (status_of result)
         (scene session.old steps.old (O.told out.old) (O.sent out.old)
-        (seen F.told F.content F.faults F.taken files.old))
+        (view F.told F.content F.faults F.taken files.old))
         (scene session.new steps.new (O.told out.new) (O.sent out.new)
-        (seen F.told F.content F.faults F.taken files.new)) }
+        (view F.told F.content F.faults F.taken files.new)) }
     ensures settings { settings_of session.new ≡ settings_of session.old }
     ensures later { IsLater
-        (seen F.told F.content F.faults F.taken files.old) (seen F.told F.content F.faults F.taken files.new) }
+        (view F.told F.content F.faults F.taken files.old) (view F.told F.content F.faults F.taken files.new) }
     ensures told { O.told out.new ≡ O.told out.old }
     ensures no_fault { OnOk result (O.faults out.new ≡ O.faults out.old) }
     ensures no_memory { IsErrOf result Ending.NoMemory → O.faults out.new ≡ O.faults out.old }
@@ -215,12 +215,12 @@ fn carry_out_text<F: Files, O: Sink, L: Ledger>(
     requires { length script.now ≤ 16777216 }
     ensures walked { Walked (settings_of session.old) (readings_of script.now) (status_of result)
         (scene session.old steps.old (O.told out.old) (O.sent out.old)
-        (seen F.told F.content F.faults F.taken files.old))
+        (view F.told F.content F.faults F.taken files.old))
         (scene session.new steps.new (O.told out.new) (O.sent out.new)
-        (seen F.told F.content F.faults F.taken files.new)) }
+        (view F.told F.content F.faults F.taken files.new)) }
     ensures settings { settings_of session.new ≡ settings_of session.old }
     ensures later { IsLater
-        (seen F.told F.content F.faults F.taken files.old) (seen F.told F.content F.faults F.taken files.new) }
+        (view F.told F.content F.faults F.taken files.old) (view F.told F.content F.faults F.taken files.new) }
     ensures told { O.told out.new ≡ O.told out.old }
     ensures no_fault { OnOk result (O.faults out.new ≡ O.faults out.old) }
     ensures no_memory { IsErrOf result Ending.NoMemory → O.faults out.new ≡ O.faults out.old }
@@ -249,13 +249,13 @@ pub fn run_script<F: Files, O: Sink, L: Ledger>(
     requires { length script.now ≤ 16777216 }
     ensures walked { Walked (settings_of session.old) (readings_of script.now) result
         (scene session.old steps.old (O.told out.old) (O.sent out.old)
-        (seen F.told F.content F.faults F.taken files.old))
+        (view F.told F.content F.faults F.taken files.old))
         (scene session.new steps.new (O.told out.new) (O.sent out.new)
-        (seen F.told F.content F.faults F.taken files.new)) }
+        (view F.told F.content F.faults F.taken files.new)) }
     ensures statuses { (result < 2) ⊎ (result ≡ 4) ⊎ (result ≡ 5) }
     ensures settings { settings_of session.new ≡ settings_of session.old }
     ensures later { IsLater
-        (seen F.told F.content F.faults F.taken files.old) (seen F.told F.content F.faults F.taken files.new) }
+        (view F.told F.content F.faults F.taken files.old) (view F.told F.content F.faults F.taken files.new) }
     ensures told { O.told out.new ≡ O.told out.old }
     ensures no_fault { result ≢ 4 → O.faults out.new ≡ O.faults out.old }
     ensures fault { result ≡ 4 → Rose (O.faults out.old) (O.faults out.new) }

@@ -4,7 +4,7 @@ ghost use Rattle.std.specs.Str.{IsUtf8};
 ghost use Rattle.std.specs.String.{string_bytes};
 ghost use Rattle.command_words.specs.Words.{args_of};
 ghost use Rattle.outside.specs.Counts.{Rose};
-ghost use Rattle.session.specs.Ties.{IsLater, seen};
+ghost use Rattle.session.specs.Ties.{IsLater, view};
 ghost use Rattle.beas_run.specs.Runs.{longest_script, IsContent, IsNoText, IsScriptOf, IsTooLong};
 ghost use Rattle.beas_run.specs.Sources.{HasNoScript, IsSource, IsUnread};
 
@@ -29,15 +29,15 @@ pub struct Source {
 fn read_named<F: Files>(alloc: Global, name: &str, files: &mut F) -> Result<Text, NoScript>
     ensures fits { IfOk result (λ text. length text ≤ longest_script) }
     ensures content { IfOk result (λ text. IsContent
-        (seen F.told F.content F.faults F.taken files.old) text name.now) }
+        (view F.told F.content F.faults F.taken files.old) text name.now) }
     ensures named { IsErrOf result NoScript.Words → ⊥ }
     ensures unread { IsErrOf result NoScript.Unread → Rose (F.faults files.old name.now) (F.faults files.new name.now) }
     ensures too_long { IsErrOf result NoScript.TooLong → IsTooLong
-        (seen F.told F.content F.faults F.taken files.old) (seen F.told F.content F.faults F.taken files.new) name.now }
+        (view F.told F.content F.faults F.taken files.old) (view F.told F.content F.faults F.taken files.new) name.now }
     ensures not_text { IsErrOf result NoScript.NotText
-        → IsNoText (seen F.told F.content F.faults F.taken files.old) name.now }
+        → IsNoText (view F.told F.content F.faults F.taken files.old) name.now }
     ensures later { IsLater
-        (seen F.told F.content F.faults F.taken files.old) (seen F.told F.content F.faults F.taken files.new) }
+        (view F.told F.content F.faults F.taken files.old) (view F.told F.content F.faults F.taken files.new) }
 {
     match files.read(alloc, name, LONGEST_SCRIPT) {
         Ok(bytes) => require_text(bytes),
@@ -61,13 +61,13 @@ fn require_text(bytes: Bytes) -> Result<Text, NoScript>
 /// The text that is asked for.
 fn text_for<F: Files>(alloc: Global, args: &Args, files: &mut F) -> Result<Text, NoScript>
     ensures fits { IfOk result (λ text. length text ≤ longest_script) }
-    ensures asked { IfOk result (IsScriptOf (Some args.now) (seen F.told F.content F.faults F.taken files.old)) }
+    ensures asked { IfOk result (IsScriptOf (Some args.now) (view F.told F.content F.faults F.taken files.old)) }
     ensures none { IfErr result (λ why. HasNoScript (Some args.now) why
-        (seen F.told F.content F.faults F.taken files.old) (seen F.told F.content F.faults F.taken files.new)) }
+        (view F.told F.content F.faults F.taken files.old) (view F.told F.content F.faults F.taken files.new)) }
     ensures unread { IsUnread args.now
-        (seen F.told F.content F.faults F.taken files.old) (seen F.told F.content F.faults F.taken files.new) }
+        (view F.told F.content F.faults F.taken files.old) (view F.told F.content F.faults F.taken files.new) }
     ensures later { IsLater
-        (seen F.told F.content F.faults F.taken files.old) (seen F.told F.content F.faults F.taken files.new) }
+        (view F.told F.content F.faults F.taken files.old) (view F.told F.content F.faults F.taken files.new) }
 {
     match args {
         Args::Script { path, .. } => read_named(alloc, path.as_str(), files),
@@ -81,9 +81,9 @@ fn text_for<F: Files>(alloc: Global, args: &Args, files: &mut F) -> Result<Text,
 /// What is asked for, with its text.
 fn source_for<F: Files>(alloc: Global, args: Args, files: &mut F) -> Result<Source, NoScript>
     ensures source { IfOk result (IsSource (Some args)
-        (seen F.told F.content F.faults F.taken files.old) (seen F.told F.content F.faults F.taken files.new)) }
+        (view F.told F.content F.faults F.taken files.old) (view F.told F.content F.faults F.taken files.new)) }
     ensures none { IfErr result (λ why. HasNoScript (Some args) why
-        (seen F.told F.content F.faults F.taken files.old) (seen F.told F.content F.faults F.taken files.new)) }
+        (view F.told F.content F.faults F.taken files.old) (view F.told F.content F.faults F.taken files.new)) }
 {
     match text_for(alloc, &args, files) {
         Ok(text) => Ok(Source { args, text }),
@@ -98,9 +98,9 @@ pub fn source_of<F: Files>(
     files: &mut F,
 ) -> Result<Source, NoScript>
     ensures source { IfOk result (IsSource (args_of (map string_bytes words.now))
-        (seen F.told F.content F.faults F.taken files.old) (seen F.told F.content F.faults F.taken files.new)) }
+        (view F.told F.content F.faults F.taken files.old) (view F.told F.content F.faults F.taken files.new)) }
     ensures none { IfErr result (λ why. HasNoScript (args_of (map string_bytes words.now)) why
-        (seen F.told F.content F.faults F.taken files.old) (seen F.told F.content F.faults F.taken files.new)) }
+        (view F.told F.content F.faults F.taken files.old) (view F.told F.content F.faults F.taken files.new)) }
 {
     match args(alloc, words) {
         Ok(args) => source_for(alloc, args, files),

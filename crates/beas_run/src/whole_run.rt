@@ -5,7 +5,7 @@ ghost use Rattle.command_words.specs.Words.{args_of};
 ghost use Rattle.outside.specs.Counts.{Rose};
 ghost use Rattle.outside.specs.Parts.{SentPart};
 ghost use Rattle.session.specs.Applied.{settings_of};
-ghost use Rattle.session.specs.Ties.{IsLater, seen};
+ghost use Rattle.session.specs.Ties.{IsLater, view};
 ghost use Rattle.beas_run.specs.Runs.{script_name, demo_seed, settings_of_words, line, HasRun, IsTooLong, IsNoText, IsUntouched, IsWith, IsWithout, Completes, CompletesWithout};
 ghost use Rattle.beas_run.specs.Sources.{RanOver};
 ghost use Rattle.beas_run.specs.Walks.{scene};
@@ -35,9 +35,9 @@ fn run_over<F: Files, O: Sink, L: Ledger>(
     ensures { RanOver args.now text.now session.old.limits result (settings_of session.new)
         (O.faults out.old) (O.faults out.new)
         (scene session.old steps.old (O.told out.old) (O.sent out.old)
-        (seen F.told F.content F.faults F.taken files.old))
+        (view F.told F.content F.faults F.taken files.old))
         (scene session.new steps.new (O.told out.new) (O.sent out.new)
-        (seen F.told F.content F.faults F.taken files.new)) }
+        (view F.told F.content F.faults F.taken files.new)) }
 {
     match args {
         Args::Script {
@@ -78,14 +78,14 @@ pub fn run<F: Files, O: Sink, E: Sink, L: Ledger>(
     // What was sent, read and changed is the meaning of the script, as its pieces are read, or as far as the run came.
     ensures ran { HasRun session.old.limits (map string_bytes words.now) result
         (scene session.old steps.old (O.told out.old) (O.sent out.old)
-        (seen F.told F.content F.faults F.taken files.old))
+        (view F.told F.content F.faults F.taken files.old))
         (scene session.new steps.new (O.told out.new) (O.sent out.new)
-        (seen F.told F.content F.faults F.taken files.new)) }
+        (view F.told F.content F.faults F.taken files.new)) }
     ensures untouched { IsWithout result → IsUntouched
         (scene session.old steps.old (O.told out.old) (O.sent out.old)
-        (seen F.told F.content F.faults F.taken files.old))
+        (view F.told F.content F.faults F.taken files.old))
         (scene session.new steps.new (O.told out.new) (O.sent out.new)
-        (seen F.told F.content F.faults F.taken files.new)) }
+        (view F.told F.content F.faults F.taken files.new)) }
 
     // The session's budget and flag are those of the words, unless there is no script.
     ensures limits { session.new.limits ≡ session.old.limits }
@@ -105,9 +105,9 @@ pub fn run<F: Files, O: Sink, E: Sink, L: Ledger>(
     ensures no_fault { result ≢ 4 → O.faults out.new ≡ O.faults out.old }
     ensures out_unused { IsWithout result → out.new ≡ out.old }
     ensures too_long { result ≡ 6 → IsSomeAnd (script_name (map string_bytes words.now)) (IsTooLong
-        (seen F.told F.content F.faults F.taken files.old) (seen F.told F.content F.faults F.taken files.new)) }
+        (view F.told F.content F.faults F.taken files.old) (view F.told F.content F.faults F.taken files.new)) }
     ensures not_text { result ≡ 7 → IsSomeAnd (script_name (map string_bytes words.now)) (IsNoText
-        (seen F.told F.content F.faults F.taken files.old)) }
+        (view F.told F.content F.faults F.taken files.old)) }
 
     // With a script that could be read nothing else comes than what it is, but out of memory, and a fault of the
     // output.
@@ -131,7 +131,7 @@ pub fn run<F: Files, O: Sink, E: Sink, L: Ledger>(
 
     // What files and sinks tell stays, and no count falls.
     ensures later { IsLater
-        (seen F.told F.content F.faults F.taken files.old) (seen F.told F.content F.faults F.taken files.new) }
+        (view F.told F.content F.faults F.taken files.old) (view F.told F.content F.faults F.taken files.new) }
     ensures out_told { O.told out.new ≡ O.told out.old }
     ensures out_rise { O.faults out.old ≤ O.faults out.new }
     ensures err_told { E.told err.new ≡ E.told err.old }

@@ -7,7 +7,7 @@ use Rattle.std.specs.Str.Parse.{ParsesUnsigned, digits_value}
 use Rattle.std.proofs.lemmas.Bool.Decides.{nat_tests}
 use Rattle.std.proofs.lemmas.Result.{OkIff-at_err}
 use Rattle.std.proofs.lemmas.Str.Parse.{IsNumeralModel, numerals_by_value, tells_all_ascii_digits, parse_digits}
-use Rattle.binder.specs.Literals.{in_range, signed}
+use Rattle.binder.specs.Literals.{in_range, signed_number}
 
 pub digits_each : (bs : List ℕ) → list_all is_ascii_digit bs ≡ all_ascii_digits bs
 digits_each [] = refl
@@ -22,8 +22,8 @@ past true n big = grind (arith, nat_tests)
 
 -- what `parse` doesn't read is past an i64, too
 pub unread : {E : Type 0} (negative : Bool) (bs : List ℕ) (r : Result ℕ E) (e : E) → ParsesUnsigned 64 10 bs r → all_ascii_digits bs ≡ true → 0 < length bs
-    → r ≡ Err e → signed negative bs ≡ None
-unfolding signed
+    → r ≡ Err e → signed_number negative bs ≡ None
+unfolding signed_number
 unread negative bs r e h digits some is =
     let k = OkIff-at_err r _ _ e (parse_digits own 64 bs r h digits) is in
     let large : digits_value 10 bs < 2 ^ 64 → ⊥ = λ small. k (some, small) in

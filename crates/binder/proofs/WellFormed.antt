@@ -35,8 +35,8 @@ use Rattle.binder.specs.declared.meaning.Meaning.{Meaning}
 use Rattle.binder.specs.declared.meaning.Meaning.TheVariants.{At, Fixed, Unknown, Ambiguous, OutOfRange}
 use Rattle.binder.specs.declared.meaning.Part.{Part}
 use Rattle.binder.specs.declared.meaning.Part.TheVariants as part
-use Rattle.binder.specs.Binding.{delete_block, blocks_of, with_blocks, bound, kinds, places_in_all, shape_of, looked_refusals}
-use Rattle.binder.specs.LookedUp.{atom_of, column_of, looked_up, output_kinds, place_of, turned, with_column, with_value, compared, parts, equality_of, constant_of, comparison_of, place_at, all_places, outputs, bound_block}
+use Rattle.binder.specs.Binding.{delete_block, blocks_of, with_blocks, binding_of, kinds, places_in_all, shape_of, looked_refusals}
+use Rattle.binder.specs.LookedUp.{atom_of, column_of, looked_up, output_kinds, place_of, mirrored_sign, with_column, with_value, part_of, parts, equality_of, constant_of, comparison_of, place_at, all_places, outputs, bound_block}
 use Rattle.binder.specs.Meanings.{Source, sources, columns_named, meaning, condition}
 use Rattle.binder.specs.Refusing.{first, refused_if, unknown_table, unknown_tables, same_kind, same_kinds, places}
 use Rattle.binder.proofs.BindFacts.{all_of, each_of_all, none_each, each_unnumbered, few_atoms}
@@ -68,13 +68,13 @@ value_part atoms left More value one = record { left = one; right = tt; sign = �
 value_part atoms left AtLeast value one = record { left = one; right = tt; sign = λ e. cc }
 
 compared_fits : (atoms : List Atom) (left : Meaning) (sign : Sign) (right : Meaning) → MeaningFits atoms left → MeaningFits atoms right
-    → Each (PartFits atoms) (option_to_list (compared left sign right))
+    → Each (PartFits atoms) (option_to_list (part_of left sign right))
 compared_fits atoms (At left) sign (At right) one two = (column_part atoms left sign right one two, tt)
 compared_fits atoms (At left) sign (Fixed value) one two = (value_part atoms left sign value one, tt)
 compared_fits atoms (At left) sign (Unknown t c) one two = tt
 compared_fits atoms (At left) sign (Ambiguous c) one two = tt
 compared_fits atoms (At left) sign (OutOfRange n d) one two = tt
-compared_fits atoms (Fixed value) sign (At right) one two = (value_part atoms right (turned sign) value two, tt)
+compared_fits atoms (Fixed value) sign (At right) one two = (value_part atoms right (mirrored_sign sign) value two, tt)
 compared_fits atoms (Fixed value) sign (Fixed other) one two = tt
 compared_fits atoms (Fixed value) sign (Unknown t c) one two = tt
 compared_fits atoms (Fixed value) sign (Ambiguous c) one two = tt
@@ -86,7 +86,7 @@ compared_fits atoms (OutOfRange n d) sign right one two = tt
 parts_fit : (atoms : List Atom) (c : Condition) → ConditionFits atoms c → Each (PartFits atoms) (parts c)
 parts_fit atoms (Compare left sign right) fits = compared_fits atoms left sign right fits.0 fits.1
 parts_fit atoms (Between value low high) fits =
-    each_append (PartFits atoms) (option_to_list (compared value AtLeast low)) (option_to_list (compared value AtMost high))
+    each_append (PartFits atoms) (option_to_list (part_of value AtLeast low)) (option_to_list (part_of value AtMost high))
     (compared_fits atoms value AtLeast low fits.0 fits.1) (compared_fits atoms value AtMost high fits.0 fits.2)
 
 each_some : {X Y : Type 0} (f : X → Option Y) (P : X → Type 0) (Q : Y → Type 0) → ((x : X) (y : Y) → f x ≡ Some y → P x → Q y) → (xs : List X) → Each P xs
@@ -290,7 +290,7 @@ blocks_made f (tree.Except l r) = ap (λ bs. bs ++ query.blocks_of (with_blocks 
 pub query_fits : (limits : Limits) (schema : Schema) (t : tree.Tree) → SchemaIsSound schema → limits.atoms ≤ 16
     → All (λ b. 1 ≤ length b.from_items) (blocks_of t)
     → first (flat_map (unknown_tables schema) (blocks_of t)) ≡ None → first (looked_refusals limits (map (looked_up schema) (blocks_of t))) ≡ None
-    → QueryIsWellFormed (bound schema t)
+    → QueryIsWellFormed (binding_of schema t)
 query_fits limits schema t sound sixteen some none no_places =
     let trees : List BlockTree = blocks_of t in
     let found : List LookedUp = map (looked_up schema) trees in

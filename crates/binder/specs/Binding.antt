@@ -63,8 +63,8 @@ with_blocks bind (tree.Block b) = query.Single (bind b)
 with_blocks bind (tree.Union left right) = query.Either (with_blocks bind left) (with_blocks bind right)
 with_blocks bind (tree.Except left right) = query.Minus (with_blocks bind left) (with_blocks bind right)
 
-abbrev pub bound : Schema → tree.Tree → query.QueryTree
-bound schema tree = with_blocks (λ b. bound_block (looked_up schema b)) tree
+abbrev pub binding_of : Schema → tree.Tree → query.QueryTree
+binding_of schema tree = with_blocks (λ b. bound_block (looked_up schema b)) tree
 
 -- ---- rows
 

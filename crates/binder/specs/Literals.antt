@@ -11,10 +11,10 @@ abbrev pub in_range : Bool → ℕ → Option ℤ
 in_range false n = if nat_lt n (2 ^ 63) then Some (pos n) else None
 in_range true n = if nat_le n (2 ^ 63) then Some (neg_ℤ (pos n)) else None
 
-unfoldable pub signed : Bool → List ℕ → Option ℤ
-signed negative digits =
+unfoldable pub signed_number : Bool → List ℕ → Option ℤ
+signed_number negative digits =
     if all_ascii_digits digits && nat_lt 0 (length digits)
     then in_range negative (digits_value 10 digits) else None
 
 abbrev pub number_value : Bool → List ℕ → Option Value
-number_value negative digits = option_map (λ z. Int z) (signed negative digits)
+number_value negative digits = option_map (λ z. Int z) (signed_number negative digits)

@@ -59,13 +59,13 @@ abbrev pub place_of : BoundColumn → Place
 place_of column = record { atom = column.atom; column = record { 0 = column.column } }
 
 -- the sign of a comparison with its sides exchanged
-abbrev pub turned : Sign → Sign
-turned Equal = Equal
-turned Differs = Differs
-turned Less = More
-turned AtMost = AtLeast
-turned More = Less
-turned AtLeast = AtMost
+abbrev pub mirrored_sign : Sign → Sign
+mirrored_sign Equal = Equal
+mirrored_sign Differs = Differs
+mirrored_sign Less = More
+mirrored_sign AtMost = AtLeast
+mirrored_sign More = Less
+mirrored_sign AtLeast = AtMost
 
 abbrev pub with_column : BoundColumn → Sign → BoundColumn → Part
 with_column left Equal right = part.Equality (place_of left) (place_of right)
@@ -77,17 +77,17 @@ with_value left Equal value = part.Constant (place_of left) value
 with_value left sign value = part.Compared (record { left = place_of left; sign = sign; right = operand.Fixed value })
 
 -- `=` makes an equality or a constant, another sign a comparison; a value on the left changes sides with the column
-abbrev pub compared : Meaning → Sign → Meaning → Option Part
-compared (At left) sign (At right) = Some (with_column left sign right)
-compared (At left) sign (Fixed value) = Some (with_value left sign value)
-compared (Fixed value) sign (At right) = Some (with_value right (turned sign) value)
-compared _ _ _ = None
+abbrev pub part_of : Meaning → Sign → Meaning → Option Part
+part_of (At left) sign (At right) = Some (with_column left sign right)
+part_of (At left) sign (Fixed value) = Some (with_value left sign value)
+part_of (Fixed value) sign (At right) = Some (with_value right (mirrored_sign sign) value)
+part_of _ _ _ = None
 
 -- BETWEEN makes two comparisons
 abbrev pub parts : Condition → List Part
-parts (Compare left sign right) = option_to_list (compared left sign right)
+parts (Compare left sign right) = option_to_list (part_of left sign right)
 parts (Between value low high) =
-    option_to_list (compared value AtLeast low) ++ option_to_list (compared value AtMost high)
+    option_to_list (part_of value AtLeast low) ++ option_to_list (part_of value AtMost high)
 
 abbrev pub equality_of : Part → Option (Place × Place)
 equality_of (part.Equality left right) = Some (left, right)

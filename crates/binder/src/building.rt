@@ -2,7 +2,7 @@
 ghost use Rattle.std.specs.Prelude.{◌≡◌, ◌++◌, ◌<◌, ◌∷◌, [], All, IfOk, OnOk, length, map};
 ghost use Rattle.std.specs.Option.{option_to_list};
 ghost use Rattle.std.specs.List.{filter_map, flat_map, enumerate_from, range_with_len};
-ghost use Rattle.binder.specs.LookedUp.{place_of, place_at, turned, with_column, with_value, compared, parts, column_of, all_places, outputs, bound_block, IsSmall, ConditionIsSmall, BlockIsSmall, Adds};
+ghost use Rattle.binder.specs.LookedUp.{place_of, place_at, mirrored_sign, with_column, with_value, part_of, parts, column_of, all_places, outputs, bound_block, IsSmall, ConditionIsSmall, BlockIsSmall, Adds};
 
 use crate::looking_up::column_of;
 use crate::meaning::{BoundColumn, Condition, LookedUp, Meaning, Part};
@@ -24,7 +24,7 @@ fn place_of(column: BoundColumn) -> Place
 
 /// The sign of a comparison with its sides exchanged.
 fn mirrored_sign(sign: Sign) -> Sign
-    ensures { result ≡ turned sign }
+    ensures { result ≡ mirrored_sign sign }
 {
     match sign {
         Sign::Equal => Sign::Equal,
@@ -80,7 +80,7 @@ fn part_of(
 ) -> Result<Option<Part>, NoMemory>
     requires left { IsSmall left.now }
     requires right { IsSmall right.now }
-    ensures { IfOk result (λ part. part ≡ compared left.now sign right.now) }
+    ensures { IfOk result (λ part. part ≡ part_of left.now sign right.now) }
 {
     match (left, right) {
         (Meaning::At(left), Meaning::At(right)) => Ok(Some(with_column(*left, sign, *right))),
@@ -113,7 +113,7 @@ fn add_comparison(
 ) -> Result<(), NoMemory>
     requires left { IsSmall left.now }
     requires right { IsSmall right.now }
-    ensures { OnOk result (Adds block.old block.new (option_to_list (compared left.now sign right.now))) }
+    ensures { OnOk result (Adds block.old block.new (option_to_list (part_of left.now sign right.now))) }
 {
     match part_of(alloc, left, sign, right)? {
         Some(part) => add_part(block, part),

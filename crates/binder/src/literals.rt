@@ -1,7 +1,7 @@
 // The values of literals.
 ghost use Rattle.std.specs.Prelude.{◌≡◌, IfOk};
 ghost use Rattle.std.specs.Str.{all_ascii_digits};
-ghost use Rattle.binder.specs.Literals.{in_range, signed, number_value};
+ghost use Rattle.binder.specs.Literals.{in_range, signed_number, number_value};
 ghost use Rattle.binder.specs.Binding.{number_refusals, value_of};
 ghost use Rattle.binder.specs.Meanings.{literal_meaning};
 ghost use Rattle.binder.specs.Refusing.{Tells};
@@ -48,9 +48,9 @@ fn number(negative: bool, digits: &str) -> Option<Value>
     signed_number(negative, digits).map(Value::Int)
 }
 
-#[tactic(auto, unfolding(crate::specs::Literals::signed))]
+#[tactic(auto, unfolding(crate::specs::Literals::signed_number))]
 fn signed_number(negative: bool, digits: &str) -> Option<i64>
-    ensures { result ≡ signed negative digits.now }
+    ensures { result ≡ signed_number negative digits.now }
 {
     if digits.is_empty() || !all_digits(digits.as_bytes()) {
         return None;

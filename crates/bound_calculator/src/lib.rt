@@ -5,7 +5,7 @@ mod bounds;
 
 ghost use Rattle.std.specs.Prelude.{◌≡◌, ◌+◌, ◌*◌, ◌≤◌, ◌^◌, MatchOption, MatchResult, sum_by, if◌then◌else◌};
 ghost use Rattle.beas_core.specs.declared.refusal.Refusal.TheVariants.{TooLarge};
-ghost use Rattle.beas_core.specs.Numbers.{announced, last_size};
+ghost use Rattle.beas_core.specs.Numbers.{announced_from, last_size};
 ghost use Rattle.beas_core.specs.Shapes.{EachIdOnce};
 ghost use Rattle.bound_calculator.specs.DerivationSizes.{sizes_of};
 
@@ -37,7 +37,7 @@ pub fn bound_from(
     requires { EachIdOnce accesses.now }
     ensures { MatchResult result
         (λ sizes. sizes ≡ sizes_of accesses.now first derivation.now.steps)
-        (λ why. (why ≡ TooLarge) × (2 ^ 128 ≤ announced accesses.now first derivation.now.steps)) }
+        (λ why. (why ≡ TooLarge) × (2 ^ 128 ≤ announced_from accesses.now first derivation.now.steps)) }
 {
     let mut sizes = Sizes {
         reads: 0,
@@ -59,7 +59,7 @@ pub fn block_bound(derivation: &Derivation, accesses: &List<Access>) -> Result<S
     requires { EachIdOnce accesses.now }
     ensures { MatchResult result
         (λ sizes. sizes ≡ sizes_of accesses.now 1 derivation.now.steps)
-        (λ why. (why ≡ TooLarge) × (2 ^ 128 ≤ announced accesses.now 1 derivation.now.steps)) }
+        (λ why. (why ≡ TooLarge) × (2 ^ 128 ≤ announced_from accesses.now 1 derivation.now.steps)) }
 {
     bound_from(derivation, accesses, 1)
 }

@@ -24,7 +24,7 @@ use Rattle.beas_core.specs.declared.schema.TableId.{TableId}
 use Rattle.beas_core.specs.Shapes.{EachOnce}
 use Rattle.catalogue.specs.Schema.{Schema, table_named}
 use Rattle.catalogue.specs.Kept.{MayMakeTable, MayMakeAccess}
-use Rattle.catalogue.specs.Refusing.{refused_if, first_repeated, repeated_name, unknown_table, unknown_column, no_such_column, column_ids, columns_of_named, admitted, admit_refusal, add_table_refusal}
+use Rattle.catalogue.specs.Refusing.{refused_if, first_repeated, repeated_name, unknown_table, unknown_column, no_such_column, column_ids, columns_of_named, new_access, admit_refusal, add_table_refusal}
 use Rattle.catalogue.proofs.ListFacts.{find_none, none_from_map, option_or-both_none}
 
 not_refused : (b : Bool) (why : Refusal) → refused_if b why ≡ None → b ≡ false
@@ -158,7 +158,7 @@ known_table schema name e =
 -- a constraint whose making isn't refused can be made
 pub may_make_access : (limits : Limits) (schema : Schema) (spec : AccessSpec) → admit_refusal limits schema spec ≡ None → 1 ≤ length spec.fetched
     → limits.constraints ≤ 65536
-    → MayMakeAccess schema (admitted schema spec)
+    → MayMakeAccess schema (new_access schema spec)
 may_make_access limits schema spec e some few =
     let columns = columns_of_named schema spec.table in
     let a = option_or-both_none _ _ e in

@@ -55,8 +55,8 @@ with_access db access = record db { accesses = db.accesses ++ access ∷ []; cre
 abbrev pub without_access : Database → List ℕ → Database
 without_access db name = record db { accesses = filter (λ a. not (access_has_name name a)) db.accesses }
 
-abbrev pub appended : Database → TableId → List (List Value) → Database
-appended db id rows = with_rows db id (rows_at db id ++ rows)
+abbrev pub with_more_rows : Database → TableId → List (List Value) → Database
+with_more_rows db id rows = with_rows db id (rows_at db id ++ rows)
 
 -- the table of a block of one atom
 abbrev pub block_table : Block → TableId
@@ -66,8 +66,8 @@ block_table block = slice_index_or (map (λ a. a.table) block.atoms) 0 (record {
 abbrev pub kept_rows : Block → List (List Value) → List (List Value)
 kept_rows block rows = filter (λ row. not (meets block (row ∷ []))) rows
 
-abbrev pub kept : Block → Database → Database
-kept block db = with_rows db (block_table block) (kept_rows block (rows_at db (block_table block)))
+abbrev pub with_rows_kept : Block → Database → Database
+with_rows_kept block db = with_rows db (block_table block) (kept_rows block (rows_at db (block_table block)))
 
 abbrev pub has_kind : ColType → Value → Bool
 has_kind Integer (Int number) = true

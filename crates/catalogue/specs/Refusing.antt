@@ -90,8 +90,8 @@ abbrev pub column_ids : List Column → List (List ℕ) → List ColumnId
 column_ids columns names = map (λ n. record { 0 = position_or_len (λ c. bytes_eq c.name n) columns }) names
 
 -- the constraint that a statement makes, which is numbered by how many were created before
-abbrev pub admitted : Schema → AccessSpec → Access
-admitted schema spec = record {
+abbrev pub new_access : Schema → AccessSpec → Access
+new_access schema spec = record {
   id = record { 0 = schema.created };
   name = spec.name;
   table = unwrap_or (table_named schema spec.table) (record { 0 = 0 });
@@ -151,4 +151,4 @@ already_broken rows access = refused_if (not (holds rows access)) (AlreadyBroken
 abbrev pub create_access_refusal : Limits → Database → AccessSpec → Option Refusal
 create_access_refusal limits db spec =
     option_or (admit_refusal limits (schema_of db) spec)
-    (already_broken (rows_at db (admitted (schema_of db) spec).table) (admitted (schema_of db) spec))
+    (already_broken (rows_at db (new_access (schema_of db) spec).table) (new_access (schema_of db) spec))

@@ -5,7 +5,7 @@ ghost use Rattle.catalogue.specs.Schema.{SchemaIsSound, TableIsSound, table_name
 ghost use Rattle.beas_core.specs.declared.schema.Access.{Access as Constraint};
 ghost use Rattle.catalogue.specs.Kept.{MayMakeTable, MayMakeAccess, ids_on, id_of_access_named};
 ghost use Rattle.beas_core.specs.declared.refusal.Counted.TheVariants.{Constraints as OfConstraints};
-ghost use Rattle.catalogue.specs.Refusing.{IsRefusedAs, refused_if, unknown_table, add_table_refusal, resolve_refusal, admit_refusal, drop_access_refusal, column_ids, columns_of_named, admitted};
+ghost use Rattle.catalogue.specs.Refusing.{IsRefusedAs, refused_if, unknown_table, add_table_refusal, resolve_refusal, admit_refusal, drop_access_refusal, column_ids, columns_of_named, new_access};
 
 use crate::columns::{bound_of, ids_of};
 use crate::ids::{place_of_id, push_in, push_in_room, remove_in, reserve_in};
@@ -204,7 +204,7 @@ impl Catalogue {
         requires { 1 ≤ length spec.now.fetched }
         ensures refused { IsRefusedAs result (admit_refusal limits.now self.old spec.now) }
         ensures id { IfOk result (λ id. id.0 ≡ self.old.created) }
-        ensures ok { OnOk result (self.new ≡ schema_with_access self.old (admitted self.old spec.now)) }
+        ensures ok { OnOk result (self.new ≡ schema_with_access self.old (new_access self.old spec.now)) }
         ensures err { OnErr result (self.new ≡ self.old) }
     {
         let access = self.admit(alloc, limits, spec)?;
@@ -339,7 +339,7 @@ impl Catalogue {
     pub fn admit(&self, alloc: Global, limits: &Limits, spec: &AccessSpec) -> Result<Access, Fail>
         requires { 1 ≤ length spec.now.fetched }
         ensures refused { IsRefusedAs result (admit_refusal limits.now self.now spec.now) }
-        ensures admitted { IfOk result (λ access. access ≡ admitted self.now spec.now) }
+        ensures admitted { IfOk result (λ access. access ≡ new_access self.now spec.now) }
     {
         let table = self.known_table(alloc, &spec.table)?;
         let columns = self.columns(table).as_slice();

@@ -6,8 +6,8 @@ use Rattle.std.proofs.Math.Nat.{mod-lt, div-le_self}
 use Rattle.std.proofs.lemmas.Fmt.{length-decimal-le}
 use Rattle.std.proofs.lemmas.Grind.{flat_map-append}
 use Rattle.std.proofs.lemmas.List.{length-append}
-use Rattle.demo_gen.specs.Draws.{drawn, state_after}
-use Rattle.demo_gen.specs.Demo.{cafe_at, cafe_row, delete_text, demo_text, dine_at, dine_row, ended, friend_at, friend_row, inserts, joined, queries, query_at, query_text, round_at, rounds, rows_text, separator, tables}
+use Rattle.demo_gen.specs.Draws.{draw_at, state_after}
+use Rattle.demo_gen.specs.Demo.{cafe_at, cafe_row, delete_text, demo_text, dine_at, dine_row, with_end, friend_at, friend_row, inserts, concatenation, queries, query_at, query_text, round_at, rounds, rows_text, separator, tables}
 use Rattle.demo_gen.proofs.Rows.{no_rows, one_row}
 use Rattle.demo_gen.proofs.Written.{no_queries, no_rounds, one_query, one_round}
 
@@ -18,10 +18,10 @@ abbrev lengths : List (List ℕ) → ℕ
 lengths [] = 0
 lengths (part ∷ parts) = length part + lengths parts
 
-length-joined : (parts : List (List ℕ)) → length (joined parts) ≡ lengths parts
+length-joined : (parts : List (List ℕ)) → length (concatenation parts) ≡ lengths parts
 length-joined [] = refl
 length-joined (part ∷ []) = omega arith
-length-joined (part ∷ next ∷ parts) = let h = length-joined (next ∷ parts) in let l = length-append part (joined (next ∷ parts)) in omega arith
+length-joined (part ∷ next ∷ parts) = let h = length-joined (next ∷ parts) in let l = length-append part (concatenation (next ∷ parts)) in omega arith
 
 length-separator : (n : ℕ) → length (separator n) ≤ 2
 length-separator zero = omega arith
@@ -40,31 +40,31 @@ length-rows row (suc n) each =
 
 length-cafe : (state n : ℕ) → n < 500 → length (cafe_at state n) ≤ 48
 length-cafe state n below =
-    let city : drawn state n % 10 < 10 = mod-lt (drawn state n) (omega arith) in
+    let city : draw_at state n % 10 < 10 = mod-lt (draw_at state n) (omega arith) in
     let a = digits n (omega arith) in
-    let b = digits (drawn state n % 10) (omega arith) in
-    let j = length-joined (codes "(" ∷ decimal n ∷ codes ", 'c" ∷ decimal (drawn state n % 10) ∷ codes "')" ∷ []) in
+    let b = digits (draw_at state n % 10) (omega arith) in
+    let j = length-joined (codes "(" ∷ decimal n ∷ codes ", 'c" ∷ decimal (draw_at state n % 10) ∷ codes "')" ∷ []) in
     omega arith
 
 length-friend : (state n : ℕ) → n < 20000 → length (friend_at state n) ≤ 48
 length-friend state n below =
     let person = div-le_self n 10 in
-    let friend : drawn state n % 2000 < 2000 = mod-lt (drawn state n) (omega arith) in
+    let friend : draw_at state n % 2000 < 2000 = mod-lt (draw_at state n) (omega arith) in
     let a = digits (n / 10) (omega (person, below, arith)) in
-    let b = digits (drawn state n % 2000) (omega arith) in
-    let j = length-joined (codes "(" ∷ decimal (n / 10) ∷ codes ", " ∷ decimal (drawn state n % 2000) ∷ codes ")" ∷ []) in
+    let b = digits (draw_at state n % 2000) (omega arith) in
+    let j = length-joined (codes "(" ∷ decimal (n / 10) ∷ codes ", " ∷ decimal (draw_at state n % 2000) ∷ codes ")" ∷ []) in
     omega arith
 
 length-dine : (state n : ℕ) → n < 10000 → length (dine_at state n) ≤ 48
 length-dine state n below =
     let person = div-le_self n 5 in
-    let cafe : drawn state (2 * n) % 500 < 500 = mod-lt (drawn state (2 * n)) (omega arith) in
-    let month : drawn state (2 * n + 1) % 12 < 12 = mod-lt (drawn state (2 * n + 1)) (omega arith) in
+    let cafe : draw_at state (2 * n) % 500 < 500 = mod-lt (draw_at state (2 * n)) (omega arith) in
+    let month : draw_at state (2 * n + 1) % 12 < 12 = mod-lt (draw_at state (2 * n + 1)) (omega arith) in
     let a = digits (n / 5) (omega (person, below, arith)) in
-    let b = digits (drawn state (2 * n) % 500) (omega arith) in
-    let c = digits (1 + drawn state (2 * n + 1) % 12) (omega arith) in
-    let j = length-joined (codes "(" ∷ decimal (n / 5) ∷ codes ", " ∷ decimal (drawn state (2 * n) % 500) ∷ codes ", 2015, " ∷ decimal
-    (1 + drawn state (2 * n + 1) % 12) ∷ codes ")" ∷ []) in
+    let b = digits (draw_at state (2 * n) % 500) (omega arith) in
+    let c = digits (1 + draw_at state (2 * n + 1) % 12) (omega arith) in
+    let j = length-joined (codes "(" ∷ decimal (n / 5) ∷ codes ", " ∷ decimal (draw_at state (2 * n) % 500) ∷ codes ", 2015, " ∷ decimal
+    (1 + draw_at state (2 * n + 1) % 12) ∷ codes ")" ∷ []) in
     omega arith
 
 length-query : (person month city : ℕ) → person < 10 ^ 5 → month < 10 ^ 5 → city < 10 ^ 5 → length (query_text person month city) ≤ 900
@@ -80,10 +80,10 @@ length-query person month city p m c =
 
 length-query_at : (state n : ℕ) → length (query_at state n) ≤ 900
 length-query_at state n =
-    let person : drawn state (3 * n) % 2000 < 2000 = mod-lt (drawn state (3 * n)) (omega arith) in
-    let month : drawn state (3 * n + 1) % 12 < 12 = mod-lt (drawn state (3 * n + 1)) (omega arith) in
-    let city : drawn state (3 * n + 2) % 10 < 10 = mod-lt (drawn state (3 * n + 2)) (omega arith) in
-    length-query (drawn state (3 * n) % 2000) (1 + drawn state (3 * n + 1) % 12) (drawn state (3 * n + 2) % 10) (omega arith) (omega arith) (omega arith)
+    let person : draw_at state (3 * n) % 2000 < 2000 = mod-lt (draw_at state (3 * n)) (omega arith) in
+    let month : draw_at state (3 * n + 1) % 12 < 12 = mod-lt (draw_at state (3 * n + 1)) (omega arith) in
+    let city : draw_at state (3 * n + 2) % 10 < 10 = mod-lt (draw_at state (3 * n + 2)) (omega arith) in
+    length-query (draw_at state (3 * n) % 2000) (1 + draw_at state (3 * n + 1) % 12) (draw_at state (3 * n + 2) % 10) (omega arith) (omega arith) (omega arith)
 
 length-delete : (person : ℕ) → person < 10 ^ 5 → length (delete_text person) ≤ 900
 unfolding delete_text
@@ -91,41 +91,42 @@ length-delete person below = let a = digits person below in let l = length-appen
 
 -- ---- statements, each with what ends it
 
-length-both : (first second : List (List ℕ)) → length (flat_map ended (first ++ second)) ≡ length (flat_map ended first) + length (flat_map ended second)
-length-both first second = ap length (flat_map-append ended first second) ∙ length-append (flat_map ended first) (flat_map ended second)
+length-both : (first second : List (List ℕ)) → length (flat_map with_end (first ++ second))
+    ≡ length (flat_map with_end first) + length (flat_map with_end second)
+length-both first second = ap length (flat_map-append with_end first second) ∙ length-append (flat_map with_end first) (flat_map with_end second)
 
-length-one : (statement : List ℕ) → length (flat_map ended (statement ∷ [])) ≡ length statement + 2
+length-one : (statement : List ℕ) → length (flat_map with_end (statement ∷ [])) ≡ length statement + 2
 length-one statement =
     let l = length-append statement (codes ";\n") in
-    let m = length-append (ended statement) [] in
+    let m = length-append (with_end statement) [] in
     omega arith
 
-length-queries : (state n : ℕ) → length (flat_map ended (queries state n)) ≤ n * 902
-length-queries state zero = let e = ap (λ (qs : List (List ℕ)). length (flat_map ended qs)) (no_queries state) in omega arith
+length-queries : (state n : ℕ) → length (flat_map with_end (queries state n)) ≤ n * 902
+length-queries state zero = let e = ap (λ (qs : List (List ℕ)). length (flat_map with_end qs)) (no_queries state) in omega arith
 length-queries state (suc n) =
     let h = length-queries state n in
     let q = length-query_at state n in
-    let e = ap (λ (qs : List (List ℕ)). length (flat_map ended qs)) (ap (queries state) (sym (add-one n)) ∙ one_query state n) in
+    let e = ap (λ (qs : List (List ℕ)). length (flat_map with_end qs)) (ap (queries state) (sym (add-one n)) ∙ one_query state n) in
     let l = length-both (queries state n) (query_at state n ∷ []) in
     let o = length-one (query_at state n) in
     omega arith
 
-length-round : (state : ℕ) → length (flat_map ended (round_at state)) ≤ 11 * 902
+length-round : (state : ℕ) → length (flat_map with_end (round_at state)) ≤ 11 * 902
 unfolding round_at
 length-round state =
     let h = length-queries state 10 in
-    let person : drawn state 30 % 2000 < 2000 = mod-lt (drawn state 30) (omega arith) in
-    let d = length-delete (drawn state 30 % 2000) (omega arith) in
-    let l = length-both (queries state 10) (delete_text (drawn state 30 % 2000) ∷ []) in
-    let o = length-one (delete_text (drawn state 30 % 2000)) in
+    let person : draw_at state 30 % 2000 < 2000 = mod-lt (draw_at state 30) (omega arith) in
+    let d = length-delete (draw_at state 30 % 2000) (omega arith) in
+    let l = length-both (queries state 10) (delete_text (draw_at state 30 % 2000) ∷ []) in
+    let o = length-one (delete_text (draw_at state 30 % 2000)) in
     omega arith
 
-length-rounds : (state n : ℕ) → length (flat_map ended (rounds state n)) ≤ n * 9922
-length-rounds state zero = let e = ap (λ (qs : List (List ℕ)). length (flat_map ended qs)) (no_rounds state) in omega arith
+length-rounds : (state n : ℕ) → length (flat_map with_end (rounds state n)) ≤ n * 9922
+length-rounds state zero = let e = ap (λ (qs : List (List ℕ)). length (flat_map with_end qs)) (no_rounds state) in omega arith
 length-rounds state (suc n) =
     let h = length-rounds state n in
     let r = length-round (state_after state (31 * n)) in
-    let e = ap (λ (qs : List (List ℕ)). length (flat_map ended qs)) (ap (rounds state) (sym (add-one n)) ∙ one_round state n) in
+    let e = ap (λ (qs : List (List ℕ)). length (flat_map with_end qs)) (ap (rounds state) (sym (add-one n)) ∙ one_round state n) in
     let l = length-both (rounds state n) (round_at (state_after state (31 * n))) in
     omega arith
 
@@ -133,7 +134,7 @@ length-insert : (words : List ℕ) (row : ℕ → List ℕ) (n : ℕ) → ((m : 
     → length (words ++ rows_text row n) ≤ length words + n * 50
 length-insert words row n each = let h = length-rows row n each in let l = length-append words (rows_text row n) in omega arith
 
-length-inserts : (seed : ℕ) → length (flat_map ended (inserts seed)) ≤ 2000000
+length-inserts : (seed : ℕ) → length (flat_map with_end (inserts seed)) ≤ 2000000
 length-inserts seed =
     let cafes = codes "INSERT INTO cafe VALUES " ++ rows_text (cafe_at seed) 500 in
     let friends = codes "INSERT INTO friend VALUES " ++ rows_text (friend_at (state_after seed 500)) 20000 in
@@ -148,7 +149,7 @@ length-inserts seed =
     let oc = length-one meals in
     omega arith
 
-length-tables : length (flat_map ended tables) ≤ 2000
+length-tables : length (flat_map with_end tables) ≤ 2000
 length-tables = omega arith
 
 -- far shorter than a script may be

@@ -3,9 +3,9 @@ use Rattle.std.proofs.Common.{◌≡◌, ◌∙◌, ◌+◌, ◌*◌, ◌%◌, �
 use Rattle.std.specs.List.{flat_map, range_with_len}
 use Rattle.std.proofs.lemmas.Grind.{flat_map-append}
 use Rattle.std.proofs.lemmas.List.FromFn.{map-range_with_len_more}
-use Rattle.demo_gen.specs.Draws.{drawn, state_after}
+use Rattle.demo_gen.specs.Draws.{draw_at, state_after}
 use Rattle.demo_gen.proofs.States.{after_both}
-use Rattle.demo_gen.specs.Demo.{cafe_at, delete_text, demo_text, dine_at, ended, friend_at, inserts, queries, query_at, round_at, rounds, rows_text, tables}
+use Rattle.demo_gen.specs.Demo.{cafe_at, delete_text, demo_text, dine_at, with_end, friend_at, inserts, queries, query_at, round_at, rounds, rows_text, tables}
 
 range-suc : (a n : ℕ) → range_with_len a (suc n) ≡ range_with_len a n ++ (a + n) ∷ []
 range-suc a zero = ap (λ (m : ℕ). m ∷ []) (omega arith)
@@ -34,27 +34,27 @@ one_round state n =
     ∙ ap (λ (last : List (List ℕ)). flat_map round (range_with_len 0 n) ++ last) (append-nil (round n))
 
 -- statements and then one more
-ended-more : (done : List (List ℕ)) (next : List ℕ) → flat_map ended (done ++ next ∷ []) ≡ flat_map ended done ++ ended next
-ended-more done next = flat_map-append ended done (next ∷ []) ∙ ap (λ (last : List ℕ). flat_map ended done ++ last) (append-nil (ended next))
+ended-more : (done : List (List ℕ)) (next : List ℕ) → flat_map with_end (done ++ next ∷ []) ≡ flat_map with_end done ++ with_end next
+ended-more done next = flat_map-append with_end done (next ∷ []) ∙ ap (λ (last : List ℕ). flat_map with_end done ++ last) (append-nil (with_end next))
 
-pub query_written : (state n : ℕ) (start before after query : List ℕ) → before ≡ start ++ flat_map ended (queries state n)
-    → after ≡ before ++ ended query → query ≡ query_at state n → after ≡ start ++ flat_map ended (queries state (n + 1))
+pub query_written : (state n : ℕ) (start before after query : List ℕ) → before ≡ start ++ flat_map with_end (queries state n)
+    → after ≡ before ++ with_end query → query ≡ query_at state n → after ≡ start ++ flat_map with_end (queries state (n + 1))
 query_written state n start before after query so_far added same =
-    added ∙ ap₂ (λ (b q : List ℕ). b ++ ended q) so_far same ∙ append_assoc start (flat_map ended (queries state n)) (ended (query_at state n))
-    ∙ ap (λ (s : List ℕ). start ++ s) (sym (ended-more (queries state n) (query_at state n)) ∙ ap (flat_map ended) (sym (one_query state n)))
+    added ∙ ap₂ (λ (b q : List ℕ). b ++ with_end q) so_far same ∙ append_assoc start (flat_map with_end (queries state n)) (with_end (query_at state n))
+    ∙ ap (λ (s : List ℕ). start ++ s) (sym (ended-more (queries state n) (query_at state n)) ∙ ap (flat_map with_end) (sym (one_query state n)))
 
-pub round_written : (state n : ℕ) (start before middle after deletion : List ℕ) → before ≡ start ++ flat_map ended (rounds state n)
-    → middle ≡ before ++ flat_map ended (queries (state_after state (31 * n)) 10) → after ≡ middle ++ ended deletion
-    → deletion ≡ delete_text (drawn (state_after state (31 * n)) 30 % 2000) → after ≡ start ++ flat_map ended (rounds state (n + 1))
+pub round_written : (state n : ℕ) (start before middle after deletion : List ℕ) → before ≡ start ++ flat_map with_end (rounds state n)
+    → middle ≡ before ++ flat_map with_end (queries (state_after state (31 * n)) 10) → after ≡ middle ++ with_end deletion
+    → deletion ≡ delete_text (draw_at (state_after state (31 * n)) 30 % 2000) → after ≡ start ++ flat_map with_end (rounds state (n + 1))
 unfolding round_at
 round_written state n start before middle after deletion so_far asked added same =
     let ten = queries (state_after state (31 * n)) 10 in
-    let last = delete_text (drawn (state_after state (31 * n)) 30 % 2000) in
-    let both : after ≡ start ++ flat_map ended (rounds state n) ++ flat_map ended ten ++ ended last = rw (added, asked, so_far, same) refl in
-    both ∙ append_assoc (start ++ flat_map ended (rounds state n)) (flat_map ended ten) (ended last)
-    ∙ append_assoc start (flat_map ended (rounds state n)) (flat_map ended ten ++ ended last)
-    ∙ ap (λ (s : List ℕ). start ++ s) (ap (λ (s : List ℕ). flat_map ended (rounds state n) ++ s) (sym (ended-more ten last))
-    ∙ sym (flat_map-append ended (rounds state n) (ten ++ last ∷ [])) ∙ ap (flat_map ended) (sym (one_round state n)))
+    let last = delete_text (draw_at (state_after state (31 * n)) 30 % 2000) in
+    let both : after ≡ start ++ flat_map with_end (rounds state n) ++ flat_map with_end ten ++ with_end last = rw (added, asked, so_far, same) refl in
+    both ∙ append_assoc (start ++ flat_map with_end (rounds state n)) (flat_map with_end ten) (with_end last)
+    ∙ append_assoc start (flat_map with_end (rounds state n)) (flat_map with_end ten ++ with_end last)
+    ∙ ap (λ (s : List ℕ). start ++ s) (ap (λ (s : List ℕ). flat_map with_end (rounds state n) ++ s) (sym (ended-more ten last))
+    ∙ sym (flat_map-append with_end (rounds state n) (ten ++ last ∷ [])) ∙ ap (flat_map with_end) (sym (one_round state n)))
 
 -- the pieces that the script is written in, and its statements
 pub pieces : (end tables cafe cafes friend friends dine meals after : List ℕ)
@@ -62,30 +62,30 @@ pub pieces : (end tables cafe cafes friend friends dine meals after : List ℕ)
     ≡ tables ++ ((cafe ++ cafes ++ end) ++ ((friend ++ friends ++ end) ++ ((dine ++ meals ++ end) ++ after)))
 pieces end tables cafe cafes friend friends dine meals after = simp append_assoc refl
 
-pub script_whole : (seed : ℕ) (made : List ℕ) → made ≡ flat_map ended tables ++ codes "INSERT INTO cafe VALUES " ++ rows_text (cafe_at seed) 500
+pub script_whole : (seed : ℕ) (made : List ℕ) → made ≡ flat_map with_end tables ++ codes "INSERT INTO cafe VALUES " ++ rows_text (cafe_at seed) 500
     ++ codes ";\nINSERT INTO friend VALUES " ++ rows_text (friend_at (state_after seed 500)) 20000
     ++ codes ";\nINSERT INTO dine VALUES " ++ rows_text (dine_at (state_after seed 20500)) 10000
-    ++ codes ";\n" ++ flat_map ended (rounds (state_after seed 40500) 10) → made ≡ demo_text seed
+    ++ codes ";\n" ++ flat_map with_end (rounds (state_after seed 40500) 10) → made ≡ demo_text seed
 unfolding demo_text
 script_whole seed made same =
-    let after = flat_map ended (rounds (state_after seed 40500) 10) in
-    same ∙ pieces (codes ";\n") (flat_map ended tables) (codes "INSERT INTO cafe VALUES ") (rows_text (cafe_at seed) 500)
+    let after = flat_map with_end (rounds (state_after seed 40500) 10) in
+    same ∙ pieces (codes ";\n") (flat_map with_end tables) (codes "INSERT INTO cafe VALUES ") (rows_text (cafe_at seed) 500)
     (codes "INSERT INTO friend VALUES ") (rows_text (friend_at (state_after seed 500)) 20000)
     (codes "INSERT INTO dine VALUES ") (rows_text (dine_at (state_after seed 20500)) 10000) after
-    ∙ sym (flat_map-append ended tables (inserts seed ++ rounds (state_after seed 40500) 10))
+    ∙ sym (flat_map-append with_end tables (inserts seed ++ rounds (state_after seed 40500) 10))
 
 -- what the steps of the script have written, and where the draws stand between them
-pub script_made : (seed s0 s1 s2 s3 : ℕ) (t0 t1 t2 t3 t4 t5 t6 t7 t8 : List ℕ) → t0 ≡ flat_map ended tables → s0 ≡ seed
+pub script_made : (seed s0 s1 s2 s3 : ℕ) (t0 t1 t2 t3 t4 t5 t6 t7 t8 : List ℕ) → t0 ≡ flat_map with_end tables → s0 ≡ seed
     → t1 ≡ t0 ++ codes "INSERT INTO cafe VALUES " → t2 ≡ t1 ++ rows_text (cafe_at s0) 500 → s1 ≡ state_after s0 500
     → t3 ≡ t2 ++ codes ";\nINSERT INTO friend VALUES " → t4 ≡ t3 ++ rows_text (friend_at s1) 20000 → s2 ≡ state_after s1 20000
     → t5 ≡ t4 ++ codes ";\nINSERT INTO dine VALUES " → t6 ≡ t5 ++ rows_text (dine_at s2) 10000 → s3 ≡ state_after s2 20000
-    → t7 ≡ t6 ++ codes ";\n" → t8 ≡ t7 ++ flat_map ended (rounds s3 10) → t8 ≡ demo_text seed
+    → t7 ≡ t6 ++ codes ";\n" → t8 ≡ t7 ++ flat_map with_end (rounds s3 10) → t8 ≡ demo_text seed
 script_made seed s0 s1 s2 s3 t0 t1 t2 t3 t4 t5 t6 t7 t8 e0 f0 e1 e2 f1 e3 e4 f2 e5 e6 f3 e7 e8 =
     let cafes : s1 ≡ state_after seed 500 = f1 ∙ ap (λ (s : ℕ). state_after s 500) f0 in
     let friends : s2 ≡ state_after seed 20500 = f2 ∙ ap (λ (s : ℕ). state_after s 20000) cafes ∙ after_both seed 500 20000 in
     let meals : s3 ≡ state_after seed 40500 = f3 ∙ ap (λ (s : ℕ). state_after s 20000) friends ∙ after_both seed 20500 20000 in
     script_whole seed t8 (
-    e8 ∙ ap₂ (λ (t : List ℕ) (s : ℕ). t ++ flat_map ended (rounds s 10)) (
+    e8 ∙ ap₂ (λ (t : List ℕ) (s : ℕ). t ++ flat_map with_end (rounds s 10)) (
     e7 ∙ ap (λ (t : List ℕ). t ++ codes ";\n") (
     e6 ∙ ap₂ (λ (t : List ℕ) (s : ℕ). t ++ rows_text (dine_at s) 10000) (
     e5 ∙ ap (λ (t : List ℕ). t ++ codes ";\nINSERT INTO dine VALUES ") (

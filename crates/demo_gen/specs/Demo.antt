@@ -3,18 +3,18 @@
 --     demo_text seed       each with a semicolon and a line feed after it
 use Rattle.std.specs.Prelude.{◌+◌, ◌*◌, ◌/◌, ◌%◌, ℕ, zero, suc, List, [], ◌∷◌, ◌++◌, map, codes, decimal}
 use Rattle.std.specs.List.{flat_map, range_with_len}
-use Rattle.demo_gen.specs.Draws.{drawn, state_after}
+use Rattle.demo_gen.specs.Draws.{draw_at, state_after}
 
 -- the parts one after another
-abbrev pub joined : List (List ℕ) → List ℕ
-joined [] = []
-joined (part ∷ []) = part
-joined (part ∷ next ∷ parts) = part ++ joined (next ∷ parts)
+abbrev pub concatenation : List (List ℕ) → List ℕ
+concatenation [] = []
+concatenation (part ∷ []) = part
+concatenation (part ∷ next ∷ parts) = part ++ concatenation (next ∷ parts)
 
 -- with a comma and a space between them
-abbrev pub spaced : List (List ℕ) → List ℕ
-spaced [] = []
-spaced (row ∷ rows) = row ++ flat_map (λ other. codes ", " ++ other) rows
+abbrev pub with_commas : List (List ℕ) → List ℕ
+with_commas [] = []
+with_commas (row ∷ rows) = row ++ flat_map (λ other. codes ", " ++ other) rows
 
 -- what stands before row n
 abbrev pub separator : ℕ → List ℕ
@@ -23,31 +23,31 @@ separator (suc n) = codes ", "
 
 -- rows 0 to n - 1
 unfoldable pub rows_text : (ℕ → List ℕ) → ℕ → List ℕ
-rows_text row n = spaced (map row (range_with_len 0 n))
+rows_text row n = with_commas (map row (range_with_len 0 n))
 
 abbrev pub cafe_row : ℕ → ℕ → List ℕ
-cafe_row cid city = joined (codes "(" ∷ decimal cid ∷ codes ", 'c" ∷ decimal city ∷ codes "')" ∷ [])
+cafe_row cid city = concatenation (codes "(" ∷ decimal cid ∷ codes ", 'c" ∷ decimal city ∷ codes "')" ∷ [])
 
 abbrev pub friend_row : ℕ → ℕ → List ℕ
-friend_row pid fid = joined (codes "(" ∷ decimal pid ∷ codes ", " ∷ decimal fid ∷ codes ")" ∷ [])
+friend_row pid fid = concatenation (codes "(" ∷ decimal pid ∷ codes ", " ∷ decimal fid ∷ codes ")" ∷ [])
 
 abbrev pub dine_row : ℕ → ℕ → ℕ → List ℕ
 dine_row pid cid month =
-    joined (codes "(" ∷ decimal pid ∷ codes ", " ∷ decimal cid ∷ codes ", 2015, " ∷ decimal month ∷ codes ")" ∷ [])
+    concatenation (codes "(" ∷ decimal pid ∷ codes ", " ∷ decimal cid ∷ codes ", 2015, " ∷ decimal month ∷ codes ")" ∷ [])
 
 -- row n of each table, from a state on. A person has ten friends, and dines five times.
 abbrev pub cafe_at : ℕ → ℕ → List ℕ
-cafe_at state n = cafe_row n (drawn state n % 10)
+cafe_at state n = cafe_row n (draw_at state n % 10)
 
 abbrev pub friend_at : ℕ → ℕ → List ℕ
-friend_at state n = friend_row (n / 10) (drawn state n % 2000)
+friend_at state n = friend_row (n / 10) (draw_at state n % 2000)
 
 -- the café is drawn before the month
 abbrev pub dine_at : ℕ → ℕ → List ℕ
-dine_at state n = dine_row (n / 5) (drawn state (2 * n) % 500) (1 + drawn state (2 * n + 1) % 12)
+dine_at state n = dine_row (n / 5) (draw_at state (2 * n) % 500) (1 + draw_at state (2 * n + 1) % 12)
 
 unfoldable pub query_text : ℕ → ℕ → ℕ → List ℕ
-query_text person month city = joined (
+query_text person month city = concatenation (
     codes "SELECT DISTINCT c.cid FROM friend AS f, dine AS d, cafe AS c WHERE f.pid = " ∷ decimal person
     ∷ codes " AND f.fid = d.pid AND d.year = 2015 AND d.month = " ∷ decimal month
     ∷ codes " AND d.cid = c.cid AND c.city = 'c" ∷ decimal city ∷ codes "'" ∷ [])
@@ -55,7 +55,7 @@ query_text person month city = joined (
 -- query n from a state on: its person, month and city are drawn in this order
 abbrev pub query_at : ℕ → ℕ → List ℕ
 query_at state n =
-    query_text (drawn state (3 * n) % 2000) (1 + drawn state (3 * n + 1) % 12) (drawn state (3 * n + 2) % 10)
+    query_text (draw_at state (3 * n) % 2000) (1 + draw_at state (3 * n + 1) % 12) (draw_at state (3 * n + 2) % 10)
 
 unfoldable pub delete_text : ℕ → List ℕ
 delete_text person = codes "DELETE FROM dine WHERE pid = " ++ decimal person
@@ -65,7 +65,7 @@ queries state count = map (query_at state) (range_with_len 0 count)
 
 -- ten queries, and the deletion of what a person dined
 unfoldable pub round_at : ℕ → List (List ℕ)
-round_at state = queries state 10 ++ delete_text (drawn state 30 % 2000) ∷ []
+round_at state = queries state 10 ++ delete_text (draw_at state 30 % 2000) ∷ []
 
 -- rounds of 31 draws each
 unfoldable pub rounds : ℕ → ℕ → List (List ℕ)
@@ -92,8 +92,8 @@ inserts seed =
 abbrev pub statements : ℕ → List (List ℕ)
 statements seed = tables ++ (inserts seed ++ rounds (state_after seed 40500) 10)
 
-abbrev pub ended : List ℕ → List ℕ
-ended statement = statement ++ codes ";\n"
+abbrev pub with_end : List ℕ → List ℕ
+with_end statement = statement ++ codes ";\n"
 
 unfoldable pub demo_text : ℕ → List ℕ
-demo_text seed = flat_map ended (statements seed)
+demo_text seed = flat_map with_end (statements seed)

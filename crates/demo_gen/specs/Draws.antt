@@ -12,5 +12,5 @@ state_after state zero = state
 state_after state (suc n) = next (state_after state n)
 
 -- what a draw gives is the upper 31 bits of the state after it
-abbrev pub drawn : ℕ → ℕ → ℕ
-drawn state n = next (state_after state n) / 2 ^ 33
+abbrev pub draw_at : ℕ → ℕ → ℕ
+draw_at state n = next (state_after state n) / 2 ^ 33

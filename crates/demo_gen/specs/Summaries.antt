@@ -5,7 +5,7 @@ use Rattle.std.specs.Prelude.{◌-◌, ◌^◌, ℕ, Bool, true, false, List, []
 use Rattle.std.specs.List.{sum_by}
 use Rattle.demo_gen.specs.declared.summary.Outcome.{Outcome}
 use Rattle.demo_gen.specs.declared.summary.Outcome.TheVariants.{Answered, Other, Refused}
-use Rattle.demo_gen.specs.Demo.{joined}
+use Rattle.demo_gen.specs.Demo.{concatenation}
 
 abbrev pub is_refused : Outcome → Bool
 is_refused Refused = true
@@ -46,7 +46,7 @@ totals_of outcomes = record {
 }
 
 unfoldable pub summary_text : Totals → List ℕ
-summary_text totals = joined (
+summary_text totals = concatenation (
     codes "statements " ∷ decimal totals.statements ∷ codes " refused " ∷ decimal totals.refused
     ∷ codes " rows " ∷ decimal totals.rows ∷ codes " reads " ∷ decimal totals.reads
     ∷ codes " greatest bound " ∷ decimal totals.bound ∷ codes "\n" ∷ [])

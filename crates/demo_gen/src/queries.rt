@@ -1,8 +1,8 @@
 // The queries of the demonstration, and the deletions between them.
 ghost use Rattle.std.specs.Prelude.{◌≡◌, ◌++◌, ◌*◌, ◌%◌, IfOk, OnOk};
 ghost use Rattle.std.specs.List.{flat_map};
-ghost use Rattle.demo_gen.specs.Draws.{drawn, state_after};
-ghost use Rattle.demo_gen.specs.Demo.{delete_text, ended, queries, query_text, rounds};
+ghost use Rattle.demo_gen.specs.Draws.{draw_at, state_after};
+ghost use Rattle.demo_gen.specs.Demo.{delete_text, with_end, queries, query_text, rounds};
 
 use crate::draws::Draws;
 use crate::texts::text;
@@ -16,7 +16,7 @@ pub fn push_rounds(
     draws: &mut Draws,
     count: u64,
 ) -> Result<(), NoMemory>
-    ensures { OnOk result (text.new ≡ text.old ++ flat_map ended (rounds draws.old.state count)) }
+    ensures { OnOk result (text.new ≡ text.old ++ flat_map with_end (rounds draws.old.state count)) }
 {
     for round in 0..count {
         push_queries(alloc, text, draws, 10)?;
@@ -32,7 +32,7 @@ fn push_queries(
     draws: &mut Draws,
     count: u64,
 ) -> Result<(), NoMemory>
-    ensures text { OnOk result (text.new ≡ text.old ++ flat_map ended (queries draws.old.state count)) }
+    ensures text { OnOk result (text.new ≡ text.old ++ flat_map with_end (queries draws.old.state count)) }
     ensures draws { OnOk result (draws.new.state ≡ state_after draws.old.state (3 * count)) }
 {
     for query in 0..count {
@@ -47,7 +47,7 @@ fn push_queries(
 
 /// Adds the deletion of what a person dined who is drawn.
 fn push_deletion(alloc: Global, text: &mut Text, draws: &mut Draws) -> Result<(), NoMemory>
-    ensures text { OnOk result (text.new ≡ text.old ++ ended (delete_text (drawn draws.old.state 0 % 2000))) }
+    ensures text { OnOk result (text.new ≡ text.old ++ with_end (delete_text (draw_at draws.old.state 0 % 2000))) }
     ensures draws { OnOk result (draws.new.state ≡ state_after draws.old.state 1) }
 {
     let deletion = delete_text(alloc, draws.below(2000))?;
@@ -71,7 +71,7 @@ fn delete_text(alloc: Global, person: u64) -> Result<Text, NoMemory>
 }
 
 fn push_statement(text: &mut Text, statement: &str) -> Result<(), NoMemory>
-    ensures { OnOk result (text.new ≡ text.old ++ ended statement.now) }
+    ensures { OnOk result (text.new ≡ text.old ++ with_end statement.now) }
 {
     text.push_str(statement)?;
     text.push_str(";\n")

@@ -24,7 +24,7 @@ use Rattle.beas_core.specs.Full.{same_value, comparison_holds, operand_value, ch
 use Rattle.beas_core.specs.Classes.{Linked, itself, equated, turned, chained, same_place, class_of, operand_places, used_places, needed_columns, normal_of}
 use Rattle.beas_core.specs.Coverage.{has, class_at, place_class, constant_classes, needed_of, needed_places, holds_needed, is_open, atoms_of, ClassesInRange}
 use Rattle.beas_core.specs.Derivations.{access_in, table_of, use_of, bound_after, is_on_table, is_served_by, steps_are_sound, IsSound}
-use Rattle.beas_core.specs.Valuations.{value_of, agrees, bindings_of, with_row_for, ways, comparison_is_bound, operand_is_bound, comparison_is_met, is_consistent, classes_in, as_bindings, output_row, valued, valuations, answers_of, starts}
+use Rattle.beas_core.specs.Valuations.{value_of, agrees, bindings_of, with_row_for, ways, comparison_is_bound, operand_is_bound, comparison_is_met, is_consistent, classes_in, as_bindings, output_row, valued_rows, valuations, answers_of, starts}
 use Rattle.beas_core.proofs.Sets.{Has, Has-map, Has-from_map, Has-filter, Has-from_filter, Has-append_left, Has-append_right, Has-append_cases, Has-distinct, Has-from_distinct, Has-from_contains, Contains-from_has, distinct_same}
 use Rattle.beas_core.proofs.ValueOrder.{row_cmp_tells}
 use Rattle.evaluation_facts.proofs.MemberTests.{and_left, and_right, and_both, or_cases, or_left, or_right, from_not, which, all_has, all_by, any_has, any_by, none_has, Has-flat_map, Has-from_flat_map}
@@ -484,7 +484,7 @@ module _ (rows : TableRows) (block : Block) (shape : BlockIsWellFormed block) (a
         value_in_valuation bound made_way.0 (place_class normal p) held ∙ value_at_place p place held)
 
   abbrev found : List Row
-  found = valued (normal_of block) bound all_ways
+  found = valued_rows (normal_of block) bound all_ways
 
   abbrev outputs : List Row
   outputs = map (output_row (normal_of block) bound) found

@@ -18,10 +18,10 @@ use Rattle.beas_core.specs.Coverage.{start_classes, ClassesInRange, ConstantsInR
 use Rattle.beas_core.specs.Derivations.{access_in, table_of, member_classes, use_of, bound_by, bound_after, each_step, is_on_table, key_is_bound, adds_rightly, steps_are_sound}
 use Rattle.beas_core.specs.Fits.{StepsHold}
 use Rattle.beas_core.specs.Reads.{reads_of}
-use Rattle.beas_core.specs.Numbers.{size_after, announced, last_size}
-use Rattle.beas_core.specs.Valuations.{with_row_for, ways, starts, valued, valuations}
+use Rattle.beas_core.specs.Numbers.{size_after, announced_from, last_size}
+use Rattle.beas_core.specs.Valuations.{with_row_for, ways, starts, valued_rows, valuations}
 use Rattle.beas_core.proofs.Sets.{Has, Has-append_left, Has-append_right, Has-from_contains, Contains-from_has}
-use Rattle.evaluation_facts.specs.Extensions.{extensions, kept}
+use Rattle.evaluation_facts.specs.Extensions.{extensions, keep_met}
 use Rattle.evaluation_facts.specs.Fronts.{FrontsAreBounded, FrontsExtend}
 use Rattle.evaluation_facts.specs.StepReads.{reads_at, reads_from}
 use Rattle.evaluation_facts.specs.Guides.{GuideFits, BlockStart, StartFits}
@@ -100,8 +100,8 @@ module _ (rows : TableRows) (normal : Normal) (accesses : List Access) where
 
     -- the valuations after some of the steps
     pub sizes : (done later : List DStep) (b : ℕ) (set : ClassSet) (found : List Bindings) → Ready (done ++ later) set found → AreHeld (done ++ later) set
-        → length (valued normal set found) ≤ b
-        → length (valued normal (bound_after normal accesses set done) (ways rows normal accesses found done)) ≤ last_size accesses b done
+        → length (valued_rows normal set found) ≤ b
+        → length (valued_rows normal (bound_after normal accesses set done) (ways rows normal accesses found done)) ≤ last_size accesses b done
     sizes [] later b set found r h few = few
     sizes (s ∷ done) later b set found r h few =
         let rightly = and_left (adds_rightly normal accesses set s) (each_step normal accesses (adds_rightly normal accesses) (bound_by normal accesses set s)
@@ -112,7 +112,8 @@ module _ (rows : TableRows) (normal : Normal) (accesses : List Access) where
         (head_keyed s (done ++ later) set found r) b (h.holds s (inl refl)) rightly few)
 
 -- the announced number of a front and of what comes after it
-pub announced-append : (accesses : List Access) (xs ys : List DStep) (b : ℕ) → announced accesses b (xs ++ ys) ≡ announced accesses b xs + announced accesses
+pub announced-append : (accesses : List Access) (xs ys : List DStep) (b : ℕ) → announced_from accesses b (xs ++ ys)
+    ≡ announced_from accesses b xs + announced_from accesses
     (last_size accesses b xs) ys
 announced-append accesses [] ys b = omega arith
 announced-append accesses (x ∷ xs) ys b = let e = announced-append accesses xs ys (size_after accesses b x) in omega (arith, e)
@@ -194,13 +195,14 @@ module _ (rows : TableRows) (normal : Normal) (accesses : List Access) (guide : 
   pub next_valuations : (done later : List DStep) (s : DStep) → steps_are_sound normal accesses (start_classes normal (is_some guide))
       (done ++ s ∷ later) ≡ true
       → valuations rows normal accesses guide (done ++ s ∷ [])
-      ≡ kept normal (bound_by normal accesses (bound_after normal accesses (start_classes normal (is_some guide)) done) s)
+      ≡ keep_met normal (bound_by normal accesses (bound_after normal accesses (start_classes normal (is_some guide)) done) s)
       (extensions rows normal accesses s (bound_after normal accesses (start_classes normal (is_some guide)) done) (valuations rows normal accesses guide done))
   unfolding valuations
   next_valuations done later s h =
       let n = next_step normal accesses start done later s h in
-      ap (λ set. valued normal set (ways rows normal accesses before_all (done ++ s ∷ []))) (bound-append normal accesses done (s ∷ []) start)
-      ∙ ap (valued normal (bound_by normal accesses (bound_after normal accesses start done) s)) (ways-append rows normal accesses done (s ∷ []) before_all)
+      ap (λ set. valued_rows normal set (ways rows normal accesses before_all (done ++ s ∷ []))) (bound-append normal accesses done (s ∷ []) start)
+      ∙ ap (valued_rows normal (bound_by normal accesses (bound_after normal accesses start done) s))
+      (ways-append rows normal accesses done (s ∷ []) before_all)
       ∙ step_is rows normal accesses s (bound_after normal accesses start done) (front_counted done (s ∷ later) h) ranges
       (ways rows normal accesses before_all done) (front_binds done (s ∷ later) h) n.table n.key
 
@@ -226,7 +228,7 @@ module _ (rows : TableRows) (normal : Normal) (accesses : List Access) (guide : 
         step_reads_count rows normal accesses s (bound_after normal accesses start done) (valuations rows normal accesses guide done) h.0 h.1
 
     reads_within : (later done : List DStep) → steps_are_sound normal accesses start (done ++ later) ≡ true → StepsHold rows accesses (done ++ later)
-        → reads_from rows normal accesses guide done later ≤ announced accesses (last_size accesses b done) later
+        → reads_from rows normal accesses guide done later ≤ announced_from accesses (last_size accesses b done) later
     reads_within [] done h hold = omega arith
     reads_within (s ∷ later) done h hold =
         let same = append_assoc done (s ∷ []) later in
@@ -235,11 +237,11 @@ module _ (rows : TableRows) (normal : Normal) (accesses : List Access) (guide : 
         let size = last_size-append accesses done (s ∷ []) b in
         let here = next_reads_few done later s hold in
         let product = mul-le-mul_left (access_in accesses s.access).bound (valuations_few done (s ∷ later) h hold) in
-        let later_size = ap (λ n. announced accesses n later) size in
+        let later_size = ap (λ n. announced_from accesses n later) size in
         omega (arith, rest, later_size, here, product)
 
     pub reads_few : (steps : List DStep) → steps_are_sound normal accesses (start_classes normal (is_some guide)) steps ≡ true → StepsHold rows accesses steps
-        → reads_of rows normal accesses guide steps ≤ announced accesses b steps
+        → reads_of rows normal accesses guide steps ≤ announced_from accesses b steps
     reads_few steps h hold =
         let e = reads_by_step rows normal accesses guide steps in
         let l = reads_within steps [] h hold in
@@ -248,7 +250,7 @@ module _ (rows : TableRows) (normal : Normal) (accesses : List Access) (guide : 
     -- the reads so far, and what the next step may read, are within the announced number
     pub reads_room : (done later : List DStep) (s : DStep) → steps_are_sound normal accesses (start_classes normal (is_some guide)) (done ++ s ∷ later) ≡ true
         → StepsHold rows accesses (done ++ s ∷ later)
-        → reads_of rows normal accesses guide done + length (valuations rows normal accesses guide done) * (access_in accesses s.access).bound ≤ announced
+        → reads_of rows normal accesses guide done + length (valuations rows normal accesses guide done) * (access_in accesses s.access).bound ≤ announced_from
         accesses b (done ++ s ∷ later)
     reads_room done later s h hold =
         let front = reads_few done (front_sound normal accesses start done (s ∷ later) h)
@@ -269,7 +271,7 @@ module _ (rows : TableRows) (normal : Normal) (accesses : List Access) (ranges :
             (subst (λ all. steps_are_sound normal accesses start all ≡ true) e sound) (subst (StepsHold rows accesses) e hold);
         room = λ done later next e.
             subst (λ all. reads_of rows normal accesses from.guide done + length
-            (valuations rows normal accesses from.guide done) * (access_in accesses next.access).bound ≤ announced accesses from.size all) (sym e)
+            (valuations rows normal accesses from.guide done) * (access_in accesses next.access).bound ≤ announced_from accesses from.size all) (sym e)
             (reads_room rows normal accesses from.guide ranges inside fit.guide from.size fit.size done later next
             (subst (λ all. steps_are_sound normal accesses start all ≡ true) e sound) (subst (StepsHold rows accesses) e hold));
         reads_are = reads_few rows normal accesses from.guide ranges inside fit.guide from.size fit.size steps sound hold;

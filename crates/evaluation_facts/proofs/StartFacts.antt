@@ -10,7 +10,7 @@ use Rattle.beas_core.specs.declared.plan.Normal.{Normal}
 use Rattle.beas_core.specs.Types.{Row, Bindings, ClassSet, Guide}
 use Rattle.beas_core.specs.Order.{row_cmp_total}
 use Rattle.beas_core.specs.Coverage.{has, with_classes, place_class, constant_classes, output_classes, start_classes, ClassesInRange, ConstantsInRange}
-use Rattle.beas_core.specs.Valuations.{value_of, is_consistent, classes_in, valued, starts}
+use Rattle.beas_core.specs.Valuations.{value_of, is_consistent, classes_in, valued_rows, starts}
 use Rattle.beas_core.proofs.Sets.{Has, Has-from_map, Contains-from_has, length-distinct-le}
 use Rattle.beas_core.proofs.ValueOrder.{row_cmp_tells}
 use Rattle.evaluation_facts.specs.Guides.{GuideFits}
@@ -68,7 +68,7 @@ module _ (normal : Normal) where
       let wide = All-contains (λ row. length row ≡ length normal.output) answers m.0 fit (Contains-from_has answers m.0 m.1) in
       subst (Binds (start_classes normal true)) (sym m.2) (guided_binds ranges inside m.0 wide)
 
-  pub start_few : (set : ClassSet) (found : List Bindings) → length (valued normal set found) ≤ length found
+  pub start_few : (set : ClassSet) (found : List Bindings) → length (valued_rows normal set found) ≤ length found
   start_few set found =
       let d = length-distinct-le row_cmp_total row_cmp_tells (some_valued normal set found) in
       let m = length-map (filter (is_consistent normal set) found) (λ w. map (value_of w) (classes_in set)) in

@@ -15,11 +15,11 @@ use Rattle.beas_core.specs.Coverage.{has, holds_classes, class_at, key_classes, 
 use Rattle.beas_core.specs.Derivations.{access_in, table_of, member_classes, use_of, bound_by, adds_class, key_is_bound, adds_rightly}
 use Rattle.beas_core.specs.Groups.{member_columns}
 use Rattle.beas_core.specs.Numbers.{size_after}
-use Rattle.beas_core.specs.Valuations.{value_of, bindings_of, with_row_for, is_consistent, classes_in, valued}
+use Rattle.beas_core.specs.Valuations.{value_of, bindings_of, with_row_for, is_consistent, classes_in, valued_rows}
 use Rattle.beas_core.specs.Reads.{key_for, keys_for, probe_reads, step_reads}
 use Rattle.beas_core.proofs.Sets.{Has, Has-map, Has-from_map, Has-append_cases, IsInOrder-distinct, length-distinct-le}
 use Rattle.beas_core.proofs.ValueOrder.{row_cmp_tells}
-use Rattle.evaluation_facts.specs.Extensions.{extended, fits, group_for, extensions_of, extensions, meets_bound}
+use Rattle.evaluation_facts.specs.Extensions.{extension, fits, group_for, extensions_of, extensions, meets_bound}
 use Rattle.evaluation_facts.proofs.MemberTests.{from_not, all_has}
 use Rattle.evaluation_facts.proofs.ClassSetFacts.{has-with_kept, has-with_cases, length-with}
 use Rattle.evaluation_facts.proofs.SetSizes.{length_within, length-flat_map-le, length-filter_le}
@@ -31,7 +31,7 @@ module _ (rows : TableRows) (normal : Normal) (accesses : List Access) (s : DSte
     (holds : Holds (rows (access_in accesses s.access).table) (access_in accesses s.access)) where
   few_of_one : (v : Row) → length (extensions_of rows normal accesses s set v) ≤ (access_in accesses s.access).bound
   few_of_one v =
-      let mapped = length-map (filter (fits normal accesses s set v) (group_for rows normal accesses s set v)) (extended normal accesses s set v) in
+      let mapped = length-map (filter (fits normal accesses s set v) (group_for rows normal accesses s set v)) (extension normal accesses s set v) in
       let fewer = length-filter_le (fits normal accesses s set v) (group_for rows normal accesses s set v) in
       let h = holds (key_for normal accesses s set v) in
       omega (arith, mapped, fewer, h)
@@ -47,12 +47,13 @@ module _ (rows : TableRows) (normal : Normal) (accesses : List Access) (s : DSte
     (found : List Bindings) (binds : (w : Bindings) → Has found w → Binds set w)
     (table : table_of normal s.atom ≡ (access_in accesses s.access).table) (keyed : key_is_bound normal accesses set s ≡ true) where
   count_more : Holds (rows (access_in accesses s.access).table) (access_in accesses s.access)
-      → length (valued normal (bound_by normal accesses set s) (with_row_for rows normal accesses found s)) ≤ length
-      (valued normal set found) * (access_in accesses s.access).bound
+      → length (valued_rows normal (bound_by normal accesses set s) (with_row_for rows normal accesses found s)) ≤ length
+      (valued_rows normal set found) * (access_in accesses s.access).bound
   count_more holds =
       let e = ap length (step_is rows normal accesses s set counted ranges found binds table keyed) in
-      let fewer = length-filter_le (meets_bound normal (bound_by normal accesses set s)) (extensions rows normal accesses s set (valued normal set found)) in
-      let few = length-extensions rows normal accesses s set holds (valued normal set found) in
+      let fewer = length-filter_le (meets_bound normal (bound_by normal accesses set s))
+      (extensions rows normal accesses s set (valued_rows normal set found)) in
+      let few = length-extensions rows normal accesses s set holds (valued_rows normal set found) in
       omega (arith, e, fewer, few)
 
   -- a step that adds no class leaves the classes as they are
@@ -86,8 +87,8 @@ module _ (rows : TableRows) (normal : Normal) (accesses : List Access) (s : DSte
         (range_with_len 0 (length (bound_by normal accesses set s)))
         ∙ ap (λ n. filter (has set) (range_with_len 0 n)) (length-with (member_classes normal (use_of accesses s)) set)
 
-    still_member : (v : Row) → Has (valued normal (bound_by normal accesses set s) (with_row_for rows normal accesses found s)) v
-        → Has (valued normal set found) v
+    still_member : (v : Row) → Has (valued_rows normal (bound_by normal accesses set s) (with_row_for rows normal accesses found s)) v
+        → Has (valued_rows normal set found) v
     still_member v h =
         let w = way_from normal (bound_by normal accesses set s) (with_row_for rows normal accesses found s) v h in
         let p = split rows normal accesses s set counted ranges found binds table w.way w.member in
@@ -96,21 +97,23 @@ module _ (rows : TableRows) (normal : Normal) (accesses : List Access) (s : DSte
         ∙ ap (map (value_of (p.before ++ bindings_of normal accesses s p.row))) same_classes
         ∙ map_same (value_of (p.before ++ bindings_of normal accesses s p.row)) (value_of p.before) (classes_in set)
         (λ c k. value-append_in p.before (bindings_of normal accesses s p.row) c ((binds p.before p.way).0 c (from_classes_in set c k))) in
-        subst (Has (valued normal set found)) (sym e) (Has-before rows normal accesses s set counted ranges found binds table p.before p.row p.way consistent)
+        subst (Has (valued_rows normal set found)) (sym e)
+        (Has-before rows normal accesses s set counted ranges found binds table p.before p.row p.way consistent)
 
-    count_same : length (valued normal (bound_by normal accesses set s) (with_row_for rows normal accesses found s)) ≤ length (valued normal set found)
-    count_same = length_within row_cmp_total row_cmp_tells (valued normal (bound_by normal accesses set s) (with_row_for rows normal accesses found s))
-        (valued normal set found)
+    count_same : length (valued_rows normal (bound_by normal accesses set s) (with_row_for rows normal accesses found s)) ≤ length
+        (valued_rows normal set found)
+    count_same = length_within row_cmp_total row_cmp_tells (valued_rows normal (bound_by normal accesses set s) (with_row_for rows normal accesses found s))
+        (valued_rows normal set found)
         (IsInOrder-distinct row_cmp_total row_cmp_tells (some_valued normal (bound_by normal accesses set s) (with_row_for rows normal accesses found s)))
         still_member
 
   pub step_count : (b : ℕ) → Holds (rows (access_in accesses s.access).table) (access_in accesses s.access) → adds_rightly normal accesses set s ≡ true
-      → length (valued normal set found) ≤ b
-      → length (valued normal (bound_by normal accesses set s) (with_row_for rows normal accesses found s)) ≤ size_after accesses b s
+      → length (valued_rows normal set found) ≤ b
+      → length (valued_rows normal (bound_by normal accesses set s) (with_row_for rows normal accesses found s)) ≤ size_after accesses b s
   step_count b holds rightly few = by s.adds rightly
     where
       by : (t : Bool) → cond t (adds_class normal set (use_of accesses s)) (not (adds_class normal set (use_of accesses s))) ≡ true
-          → length (valued normal (bound_by normal accesses set s) (with_row_for rows normal accesses found s)) ≤ cond t
+          → length (valued_rows normal (bound_by normal accesses set s) (with_row_for rows normal accesses found s)) ≤ cond t
           (b * (access_in accesses s.access).bound) b
       by true r = let h = count_more holds in let g = mul-le-mul_left (access_in accesses s.access).bound few in omega (arith, h, g)
       by false r = let h = count_same (from_not (adds_class normal set (use_of accesses s)) r) in omega (arith, h, few)

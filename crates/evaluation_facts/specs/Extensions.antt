@@ -23,8 +23,8 @@ bindings_with normal accesses s set valuation tuple = as_bindings set valuation 
 abbrev pub fits : Normal → List Access → DStep → ClassSet → Row → Row → Bool
 fits normal accesses s set valuation tuple = agrees (bindings_with normal accesses s set valuation tuple)
 
-abbrev pub extended : Normal → List Access → DStep → ClassSet → Row → Row → Row
-extended normal accesses s set valuation tuple = map (value_of (bindings_with normal accesses s set valuation tuple))
+abbrev pub extension : Normal → List Access → DStep → ClassSet → Row → Row → Row
+extension normal accesses s set valuation tuple = map (value_of (bindings_with normal accesses s set valuation tuple))
     (classes_in (bound_by normal accesses set s))
 
 -- the group of the key that a valuation gives to the step
@@ -34,7 +34,7 @@ group_for rows normal accesses s set valuation = group_of (rows (access_in acces
 
 abbrev pub extensions_of : TableRows → Normal → List Access → DStep → ClassSet → Row → List Row
 extensions_of rows normal accesses s set valuation =
-    map (extended normal accesses s set valuation) (filter (fits normal accesses s set valuation) (group_for rows normal accesses s set valuation))
+    map (extension normal accesses s set valuation) (filter (fits normal accesses s set valuation) (group_for rows normal accesses s set valuation))
 
 abbrev pub extensions : TableRows → Normal → List Access → DStep → ClassSet → List Row → List Row
 extensions rows normal accesses s set found = distinct row_cmp (flat_map (extensions_of rows normal accesses s set) found)
@@ -42,5 +42,5 @@ extensions rows normal accesses s set found = distinct row_cmp (flat_map (extens
 abbrev pub meets_bound : Normal → ClassSet → Row → Bool
 meets_bound normal set valuation = list_all (comparison_is_met normal set (as_bindings set valuation)) normal.comparisons
 
-abbrev pub kept : Normal → ClassSet → List Row → List Row
-kept normal set found = filter (meets_bound normal set) found
+abbrev pub keep_met : Normal → ClassSet → List Row → List Row
+keep_met normal set found = filter (meets_bound normal set) found

@@ -8,10 +8,10 @@ use Rattle.beas_core.specs.declared.plan.Normal.{Normal}
 use Rattle.beas_core.specs.Types.{TableRows, ClassSet, Guide}
 use Rattle.beas_core.specs.Coverage.{start_classes}
 use Rattle.beas_core.specs.Derivations.{access_in, bound_by, bound_after}
-use Rattle.beas_core.specs.Numbers.{announced, last_size}
+use Rattle.beas_core.specs.Numbers.{announced_from, last_size}
 use Rattle.beas_core.specs.Valuations.{valuations}
 use Rattle.beas_core.specs.Reads.{reads_of}
-use Rattle.evaluation_facts.specs.Extensions.{extensions, kept}
+use Rattle.evaluation_facts.specs.Extensions.{extensions, keep_met}
 use Rattle.evaluation_facts.specs.Guides.{BlockStart}
 
 pub record FrontsAreBounded (rows : TableRows) (normal : Normal) (accesses : List Access) (start : BlockStart) (steps : List DStep) : Type 0 where
@@ -20,8 +20,8 @@ pub record FrontsAreBounded (rows : TableRows) (normal : Normal) (accesses : Lis
   -- the reads so far, and what the next step may read
   pub room : (done later : List DStep) (next : DStep) → steps ≡ done ++ next ∷ later
       → reads_of rows normal accesses start.guide done + length (valuations rows normal accesses start.guide done) * (access_in accesses next.access).bound
-      ≤ announced accesses start.size steps
-  pub reads_are : reads_of rows normal accesses start.guide steps ≤ announced accesses start.size steps
+      ≤ announced_from accesses start.size steps
+  pub reads_are : reads_of rows normal accesses start.guide steps ≤ announced_from accesses start.size steps
 
 -- the classes that are bound after steps of a block, guided or not
 abbrev pub classes_after : Normal → List Access → Guide → List DStep → ClassSet
@@ -30,5 +30,5 @@ classes_after normal accesses guide done = bound_after normal accesses (start_cl
 pub record FrontsExtend (rows : TableRows) (normal : Normal) (accesses : List Access) (guide : Guide) (steps : List DStep) : Type 0 where
   pub step : (done later : List DStep) (next : DStep) → steps ≡ done ++ next ∷ later
       → valuations rows normal accesses guide (done ++ next ∷ [])
-      ≡ kept normal (bound_by normal accesses (classes_after normal accesses guide done) next)
+      ≡ keep_met normal (bound_by normal accesses (classes_after normal accesses guide done) next)
       (extensions rows normal accesses next (classes_after normal accesses guide done) (valuations rows normal accesses guide done))

@@ -13,7 +13,7 @@ use Rattle.beas_core.specs.Shapes.{IsPlace}
 use Rattle.beas_core.specs.Classes.{same_place, is_joined, places_of, firsts, leaders, class_of}
 use Rattle.beas_core.proofs.Sets.{Has, Has-from_filter}
 use Rattle.normal_form.specs.Places.{offset, place_number}
-use Rattle.normal_form.specs.Labels.{AreFirst, AreLabels, label_at, label_of, replaced, heads, rank}
+use Rattle.normal_form.specs.Labels.{AreFirst, AreLabels, label_at, label_of, replace, heads, rank}
 use Rattle.normal_form.proofs.Offsets.{number_below, number_same, numbers_of_places, places_are}
 
 length_mapped : {A B : Type 0} (f : A → B) (xs : List A) → length (map f xs) ≡ length xs
@@ -48,7 +48,7 @@ bridged a b x y = (x == y) || ((x == a) && (b == y)) || ((x == b) && (a == y))
 bridged_same : (a b x y : ℕ) → a ≡ b → (x == y) ≡ bridged a b x y
 bridged_same a b x y e = grind (arith, nat_tests)
 
-bridged_apart : (a b x y low high : ℕ) → ((low ≡ a) × (high ≡ b)) ⊎ ((low ≡ b) × (high ≡ a)) → (replaced high low x == replaced high low y) ≡ bridged a b x y
+bridged_apart : (a b x y low high : ℕ) → ((low ≡ a) × (high ≡ b)) ⊎ ((low ≡ b) × (high ≡ a)) → (replace high low x == replace high low y) ≡ bridged a b x y
 bridged_apart a b x y low high e = grind (arith, nat_tests)
 
 module _ (atoms : List Atom) (es : List (Place × Place)) (e : Place × Place) (labels : List ℕ) (are : AreLabels atoms es labels) (left : IsPlace atoms e.0)
@@ -84,10 +84,10 @@ module _ (atoms : List Atom) (es : List (Place × Place)) (e : Place × Place) (
   module _ (low high : ℕ) (order : low < high) (which : ((low ≡ label_of atoms labels e.0) × (high ≡ label_of atoms labels e.1))
       ⊎ ((low ≡ label_of atoms labels e.1) × (high ≡ label_of atoms labels e.0))) where
     abbrev new : List ℕ
-    new = map (replaced high low) labels
+    new = map (replace high low) labels
 
-    at : (k : ℕ) → k < length labels → label_at new k ≡ replaced high low (label_at labels k)
-    at k l = get_or-map (replaced high low) labels k 0 0 l
+    at : (k : ℕ) → k < length labels → label_at new k ≡ replace high low (label_at labels k)
+    at k l = get_or-map (replace high low) labels k 0 0 l
 
     low_own : label_at labels low ≡ low
     low_own = elim which [
@@ -101,17 +101,17 @@ module _ (atoms : List Atom) (es : List (Place × Place)) (e : Place × Place) (
       | inr h ↦ (let g = are.firsts.least (place_number atoms e.1) (inside e.1 right) in let i = inside e.1 right in omega (arith, h.0))
     ]
 
-    replaced_le : (x : ℕ) → replaced high low x ≤ x
+    replaced_le : (x : ℕ) → replace high low x ≤ x
     replaced_le x = by (x == high) refl
       where
         by : (b : Bool) → (x == high) ≡ b → cond b low x ≤ x
         by true e = let f = eqb-true x high e in omega arith
         by false e = omega arith
 
-    replaced_own : (x : ℕ) → x < length labels → label_at labels x ≡ x → label_at new (replaced high low x) ≡ replaced high low x
+    replaced_own : (x : ℕ) → x < length labels → label_at labels x ≡ x → label_at new (replace high low x) ≡ replace high low x
     replaced_own x l o = by (x == high) refl
       where
-        low_stays : replaced high low low ≡ low
+        low_stays : replace high low low ≡ low
         low_stays = other (low == high) refl
           where
             other : (b : Bool) → (low == high) ≡ b → cond b low low ≡ low
@@ -119,28 +119,28 @@ module _ (atoms : List Atom) (es : List (Place × Place)) (e : Place × Place) (
             other false e = refl
 
         by : (b : Bool) → (x == high) ≡ b → label_at new (cond b low x) ≡ cond b low x
-        by true e = at low low_inside ∙ ap (replaced high low) low_own ∙ low_stays
-        by false e = at x l ∙ ap (replaced high low) o ∙ ap (λ b. cond b low x) e
+        by true e = at low low_inside ∙ ap (replace high low) low_own ∙ low_stays
+        by false e = at x l ∙ ap (replace high low) o ∙ ap (λ b. cond b low x) e
 
-    pub apart_step : AreLabels atoms (e ∷ es) (map (replaced high low) labels)
+    pub apart_step : AreLabels atoms (e ∷ es) (map (replace high low) labels)
     apart_step = record {
-      count = length_mapped (replaced high low) labels ∙ are.count;
+      count = length_mapped (replace high low) labels ∙ are.count;
       firsts = record {
         least = λ k l.
-            let m : k < length labels = omega (arith, length_mapped (replaced high low) labels) in
+            let m : k < length labels = omega (arith, length_mapped (replace high low) labels) in
             let a = at k m in
             let f = are.firsts.least k m in
             let r = replaced_le (label_at labels k) in
             omega arith;
         own = λ k l.
-            let m : k < length labels = omega (arith, length_mapped (replaced high low) labels) in
+            let m : k < length labels = omega (arith, length_mapped (replace high low) labels) in
             let f = are.firsts.least k m in
             let n : label_at labels k < length labels = omega arith in
             ap (label_at new) (at k m) ∙ replaced_own (label_at labels k) n (are.firsts.own k m) ∙ sym (at k m);
       };
       joins = λ p q hp hq.
           ap (λ n. n == label_of atoms new q) (at (place_number atoms p) (inside p hp))
-          ∙ ap (λ n. replaced high low (label_of atoms labels p) == n) (at (place_number atoms q) (inside q hq))
+          ∙ ap (λ n. replace high low (label_of atoms labels p) == n) (at (place_number atoms q) (inside q hq))
           ∙ bridged_apart (label_of atoms labels e.0) (label_of atoms labels e.1) (label_of atoms labels p) (label_of atoms labels q) low high which
           ∙ bridge p q hp hq;
     }
@@ -148,7 +148,7 @@ module _ (atoms : List Atom) (es : List (Place × Place)) (e : Place × Place) (
 -- the labels are relabelled where an equality is between two classes
 pub labels_apart : (atoms : List Atom) (es : List (Place × Place)) (e : Place × Place) (labels new : List ℕ) (a b : ℕ) → AreLabels atoms es labels
     → IsPlace atoms e.0 → IsPlace atoms e.1
-    → a ≡ label_of atoms labels e.0 → b ≡ label_of atoms labels e.1 → a ≢ b → new ≡ map (replaced (max a b) (min a b)) labels → AreLabels atoms (e ∷ es) new
+    → a ≡ label_of atoms labels e.0 → b ≡ label_of atoms labels e.1 → a ≢ b → new ≡ map (replace (max a b) (min a b)) labels → AreLabels atoms (e ∷ es) new
 labels_apart atoms es e labels new a b are left right ea eb apart en = subst (AreLabels atoms (e ∷ es)) (sym en) (by (a < b) (b < a) (λ h. h) (λ h. h) order)
   where
     order : (a < b) ⊎ (b < a)
@@ -161,7 +161,7 @@ labels_apart atoms es e labels new a b are left right ea eb apart en = subst (Ar
         which true = inl refl
         which false = inr refl
 
-    by : (P Q : Type 0) → (P → a < b) → (Q → b < a) → P ⊎ Q → AreLabels atoms (e ∷ es) (map (replaced (max a b) (min a b)) labels)
+    by : (P Q : Type 0) → (P → a < b) → (Q → b < a) → P ⊎ Q → AreLabels atoms (e ∷ es) (map (replace (max a b) (min a b)) labels)
     by P Q f g (inl h) =
         let l = f h in
         let high : max a b ≡ b = omega arith in

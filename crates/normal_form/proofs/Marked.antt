@@ -19,7 +19,7 @@ use Rattle.beas_core.specs.Shapes.{IsPlace, BlockIsWellFormed, ComparisonIsWellF
 use Rattle.beas_core.specs.Classes.{same_place, operand_places, used_places, needed_columns, class_of, leaders, normal_of}
 use Rattle.beas_core.specs.Coverage.{has, with_classes}
 use Rattle.beas_core.proofs.Sets.{Has}
-use Rattle.normal_form.specs.Places.{offset, place_number, marked, place_at, class_list, used_list, class_lists, used_lists}
+use Rattle.normal_form.specs.Places.{offset, place_number, mark, place_at, class_list, used_list, class_lists, used_lists}
 use Rattle.normal_form.specs.Labels.{AreLabels, heads, rank}
 use Rattle.normal_form.proofs.Offsets.{number_below, number_same, in_range, width_at}
 use Rattle.normal_form.proofs.Joined.{class_by_label, count_by_label}
@@ -32,21 +32,21 @@ length-with : (set : List Bool) (xs : List ℕ) → length (with_classes set xs)
 length-with set [] = refl
 length-with set (x ∷ xs) = length-with (slice_set set x true) xs ∙ length-set set x true
 
-pub length_marked : (atoms : List Atom) (used : List Bool) (ps : List Place) → length (marked atoms used ps) ≡ length used
-unfolding marked
+pub length_marked : (atoms : List Atom) (used : List Bool) (ps : List Place) → length (mark atoms used ps) ≡ length used
+unfolding mark
 length_marked atoms used ps = length-with used (map (place_number atoms) ps)
 
-pub marked_append : (atoms : List Atom) (used : List Bool) (ps qs : List Place) → marked atoms used (ps ++ qs) ≡ marked atoms (marked atoms used ps) qs
-unfolding marked
+pub marked_append : (atoms : List Atom) (used : List Bool) (ps qs : List Place) → mark atoms used (ps ++ qs) ≡ mark atoms (mark atoms used ps) qs
+unfolding mark
 marked_append atoms used ps qs = ap (with_classes used) (map-append (place_number atoms) ps qs)
     ∙ with_classes-append used (map (place_number atoms) ps) (map (place_number atoms) qs)
 
-pub marked_nil : (atoms : List Atom) (used : List Bool) → marked atoms used [] ≡ used
-unfolding marked
+pub marked_nil : (atoms : List Atom) (used : List Bool) → mark atoms used [] ≡ used
+unfolding mark
 marked_nil atoms used = refl
 
-pub marked_one : (atoms : List Atom) (used : List Bool) (p : Place) → marked atoms used (p ∷ []) ≡ slice_set used (place_number atoms p) true
-unfolding marked
+pub marked_one : (atoms : List Atom) (used : List Bool) (p : Place) → mark atoms used (p ∷ []) ≡ slice_set used (place_number atoms p) true
+unfolding mark
 marked_one atoms used p = refl
 
 pub flat_map_more : {A B : Type 0} (f : A → List B) (xs : List A) (i : ℕ) (d : A) → i < length xs
@@ -63,30 +63,30 @@ pushed xs ys new x y e f g = e ∙ ap (λ zs. zs ++ x ∷ []) f ∙ ap (λ z. ys
 
 -- one more mark, at a step of a loop
 pub marked_more : (atoms : List Atom) (used : List Bool) (ps : List Place) (i : ℕ) (d : Place) → i < length ps
-    → marked atoms (marked atoms used (take i ps)) (get_or ps i d ∷ []) ≡ marked atoms used (take (i + 1) ps)
+    → mark atoms (mark atoms used (take i ps)) (get_or ps i d ∷ []) ≡ mark atoms used (take (i + 1) ps)
 marked_more atoms used ps i d l = sym (marked_append atoms used (take i ps) (get_or ps i d ∷ []))
-    ∙ ap (marked atoms used) (sym (ap (λ k. take k ps) (add-one i) ∙ take-suc ps i d l))
+    ∙ ap (mark atoms used) (sym (ap (λ k. take k ps) (add-one i) ∙ take-suc ps i d l))
 
 pub marked_firsts : (atoms : List Atom) (used : List Bool) (cs : List (Place × Value)) (i : ℕ) (d : Place × Value) → i < length cs
-    → marked atoms (marked atoms used (map (λ c. c.0) (take i cs))) ((get_or cs i d).0 ∷ []) ≡ marked atoms used (map (λ c. c.0) (take (i + 1) cs))
+    → mark atoms (mark atoms used (map (λ c. c.0) (take i cs))) ((get_or cs i d).0 ∷ []) ≡ mark atoms used (map (λ c. c.0) (take (i + 1) cs))
 marked_firsts atoms used cs i d l = sym (marked_append atoms used (map (λ c. c.0) (take i cs)) ((get_or cs i d).0 ∷ []))
-    ∙ ap (marked atoms used) (sym (ap (λ k. map (λ c. c.0) (take k cs)) (add-one i) ∙ ap (map (λ c. c.0)) (take-suc cs i d l)
+    ∙ ap (mark atoms used) (sym (ap (λ k. map (λ c. c.0) (take k cs)) (add-one i) ∙ ap (map (λ c. c.0)) (take-suc cs i d l)
     ∙ map-append (λ c. c.0) (take i cs) (get_or cs i d ∷ [])))
 
 pub marked_pairs : (atoms : List Atom) (used : List Bool) (es : List (Place × Place)) (i : ℕ) (d : Place × Place) → i < length es
-    → marked atoms (marked atoms (marked atoms used (flat_map (λ e. e.0 ∷ e.1 ∷ []) (take i es))) ((get_or es i d).0 ∷ [])) ((get_or es i d).1 ∷ [])
-    ≡ marked atoms used (flat_map (λ e. e.0 ∷ e.1 ∷ []) (take (i + 1) es))
+    → mark atoms (mark atoms (mark atoms used (flat_map (λ e. e.0 ∷ e.1 ∷ []) (take i es))) ((get_or es i d).0 ∷ [])) ((get_or es i d).1 ∷ [])
+    ≡ mark atoms used (flat_map (λ e. e.0 ∷ e.1 ∷ []) (take (i + 1) es))
 marked_pairs atoms used es i d l =
-    sym (marked_append atoms (marked atoms used (flat_map (λ e. e.0 ∷ e.1 ∷ []) (take i es))) ((get_or es i d).0 ∷ []) ((get_or es i d).1 ∷ []))
+    sym (marked_append atoms (mark atoms used (flat_map (λ e. e.0 ∷ e.1 ∷ []) (take i es))) ((get_or es i d).0 ∷ []) ((get_or es i d).1 ∷ []))
     ∙ sym (marked_append atoms used (flat_map (λ e. e.0 ∷ e.1 ∷ []) (take i es)) ((get_or es i d).0 ∷ (get_or es i d).1 ∷ []))
-    ∙ ap (marked atoms used) (sym (flat_map_more (λ e. e.0 ∷ e.1 ∷ []) es i d l))
+    ∙ ap (mark atoms used) (sym (flat_map_more (λ e. e.0 ∷ e.1 ∷ []) es i d l))
 
 pub marked_sides : (atoms : List Atom) (used : List Bool) (cs : List Comparison) (i : ℕ) (d : Comparison) → i < length cs
-    → marked atoms (marked atoms used (flat_map (λ c. c.left ∷ operand_places c.right) (take i cs)))
-    ((get_or cs i d).left ∷ operand_places (get_or cs i d).right) ≡ marked atoms used (flat_map (λ c. c.left ∷ operand_places c.right) (take (i + 1) cs))
+    → mark atoms (mark atoms used (flat_map (λ c. c.left ∷ operand_places c.right) (take i cs)))
+    ((get_or cs i d).left ∷ operand_places (get_or cs i d).right) ≡ mark atoms used (flat_map (λ c. c.left ∷ operand_places c.right) (take (i + 1) cs))
 marked_sides atoms used cs i d l =
     sym (marked_append atoms used (flat_map (λ c. c.left ∷ operand_places c.right) (take i cs)) ((get_or cs i d).left ∷ operand_places (get_or cs i d).right))
-    ∙ ap (marked atoms used) (sym (flat_map_more (λ c. c.left ∷ operand_places c.right) cs i d l))
+    ∙ ap (mark atoms used) (sym (flat_map_more (λ c. c.left ∷ operand_places c.right) cs i d l))
 
 -- one more column, and one more atom
 pub class_list_more : (atoms : List Atom) (classes : List ℕ) (atom n : ℕ)
@@ -199,8 +199,8 @@ any_numbered atoms p (q ∷ ps) h all =
     eqb_turned a b = grind (arith, nat_tests)
 
 module _ (atoms : List Atom) (n : ℕ) (ps : List Place) (full : n ≡ offset atoms (length atoms)) (all : All (IsPlace atoms) ps) where
-  pub marked_at : (p : Place) → IsPlace atoms p → has (marked atoms (replicate n false) ps) (place_number atoms p) ≡ list_any (same_place p) ps
-  unfolding marked
+  pub marked_at : (p : Place) → IsPlace atoms p → has (mark atoms (replicate n false) ps) (place_number atoms p) ≡ list_any (same_place p) ps
+  unfolding mark
   marked_at p h =
       let l = number_below atoms p h in
       has-marked (replicate n false) (map (place_number atoms) ps) (place_number atoms p)
@@ -283,11 +283,11 @@ module _ (block : Block) (shape : BlockIsWellFormed block) where
   member a h = numbered_from block.atoms 0 block.atoms (λ k d l. ap (λ n. get_or block.atoms n d) (zero-add k)) (zero-add (length block.atoms)) a h
 
   module _ (n : ℕ) (full : n ≡ offset block.atoms (length block.atoms)) where
-    needed_lists : used_lists block.atoms (marked block.atoms (replicate n false) (used_places block))
+    needed_lists : used_lists block.atoms (mark block.atoms (replicate n false) (used_places block))
         ≡ map (λ a. needed_columns block a.0 a.1.width) (enumerate_from 0 block.atoms)
-    needed_lists = map_agrees (λ a. used_list block.atoms (marked block.atoms (replicate n false) (used_places block)) a.0 a.1.width)
+    needed_lists = map_agrees (λ a. used_list block.atoms (mark block.atoms (replicate n false) (used_places block)) a.0 a.1.width)
         (λ a. needed_columns block a.0 a.1.width) (enumerate_from 0 block.atoms)
-        (λ a m. ap (map column) (filter_agrees (λ c. has (marked block.atoms (replicate n false) (used_places block))
+        (λ a m. ap (map column) (filter_agrees (λ c. has (mark block.atoms (replicate n false) (used_places block))
         (place_number block.atoms (place_at a.0 c)))
         (λ c. list_any (same_place (place_at a.0 c)) (used_places block)) (range_with_len 0 a.1.width)
         (λ c k. marked_at block.atoms n (used_places block) full (used_are block shape) (place_at a.0 c) (place_numbered block.atoms a c (member a m) k))))
@@ -318,7 +318,7 @@ module _ (block : Block) (shape : BlockIsWellFormed block) where
         → (atoms : List Atom) (classes : List (List ℕ)) (count : ℕ) (constants : List (ℕ × Value)) (needed : List (List ColumnId))
         (comparisons : List Comparison) (output : List Place) → atoms ≡ block.atoms → classes ≡ class_lists block.atoms (map (rank labels) labels)
         → count ≡ length (heads labels) → constants ≡ map by_label block.constants
-        → needed ≡ used_lists block.atoms (marked block.atoms (replicate n false) (used_places block)) → comparisons ≡ block.comparisons → output ≡ block.output
+        → needed ≡ used_lists block.atoms (mark block.atoms (replicate n false) (used_places block)) → comparisons ≡ block.comparisons → output ≡ block.output
         → ◌≡◌ {A = Normal} (record {
           atoms = atoms;
           classes = classes;
@@ -341,7 +341,7 @@ pub normal_from : (block : Block) → BlockIsWellFormed block → (atoms : List 
     → equalities ≡ block.equalities
     → (labels slice numbers numbers2 numbers3 : List ℕ) → AreLabels atoms equalities labels → slice ≡ labels → numbers ≡ map (rank slice) slice
     → numbers2 ≡ numbers → numbers3 ≡ numbers
-    → (n : ℕ) → n ≡ offset atoms (length atoms) → (used used2 : List Bool) → used ≡ marked block.atoms (replicate n false) (used_places block) → used2 ≡ used
+    → (n : ℕ) → n ≡ offset atoms (length atoms) → (used used2 : List Bool) → used ≡ mark block.atoms (replicate n false) (used_places block) → used2 ≡ used
     → (given : List (Place × Value)) → given ≡ block.constants
     → (atoms2 : List Atom) (classes : List (List ℕ)) (count : ℕ) (constants : List (ℕ × Value)) (needed : List (List ColumnId)) (comparisons : List Comparison)
     (output : List Place)

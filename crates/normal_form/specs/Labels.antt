@@ -26,8 +26,8 @@ pub record AreLabels (atoms : List Atom) (equalities : List (Place × Place)) (l
   pub firsts : AreFirst labels
   pub joins : (p q : Place) → IsPlace atoms p → IsPlace atoms q → (label_of atoms labels p == label_of atoms labels q) ≡ is_joined equalities p q
 
-abbrev pub replaced : ℕ → ℕ → ℕ → ℕ
-replaced old new label = if label == old then new else label
+abbrev pub replace : ℕ → ℕ → ℕ → ℕ
+replace old new label = if label == old then new else label
 
 abbrev pub heads : List ℕ → List ℕ
 heads [] = []

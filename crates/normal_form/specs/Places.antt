@@ -18,8 +18,8 @@ offset (a ∷ atoms) (suc atom) = a.width + offset atoms atom
 abbrev pub place_number : List Atom → Place → ℕ
 place_number atoms place = offset atoms place.atom + place.column.0
 
-unfoldable pub marked : List Atom → List Bool → List Place → List Bool
-marked atoms used places = with_classes used (map (place_number atoms) places)
+unfoldable pub mark : List Atom → List Bool → List Place → List Bool
+mark atoms used places = with_classes used (map (place_number atoms) places)
 
 abbrev pub place_at : ℕ → ℕ → Place
 place_at atom column = record { atom = atom; column = record { 0 = column } }

@@ -3,7 +3,7 @@ ghost use Rattle.std.specs.Prelude.{◌≡◌, ◌<◌, ◌∷◌, All, IfOk, Li
 ghost use Rattle.std.specs.List.{range_with_len};
 ghost use Rattle.beas_core.specs.declared.query.Place.{Place as Position};
 ghost use Rattle.beas_core.specs.Shapes.{IsPlace};
-ghost use Rattle.normal_form.specs.Labels.{AreFirst, AreLabels, replaced, heads, rank};
+ghost use Rattle.normal_form.specs.Labels.{AreFirst, AreLabels, replace, heads, rank};
 
 use crate::places::Places;
 use beas_core::{NoMemory, Place};
@@ -28,7 +28,7 @@ fn own_labels(alloc: Global, count: u16) -> Result<Vec<u16>, NoMemory>
 }
 
 fn relabel(labels: &mut [u16], from: u16, to: u16)
-    ensures { labels.new ≡ map (replaced from to) labels.old }
+    ensures { labels.new ≡ map (replace from to) labels.old }
 {
     for label in labels.iter_mut() {
         if *label == from {

@@ -3,7 +3,7 @@ ghost use Rattle.std.specs.Prelude.{◌≡◌, ◌<◌, ◌∷◌, [], All, IfOk
 ghost use Rattle.std.specs.List.{flat_map};
 ghost use Rattle.beas_core.specs.Classes.{operand_places, used_places};
 ghost use Rattle.beas_core.specs.Shapes.{BlockIsWellFormed, ComparisonIsWellFormed, IsPlace};
-ghost use Rattle.normal_form.specs.Places.{marked};
+ghost use Rattle.normal_form.specs.Places.{mark};
 
 use crate::places::Places;
 use beas_core::{Block, Comparison, NoMemory, Operand, Place, Value};
@@ -13,7 +13,7 @@ use std::alloc::Global;
 fn mark(places: &Places<'_>, place: Place, used: &mut [bool])
     requires place { IsPlace places.now.atoms.now place }
     requires full { length used.old ≡ places.now.count }
-    ensures { used.new ≡ marked places.now.atoms.now used.old (place ∷ []) }
+    ensures { used.new ≡ mark places.now.atoms.now used.old (place ∷ []) }
 {
     used[places.number(place)] = true;
 }
@@ -22,7 +22,7 @@ fn mark(places: &Places<'_>, place: Place, used: &mut [bool])
 fn mark_output(places: &Places<'_>, output: &[Place], used: &mut [bool])
     requires output { All (IsPlace places.now.atoms.now) output.now }
     requires full { length used.old ≡ places.now.count }
-    ensures { used.new ≡ marked places.now.atoms.now used.old output.now }
+    ensures { used.new ≡ mark places.now.atoms.now used.old output.now }
 {
     for place in output {
         mark(places, *place, used);
@@ -34,7 +34,7 @@ fn mark_equalities(places: &Places<'_>, equalities: &[(Place, Place)], used: &mu
     requires equalities { All
         (λ e. IsPlace places.now.atoms.now e.0 × IsPlace places.now.atoms.now e.1) equalities.now }
     requires full { length used.old ≡ places.now.count }
-    ensures { used.new ≡ marked places.now.atoms.now used.old (flat_map (λ e. e.0 ∷ e.1 ∷ []) equalities.now) }
+    ensures { used.new ≡ mark places.now.atoms.now used.old (flat_map (λ e. e.0 ∷ e.1 ∷ []) equalities.now) }
 {
     for equality in equalities {
         mark(places, equality.0, used);
@@ -46,7 +46,7 @@ fn mark_equalities(places: &Places<'_>, equalities: &[(Place, Place)], used: &mu
 fn mark_constants(places: &Places<'_>, constants: &[(Place, Value)], used: &mut [bool])
     requires constants { All (λ c. IsPlace places.now.atoms.now c.0) constants.now }
     requires full { length used.old ≡ places.now.count }
-    ensures { used.new ≡ marked places.now.atoms.now used.old (map (λ c. c.0) constants.now) }
+    ensures { used.new ≡ mark places.now.atoms.now used.old (map (λ c. c.0) constants.now) }
 {
     for constant in constants {
         mark(places, constant.0, used);
@@ -57,7 +57,7 @@ fn mark_constants(places: &Places<'_>, constants: &[(Place, Value)], used: &mut 
 fn mark_sides(places: &Places<'_>, comparison: &Comparison, used: &mut [bool])
     requires comparison { ComparisonIsWellFormed places.now.atoms.now comparison.now }
     requires full { length used.old ≡ places.now.count }
-    ensures { used.new ≡ marked places.now.atoms.now used.old
+    ensures { used.new ≡ mark places.now.atoms.now used.old
         (comparison.now.left ∷ operand_places comparison.now.right) }
 {
     mark(places, comparison.left, used);
@@ -70,7 +70,7 @@ fn mark_sides(places: &Places<'_>, comparison: &Comparison, used: &mut [bool])
 fn mark_comparisons(places: &Places<'_>, comparisons: &[Comparison], used: &mut [bool])
     requires comparisons { All (ComparisonIsWellFormed places.now.atoms.now) comparisons.now }
     requires full { length used.old ≡ places.now.count }
-    ensures { used.new ≡ marked places.now.atoms.now used.old
+    ensures { used.new ≡ mark places.now.atoms.now used.old
         (flat_map (λ c. c.left ∷ operand_places c.right) comparisons.now) }
 {
     for comparison in comparisons {
@@ -83,7 +83,7 @@ fn mark_block(places: &Places<'_>, block: &Block, used: &mut [bool])
     requires block { BlockIsWellFormed block.now }
     requires atoms { places.now.atoms.now ≡ block.now.atoms }
     requires full { length used.old ≡ places.now.count }
-    ensures { used.new ≡ marked block.now.atoms used.old (used_places block.now) }
+    ensures { used.new ≡ mark block.now.atoms used.old (used_places block.now) }
 {
     mark_equalities(places, block.equalities.as_slice(), used);
     mark_constants(places, block.constants.as_slice(), used);
@@ -96,7 +96,7 @@ fn mark_block(places: &Places<'_>, block: &Block, used: &mut [bool])
 pub fn marks_of(alloc: Global, places: &Places<'_>, block: &Block) -> Result<Vec<bool>, NoMemory>
     requires block { BlockIsWellFormed block.now }
     requires atoms { places.now.atoms.now ≡ block.now.atoms }
-    ensures used { IfOk result (λ used. used.items ≡ marked block.now.atoms (replicate places.now.count false)
+    ensures used { IfOk result (λ used. used.items ≡ mark block.now.atoms (replicate places.now.count false)
         (used_places block.now)) }
     ensures len { IfOk result (λ used. length used.items ≡ places.now.count) }
 {

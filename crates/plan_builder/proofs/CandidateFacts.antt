@@ -27,7 +27,7 @@ use Rattle.evaluation_facts.proofs.SoundDerivations.{serves_within}
 use Rattle.evaluation_facts.proofs.UseFacts.{same_number, use_facts}
 use Rattle.attribute_closure.specs.Keys.{number_at, AreCounted, GoesOn}
 use Rattle.attribute_closure.specs.declared.uses.UseAt.{UseAt}
-use Rattle.attribute_closure.specs.Uses.{no_use, seen, use_at}
+use Rattle.attribute_closure.specs.Uses.{no_use, as_use, use_at}
 use Rattle.attribute_closure.proofs.Closing.{held_ready, ready_held}
 use Rattle.plan_builder.specs.Candidates.{AreLeft, AreServed, AreWaiting, Entry, IsEntry, atoms_served, entry_of, later}
 use Rattle.plan_builder.specs.Choices.{may_add}
@@ -208,8 +208,8 @@ module _ (normal : Normal) (us : List Use) (set : ClassSet) where
 
 -- ---- one number more
 
-pub seen_is : (us : List UseAt) (i : ℕ) (u : UseAt) → i < length us → u ≡ get_or us i u → seen u ≡ use_at (map seen us) i
-seen_is us i u below is = ap seen is ∙ sym (get_or-map seen us i u no_use below)
+pub seen_is : (us : List UseAt) (i : ℕ) (u : UseAt) → i < length us → u ≡ get_or us i u → as_use u ≡ use_at (map as_use us) i
+seen_is us i u below is = ap as_use is ∙ sym (get_or-map as_use us i u no_use below)
 
 pub entries_step : (us : List Use) (old : List Entry) (ns : List ℕ) (i : ℕ) (entry : Entry) → i < length ns → entry ≡ entry_of us (get_or ns i 0)
     → (old ++ map (entry_of us) (take i ns)) ++ entry ∷ [] ≡ old ++ map (entry_of us) (take (i + 1) ns)
@@ -347,17 +347,17 @@ rest_of xs n = take_all (length xs - n) (drop n xs) (omega (arith, length-drop n
 
 -- what the code pushed is what it was to push
 pub joined_same : (old old2 : List Entry) (xs xs2 : List UseAt) (ns ns2 : List ℕ) (new : List Entry) → old ≡ old2 → xs ≡ xs2 → ns ≡ ns2
-    → IsPermutation (old ++ map (entry_of (map seen xs)) ns) new → IsPermutation (old2 ++ map (entry_of (map seen xs2)) ns2) new
+    → IsPermutation (old ++ map (entry_of (map as_use xs)) ns) new → IsPermutation (old2 ++ map (entry_of (map as_use xs2)) ns2) new
 joined_same old old2 xs xs2 ns ns2 new o x n h =
-    subst (λ es. IsPermutation es new) (ap (λ es. es ++ map (entry_of (map seen xs)) ns) o
-    ∙ ap (λ us. old2 ++ map (entry_of (map seen us)) ns) x ∙ ap (λ ks. old2 ++ map (entry_of (map seen xs2)) ks) n) h
+    subst (λ es. IsPermutation es new) (ap (λ es. es ++ map (entry_of (map as_use xs)) ns) o
+    ∙ ap (λ us. old2 ++ map (entry_of (map as_use us)) ns) x ∙ ap (λ ks. old2 ++ map (entry_of (map as_use xs2)) ks) n) h
 
 -- and what it noted
 pub noted_same : (normal : Normal) (old old2 : List Bool) (xs xs2 : List UseAt) (ns ns2 : List ℕ) (new : List Bool) → old ≡ old2 → xs ≡ xs2 → ns ≡ ns2
-    → new ≡ with_classes old (atoms_served normal (map seen xs) ns) → new ≡ with_classes old2 (atoms_served normal (map seen xs2) ns2)
+    → new ≡ with_classes old (atoms_served normal (map as_use xs) ns) → new ≡ with_classes old2 (atoms_served normal (map as_use xs2) ns2)
 noted_same normal old old2 xs xs2 ns ns2 new o x n h =
-    h ∙ ap (λ s. with_classes s (atoms_served normal (map seen xs) ns)) o
-    ∙ ap (λ us. with_classes old2 (atoms_served normal (map seen us) ns)) x ∙ ap (λ ks. with_classes old2 (atoms_served normal (map seen xs2) ks)) n
+    h ∙ ap (λ s. with_classes s (atoms_served normal (map as_use xs) ns)) o
+    ∙ ap (λ us. with_classes old2 (atoms_served normal (map as_use us) ns)) x ∙ ap (λ ks. with_classes old2 (atoms_served normal (map as_use xs2) ks)) n
 
 module _ (normal : Normal) (us : List Use) (set : ClassSet) (m : List ℕ) (lists : List (List ℕ)) (ready : List ℕ)
     (counted : AreCounted normal us set m lists ready) where

@@ -7,7 +7,7 @@ use Rattle.std.proofs.lemmas.List.Elements.{filter-append}
 use Rattle.beas_core.specs.Types.{Use}
 use Rattle.beas_core.specs.Derivations.{least_bound}
 use Rattle.attribute_closure.specs.declared.uses.UseAt.{UseAt}
-use Rattle.attribute_closure.specs.Uses.{seen}
+use Rattle.attribute_closure.specs.Uses.{as_use}
 use Rattle.plan_builder.specs.Choices.{is_better}
 
 abbrev pub lesser : Use → Use → Bool
@@ -26,27 +26,27 @@ least_push (v ∷ us) u = ap Some (fold_push v us u) ∙ by (lesser u (best_of l
     by false = refl
 
 module _ (p : Use → Bool) (us : List UseAt) (i : ℕ) (u : UseAt) (l : i < length us) (is : u ≡ get_or us i u) where
-  one_more : filter p (map seen (take (i + 1) us)) ≡ filter p (map seen (take i us)) ++ cond (p (seen u)) (seen u ∷ []) []
+  one_more : filter p (map as_use (take (i + 1) us)) ≡ filter p (map as_use (take i us)) ++ cond (p (as_use u)) (as_use u ∷ []) []
   one_more =
-      ap (λ k. filter p (map seen (take k us))) (add-one i) ∙ ap (λ vs. filter p (map seen vs)) (take-suc us i u l ∙ ap (λ v. take i us ++ v ∷ []) (sym is))
-      ∙ ap (filter p) (map-append seen (take i us) (u ∷ [])) ∙ filter-append p (map seen (take i us)) (seen u ∷ [])
+      ap (λ k. filter p (map as_use (take k us))) (add-one i) ∙ ap (λ vs. filter p (map as_use vs)) (take-suc us i u l ∙ ap (λ v. take i us ++ v ∷ []) (sym is))
+      ∙ ap (filter p) (map-append as_use (take i us) (u ∷ [])) ∙ filter-append p (map as_use (take i us)) (as_use u ∷ [])
 
-  best_more : (best : Option Use) → best ≡ least_bound (filter p (map seen (take i us))) → p (seen u) ≡ true
-      → least_bound (filter p (map seen (take (i + 1) us))) ≡ cond (is_better (seen u) best) (Some (seen u)) best
+  best_more : (best : Option Use) → best ≡ least_bound (filter p (map as_use (take i us))) → p (as_use u) ≡ true
+      → least_bound (filter p (map as_use (take (i + 1) us))) ≡ cond (is_better (as_use u) best) (Some (as_use u)) best
   best_more best so may =
-      ap least_bound (one_more ∙ ap (λ b. filter p (map seen (take i us)) ++ cond b (seen u ∷ []) []) may)
-      ∙ least_push (filter p (map seen (take i us))) (seen u)
-      ∙ ap (λ o. cond (is_better (seen u) o) (Some (seen u)) o) (sym so)
+      ap least_bound (one_more ∙ ap (λ b. filter p (map as_use (take i us)) ++ cond b (as_use u ∷ []) []) may)
+      ∙ least_push (filter p (map as_use (take i us))) (as_use u)
+      ∙ ap (λ o. cond (is_better (as_use u) o) (Some (as_use u)) o) (sym so)
 
-  pub best_taken : (best : Option Use) (may better : Bool) → best ≡ least_bound (filter p (map seen (take i us))) → may ≡ p (seen u)
-      → better ≡ is_better (seen u) best → (may && better) ≡ true
-      → Some (seen u) ≡ least_bound (filter p (map seen (take (i + 1) us)))
-  best_taken best true better so m b h = sym (best_more best so (sym m) ∙ ap (λ c. cond c (Some (seen u)) best) (sym b ∙ h))
+  pub best_taken : (best : Option Use) (may better : Bool) → best ≡ least_bound (filter p (map as_use (take i us))) → may ≡ p (as_use u)
+      → better ≡ is_better (as_use u) best → (may && better) ≡ true
+      → Some (as_use u) ≡ least_bound (filter p (map as_use (take (i + 1) us)))
+  best_taken best true better so m b h = sym (best_more best so (sym m) ∙ ap (λ c. cond c (Some (as_use u)) best) (sym b ∙ h))
   best_taken best false better so m b h = cc
 
-  pub best_left : (best : Option Use) (may better : Bool) → best ≡ least_bound (filter p (map seen (take i us))) → may ≡ p (seen u)
-      → better ≡ is_better (seen u) best → (may && better) ≡ false
-      → best ≡ least_bound (filter p (map seen (take (i + 1) us)))
-  best_left best true better so m b h = sym (best_more best so (sym m) ∙ ap (λ c. cond c (Some (seen u)) best) (sym b ∙ h))
+  pub best_left : (best : Option Use) (may better : Bool) → best ≡ least_bound (filter p (map as_use (take i us))) → may ≡ p (as_use u)
+      → better ≡ is_better (as_use u) best → (may && better) ≡ false
+      → best ≡ least_bound (filter p (map as_use (take (i + 1) us)))
+  best_left best true better so m b h = sym (best_more best so (sym m) ∙ ap (λ c. cond c (Some (as_use u)) best) (sym b ∙ h))
   best_left best false better so m b h = so ∙ sym (ap least_bound (one_more
-      ∙ ap (λ c. filter p (map seen (take i us)) ++ cond c (seen u ∷ []) []) (sym m) ∙ append-nil (filter p (map seen (take i us)))))
+      ∙ ap (λ c. filter p (map as_use (take i us)) ++ cond c (as_use u ∷ []) []) (sym m) ∙ append-nil (filter p (map as_use (take i us)))))

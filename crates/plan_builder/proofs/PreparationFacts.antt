@@ -29,7 +29,7 @@ use Rattle.beas_core.specs.Trees.{QueryTree, blocks_of}
 use Rattle.beas_core.specs.Classes.{normal_of, needed_columns, used_places, same_place}
 use Rattle.beas_core.specs.Coverage.{Uncovered, constant_classes, first_uncovered, first_uncovered_from, is_open, is_served, needed_places, atoms_of, own_cover, own_reason, reason}
 use Rattle.beas_core.specs.Derivations.{access_in, is_live, is_on_table, own_derivation, table_of, IsSound}
-use Rattle.beas_core.specs.Numbers.{announced, own_announced_of_all}
+use Rattle.beas_core.specs.Numbers.{announced_from, own_announced_of_all}
 use Rattle.beas_core.specs.Fits.{PlanFits, OwnPlanIsSound}
 use Rattle.beas_core.proofs.Sets.{Has, Contains-from_has, Has-from_map, Has-from_filter}
 use Rattle.beas_core.proofs.Accesses.{access_in-member}
@@ -43,7 +43,7 @@ use Rattle.evaluation_facts.proofs.StartFacts.{start_counted}
 use Rattle.catalogue.specs.Queries.{AtomIsOver, BlockIsOver, QueryIsOver}
 use Rattle.catalogue.specs.Refusing.{IsRefusedAs}
 use Rattle.catalogue.specs.Schema.{Schema, SchemaIsSound, AccessIsSound, columns_at}
-use Rattle.plan_builder.specs.Preparation.{Prepares, announced_number, header_of, no_block, not_covered, own_plan, place_name, plans_of, preparation, prepared, refusal_of, unless_uncovered}
+use Rattle.plan_builder.specs.Preparation.{Prepares, announced_number, header_of, no_block, not_covered, own_plan, place_name, plans_of, preparation, prepared_query, refusal_of, unless_uncovered}
 
 -- constraints whose ids rise have each id once
 pub ids_once : (schema : Schema) → SchemaIsSound schema → EachIdOnce schema.accesses
@@ -233,7 +233,7 @@ same_plans accesses (n ∷ normals) (p ∷ plans) e =
 -- ---- the number
 
 pub announced_more : (accesses : List Access) (plans : List Derivation) (i : ℕ) (d : Derivation) → i < length plans
-    → own_announced_of_all accesses (drop i plans) ≡ announced accesses 1 (get_or plans i d).steps + own_announced_of_all accesses (drop (i + 1) plans)
+    → own_announced_of_all accesses (drop i plans) ≡ announced_from accesses 1 (get_or plans i d).steps + own_announced_of_all accesses (drop (i + 1) plans)
 announced_more accesses plans i d l = ap (own_announced_of_all accesses) (drop_more plans i d l)
 
 pub announced_none : (accesses : List Access) (plans : List Derivation) (i : ℕ) → length plans ≤ i → own_announced_of_all accesses (drop i plans) ≡ 0
@@ -351,16 +351,16 @@ module _ (schema : Schema) (query : QueryTree) (none : first_uncovered (map norm
   prepares_too_large e is large =
       subst (λ f. Prepares (Err f) (preparation schema query)) (sym is)
       (ap (unless_uncovered schema query) none
-      ∙ ap (λ b. cond b (Err TooLarge) (Ok (prepared schema query))) (passes (2 ^ 128) (announced_number schema query) large))
+      ∙ ap (λ b. cond b (Err TooLarge) (Ok (prepared_query schema query))) (passes (2 ^ 128) (announced_number schema query) large))
     where
       passes : (a b : ℕ) → a ≤ b → nat_le a b ≡ true
       passes a b h = grind (arith, nat_tests)
 
-  pub prepares_ok : announced_number schema query < 2 ^ 128 → Prepares (Ok (prepared schema query)) (preparation schema query)
+  pub prepares_ok : announced_number schema query < 2 ^ 128 → Prepares (Ok (prepared_query schema query)) (preparation schema query)
   unfolding preparation
   prepares_ok small =
       ap (unless_uncovered schema query) none
-      ∙ ap (λ b. cond b (Err TooLarge) (Ok (prepared schema query))) (below (2 ^ 128) (announced_number schema query) small)
+      ∙ ap (λ b. cond b (Err TooLarge) (Ok (prepared_query schema query))) (below (2 ^ 128) (announced_number schema query) small)
     where
       below : (a b : ℕ) → b < a → nat_le a b ≡ false
       below a b h = grind (arith, nat_tests)
@@ -371,10 +371,10 @@ module _ (schema : Schema) (query : QueryTree) (none : first_uncovered (map norm
   prepares_parts p q h n d b small =
       let plans = plans_are p.normals p.derivations n d in
       let number : p.bound ≡ announced_number schema query = b ∙ ap (own_announced_of_all schema.accesses) plans in
-      let is : p ≡ prepared schema query =
+      let is : p ≡ prepared_query schema query =
       ap (λ (x : QueryTree). record p { query = x }) q
-      ∙ ap (λ x. record (prepared schema query) { header = x; normals = p.normals; derivations = p.derivations; bound = p.bound }) h
-      ∙ ap (λ x. record (prepared schema query) { normals = x; derivations = p.derivations; bound = p.bound }) n
-      ∙ ap (λ x. record (prepared schema query) { derivations = x; bound = p.bound }) plans
-      ∙ ap (λ x. record (prepared schema query) { bound = x }) number in
+      ∙ ap (λ x. record (prepared_query schema query) { header = x; normals = p.normals; derivations = p.derivations; bound = p.bound }) h
+      ∙ ap (λ x. record (prepared_query schema query) { normals = x; derivations = p.derivations; bound = p.bound }) n
+      ∙ ap (λ x. record (prepared_query schema query) { derivations = x; bound = p.bound }) plans
+      ∙ ap (λ x. record (prepared_query schema query) { bound = x }) number in
       subst (λ x. Prepares (Ok x) (preparation schema query)) (sym is) (prepares_ok (subst (λ x. x < 2 ^ 128) number small))

@@ -20,7 +20,7 @@ use Rattle.evaluation_facts.proofs.ReasonFacts.{reason-covered, covered-reason}
 use Rattle.std.specs.Bool.{MatchBool}
 use Rattle.std.proofs.lemmas.Bool.{eq-eqb}
 use Rattle.attribute_closure.specs.declared.uses.UseAt.{UseAt}
-use Rattle.attribute_closure.specs.Uses.{seen}
+use Rattle.attribute_closure.specs.Uses.{as_use}
 use Rattle.plan_builder.specs.Plans.{served_among}
 
 module _ (normal : Normal) (accesses : List Access) (set : ClassSet) where
@@ -185,24 +185,24 @@ chosen_member p us u e = (Has-from_filter p us u (least_has (filter p us) u (sym
 
 -- one more step, as the code takes it
 module _ (normal : Normal) (accesses : List Access) (once : EachIdOnce accesses) (start set : ClassSet) (steps : List DStep) (taken : List UseAt)
-    (x : UseAt) (member : Has (uses normal accesses) (seen x))
-    (set2 : ClassSet) (steps2 : List DStep) (es : set2 ≡ with_use normal set (seen x)) (et : steps2 ≡ steps ++ step_of normal set (seen x) ∷ []) where
+    (x : UseAt) (member : Has (uses normal accesses) (as_use x))
+    (set2 : ClassSet) (steps2 : List DStep) (es : set2 ≡ with_use normal set (as_use x)) (et : steps2 ≡ steps ++ step_of normal set (as_use x) ∷ []) where
   pub plan_bound : set ≡ bound_after normal accesses start steps → set2 ≡ bound_after normal accesses start steps2
-  plan_bound e = es ∙ bound_more normal accesses once start set steps (map seen taken) (seen x) member e ∙ ap (bound_after normal accesses start) (sym et)
+  plan_bound e = es ∙ bound_more normal accesses once start set steps (map as_use taken) (as_use x) member e ∙ ap (bound_after normal accesses start) (sym et)
 
-  pub plan_uses : (taken2 : List UseAt) → taken2 ≡ taken ++ x ∷ [] → map (use_of accesses) steps ≡ map seen taken
-      → map (use_of accesses) steps2 ≡ map seen taken2
+  pub plan_uses : (taken2 : List UseAt) → taken2 ≡ taken ++ x ∷ [] → map (use_of accesses) steps ≡ map as_use taken
+      → map (use_of accesses) steps2 ≡ map as_use taken2
   plan_uses taken2 ex e =
-      ap (map (use_of accesses)) et ∙ uses_more normal accesses once start set steps (map seen taken) (seen x) member e
-      ∙ sym (ap (map seen) ex ∙ map-append seen taken (x ∷ []))
+      ap (map (use_of accesses)) et ∙ uses_more normal accesses once start set steps (map as_use taken) (as_use x) member e
+      ∙ sym (ap (map as_use) ex ∙ map-append as_use taken (x ∷ []))
 
   pub plan_left : (n i : ℕ) → i < n → adding_steps n normal accesses start
       ≡ option_map (λ more. steps ++ more) (adding_steps (n - i) normal accesses set) → is_covered normal accesses set ≡ false
-      → least_bound (enabled_uses normal accesses set) ≡ Some (seen x)
+      → least_bound (enabled_uses normal accesses set) ≡ Some (as_use x)
       → adding_steps n normal accesses start ≡ option_map (λ more. steps2 ++ more) (adding_steps (n - (i + 1)) normal accesses set2)
   plan_left n i l left out best =
-      left_more normal accesses start set steps n i (omega arith) left (seen x) out best l
-      ∙ ap (λ xs. option_map (λ more. xs ++ more) (adding_steps (n - (i + 1)) normal accesses (with_use normal set (seen x)))) (sym et)
+      left_more normal accesses start set steps n i (omega arith) left (as_use x) out best l
+      ∙ ap (λ xs. option_map (λ more. xs ++ more) (adding_steps (n - (i + 1)) normal accesses (with_use normal set (as_use x)))) (sym et)
       ∙ ap (λ s. option_map (λ more. steps2 ++ more) (adding_steps (n - (i + 1)) normal accesses s)) (sym es)
 
 pub by_bool : {P Q : Type 0} (b c : Bool) → b ≡ c → (c ≡ true → P) → (c ≡ false → Q) → MatchBool b P Q
@@ -210,17 +210,17 @@ by_bool true c e f g = f (sym e)
 by_bool false c e f g = g (sym e)
 
 pub among_here : (normal : Normal) (atom : ℕ) (us : List UseAt) (i : ℕ) (x : UseAt) → i < length us → x ≡ get_or us i x → x.atom ≡ atom
-    → holds_needed normal (seen x) ≡ true → true ≡ served_among normal atom (map seen us)
+    → holds_needed normal (as_use x) ≡ true → true ≡ served_among normal atom (map as_use us)
 among_here normal atom us i x l is same held = sym (by us i l is)
   where
-    by : (vs : List UseAt) (k : ℕ) → k < length vs → x ≡ get_or vs k x → served_among normal atom (map seen vs) ≡ true
+    by : (vs : List UseAt) (k : ℕ) → k < length vs → x ≡ get_or vs k x → served_among normal atom (map as_use vs) ≡ true
     by [] k m e = absurd (omega (arith, m))
     by (v ∷ vs) zero m e =
-        ap (λ y. ((y.atom == atom) && holds_needed normal (seen y)) || served_among normal atom (map seen vs)) (sym e)
-        ∙ ap (λ b. (b && holds_needed normal (seen x)) || served_among normal atom (map seen vs)) (eq-eqb x.atom atom same)
-        ∙ ap (λ b. b || served_among normal atom (map seen vs)) held
-    by (v ∷ vs) (suc k) m e = ap (λ b. ((v.atom == atom) && holds_needed normal (seen v)) || b) (by vs k (omega arith) e)
-        ∙ or_true ((v.atom == atom) && holds_needed normal (seen v))
+        ap (λ y. ((y.atom == atom) && holds_needed normal (as_use y)) || served_among normal atom (map as_use vs)) (sym e)
+        ∙ ap (λ b. (b && holds_needed normal (as_use x)) || served_among normal atom (map as_use vs)) (eq-eqb x.atom atom same)
+        ∙ ap (λ b. b || served_among normal atom (map as_use vs)) held
+    by (v ∷ vs) (suc k) m e = ap (λ b. ((v.atom == atom) && holds_needed normal (as_use v)) || b) (by vs k (omega arith) e)
+        ∙ or_true ((v.atom == atom) && holds_needed normal (as_use v))
       where
         or_true : (b : Bool) → (b || true) ≡ true
         or_true true = refl

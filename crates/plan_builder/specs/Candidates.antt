@@ -15,7 +15,7 @@ use Rattle.beas_core.specs.Types.{ClassSet, Use}
 use Rattle.beas_core.specs.Coverage.{holds_classes, holds_needed, key_classes, serves}
 use Rattle.beas_core.specs.Derivations.{adds_class, with_use}
 use Rattle.attribute_closure.specs.Keys.{KeysAreCounted}
-use Rattle.attribute_closure.specs.Uses.{seen, use_at}
+use Rattle.attribute_closure.specs.Uses.{as_use, use_at}
 use Rattle.plan_builder.specs.declared.candidates.Candidates.{Candidates}
 use Rattle.plan_builder.specs.Choices.{may_add}
 
@@ -57,7 +57,7 @@ abbrev pub atoms_served : Normal → List Use → List ℕ → List ℕ
 atoms_served normal us numbers = map (λ u. u.atom) (filter (holds_needed normal) (map (use_at us) numbers))
 
 abbrev pub uses_of : Candidates → List Use
-uses_of c = map seen c.keys.uses
+uses_of c = map as_use c.keys.uses
 
 pub record AreCandidates (normal : Normal) (c : Candidates) : Type 0 where
   pub counted : KeysAreCounted normal c.keys

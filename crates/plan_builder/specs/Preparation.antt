@@ -72,8 +72,8 @@ plans_of schema query = map (own_plan schema.accesses) (map normal_of (blocks_of
 abbrev pub announced_number : Schema → QueryTree → ℕ
 announced_number schema query = own_announced_of_all schema.accesses (plans_of schema query)
 
-abbrev pub prepared : Schema → QueryTree → Prepared
-prepared schema query = record {
+abbrev pub prepared_query : Schema → QueryTree → Prepared
+prepared_query schema query = record {
   query = query;
   header = header_of schema (blocks_of query);
   normals = map normal_of (blocks_of query);
@@ -85,7 +85,7 @@ prepared schema query = record {
 abbrev pub unless_uncovered : Schema → QueryTree → Option Uncovered → Result Prepared Refusal
 unless_uncovered schema query (Some found) = Err (refusal_of schema (blocks_of query) found)
 unless_uncovered schema query None =
-    if nat_le (2 ^ 128) (announced_number schema query) then Err refusal.TooLarge else Ok (prepared schema query)
+    if nat_le (2 ^ 128) (announced_number schema query) then Err refusal.TooLarge else Ok (prepared_query schema query)
 
 unfoldable pub preparation : Schema → QueryTree → Result Prepared Refusal
 preparation schema query =

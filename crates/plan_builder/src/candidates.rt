@@ -6,7 +6,7 @@ ghost use Rattle.std.specs.BinaryHeap.{IsHeap, heap_items};
 ghost use Rattle.beas_core.specs.declared.schema.Access.{Access as Constraint};
 ghost use Rattle.beas_core.specs.Coverage.{ClassesInRange, holds_needed as needed_are_held, is_covered, uses as uses_in, with_classes};
 ghost use Rattle.beas_core.specs.Derivations.{least_bound, with_use};
-ghost use Rattle.attribute_closure.specs.Uses.{seen};
+ghost use Rattle.attribute_closure.specs.Uses.{as_use};
 ghost use Rattle.plan_builder.specs.Candidates.{AreCandidates, AreLeft, AreOthers, AreWaiting, atoms_served, entry_of, later};
 ghost use Rattle.plan_builder.specs.Choices.{may_add};
 
@@ -33,7 +33,7 @@ fn push_all(uses: &[UseAt<'_>], numbers: &[usize], waiting: &mut Queue) -> Resul
     requires { All (λ w. w < length uses.now) numbers.now }
     ensures order { OnOk result (IsHeap later (heap_items waiting.old) → IsHeap later (heap_items waiting.new)) }
     ensures items { OnOk result (IsPermutation
-        (heap_items waiting.old ++ map (entry_of (map seen uses.now)) numbers.now)
+        (heap_items waiting.old ++ map (entry_of (map as_use uses.now)) numbers.now)
         (heap_items waiting.new)) }
 {
     for number in numbers {
@@ -45,7 +45,7 @@ fn push_all(uses: &[UseAt<'_>], numbers: &[usize], waiting: &mut Queue) -> Resul
 
 #[tactic(auto, using(attribute_closure::proofs::Sets::set_past))]
 fn note_atom(block: &Normal, found: &UseAt<'_>, served: &mut [bool])
-    ensures { served.new ≡ (if needed_are_held block.now (seen found.now)
+    ensures { served.new ≡ (if needed_are_held block.now (as_use found.now)
         then slice_set served.old found.now.atom true
         else served.old) }
 {
@@ -59,7 +59,7 @@ fn note_atom(block: &Normal, found: &UseAt<'_>, served: &mut [bool])
 
 fn note_served(block: &Normal, uses: &[UseAt<'_>], numbers: &[usize], served: &mut [bool])
     requires { All (λ w. w < length uses.now) numbers.now }
-    ensures { served.new ≡ with_classes served.old (atoms_served block.now (map seen uses.now) numbers.now) }
+    ensures { served.new ≡ with_classes served.old (atoms_served block.now (map as_use uses.now) numbers.now) }
 {
     for number in numbers {
         let found = uses[*number];
@@ -76,10 +76,10 @@ fn next_adding<'a>(
 ) -> Option<UseAt<'a>>
     requires ranges { ClassesInRange block.now }
     requires classes { length set.now ≡ block.now.count }
-    requires waiting { AreWaiting block.now (map seen uses.now) set.now (heap_items waiting.old) }
-    ensures best { option_map seen result ≡ least_bound (filter (may_add block.now set.now) (map seen uses.now)) }
+    requires waiting { AreWaiting block.now (map as_use uses.now) set.now (heap_items waiting.old) }
+    ensures best { option_map as_use result ≡ least_bound (filter (may_add block.now set.now) (map as_use uses.now)) }
     ensures left { IfSome result (λ found.
-        AreLeft block.now (map seen uses.now) set.now (seen found) (heap_items waiting.new)) }
+        AreLeft block.now (map as_use uses.now) set.now (as_use found) (heap_items waiting.new)) }
 {
     while let Some(next) = waiting.pop() {
         let found = uses[next.0.1];
@@ -115,7 +115,7 @@ impl<'a> Candidates<'a> {
         requires atoms { length block.now.atoms < 65536 }
         requires classes { length start.now ≡ block.now.count }
         ensures are { IfOk result (AreCandidates block.now) }
-        ensures uses { IfOk result (λ c. map seen c.keys.uses ≡ uses_in block.now accesses.now) }
+        ensures uses { IfOk result (λ c. map as_use c.keys.uses ≡ uses_in block.now accesses.now) }
         ensures set { IfOk result (λ c. c.keys.set.items ≡ start.now) }
     {
         let mut keys = Keys::of(alloc, block, accesses)?;
@@ -140,9 +140,9 @@ impl<'a> Candidates<'a> {
     pub fn next(&mut self, block: &Normal) -> Option<UseAt<'a>>
         requires ranges { ClassesInRange block.now }
         requires are { AreCandidates block.now self.old }
-        ensures best { option_map seen result
-            ≡ least_bound (filter (may_add block.now self.old.keys.set.items) (map seen self.old.keys.uses)) }
-        ensures left { IfSome result (λ found. AreOthers block.now (seen found) self.new) }
+        ensures best { option_map as_use result
+            ≡ least_bound (filter (may_add block.now self.old.keys.set.items) (map as_use self.old.keys.uses)) }
+        ensures left { IfSome result (λ found. AreOthers block.now (as_use found) self.new) }
         ensures keys { self.new.keys ≡ self.old.keys }
     {
         let keys = &self.keys;
@@ -152,10 +152,10 @@ impl<'a> Candidates<'a> {
     /// Takes a use that came up: its classes are bound now.
     pub fn take(&mut self, block: &Normal, found: &UseAt<'_>) -> Result<(), NoMemory>
         requires ranges { ClassesInRange block.now }
-        requires left { AreOthers block.now (seen found.now) self.old }
+        requires left { AreOthers block.now (as_use found.now) self.old }
         ensures are { OnOk result (AreCandidates block.now self.new) }
         ensures set { OnOk result
-            (self.new.keys.set.items ≡ with_use block.now self.old.keys.set.items (seen found.now)) }
+            (self.new.keys.set.items ≡ with_use block.now self.old.keys.set.items (as_use found.now)) }
         ensures uses { self.new.keys.uses ≡ self.old.keys.uses }
     {
         let noted = self.keys.ready.len();
@@ -174,7 +174,7 @@ impl<'a> Candidates<'a> {
     pub fn cover(&self, block: &Normal) -> bool
         requires are { AreCandidates block.now self.now }
         requires needed { length block.now.needed ≤ 65536 }
-        ensures { (accesses : List Constraint) → map seen self.now.keys.uses ≡ uses_in block.now accesses
+        ensures { (accesses : List Constraint) → map as_use self.now.keys.uses ≡ uses_in block.now accesses
             → result ≡ is_covered block.now accesses self.now.keys.set.items }
     {
         match open_place(block, &self.keys.set) {

@@ -2,7 +2,7 @@
 ghost use Rattle.std.specs.Prelude.{◌≡◌, ◌&&◌, ◌==◌, filter, map, nat_lt, option_map, true};
 ghost use Rattle.beas_core.specs.Coverage.{holds_classes, key_classes, serves as serves_atom};
 ghost use Rattle.beas_core.specs.Derivations.{adds_class, least_bound};
-ghost use Rattle.attribute_closure.specs.Uses.{seen};
+ghost use Rattle.attribute_closure.specs.Uses.{as_use};
 ghost use Rattle.plan_builder.specs.Choices.{is_better, may_add, may_serve};
 
 use crate::sets::adds;
@@ -10,7 +10,7 @@ use attribute_closure::{UseAt, holds_columns, serves};
 use beas_core::Normal;
 
 fn beats(found: &UseAt<'_>, best: &Option<UseAt<'_>>) -> bool
-    ensures { result ≡ is_better (seen found.now) (option_map seen best.now) }
+    ensures { result ≡ is_better (as_use found.now) (option_map as_use best.now) }
 {
     match best {
         None => true,
@@ -19,7 +19,7 @@ fn beats(found: &UseAt<'_>, best: &Option<UseAt<'_>>) -> bool
 }
 
 fn serves_now(block: &Normal, set: &[bool], atom: u16, found: &UseAt<'_>) -> bool
-    ensures { result ≡ may_serve block.now set.now atom (seen found.now) }
+    ensures { result ≡ may_serve block.now set.now atom (as_use found.now) }
 {
     if found.atom == atom {
         serves(block, set, found)
@@ -35,7 +35,7 @@ pub fn best_serving<'a>(
     set: &[bool],
     atom: u16,
 ) -> Option<UseAt<'a>>
-    ensures { option_map seen result ≡ least_bound (filter (may_serve block.now set.now atom) (map seen uses.now)) }
+    ensures { option_map as_use result ≡ least_bound (filter (may_serve block.now set.now atom) (map as_use uses.now)) }
 {
     let mut best: Option<UseAt<'a>> = None;
     for found in uses {

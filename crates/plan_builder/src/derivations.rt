@@ -5,7 +5,7 @@ ghost use Rattle.beas_core.specs.declared.schema.Access.{Access as Constraint};
 ghost use Rattle.beas_core.specs.Coverage.{ClassesInRange, atoms_of, constant_classes as classes_of_constants, own_reason, uses as uses_in};
 ghost use Rattle.beas_core.specs.Derivations.{adding_steps, greedy_steps, own_derivation, serving_steps, step_of, use_of, with_use};
 ghost use Rattle.beas_core.specs.Shapes.{EachIdOnce};
-ghost use Rattle.attribute_closure.specs.Uses.{seen};
+ghost use Rattle.attribute_closure.specs.Uses.{as_use};
 ghost use Rattle.plan_builder.specs.Candidates.{AreCandidates};
 ghost use Rattle.plan_builder.specs.Plans.{HasCome, served_among};
 
@@ -25,8 +25,8 @@ pub struct Plan {
 
 fn take_step(plan: &mut Plan, block: &Normal, found: UseAt<'_>) -> Result<(), NoMemory>
     ensures steps { OnOk result (plan.new.steps
-        ≡ plan.old.steps ++ step_of block.now plan.old.set.items (seen found.entry) ∷ []) }
-    ensures set { OnOk result (plan.new.set.items ≡ with_use block.now plan.old.set.items (seen found.entry)) }
+        ≡ plan.old.steps ++ step_of block.now plan.old.set.items (as_use found.entry) ∷ []) }
+    ensures set { OnOk result (plan.new.set.items ≡ with_use block.now plan.old.set.items (as_use found.entry)) }
 {
     let adds = adds(block, &plan.set, &found);
     plan.steps.push(DStep {
@@ -53,7 +53,7 @@ fn add_steps<'a>(
     requires taken { taken.old ≡ [] }
     ensures uses { candidates.new.keys.uses ≡ candidates.old.keys.uses }
     ensures come { IfOk result (λ whole. (accesses : Several Constraint)
-        → EachIdOnce accesses → map seen candidates.old.keys.uses ≡ uses_in block.now accesses
+        → EachIdOnce accesses → map as_use candidates.old.keys.uses ≡ uses_in block.now accesses
         → MatchBool whole
         (HasCome block.now accesses plan.old.set.items plan.new taken.new
         × (adding_steps block.now.count block.now accesses plan.old.set.items ≡ Some plan.new.steps))
@@ -76,7 +76,7 @@ fn add_steps<'a>(
 }
 
 fn is_served_among(block: &Normal, taken: &[UseAt<'_>], atom: u16) -> bool
-    ensures { result ≡ served_among block.now atom (map seen taken.now) }
+    ensures { result ≡ served_among block.now atom (map as_use taken.now) }
 {
     for found in taken {
         if found.atom == atom {
@@ -97,8 +97,8 @@ fn serve_atoms(
     taken: &[UseAt<'_>],
 ) -> Result<(), NoMemory>
     requires atoms { length block.now.atoms < 65536 }
-    requires uses { map seen uses.now ≡ uses_in block.now accesses.now }
-    requires taken { map (use_of accesses.now) plan.old.steps ≡ map seen taken.now }
+    requires uses { map as_use uses.now ≡ uses_in block.now accesses.now }
+    requires taken { map (use_of accesses.now) plan.old.steps ≡ map as_use taken.now }
     ensures { OnOk result (plan.new.steps
         ≡ plan.old.steps
         ++ serving_steps block.now accesses.now plan.old.steps plan.old.set.items (atoms_of block.now)) }

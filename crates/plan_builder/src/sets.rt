@@ -2,14 +2,14 @@
 ghost use Rattle.std.specs.Prelude.{◌≡◌, map};
 ghost use Rattle.beas_core.specs.Coverage.{ClassesInRange, class_at as class_of_column, with_classes};
 ghost use Rattle.beas_core.specs.Derivations.{adds_class, with_use};
-ghost use Rattle.attribute_closure.specs.Uses.{seen};
+ghost use Rattle.attribute_closure.specs.Uses.{as_use};
 
 use attribute_closure::{UseAt, class_at, holds_columns};
 use beas_core::{ColumnId, Normal};
 
 /// Whether a use adds a class to a set.
 pub fn adds(block: &Normal, set: &[bool], found: &UseAt<'_>) -> bool
-    ensures { result ≡ adds_class block.now set.now (seen found.now) }
+    ensures { result ≡ adds_class block.now set.now (as_use found.now) }
 {
     !holds_columns(block, set, found.atom, found.access.fetched.as_slice())
 }
@@ -29,7 +29,7 @@ fn add_columns(block: &Normal, atom: u16, columns: &[ColumnId], set: &mut [bool]
 /// Adds the classes of key and fetched columns of a use.
 #[tactic(auto, using(crate::proofs::SetFacts::with_members))]
 pub fn add_use(block: &Normal, found: &UseAt<'_>, set: &mut [bool])
-    ensures { set.new ≡ with_use block.now set.old (seen found.now) }
+    ensures { set.new ≡ with_use block.now set.old (as_use found.now) }
 {
     add_columns(block, found.atom, found.access.key.as_slice(), set);
     add_columns(block, found.atom, found.access.fetched.as_slice(), set);

@@ -17,7 +17,7 @@ use Rattle.beas_core.specs.Classes.{normal_of}
 use Rattle.beas_core.specs.Coverage.{ClassesInRange, ConstantsInRange, start_classes}
 use Rattle.beas_core.specs.Derivations.{IsSound, access_in}
 use Rattle.beas_core.specs.Full.{full_of_block}
-use Rattle.beas_core.specs.Numbers.{announced, own_announced_of_all}
+use Rattle.beas_core.specs.Numbers.{announced_from, own_announced_of_all}
 use Rattle.beas_core.specs.Reads.{own_reads, own_reads_of_all}
 use Rattle.beas_core.specs.Valuations.{own_answers}
 use Rattle.beas_core.specs.Fits.{OwnPlanIsSound, Fits}
@@ -119,9 +119,9 @@ module _ (rows : TableRows) (accesses : List Access) where
     pub count_within : (now next whole : ℕ) → Count (n ∷ normals) (p ∷ plans) now whole → next ≤ now + own_reads rows n accesses p.steps → next ≤ whole
     count_within now next whole c e = omega (arith, c, e)
 
-    pub room_here : (now limit : ℕ) → now + own_announced_of_all accesses (p ∷ plans) ≤ limit → now + announced accesses 1 p.steps ≤ limit
+    pub room_here : (now limit : ℕ) → now + own_announced_of_all accesses (p ∷ plans) ≤ limit → now + announced_from accesses 1 p.steps ≤ limit
     room_here now limit r = omega (arith, r)
 
     pub room_more : (now next limit : ℕ) → now + own_announced_of_all accesses (p ∷ plans) ≤ limit → next ≡ now + own_reads rows n accesses p.steps
-        → own_reads rows n accesses p.steps ≤ announced accesses 1 p.steps → next + own_announced_of_all accesses plans ≤ limit
+        → own_reads rows n accesses p.steps ≤ announced_from accesses 1 p.steps → next + own_announced_of_all accesses plans ≤ limit
     room_more now next limit r e few = omega (arith, r, e, few)

@@ -13,12 +13,12 @@ use Rattle.beas_core.specs.Sets.{distinct}
 use Rattle.beas_core.specs.Groups.{Holds}
 use Rattle.beas_core.specs.Coverage.{ClassesInRange, ConstantsInRange, start_classes, constant_classes}
 use Rattle.beas_core.specs.Derivations.{access_in, bound_by, bound_after, is_live, key_is_bound, steps_are_sound, IsSound}
-use Rattle.beas_core.specs.Valuations.{starts, valued, valuations, own_valuations, own_answers, answers_of, output_row}
+use Rattle.beas_core.specs.Valuations.{starts, valued_rows, valuations, own_valuations, own_answers, answers_of, output_row}
 use Rattle.beas_core.specs.Reads.{own_reads, reads_of, step_reads}
-use Rattle.beas_core.specs.Numbers.{announced}
+use Rattle.beas_core.specs.Numbers.{announced_from}
 use Rattle.beas_core.specs.Fits.{StepsHold}
 use Rattle.beas_core.proofs.Sets.{Has, Has-append_cases, Has-append_right, Has-from_contains, Contains-from_has}
-use Rattle.evaluation_facts.specs.Extensions.{extensions, kept}
+use Rattle.evaluation_facts.specs.Extensions.{extensions, keep_met}
 use Rattle.evaluation_facts.specs.StepReads.{reads_at}
 use Rattle.evaluation_facts.proofs.SoundDerivations.{bound-append}
 use Rattle.evaluation_facts.proofs.SoundParts.{sound_parts, steps_from}
@@ -62,7 +62,7 @@ module _ (rows : TableRows) (normal : Normal) (accesses : List Access) where
     pub found : from.rows ≡ own_valuations rows normal accesses done
     pub held : StepsHold rows accesses done
 
-  pub front_none : (from : Valuations) → IsOver (constant_classes normal) from → from.rows ≡ valued normal (constant_classes normal) (starts normal None)
+  pub front_none : (from : Valuations) → IsOver (constant_classes normal) from → from.rows ≡ valued_rows normal (constant_classes normal) (starts normal None)
       → Front [] from
   unfolding valuations
   front_none from over found = record { over = over; found = found; held = λ s m. absurd (Has-from_contains [] s m) }
@@ -138,11 +138,11 @@ module _ (rows : TableRows) (normal : Normal) (accesses : List Access) where
 
       -- what the next step may read stays within the announced number
       pub next_room : Holds (rows (access_in accesses s.access).table) (access_in accesses s.access) → 1 ≤ (access_in accesses s.access).bound
-          → own_reads rows normal accesses done + length from.rows * (access_in accesses s.access).bound ≤ announced accesses 1 steps
+          → own_reads rows normal accesses done + length from.rows * (access_in accesses s.access).bound ≤ announced_from accesses 1 steps
       next_room holds bound =
           let room = reads_room rows normal accesses None ranges inside tt 1 one_start done [] s front_of_next (held_more done s front.held holds bound) in
           let whole = announced-append accesses (done ++ s ∷ []) later 1 in
-          let same = ap (announced accesses 1) (append_assoc done (s ∷ []) later ∙ sym split) in
+          let same = ap (announced_from accesses 1) (append_assoc done (s ∷ []) later ∙ sym split) in
           let long = ap (λ (found : List Row). length found * (access_in accesses s.access).bound) front.found in
           omega (arith, room, whole, same, long)
 
@@ -167,13 +167,15 @@ module _ (rows : TableRows) (normal : Normal) (accesses : List Access) where
       pub front_more : (found : Valuations) → Holds (rows (access_in accesses s.access).table) (access_in accesses s.access)
           → 1 ≤ (access_in accesses s.access).bound
           → IsOver (bound_by normal accesses (bound_set normal from) s) found
-          → found.rows ≡ kept normal (bound_by normal accesses (bound_set normal from) s) (extensions rows normal accesses s (bound_set normal from) from.rows)
+          → found.rows ≡ keep_met normal (bound_by normal accesses (bound_set normal from) s)
+          (extensions rows normal accesses s (bound_set normal from) from.rows)
           → Front (take (i + 1) steps) found
       front_more found holds bound over is = subst (λ front. Front front found) (sym more) (record {
         over = subst (λ set. IsOver set found)
             (ap (λ set. bound_by normal accesses set s) same_set ∙ sym (bound-append normal accesses done (s ∷ []) (start_classes normal false))) over;
-        found = is ∙ ap (λ set. kept normal (bound_by normal accesses set s) (extensions rows normal accesses s set from.rows)) same_set
-            ∙ ap (λ before. kept normal (bound_by normal accesses (set_after done) s) (extensions rows normal accesses s (set_after done) before)) front.found
+        found = is ∙ ap (λ set. keep_met normal (bound_by normal accesses set s) (extensions rows normal accesses s set from.rows)) same_set
+            ∙ ap (λ before. keep_met normal (bound_by normal accesses (set_after done) s)
+            (extensions rows normal accesses s (set_after done) before)) front.found
             ∙ sym (next_valuations rows normal accesses None ranges inside tt done later s all_sound);
         held = held_more done s front.held holds bound;
       })
@@ -188,7 +190,7 @@ module _ (rows : TableRows) (normal : Normal) (accesses : List Access) where
       pub last_over : IsOver (bound_set normal from) from
       last_over = subst (λ set. IsOver set from) (sym last_set) front.over
 
-      pub last_within : own_reads rows normal accesses steps ≤ announced accesses 1 steps
+      pub last_within : own_reads rows normal accesses steps ≤ announced_from accesses 1 steps
       last_within = reads_few rows normal accesses None ranges inside tt 1 one_start steps (steps_sound steps sound) front.held
 
       pub last_answers : distinct row_cmp (map (output_row normal (bound_set normal from)) from.rows) ≡ own_answers rows normal accesses steps

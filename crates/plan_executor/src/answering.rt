@@ -4,11 +4,11 @@ ghost use Rattle.beas_core.specs.Coverage.{ClassesInRange, ConstantsInRange, sta
 ghost use Rattle.beas_core.specs.Derivations.{access_in, bound_by, is_live, key_is_bound, IsSound};
 ghost use Rattle.beas_core.specs.Fits.{Fits};
 ghost use Rattle.beas_core.specs.Full.{full_of_block};
-ghost use Rattle.beas_core.specs.Numbers.{announced};
+ghost use Rattle.beas_core.specs.Numbers.{announced_from};
 ghost use Rattle.beas_core.specs.Reads.{own_reads, own_reads_of_all, step_reads};
 ghost use Rattle.beas_core.specs.Trees.{blocks_of};
 ghost use Rattle.beas_core.specs.Valuations.{own_answers};
-ghost use Rattle.evaluation_facts.specs.Extensions.{extensions, kept};
+ghost use Rattle.evaluation_facts.specs.Extensions.{extensions, keep_met};
 ghost use Rattle.plan_ops.specs.Over.{Counts, IsOver, bound_set};
 
 use beas_core::{AccessPort, DStep, List, NoMemory, Normal, Prepared, Row, Steps};
@@ -36,7 +36,7 @@ fn take_step<P: AccessPort, L: Ledger>(
     ensures over { IfOk result (IsOver
         (bound_by block.now (P.accesses port.now) (bound_set block.now from.now) step.now)) }
     ensures rows { IfOk result (λ found. found.rows
-        ≡ kept block.now (bound_by block.now (P.accesses port.now) (bound_set block.now from.now) step.now)
+        ≡ keep_met block.now (bound_by block.now (P.accesses port.now) (bound_set block.now from.now) step.now)
         (extensions (P.rows port.now) block.now (P.accesses port.now) step.now (bound_set block.now from.now)
         from.now.rows)) }
     ensures reads { Counts result reads.old reads.new (step_reads (P.rows port.now) block.now (P.accesses port.now)
@@ -61,11 +61,11 @@ fn answer_block<P: AccessPort, L: Ledger>(
     requires classes { ClassesInRange block.now }
     requires constants { ConstantsInRange block.now }
     requires sound { IsSound block.now (P.accesses port.now) (start_classes block.now false) plan.now }
-    requires room { reads.old + announced (P.accesses port.now) 1 plan.now < 2 ^ 128 }
+    requires room { reads.old + announced_from (P.accesses port.now) 1 plan.now < 2 ^ 128 }
 
     ensures rows { IfOk result (λ rows. rows ≡ own_answers (P.rows port.now) block.now (P.accesses port.now) plan.now) }
     ensures bound { OnOk result (own_reads (P.rows port.now) block.now (P.accesses port.now) plan.now
-        ≤ announced (P.accesses port.now) 1 plan.now) }
+        ≤ announced_from (P.accesses port.now) 1 plan.now) }
     ensures reads { Counts result reads.old reads.new
         (own_reads (P.rows port.now) block.now (P.accesses port.now) plan.now) }
     ensures steps { Counts result steps.old steps.new

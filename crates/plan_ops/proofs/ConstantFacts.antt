@@ -11,9 +11,9 @@ use Rattle.beas_core.specs.Types.{Row, ClassSet, Binding, Bindings}
 use Rattle.beas_core.specs.Order.{row_cmp}
 use Rattle.beas_core.specs.Sets.{distinct}
 use Rattle.beas_core.specs.Full.{same_value}
-use Rattle.beas_core.specs.Valuations.{value_of, agrees, comparison_is_met, classes_in, valued, as_bindings}
+use Rattle.beas_core.specs.Valuations.{value_of, agrees, comparison_is_met, classes_in, valued_rows, as_bindings}
 use Rattle.beas_core.proofs.Sets.{Has-get_or, Has-map}
-use Rattle.evaluation_facts.specs.Extensions.{meets_bound, kept}
+use Rattle.evaluation_facts.specs.Extensions.{meets_bound, keep_met}
 use Rattle.evaluation_facts.proofs.BindingFacts.{value_in_valuation, from_classes_in}
 use Rattle.evaluation_facts.proofs.ClassSetFacts.{has_below}
 use Rattle.evaluation_facts.proofs.ConsistencyFacts.{met_alike}
@@ -79,8 +79,8 @@ module _ (normal : Normal) (set : ClassSet) (w : Bindings) where
 
   -- one way is valued by its own valuation, where it agrees with itself and this meets the comparisons
   pub one_valued : (rows : List Row) → rows ≡ (if agrees w then map (value_of w) (classes_in set) ∷ [] else [])
-      → kept normal set rows ≡ valued normal set (w ∷ [])
-  one_valued rows e = ap (kept normal set) e ∙ by (agrees w) (list_all (comparison_is_met normal set w) normal.comparisons) meets_alike
+      → keep_met normal set rows ≡ valued_rows normal set (w ∷ [])
+  one_valued rows e = ap (keep_met normal set) e ∙ by (agrees w) (list_all (comparison_is_met normal set w) normal.comparisons) meets_alike
     where
       by : (a m : Bool) → meets_bound normal set row ≡ m
           → filter (meets_bound normal set) (cond a (row ∷ []) [])

@@ -5,7 +5,7 @@ ghost use Rattle.beas_core.specs.Order.{value_cmp};
 ghost use Rattle.beas_core.specs.Full.{sign_holds as holds_of};
 ghost use Rattle.beas_core.specs.Coverage.{place_class};
 ghost use Rattle.beas_core.specs.Valuations.{as_bindings, classes_in, comparison_is_met};
-ghost use Rattle.evaluation_facts.specs.Extensions.{kept};
+ghost use Rattle.evaluation_facts.specs.Extensions.{keep_met};
 ghost use Rattle.plan_ops.specs.Over.{IsOver, bound_set, set_of};
 ghost use Rattle.plan_ops.specs.Places.{place_of};
 
@@ -94,7 +94,7 @@ fn keep_all(block: &Normal, classes: &[u16], rows: &mut Vec<Row>, zero: &Value)
     requires classes { classes.now ≡ classes_in (set_of block.now classes.now) }
     requires widths { All (λ row. length row ≡ length classes.now) rows.old.items }
     requires zero { zero.now ≡ Int (pos 0) }
-    ensures { rows.new.items ≡ kept block.now (set_of block.now classes.now) rows.old.items }
+    ensures { rows.new.items ≡ keep_met block.now (set_of block.now classes.now) rows.old.items }
 {
     for comparison in block.comparisons.as_slice() {
         keep_meeting(block, classes, comparison, rows, zero);
@@ -105,7 +105,7 @@ fn keep_all(block: &Normal, classes: &[u16], rows: &mut Vec<Row>, zero: &Value)
 pub fn keep(alloc: Global, block: &Normal, from: &mut Valuations)
     requires { IsOver (bound_set block.now from.old) from.old }
     ensures over { IsOver (bound_set block.now from.old) from.new }
-    ensures rows { from.new.rows ≡ kept block.now (bound_set block.now from.old) from.old.rows }
+    ensures rows { from.new.rows ≡ keep_met block.now (bound_set block.now from.old) from.old.rows }
     ensures classes { from.new.classes ≡ from.old.classes }
 {
     let zero = Value::Int(0);

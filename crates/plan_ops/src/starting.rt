@@ -1,7 +1,7 @@
 // The valuations before the first step.
 ghost use Rattle.std.specs.Prelude.{◌≡◌, ◌<◌, ◌∷◌, [], length, map, All, IfOk, None, if◌then◌else◌};
 ghost use Rattle.beas_core.specs.Coverage.{ConstantsInRange, constant_classes};
-ghost use Rattle.beas_core.specs.Valuations.{agrees, starts, value_of, valued};
+ghost use Rattle.beas_core.specs.Valuations.{agrees, starts, value_of, valued_rows};
 ghost use Rattle.plan_ops.specs.Over.{IsOver};
 ghost use Rattle.plan_ops.specs.Places.{place_of, places_in};
 
@@ -86,7 +86,7 @@ pub fn start(alloc: Global, block: &Normal) -> Result<Valuations, NoMemory>
     requires { ConstantsInRange block.now }
     ensures over { IfOk result (IsOver (constant_classes block.now)) }
     ensures rows { IfOk result (λ found. found.rows
-        ≡ valued block.now (constant_classes block.now) (starts block.now None)) }
+        ≡ valued_rows block.now (constant_classes block.now) (starts block.now None)) }
 {
     let constants = block.constants.as_slice();
     let equated = classes_equated(alloc, constants)?;

@@ -1,7 +1,7 @@
 // The announced number.
 ghost use Rattle.std.specs.Prelude.{◌≡◌, ◌≤◌, ◌^◌, if◌then◌else◌, MatchOption};
 ghost use Rattle.beas_core.specs.Derivations.{access_in};
-ghost use Rattle.beas_core.specs.Numbers.{announced};
+ghost use Rattle.beas_core.specs.Numbers.{announced_from};
 
 use crate::access_uses::access_with;
 use beas_core::{Access, AccessId, DStep};
@@ -24,8 +24,8 @@ fn next_size(adds: bool, cost: u128, size: u128) -> u128
 
 /// The reads of the steps at most, where `size` valuations stand before them; nothing where that passes 2^128 - 1.
 pub fn announced_number(accesses: &[Access], size: u128, steps: &[DStep]) -> Option<u128>
-    ensures { MatchOption result (2 ^ 128 ≤ announced accesses.now size steps.now)
-        (λ n. n ≡ announced accesses.now size steps.now) }
+    ensures { MatchOption result (2 ^ 128 ≤ announced_from accesses.now size steps.now)
+        (λ n. n ≡ announced_from accesses.now size steps.now) }
 {
     match steps {
         [] => Some(0),

@@ -10,7 +10,7 @@ use Rattle.beas_core.specs.Order.{row_cmp}
 use Rattle.beas_core.specs.Sets.{distinct}
 use Rattle.beas_core.specs.Coverage.{start_classes}
 use Rattle.beas_core.specs.Derivations.{bound_after}
-use Rattle.beas_core.specs.Valuations.{value_of, is_consistent, classes_in, starts, ways, valued, valuations}
+use Rattle.beas_core.specs.Valuations.{value_of, is_consistent, classes_in, starts, ways, valued_rows, valuations}
 
 pub valuations_are : (rows : TableRows) (normal : Normal) (accesses : List Access) (guide : Guide) (steps : List DStep) (start set : ClassSet)
     (classes : List ℕ) (before found : List Bindings) (some : List Row)
@@ -20,8 +20,8 @@ pub valuations_are : (rows : TableRows) (normal : Normal) (accesses : List Acces
 unfolding valuations
 valuations_are rows normal accesses guide steps start set classes before found some a b c d e f =
     ap (distinct row_cmp) (f ∙ ap (λ cs. map (λ w. map (value_of w) cs) (filter (is_consistent normal set) found)) c)
-    ∙ ap (valued normal set) (e ∙ ap (λ w. ways rows normal accesses w steps) d)
-    ∙ ap (λ s. valued normal s (ways rows normal accesses (starts normal guide) steps)) (b ∙ ap (λ s. bound_after normal accesses s steps) a)
+    ∙ ap (valued_rows normal set) (e ∙ ap (λ w. ways rows normal accesses w steps) d)
+    ∙ ap (λ s. valued_rows normal s (ways rows normal accesses (starts normal guide) steps)) (b ∙ ap (λ s. bound_after normal accesses s steps) a)
 
 -- the same rows of equal parts
 pub rows_alike : (normal : Normal) (set set' : ClassSet) (classes classes' : List ℕ) (found found' : List Bindings) → set ≡ set' → classes ≡ classes'

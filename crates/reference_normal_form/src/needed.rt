@@ -117,7 +117,10 @@ fn needed_columns(
 }
 
 /// The needed columns of each atom.
-pub fn needed_columns_by_atom(alloc: Global, block: &Block) -> Result<List<List<ColumnId>>, NoMemory>
+pub fn needed_columns_by_atom(
+    alloc: Global,
+    block: &Block,
+) -> Result<List<List<ColumnId>>, NoMemory>
     requires { length block.now.atoms < 65536 }
     ensures { IfOk result (λ all. all ≡ map (λ a. needed_columns block.now a.0 a.1.width)
         (enumerate_from 0 block.now.atoms)) }

@@ -11,7 +11,7 @@ use Rattle.beas_core.specs.declared.plan.Derivation.{Derivation}
 use Rattle.beas_core.specs.declared.plan.Prepared.{Prepared}
 use Rattle.beas_core.specs.declared.schema.AccessId.{AccessId}
 use Rattle.beas_core.specs.Derivations.{access_in, is_live}
-use Rattle.beas_core.specs.Numbers.{announced, size_after, own_announced_of_all}
+use Rattle.beas_core.specs.Numbers.{announced_from, size_after, own_announced_of_all}
 use Rattle.beas_core.specs.Fits.{OwnPlanIsSound, PlanFits}
 use Rattle.beas_core.proofs.Sets.{Contains-from_has}
 use Rattle.beas_core.proofs.Accesses.{access_in-member}
@@ -30,8 +30,8 @@ steps_text-next schema b j size after steps i d below left =
 -- so is what is announced of them
 pub announced-next : (accesses : List Access) (size after : ℕ) (steps : List DStep) (i : ℕ) (d : DStep) → i < length steps
     → after ≡ size_after accesses size (get_or steps i d)
-    → announced accesses size (drop i steps)
-    ≡ size * (access_in accesses (get_or steps i d).access).bound + announced accesses after (drop (i + 1) steps)
+    → announced_from accesses size (drop i steps)
+    ≡ size * (access_in accesses (get_or steps i d).access).bound + announced_from accesses after (drop (i + 1) steps)
 announced-next accesses size after steps i d below left =
     let next : i + 1 ≡ suc i = omega arith in
     rw (left, next, drop-cons steps i d below) refl

@@ -8,7 +8,7 @@ use Rattle.csv.specs.Records.{AllText}
 use Rattle.csv.specs.declared.writer.QuoteStyle.TheVariants as style
 use Rattle.csv.specs.declared.writer.Writer.{Writer}
 use Rattle.csv.specs.Writing.{default_writer, with_flexible, escaped, fields_text, is_blank, field_text, row_body, row_text, writer_setup, fields_written, has_written, text_written}
-use Rattle.report.specs.Records.{IsBetweenRecords, written}
+use Rattle.report.specs.Records.{IsBetweenRecords, text_of_writer}
 use Rattle.report.specs.Reports.{record_line}
 use Rattle.report.proofs.RecordsAreText.{IsUtf8-row_text}
 
@@ -43,14 +43,14 @@ row_text-flexible fields = rw (row_body-flexible fields, is_blank-flexible field
 pub record_written : (before after : Writer (Vec ℕ Global)) (fields : List (List ℕ)) → IsBetweenRecords before
     → (fields_written before ≡ 0 → has_written before ≡ false → (writer_setup before).style ≢ style.NonNumeric
     → Appends (text_written (λ v. Some v.items) before) (text_written (λ v. Some v.items) after) (row_text (writer_setup before) fields))
-    → written after ≡ written before ++ record_line fields
+    → text_of_writer after ≡ text_of_writer before ++ record_line fields
 unfolding record_line
 record_written before after fields stands bytes =
     let plain : (writer_setup before).style ≢ style.NonNumeric = rw stands.setup (λ e. cc e) in
     rw (stands.setup, row_text-flexible fields) at (bytes stands.no_field stands.blank plain)
 
 pub record_stands : (before after : Writer (Vec ℕ Global)) (fields : List (List ℕ)) → IsBetweenRecords before → AllText fields
-    → written after ≡ written before ++ record_line fields
+    → text_of_writer after ≡ text_of_writer before ++ record_line fields
     → writer_setup after ≡ writer_setup before → fields_written after ≡ 0 → has_written after ≡ false → IsBetweenRecords after
 unfolding record_line
 record_stands before after fields stands texts whole same no_field blank = record {

@@ -7,23 +7,23 @@ use Rattle.beas_core.specs.declared.plan.DStep.{DStep}
 use Rattle.beas_core.specs.declared.plan.Derivation.{Derivation}
 use Rattle.beas_core.specs.declared.plan.Prepared.{Prepared}
 use Rattle.beas_core.specs.Derivations.{access_in, is_live}
-use Rattle.beas_core.specs.Numbers.{announced, size_after}
+use Rattle.beas_core.specs.Numbers.{announced_from, size_after}
 use Rattle.beas_core.specs.Trees.{QueryTree, Single, Either, Minus, blocks_of}
 use Rattle.catalogue.specs.Schema.{Schema, table_at}
-use Rattle.report.specs.Texts.{joined}
+use Rattle.report.specs.Texts.{concatenation}
 
 abbrev pub verb : Bool → List ℕ
 verb adds = if adds then codes "adds" else codes "checks"
 
 -- a use of an access constraint: its table is the atom's
 abbrev pub use_text : Schema → Access → Bool → List ℕ
-use_text schema access adds = joined (
+use_text schema access adds = concatenation (
     codes " " ∷ (table_at schema access.table).name ∷ codes " by " ∷ access.name
     ∷ codes " limit " ∷ decimal access.bound ∷ codes " " ∷ verb adds ∷ [])
 
 -- step j of block b, which uses a constraint on an atom, with its cost, and how many valuations it leaves at most
 unfoldable pub step_text : ℕ → ℕ → ℕ → List ℕ → ℕ → ℕ → List ℕ
-step_text b j atom used cost size = joined (
+step_text b j atom used cost size = concatenation (
     codes "plan " ∷ decimal b ∷ codes "." ∷ decimal j ∷ codes " atom " ∷ decimal atom ∷ used
     ∷ codes " cost " ∷ decimal cost ∷ codes " size " ∷ decimal size ∷ codes "\n" ∷ [])
 
@@ -41,22 +41,22 @@ steps_text schema b j size (s ∷ steps) =
 -- one valuation stands before the first step
 unfoldable pub block_text : Schema → ℕ → Derivation → List ℕ
 block_text schema b derivation =
-    joined (codes "plan block " ∷ decimal b ∷ codes "\n" ∷ steps_text schema b 1 1 derivation.steps ∷ [])
+    concatenation (codes "plan block " ∷ decimal b ∷ codes "\n" ∷ steps_text schema b 1 1 derivation.steps ∷ [])
 
 -- how blocks from number b on make the answer
 abbrev pub answer_text : ℕ → QueryTree → List ℕ
 answer_text b (Single block) = decimal b
 answer_text b (Either left right) =
-    joined (codes "(" ∷ answer_text b left ∷ codes " union " ∷ answer_text (b + length (blocks_of left)) right ∷ codes ")" ∷ [])
+    concatenation (codes "(" ∷ answer_text b left ∷ codes " union " ∷ answer_text (b + length (blocks_of left)) right ∷ codes ")" ∷ [])
 answer_text b (Minus left right) =
-    joined (codes "(" ∷ answer_text b left ∷ codes " except " ∷ answer_text (b + length (blocks_of left)) right ∷ codes ")" ∷ [])
+    concatenation (codes "(" ∷ answer_text b left ∷ codes " except " ∷ answer_text (b + length (blocks_of left)) right ∷ codes ")" ∷ [])
 
 unfoldable pub plan_text : Schema → Prepared → List ℕ
 plan_text schema prepared =
     flat_map (λ d. block_text schema d.0 d.1) (enumerate_from 1 prepared.derivations)
-    ++ joined (codes "plan answer " ∷ answer_text 1 prepared.query ∷ codes "\n" ∷ [])
+    ++ concatenation (codes "plan answer " ∷ answer_text 1 prepared.query ∷ codes "\n" ∷ [])
 
 -- what the steps of a block need so that their lines can be told: each constraint is live, and each cost is a number of 128 bits
 pub record StepsAreTold (accesses : List Access) (size : ℕ) (steps : List DStep) : Type 0 where
   pub live : All (λ s. IsTrue (is_live accesses s.access)) steps
-  pub cost : announced accesses size steps < 2 ^ 128
+  pub cost : announced_from accesses size steps < 2 ^ 128

@@ -10,7 +10,7 @@ use Rattle.beas_core.specs.declared.value.Value.TheVariants.{Int, Str}
 use Rattle.beas_core.specs.Refusals.{number_of}
 use Rattle.report.specs.declared.reports.Report.{Report}
 use Rattle.report.specs.declared.reports.Report.TheVariants.{Done, Changed, Greatest, Pairs, Explained, Answered, Refused}
-use Rattle.report.specs.Texts.{joined, refusal_text}
+use Rattle.report.specs.Texts.{concatenation, refusal_text}
 
 unfoldable pub record_line : List (List ℕ) → List ℕ
 record_line fields = row_text default_writer fields
@@ -29,14 +29,14 @@ abbrev pub line : ℕ → List (List ℕ) → List (List ℕ)
 line k parts = decimal k ∷ (codes " " ∷ (parts ++ (codes "\n" ∷ [])))
 
 abbrev pub pair_line : ℕ → List ℕ × List ℕ × ℕ → List ℕ
-pair_line k pair = joined (line k (codes "pair " ∷ pair.0 ∷ codes " " ∷ pair.1 ∷ codes " " ∷ decimal pair.2 ∷ []))
+pair_line k pair = concatenation (line k (codes "pair " ∷ pair.0 ∷ codes " " ∷ pair.1 ∷ codes " " ∷ decimal pair.2 ∷ []))
 
 -- the announced number, and the plan lines after it
 abbrev pub bound_text : ℕ → ℕ → List ℕ → List ℕ
-bound_text k bound plan = joined (line k (codes "bound " ∷ decimal bound ∷ []) ++ (plan ∷ []))
+bound_text k bound plan = concatenation (line k (codes "bound " ∷ decimal bound ∷ []) ++ (plan ∷ []))
 
 abbrev pub counts_text : ℕ → ℕ → ℕ → List ℕ
-counts_text k rows reads = joined (line k (codes "ok " ∷ decimal rows ∷ codes " rows " ∷ decimal reads ∷ codes " reads" ∷ []))
+counts_text k rows reads = concatenation (line k (codes "ok " ∷ decimal rows ∷ codes " rows " ∷ decimal reads ∷ codes " reads" ∷ []))
 
 abbrev pub report_parts : ℕ → Report → List (List ℕ)
 report_parts k Done = line k (codes "ok" ∷ [])
@@ -49,4 +49,4 @@ report_parts k (Answered bound plan header rows reads) =
 report_parts k (Refused why) = line k (codes "refused " ∷ decimal (number_of why) ∷ codes " " ∷ refusal_text why ∷ [])
 
 unfoldable pub report_text : ℕ → Report → List ℕ
-report_text k report = joined (report_parts k report)
+report_text k report = concatenation (report_parts k report)

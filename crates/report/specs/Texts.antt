@@ -10,16 +10,16 @@ use Rattle.beas_core.specs.declared.refusal.Counted.{Counted}
 use Rattle.beas_core.specs.declared.refusal.Counted.TheVariants.{Tables, Columns, Constraints, Atoms, Blocks, Outputs, Rows}
 use Rattle.beas_core.specs.declared.refusal.Refusal.{Refusal}
 use Rattle.beas_core.specs.declared.refusal.Refusal.TheVariants.{Syntax, TooDeep, TableExists, UnknownTable, UnknownColumn, Ambiguous, DuplicateName, MixedTypes, WrongType, ShapeMismatch, BadLimit, AlreadyBroken, BreaksBound, WrongWidth, NumberRange, Unreadable, BadField, RecordWidth, HeaderMismatch, NotCovered, TooLarge, OverBudget, TooMany, NeedsDistinct, FileTooLong, UnknownAccess, TextTooLong}
-use Rattle.sql_text.specs.Tokens.{quoted}
+use Rattle.sql_text.specs.Tokens.{in_quotes}
 
 abbrev pub literal_text : Value → List ℕ
 literal_text (Int number) = signed_decimal number
-literal_text (Str text) = quoted text
+literal_text (Str text) = in_quotes text
 
 -- items with a comma and a space between them
-abbrev pub spaced : List (List ℕ) → List ℕ
-spaced [] = []
-spaced (x ∷ xs) = x ++ flat_map (λ y. codes ", " ++ y) xs
+abbrev pub with_commas : List (List ℕ) → List ℕ
+with_commas [] = []
+with_commas (x ∷ xs) = x ++ flat_map (λ y. codes ", " ++ y) xs
 
 abbrev pub counted_text : Counted → List ℕ
 counted_text Tables = codes "tables"
@@ -31,10 +31,10 @@ counted_text Outputs = codes "outputs"
 counted_text Rows = codes "rows"
 
 -- the parts one after another
-abbrev pub joined : List (List ℕ) → List ℕ
-joined [] = []
-joined (part ∷ []) = part
-joined (part ∷ next ∷ parts) = part ++ joined (next ∷ parts)
+abbrev pub concatenation : List (List ℕ) → List ℕ
+concatenation [] = []
+concatenation (part ∷ []) = part
+concatenation (part ∷ next ∷ parts) = part ++ concatenation (next ∷ parts)
 
 -- what a report says of a refusal after its number, part by part
 abbrev pub refusal_parts : Refusal → List (List ℕ)
@@ -52,12 +52,12 @@ refusal_parts (ShapeMismatch block) = codes "shape mismatch at block " ∷ decim
 refusal_parts (BadLimit digits) = codes "limit " ∷ digits ∷ codes " not between 1 and 4294967295" ∷ []
 refusal_parts (AlreadyBroken needed bound) = codes "greatest group " ∷ decimal needed ∷ codes " above limit " ∷ decimal bound ∷ []
 refusal_parts (BreaksBound row access key) =
-    codes "row " ∷ decimal row ∷ codes " breaks " ∷ access ∷ codes " at key (" ∷ spaced (map literal_text key) ∷ codes ")" ∷ []
+    codes "row " ∷ decimal row ∷ codes " breaks " ∷ access ∷ codes " at key (" ∷ with_commas (map literal_text key) ∷ codes ")" ∷ []
 refusal_parts (WrongWidth row found wanted) =
     codes "row " ∷ decimal row ∷ codes " has " ∷ decimal found ∷ codes " values, " ∷ decimal wanted ∷ codes " wanted" ∷ []
 refusal_parts (NumberRange false digits) = codes "number " ∷ digits ∷ codes " out of range" ∷ []
 refusal_parts (NumberRange true digits) = codes "number -" ∷ digits ∷ codes " out of range" ∷ []
-refusal_parts (Unreadable file) = codes "cannot read " ∷ quoted file ∷ []
+refusal_parts (Unreadable file) = codes "cannot read " ∷ in_quotes file ∷ []
 refusal_parts (BadField nth column) = codes "record " ∷ decimal nth ∷ codes " column " ∷ column ∷ codes " bad field" ∷ []
 refusal_parts (RecordWidth nth found wanted) =
     codes "record " ∷ decimal nth ∷ codes " has " ∷ decimal found ∷ codes " fields, " ∷ decimal wanted ∷ codes " wanted" ∷ []
@@ -75,4 +75,4 @@ refusal_parts (UnknownAccess name) = codes "unknown constraint " ∷ name ∷ []
 refusal_parts (TextTooLong limit) = codes "text longer than " ∷ decimal limit ∷ codes " bytes" ∷ []
 
 abbrev pub refusal_text : Refusal → List ℕ
-refusal_text why = joined (refusal_parts why)
+refusal_text why = concatenation (refusal_parts why)

@@ -1,6 +1,6 @@
 // Values as they are written in a statement.
 ghost use Rattle.std.specs.Prelude.{◌≡◌, ◌++◌, IfOk, OnOk, map};
-ghost use Rattle.report.specs.Texts.{literal_text, spaced};
+ghost use Rattle.report.specs.Texts.{literal_text, with_commas};
 
 use beas_core::{List, NoMemory, Text, Value};
 use itoa::Buffer;
@@ -10,7 +10,7 @@ use std::alloc::Global;
 /// Values with a comma and a space between them: a number in decimal, a text in quotes with its quotes
 /// doubled.
 pub fn literals(alloc: Global, values: &List<Value>) -> Result<Text, NoMemory>
-    ensures { IfOk result (λ text. text ≡ spaced (map literal_text values.now)) }
+    ensures { IfOk result (λ text. text ≡ with_commas (map literal_text values.now)) }
 {
     let mut text = Text::new(alloc);
     if let [first, after @ ..] = values.as_slice() {

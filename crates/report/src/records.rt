@@ -3,7 +3,7 @@ ghost use Rattle.std.specs.Prelude.{◌≡◌, ◌∷◌, ◌++◌, [], map, IsU
 ghost use Rattle.std.specs.List.{flat_map};
 ghost use Rattle.csv.specs.Records.{AllText, fields_of};
 ghost use Rattle.report.specs.Reports.{field_text, record_line, records_text};
-ghost use Rattle.report.specs.Records.{IsBetweenRecords, written};
+ghost use Rattle.report.specs.Records.{IsBetweenRecords, text_of_writer};
 
 use beas_core::{List, Name, NoMemory, Row, Text, Value};
 use csv::{StringRecord, Writer, WriterBuilder};
@@ -37,7 +37,7 @@ fn write_header(
 ) -> Result<(), NoMemory>
     requires { IsBetweenRecords writer.old }
     ensures stands { OnOk result (IsBetweenRecords writer.new) }
-    ensures written { OnOk result (written writer.new ≡ written writer.old ++ record_line header.now) }
+    ensures written { OnOk result (text_of_writer writer.new ≡ text_of_writer writer.old ++ record_line header.now) }
 {
     fields.clear();
     for name in header {
@@ -53,8 +53,8 @@ fn write_rows(
 ) -> Result<(), NoMemory>
     requires { IsBetweenRecords writer.old }
     ensures stands { OnOk result (IsBetweenRecords writer.new) }
-    ensures written { OnOk result (written writer.new
-        ≡ written writer.old ++ flat_map record_line (map (λ row. map field_text row) rows.now)) }
+    ensures written { OnOk result (text_of_writer writer.new
+        ≡ text_of_writer writer.old ++ flat_map record_line (map (λ row. map field_text row) rows.now)) }
 {
     for row in rows {
         write_row(writer, fields, row.as_slice())?;
@@ -69,7 +69,8 @@ fn write_row(
 ) -> Result<(), NoMemory>
     requires { IsBetweenRecords writer.old }
     ensures stands { OnOk result (IsBetweenRecords writer.new) }
-    ensures written { OnOk result (written writer.new ≡ written writer.old ++ record_line (map field_text row.now)) }
+    ensures written { OnOk result (text_of_writer writer.new ≡ text_of_writer writer.old
+        ++ record_line (map field_text row.now)) }
 {
     fields.clear();
     for value in row {
@@ -93,7 +94,8 @@ fn write_record(writer: &mut Writer<Vec<u8>>, fields: &StringRecord) -> Result<(
     requires stands { IsBetweenRecords writer.old }
     requires text { AllText (fields_of fields.now) }
     ensures stands { OnOk result (IsBetweenRecords writer.new) }
-    ensures written { OnOk result (written writer.new ≡ written writer.old ++ record_line (fields_of fields.now)) }
+    ensures written { OnOk result (text_of_writer writer.new ≡ text_of_writer writer.old
+        ++ record_line (fields_of fields.now)) }
 {
     if let Err(_) = writer.write_byte_record(fields.as_byte_record()) {
         return Err(NoMemory);

@@ -21,8 +21,8 @@ use Rattle.beas_core.specs.Groups.{greatest}
 use Rattle.beas_core.specs.Reads.{own_reads_of_all}
 use Rattle.beas_core.specs.Spelling.{limit_in}
 use Rattle.beas_core.specs.Types.{Row}
-use Rattle.catalogue.specs.Database.{Database, schema_of, rows_at, with_table, with_access, without_access, appended, kept, kept_rows, block_table}
-use Rattle.catalogue.specs.Refusing.{add_table_refusal, resolve_refusal, admit_refusal, drop_access_refusal, insert_refusal, already_broken, admitted, columns_of_named, column_ids}
+use Rattle.catalogue.specs.Database.{Database, schema_of, rows_at, with_table, with_access, without_access, with_more_rows, with_rows_kept, kept_rows, block_table}
+use Rattle.catalogue.specs.Refusing.{add_table_refusal, resolve_refusal, admit_refusal, drop_access_refusal, insert_refusal, already_broken, new_access, columns_of_named, column_ids}
 use Rattle.catalogue.specs.Schema.{Schema, table_named, columns_at}
 use Rattle.sql_tree.specs.declared.tree.Cond.{Cond}
 use Rattle.sql_tree.specs.declared.tree.Literal.{Literal}
@@ -97,7 +97,7 @@ build_access_effect db access =
 
 abbrev pub create_access_effect : Limits → Database → AccessSpec → Effect
 create_access_effect limits db spec =
-    unless (admit_refusal limits (schema_of db) spec) db (build_access_effect db (admitted (schema_of db) spec))
+    unless (admit_refusal limits (schema_of db) spec) db (build_access_effect db (new_access (schema_of db) spec))
 
 abbrev pub drop_access_effect : Database → List ℕ → Effect
 drop_access_effect db name =
@@ -109,7 +109,7 @@ drop_access_effect db name =
 abbrev pub add_rows_effect : Limits → Database → TableId → List Row → Effect
 add_rows_effect limits db id rows =
     unless (insert_refusal limits db id rows) db
-    (record { report = Changed (length rows); cost = 0; db = appended db id rows })
+    (record { report = Changed (length rows); cost = 0; db = with_more_rows db id rows })
 
 abbrev pub tuples_binding : Limits → List (List Literal) → Result (List Row) Refusal
 tuples_binding limits tuples = unless_refused (row_refusals limits tuples) (bound_rows tuples)
@@ -139,7 +139,7 @@ abbrev pub delete_rows_effect : Database → Block → Effect
 delete_rows_effect db block =
     let rows = rows_at db (block_table block) in
     reading_rows db (block_table block)
-    (record { report = Changed (length rows - length (kept_rows block rows)); cost = 0; db = kept block db })
+    (record { report = Changed (length rows - length (kept_rows block rows)); cost = 0; db = with_rows_kept block db })
 
 abbrev pub delete_binding : Limits → Database → List ℕ → List Cond → Result Block Refusal
 delete_binding limits db table conditions =

@@ -17,8 +17,8 @@ pub record Seen : Type 0 where
   pub faults : List ℕ → ℕ
   pub taken : ℕ
 
-abbrev pub seen : {F : Type 0} → (F → Bool) → (F → List ℕ → Option (List ℕ)) → (F → List ℕ → ℕ) → (F → ℕ) → F → Seen
-seen told content faults taken files =
+abbrev pub view : {F : Type 0} → (F → Bool) → (F → List ℕ → Option (List ℕ)) → (F → List ℕ → ℕ) → (F → ℕ) → F → Seen
+view told content faults taken files =
     record { told = told files; content = content files; faults = faults files; taken = taken files }
 
 -- what the read of a name with this content gave, if it didn't fail: the content, or that it is longer than the limit

@@ -1,6 +1,6 @@
 // The read of a file, with its outcome.
 ghost use Rattle.std.specs.Prelude.{◌≡◌, ◌-◌, ◌^◌, ◌<◌, [], ◌∷◌, IfOk};
-ghost use Rattle.session.specs.Ties.{AreTied, IsLater, OutcomeIsShort, seen};
+ghost use Rattle.session.specs.Ties.{AreTied, IsLater, OutcomeIsShort, view};
 
 use crate::outcome::Outcome;
 use beas_core::NoMemory;
@@ -16,10 +16,10 @@ pub fn read<F: Files>(
 ) -> Result<Outcome, NoMemory>
     requires { limit < 2 ^ 64 - 1 }
     ensures tied { IfOk result (λ outcome. AreTied limit (record { name = name.now; outcome = outcome } ∷ [])
-        (seen F.told F.content F.faults F.taken files.old) (seen F.told F.content F.faults F.taken files.new)) }
+        (view F.told F.content F.faults F.taken files.old) (view F.told F.content F.faults F.taken files.new)) }
     ensures short { IfOk result (OutcomeIsShort limit) }
     ensures later { IsLater
-        (seen F.told F.content F.faults F.taken files.old) (seen F.told F.content F.faults F.taken files.new) }
+        (view F.told F.content F.faults F.taken files.old) (view F.told F.content F.faults F.taken files.new) }
 {
     match files.read(alloc, name, limit) {
         Ok(bytes) => Ok(Outcome::Content(bytes)),

@@ -12,7 +12,7 @@ use Rattle.sql_parser.specs.declared.queries.Front.{Front}
 use Rattle.sql_parser.specs.declared.queries.Front.TheVariants.{Nothing, BeforeUnion, BeforeExcept}
 use Rattle.sql_parser.specs.Fronts.{joined_to}
 use Rattle.sql_tree.specs.Words.{COMMA, AND, UNION, EXCEPT}
-use Rattle.sql_parser.specs.Reading.{◌>>=◌, Adds, starts, rest_of, behind, behind_both, read_condition, read_conditions, read_source, read_sources, starts_join, read_join, read_joins, read_term, read_query}
+use Rattle.sql_parser.specs.Reading.{◌>>=◌, Adds, starts, rest_of, after, after_both, read_condition, read_conditions, read_source, read_sources, starts_join, read_join, read_joins, read_term, read_query}
 
 -- a call that fails, where the whole fails with it
 pub adding_fails : {X Y : Type 0} (e : ReadError) (new : X) (after : Y) (rest : List Symbol) (part : Option (X × List Symbol))
@@ -20,21 +20,21 @@ pub adding_fails : {X Y : Type 0} (e : ReadError) (new : X) (after : Y) (rest : 
 adding_fails errors.Syntax new after rest part whole h f = f h
 adding_fails errors.NoMemory new after rest part whole h f = tt
 
-behind-inv : {X : Type 0} (front found : List X) (rest : List Symbol) (r : Option (List X × List Symbol)) → behind front r ≡ Some (found, rest)
+behind-inv : {X : Type 0} (front found : List X) (rest : List Symbol) (r : Option (List X × List Symbol)) → after front r ≡ Some (found, rest)
     → (xs : List X) × (r ≡ Some (xs, rest)) × (front ++ xs ≡ found)
-unfolding behind
+unfolding after
 behind-inv front found rest (Some p) e =
     let whole : (front ++ p.0, p.1) ≡ (found, rest) = cc in
     (p.0, ap (λ t. Some (p.0, t)) (ap (λ (q : List _ × List Symbol). q.1) whole), ap (λ (q : List _ × List Symbol). q.0) whole)
 behind-inv front found rest None e = absurd cc
 
-behind-none : {X : Type 0} (front : List X) (r : Option (List X × List Symbol)) → behind front r ≡ None → r ≡ None
-unfolding behind
+behind-none : {X : Type 0} (front : List X) (r : Option (List X × List Symbol)) → after front r ≡ None → r ≡ None
+unfolding after
 behind-none front (Some p) e = absurd cc
 behind-none front None e = refl
 
-behind-append : {X : Type 0} (front xs : List X) (r : Option (List X × List Symbol)) → behind front (r >>= λ q. Some (xs ++ q.0, q.1)) ≡ behind (front ++ xs) r
-unfolding behind
+behind-append : {X : Type 0} (front xs : List X) (r : Option (List X × List Symbol)) → after front (r >>= λ q. Some (xs ++ q.0, q.1)) ≡ after (front ++ xs) r
+unfolding after
 behind-append front xs (Some p) = ap (λ ys. Some (ys, p.1)) (sym (append_assoc front xs p.0))
 behind-append front xs None = refl
 
@@ -51,64 +51,64 @@ unfolding read_conditions
 conditions-last n tokens cs rest e t = rw (e, t) refl
 
 module _ (n : ℕ) (some : 0 < n) (front found : List Cond) (tokens rest : List Symbol) where
-  pub conditions-go_on : behind front (read_condition (read_conditions (n - 1)) tokens) ≡ Some (found, rest) → starts AND rest ≡ true
-      → behind front (read_conditions n tokens) ≡ behind found (read_conditions (n - 1) (rest_of rest))
+  pub conditions-go_on : after front (read_condition (read_conditions (n - 1)) tokens) ≡ Some (found, rest) → starts AND rest ≡ true
+      → after front (read_conditions n tokens) ≡ after found (read_conditions (n - 1) (rest_of rest))
   unfolding read_conditions
   conditions-go_on e t =
       let k : n ≡ suc (n - 1) = omega arith in
       let b = behind-inv front found rest (read_condition (read_conditions (n - 1)) tokens) e in
       let one : read_conditions (suc (n - 1)) tokens ≡ (read_conditions (n - 1) (rest_of rest) >>= λ q. Some (b.0 ++ q.0, q.1)) = conditions-then (n - 1) tokens
       b.0 rest b.1 t in
-      ap (λ m. behind front (read_conditions m tokens)) k ∙ ap (behind front) one ∙ behind-append front b.0 (read_conditions (n - 1) (rest_of rest))
-      ∙ ap (λ cs. behind cs (read_conditions (n - 1) (rest_of rest))) b.2
+      ap (λ m. after front (read_conditions m tokens)) k ∙ ap (after front) one ∙ behind-append front b.0 (read_conditions (n - 1) (rest_of rest))
+      ∙ ap (λ cs. after cs (read_conditions (n - 1) (rest_of rest))) b.2
 
-  pub conditions-end : behind front (read_condition (read_conditions (n - 1)) tokens) ≡ Some (found, rest) → starts AND rest ≡ false
-      → behind front (read_conditions n tokens) ≡ Some (found, rest)
-  unfolding read_conditions behind
+  pub conditions-end : after front (read_condition (read_conditions (n - 1)) tokens) ≡ Some (found, rest) → starts AND rest ≡ false
+      → after front (read_conditions n tokens) ≡ Some (found, rest)
+  unfolding read_conditions after
   conditions-end e t =
       let k : n ≡ suc (n - 1) = omega arith in
       let b = behind-inv front found rest (read_condition (read_conditions (n - 1)) tokens) e in
       let one : read_conditions (suc (n - 1)) tokens ≡ Some (b.0, rest) = conditions-last (n - 1) tokens b.0 rest b.1 t in
-      ap (λ m. behind front (read_conditions m tokens)) k ∙ ap (behind front) one ∙ ap (λ cs. Some (cs, rest)) b.2
+      ap (λ m. after front (read_conditions m tokens)) k ∙ ap (after front) one ∙ ap (λ cs. Some (cs, rest)) b.2
 
 pub conditions-none : (n : ℕ) → 0 < n → (front : List Cond) (tokens : List Symbol) (whole : Option (List Cond × List Symbol))
-    → behind front (read_conditions n tokens) ≡ whole → behind front (read_condition (read_conditions (n - 1)) tokens) ≡ None → whole ≡ None
-unfolding read_conditions behind
+    → after front (read_conditions n tokens) ≡ whole → after front (read_condition (read_conditions (n - 1)) tokens) ≡ None → whole ≡ None
+unfolding read_conditions after
 conditions-none n some front tokens whole so_far e =
     let k : n ≡ suc (n - 1) = omega arith in
     let b = behind-none front (read_condition (read_conditions (n - 1)) tokens) e in
     let one : read_conditions (suc (n - 1)) tokens ≡ None = rw b refl in
-    sym so_far ∙ ap (λ m. behind front (read_conditions m tokens)) k ∙ ap (behind front) one
+    sym so_far ∙ ap (λ m. after front (read_conditions m tokens)) k ∙ ap (after front) one
 
-pub conditions-over : (n : ℕ) (front : List Cond) (tokens : List Symbol) → n ≡ 0 → behind front (read_conditions n tokens) ≡ None
-unfolding read_conditions behind
+pub conditions-over : (n : ℕ) (front : List Cond) (tokens : List Symbol) → n ≡ 0 → after front (read_conditions n tokens) ≡ None
+unfolding read_conditions after
 conditions-over n front tokens e = rw e refl
 
 -- ---- sources and joins
 
-both-inv : (front found : Source) (rest : List Symbol) (r : Option (Source × List Symbol)) → behind_both front r ≡ Some (found, rest)
+both-inv : (front found : Source) (rest : List Symbol) (r : Option (Source × List Symbol)) → after_both front r ≡ Some (found, rest)
     → (s : Source) × (r ≡ Some (s, rest)) × ((front.0 ++ s.0, front.1 ++ s.1) ≡ found)
-unfolding behind_both
+unfolding after_both
 both-inv front found rest (Some p) e =
     let whole : ((front.0 ++ p.0.0, front.1 ++ p.0.1), p.1) ≡ (found, rest) = cc in
     (p.0, ap (λ t. Some (p.0, t)) (ap (λ (q : Source × List Symbol). q.1) whole), ap (λ (q : Source × List Symbol). q.0) whole)
 both-inv front found rest None e = absurd cc
 
-both-none : (front : Source) (r : Option (Source × List Symbol)) → behind_both front r ≡ None → r ≡ None
-unfolding behind_both
+both-none : (front : Source) (r : Option (Source × List Symbol)) → after_both front r ≡ None → r ≡ None
+unfolding after_both
 both-none front (Some p) e = absurd cc
 both-none front None e = refl
 
 both-append : (front s : Source) (r : Option (Source × List Symbol))
-    → behind_both front (r >>= λ q. Some ((s.0 ++ q.0.0, s.1 ++ q.0.1), q.1)) ≡ behind_both (front.0 ++ s.0, front.1 ++ s.1) r
-unfolding behind_both
+    → after_both front (r >>= λ q. Some ((s.0 ++ q.0.0, s.1 ++ q.0.1), q.1)) ≡ after_both (front.0 ++ s.0, front.1 ++ s.1) r
+unfolding after_both
 both-append front s (Some p) =
     ap (λ (t : Source). Some (t, p.1)) (ap (λ (is : List FromItem). (is, front.1 ++ (s.1 ++ p.0.1))) (sym (append_assoc front.0 s.0 p.0.0))
     ∙ ap (λ (cs : List Cond). ((front.0 ++ s.0) ++ p.0.0, cs)) (sym (append_assoc front.1 s.1 p.0.1)))
 both-append front s None = refl
 
-both-nothing : (front : Source) (rest : List Symbol) → behind_both front (Some (([], []), rest)) ≡ Some (front, rest)
-unfolding behind_both
+both-nothing : (front : Source) (rest : List Symbol) → after_both front (Some (([], []), rest)) ≡ Some (front, rest)
+unfolding after_both
 both-nothing front rest = ap (λ (s : Source). Some (s, rest))
     (ap (λ (is : List FromItem). (is, front.1 ++ [])) (append-nil front.0) ∙ ap (λ (cs : List Cond). (front.0, cs)) (append-nil front.1))
 
@@ -128,60 +128,60 @@ unfolding read_joins
 joins-then n tokens s rest t e = rw (t, e) refl
 
 module _ (n : ℕ) (some : 0 < n) (front found : Source) (tokens rest : List Symbol) where
-  pub sources-go_on : behind_both front (read_source tokens) ≡ Some (found, rest) → starts COMMA rest ≡ true
-      → behind_both front (read_sources n tokens) ≡ behind_both found (read_sources (n - 1) (rest_of rest))
+  pub sources-go_on : after_both front (read_source tokens) ≡ Some (found, rest) → starts COMMA rest ≡ true
+      → after_both front (read_sources n tokens) ≡ after_both found (read_sources (n - 1) (rest_of rest))
   unfolding read_sources
   sources-go_on e t =
       let k : n ≡ suc (n - 1) = omega arith in
       let b = both-inv front found rest (read_source tokens) e in
       let one : read_sources (suc (n - 1)) tokens ≡ (read_sources (n - 1) (rest_of rest) >>= λ q. Some ((b.0.0 ++ q.0.0, b.0.1 ++ q.0.1), q.1)) = sources-then
       (n - 1) tokens b.0 rest b.1 t in
-      ap (λ m. behind_both front (read_sources m tokens)) k ∙ ap (behind_both front) one ∙ both-append front b.0 (read_sources (n - 1) (rest_of rest))
-      ∙ ap (λ (s : Source). behind_both s (read_sources (n - 1) (rest_of rest))) b.2
+      ap (λ m. after_both front (read_sources m tokens)) k ∙ ap (after_both front) one ∙ both-append front b.0 (read_sources (n - 1) (rest_of rest))
+      ∙ ap (λ (s : Source). after_both s (read_sources (n - 1) (rest_of rest))) b.2
 
-  pub sources-end : behind_both front (read_source tokens) ≡ Some (found, rest) → starts COMMA rest ≡ false
-      → behind_both front (read_sources n tokens) ≡ Some (found, rest)
-  unfolding read_sources behind_both
+  pub sources-end : after_both front (read_source tokens) ≡ Some (found, rest) → starts COMMA rest ≡ false
+      → after_both front (read_sources n tokens) ≡ Some (found, rest)
+  unfolding read_sources after_both
   sources-end e t =
       let k : n ≡ suc (n - 1) = omega arith in
       let b = both-inv front found rest (read_source tokens) e in
       let one : read_sources (suc (n - 1)) tokens ≡ Some (b.0, rest) = sources-last (n - 1) tokens b.0 rest b.1 t in
-      ap (λ m. behind_both front (read_sources m tokens)) k ∙ ap (behind_both front) one ∙ ap (λ (s : Source). Some (s, rest)) b.2
+      ap (λ m. after_both front (read_sources m tokens)) k ∙ ap (after_both front) one ∙ ap (λ (s : Source). Some (s, rest)) b.2
 
-  pub joins-go_on : starts_join tokens ≡ true → behind_both front (read_join tokens) ≡ Some (found, rest)
-      → behind_both front (read_joins n tokens) ≡ behind_both found (read_joins (n - 1) rest)
+  pub joins-go_on : starts_join tokens ≡ true → after_both front (read_join tokens) ≡ Some (found, rest)
+      → after_both front (read_joins n tokens) ≡ after_both found (read_joins (n - 1) rest)
   unfolding read_joins
   joins-go_on t e =
       let k : n ≡ suc (n - 1) = omega arith in
       let b = both-inv front found rest (read_join tokens) e in
       let one : read_joins (suc (n - 1)) tokens ≡ (read_joins (n - 1) rest >>= λ q. Some ((b.0.0 ++ q.0.0, b.0.1 ++ q.0.1), q.1)) = joins-then (n - 1) tokens
       b.0 rest t b.1 in
-      ap (λ m. behind_both front (read_joins m tokens)) k ∙ ap (behind_both front) one ∙ both-append front b.0 (read_joins (n - 1) rest)
-      ∙ ap (λ (s : Source). behind_both s (read_joins (n - 1) rest)) b.2
+      ap (λ m. after_both front (read_joins m tokens)) k ∙ ap (after_both front) one ∙ both-append front b.0 (read_joins (n - 1) rest)
+      ∙ ap (λ (s : Source). after_both s (read_joins (n - 1) rest)) b.2
 
 module _ (n : ℕ) (some : 0 < n) (front : Source) (tokens : List Symbol) (whole : Option (Source × List Symbol)) where
-  pub sources-none : behind_both front (read_sources n tokens) ≡ whole → behind_both front (read_source tokens) ≡ None → whole ≡ None
-  unfolding read_sources behind_both
+  pub sources-none : after_both front (read_sources n tokens) ≡ whole → after_both front (read_source tokens) ≡ None → whole ≡ None
+  unfolding read_sources after_both
   sources-none so_far e =
       let k : n ≡ suc (n - 1) = omega arith in
       let b = both-none front (read_source tokens) e in
       let one : read_sources (suc (n - 1)) tokens ≡ None = rw b refl in
-      sym so_far ∙ ap (λ m. behind_both front (read_sources m tokens)) k ∙ ap (behind_both front) one
+      sym so_far ∙ ap (λ m. after_both front (read_sources m tokens)) k ∙ ap (after_both front) one
 
-  pub joins-none : behind_both front (read_joins n tokens) ≡ whole → starts_join tokens ≡ true → behind_both front (read_join tokens) ≡ None → whole ≡ None
-  unfolding read_joins behind_both
+  pub joins-none : after_both front (read_joins n tokens) ≡ whole → starts_join tokens ≡ true → after_both front (read_join tokens) ≡ None → whole ≡ None
+  unfolding read_joins after_both
   joins-none so_far t e =
       let k : n ≡ suc (n - 1) = omega arith in
       let b = both-none front (read_join tokens) e in
       let one : read_joins (suc (n - 1)) tokens ≡ None = rw (t, b) refl in
-      sym so_far ∙ ap (λ m. behind_both front (read_joins m tokens)) k ∙ ap (behind_both front) one
+      sym so_far ∙ ap (λ m. after_both front (read_joins m tokens)) k ∙ ap (after_both front) one
 
-pub sources-over : (n : ℕ) (front : Source) (tokens : List Symbol) → n ≡ 0 → behind_both front (read_sources n tokens) ≡ None
-unfolding read_sources behind_both
+pub sources-over : (n : ℕ) (front : Source) (tokens : List Symbol) → n ≡ 0 → after_both front (read_sources n tokens) ≡ None
+unfolding read_sources after_both
 sources-over n front tokens e = rw e refl
 
-pub joins-over : (n : ℕ) (front : Source) (tokens : List Symbol) → n ≡ 0 → starts_join tokens ≡ true → behind_both front (read_joins n tokens) ≡ None
-unfolding read_joins behind_both
+pub joins-over : (n : ℕ) (front : Source) (tokens : List Symbol) → n ≡ 0 → starts_join tokens ≡ true → after_both front (read_joins n tokens) ≡ None
+unfolding read_joins after_both
 joins-over n front tokens e t = rw (e, t) refl
 
 joins-are_over : (n : ℕ) (tokens : List Symbol) → starts_join tokens ≡ false → read_joins n tokens ≡ Some (([], []), tokens)
@@ -189,8 +189,8 @@ unfolding read_joins
 joins-are_over zero tokens t = rw t refl
 joins-are_over (suc n) tokens t = rw t refl
 
-pub joins-end : (n : ℕ) (front : Source) (tokens : List Symbol) → starts_join tokens ≡ false → behind_both front (read_joins n tokens) ≡ Some (front, tokens)
-joins-end n front tokens t = ap (behind_both front) (joins-are_over n tokens t) ∙ both-nothing front tokens
+pub joins-end : (n : ℕ) (front : Source) (tokens : List Symbol) → starts_join tokens ≡ false → after_both front (read_joins n tokens) ≡ Some (front, tokens)
+joins-end n front tokens t = ap (after_both front) (joins-are_over n tokens t) ∙ both-nothing front tokens
 
 -- ---- terms
 

@@ -17,7 +17,7 @@ use Rattle.std.proofs.lemmas.List.Concat.{flat_map-cons}
 use Rattle.sql_parser.specs.declared.queries.Front.{Front}
 use Rattle.sql_parser.specs.declared.queries.Front.TheVariants.{Nothing, BeforeUnion, BeforeExcept}
 use Rattle.sql_parser.specs.Fronts.{joined_to}
-use Rattle.sql_parser.specs.Reading.{starts, rest_of, starts_id, read_ref, read_condition, read_conditions, read_where, read_alias, read_item, read_joined, read_crossed, starts_join, read_join, read_joins, read_source, read_sources, read_output, behind_distinct, read_block, read_block_term, read_term, read_query, read_whole_query}
+use Rattle.sql_parser.specs.Reading.{starts, rest_of, starts_id, read_ref, read_condition, read_conditions, read_where, read_alias, read_item, read_joined, read_crossed, starts_join, read_join, read_joins, read_source, read_sources, read_output, after_distinct, read_block, read_block_term, read_term, read_query, read_whole_query}
 use Rattle.sql_parser.proofs.SpelledIsRead.{id-reads, id-starts, id-no_word, id-some, list-reads, commas-start, closed-reads, NoDot, ref-reads, ref-some, ref-no_word, ref-no_mark, side-no_open, simple-compare, simple-range, condition-simple, condition-some, three, four}
 
 condition-closed : (n : ℕ) (a : List Symbol) (cs : List Cond) (rest : List Symbol) → read_conditions n (a ++ CLOSE ∷ rest) ≡ Some (cs, CLOSE ∷ rest)
@@ -368,8 +368,8 @@ output-no_distinct (columns {a} {rs} h) rest =
     (λ _ _ r rest. ref-no_word r (codes "distinct") rest distinct-reserved) a rs h rest
 
 distinct-reads : {a : List Symbol} {d : Bool} → IsDistinct a d → (rest : List Symbol) → Never DISTINCT rest
-    → (starts DISTINCT (a ++ rest) ≡ d) × (behind_distinct (a ++ rest) ≡ rest)
-unfolding behind_distinct starts rest_of
+    → (starts DISTINCT (a ++ rest) ≡ d) × (after_distinct (a ++ rest) ≡ rest)
+unfolding after_distinct starts rest_of
 distinct-reads all_rows rest n = (n, rw n refl)
 distinct-reads distinct_rows rest n = (refl, refl)
 
@@ -378,7 +378,7 @@ unfolding starts
 from-no rest = (refl, refl)
 
 block-steps : (start tail : List Symbol) (dis star : Bool) (rs : List ColumnRef) (from : List Symbol) (sources : Source) (behind_sources : List Symbol)
-    (cs : List Cond) (rest : List Symbol) → starts DISTINCT start ≡ dis → behind_distinct start ≡ tail
+    (cs : List Cond) (rest : List Symbol) → starts DISTINCT start ≡ dis → after_distinct start ≡ tail
     → read_output tail ≡ Some ((star, rs), FROM ∷ from) → read_sources (length from) from ≡ Some (sources, behind_sources)
     → read_where behind_sources ≡ Some (cs, rest)
     → read_block (SELECT ∷ start) ≡ Some (record { distinct = dis; star = star; items = rs; from_items = sources.0; conditions = sources.1 ++ cs }, rest)

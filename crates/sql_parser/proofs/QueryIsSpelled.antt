@@ -14,7 +14,7 @@ use Rattle.std.proofs.lemmas.List.Concat.{flat_map-cons}
 use Rattle.sql_parser.specs.declared.queries.Front.{Front}
 use Rattle.sql_parser.specs.declared.queries.Front.TheVariants.{Nothing, BeforeUnion, BeforeExcept}
 use Rattle.sql_parser.specs.Fronts.{joined_to}
-use Rattle.sql_parser.specs.Reading.{◌>>=◌, expect, starts, rest_of, starts_id, read_id, read_list, closed, read_ref, read_conditions, read_where, read_alias, read_item, read_joined, read_crossed, starts_join, read_join, read_joins, read_source, read_sources, read_output, behind_distinct, read_block, read_block_term, read_term, read_query, read_whole_query}
+use Rattle.sql_parser.specs.Reading.{◌>>=◌, expect, starts, rest_of, starts_id, read_id, read_list, then_close, read_ref, read_conditions, read_where, read_alias, read_item, read_joined, read_crossed, starts_join, read_join, read_joins, read_source, read_sources, read_output, after_distinct, read_block, read_block_term, read_term, read_query, read_whole_query}
 use Rattle.sql_parser.proofs.ReadIsSpelled.{Took, then_parts, read_as, some_is, none_is, bind-inv, pick-inv, took_as, starts-inv, expect-inv, closed-inv, id-spelled, commas-spelled, ref-spelled, conditions-spelled}
 
 pub where-spelled : (tokens : List Symbol) (cs : List Cond) (rest : List Symbol) → read_where tokens ≡ Some (cs, rest) → Took IsWhere tokens cs rest
@@ -219,8 +219,8 @@ output-spelled tokens o rest e =
           took_as (record { front = t.front; parts = t.parts; spelled = columns t.spelled }) a.2
     ]
 
-distinct-spelled : (tokens : List Symbol) → Took IsDistinct tokens (starts DISTINCT tokens) (behind_distinct tokens)
-unfolding behind_distinct
+distinct-spelled : (tokens : List Symbol) → Took IsDistinct tokens (starts DISTINCT tokens) (after_distinct tokens)
+unfolding after_distinct
 distinct-spelled tokens =
     let go : (b : Bool) → starts DISTINCT tokens ≡ b → Took IsDistinct tokens b (cond b (rest_of tokens) tokens) = λ b. elim b as
     (λ b. starts DISTINCT tokens ≡ b → Took IsDistinct tokens b (cond b (rest_of tokens) tokens)) [
@@ -243,8 +243,8 @@ unfolding read_block
 block-spelled tokens b rest e =
     let a = bind-inv (expect SELECT tokens) _ (b, rest) e in
     let d = distinct-spelled a.0 in
-    let o = bind-inv (read_output (behind_distinct a.0)) _ (b, rest) a.2 in
-    let ot = output-spelled (behind_distinct a.0) o.0.0 o.0.1 o.1 in
+    let o = bind-inv (read_output (after_distinct a.0)) _ (b, rest) a.2 in
+    let ot = output-spelled (after_distinct a.0) o.0.0 o.0.1 o.1 in
     let f = bind-inv (expect FROM o.0.1) _ (b, rest) o.2 in
     let s = bind-inv (read_sources (length f.0) f.0) _ (b, rest) f.2 in
     let st = sources-spelled (length f.0) f.0 s.0.0 s.0.1 s.1 in
@@ -266,7 +266,7 @@ term-spelled : (between : List Symbol → Option (Tree × List Symbol))
     → (tokens : List Symbol) (t : Tree) (rest : List Symbol) → read_term between tokens ≡ Some (t, rest) → Took IsTerm tokens t rest
 unfolding read_term read_block_term
 term-spelled between reads tokens t rest e =
-    elim (pick-inv (starts OPEN tokens) (closed (between (rest_of tokens))) (read_block tokens >>= λ p. Some (Block p.0, p.1)) (Some (t, rest)) e) [
+    elim (pick-inv (starts OPEN tokens) (then_close (between (rest_of tokens))) (read_block tokens >>= λ p. Some (Block p.0, p.1)) (Some (t, rest)) e) [
       | inl o ↦
           let c = closed-inv (between (rest_of tokens)) t rest o.1 in
           let u = reads (rest_of tokens) t (CLOSE ∷ rest) c in

@@ -17,9 +17,9 @@ use Rattle.sql_tree.specs.declared.tree.Side.TheVariants.{Column as Placed, Fixe
 use Rattle.beas_core.specs.declared.query.Sign.TheVariants.{Equal, Differs, Less, AtMost, More, AtLeast}
 use Rattle.beas_core.specs.Spelling.{is_name}
 use Rattle.sql_tree.specs.Symbols.{Symbol, word, number, quoted, mark}
-use Rattle.sql_tree.specs.Grammar.{Commas, last, comma, IsId, id, IsMaybeIds, no_ids, ids, IsColumn, integer, int, text, IsLiteral, plain, positive, negative, between_quotes, IsTuple, tuple, IsRef, bare, dotted, IsSide, placed, written, IsSign, equal, differs, not_equal, less, at_most, more, at_least, is_literal, signed, IsCondition, comparison, range, parentheses, IsConditions, last_condition, conjunction}
+use Rattle.sql_tree.specs.Grammar.{Commas, last, comma, IsId, id, IsMaybeIds, no_ids, ids, IsColumn, integer, int, text, IsLiteral, plain, positive, negative, between_quotes, IsTuple, tuple, IsRef, bare, dotted, IsSide, placed, written, IsSign, equal, differs, not_equal, less, at_most, more, at_least, is_literal, signed_literal, IsCondition, comparison, range, parentheses, IsConditions, last_condition, conjunction}
 use Rattle.sql_tree.specs.Words.{AND, BETWEEN, INT, INTEGER, TEXT, OPEN, CLOSE, COMMA, DOT, PLUS, MINUS}
-use Rattle.sql_parser.specs.Reading.{◌>>=◌, same, expect, starts, rest_of, starts_id, read_id, read_number, read_quoted, read_commas, read_list, closed, read_maybe_ids, read_kind, read_column, read_signed, starts_quoted, read_literal, read_tuple, read_ref, read_side, sign_of, read_sign, read_range, read_comparison, read_simple, read_condition, read_conditions}
+use Rattle.sql_parser.specs.Reading.{◌>>=◌, same, expect, starts, rest_of, starts_id, read_id, read_number, read_quoted, read_commas, read_list, then_close, read_maybe_ids, read_kind, read_column, read_signed, starts_quoted, read_literal, read_tuple, read_ref, read_side, sign_of, read_sign, read_range, read_comparison, read_simple, read_condition, read_conditions}
 
 -- what was taken from the front of the tokens
 pub record Took {X : Type 0} (Spelled : List Symbol → X → Type 0) (tokens : List Symbol) (x : X) (rest : List Symbol) : Type 0 where
@@ -76,8 +76,8 @@ expect-inv s tokens rest e =
       | inr f ↦ absurd (none_is rest f.1)
     ]
 
-pub closed-inv : {X : Type 0} (read : Option (X × List Symbol)) (x : X) (rest : List Symbol) → closed read ≡ Some (x, rest) → read ≡ Some (x, CLOSE ∷ rest)
-unfolding closed
+pub closed-inv : {X : Type 0} (read : Option (X × List Symbol)) (x : X) (rest : List Symbol) → then_close read ≡ Some (x, rest) → read ≡ Some (x, CLOSE ∷ rest)
+unfolding then_close
 closed-inv {X} read x rest e =
     let a = bind-inv read _ (x, rest) e in
     let b = bind-inv (expect CLOSE a.0.1) _ (x, rest) a.2 in
@@ -176,11 +176,11 @@ column-spelled tokens c rest e =
 -- ---- literals, refs, sides
 
 signed-spelled : (minus : Bool) (tokens : List Symbol) (l : Literal) (rest : List Symbol) → read_signed minus tokens ≡ Some (l, rest)
-    → (d : List ℕ) × (tokens ≡ number d ∷ rest) × (l ≡ signed minus d)
+    → (d : List ℕ) × (tokens ≡ number d ∷ rest) × (l ≡ signed_literal minus d)
 unfolding read_signed
 signed-spelled minus tokens l rest e =
     let a = bind-inv (read_number tokens) _ (l, rest) e in
-    let k = some_is (signed minus a.0.0, a.0.1) (l, rest) a.2 in
+    let k = some_is (signed_literal minus a.0.0, a.0.1) (l, rest) a.2 in
     (a.0.0, number-inv tokens a.0.0 a.0.1 a.1 ∙ ap (λ (p : Literal × List Symbol). number a.0.0 ∷ p.1) k, sym (ap (λ (p : Literal × List Symbol). p.0) k))
 
 literal-made : (tokens front : List Symbol) (l m : Literal) (rest : List Symbol) → tokens ≡ front ++ rest → IsLiteral front m → l ≡ m
@@ -200,14 +200,16 @@ literal-spelled tokens l rest e =
           (cond (starts PLUS tokens) (read_signed false (rest_of tokens)) (read_signed false tokens)) (Some (l, rest)) q.1) [
             | inl m ↦
                 let s = signed-spelled true (rest_of tokens) l rest m.1 in
-                literal-made tokens (MINUS ∷ number s.0 ∷ []) l (signed true s.0) rest (starts-inv MINUS tokens m.0 ∙ ap (λ r. MINUS ∷ r) s.1) negative s.2
+                literal-made tokens (MINUS ∷ number s.0 ∷ []) l (signed_literal true s.0) rest
+                (starts-inv MINUS tokens m.0 ∙ ap (λ r. MINUS ∷ r) s.1) negative s.2
             | inr m ↦ elim (pick-inv (starts PLUS tokens) (read_signed false (rest_of tokens)) (read_signed false tokens) (Some (l, rest)) m.1) [
               | inl p ↦
                   let s = signed-spelled false (rest_of tokens) l rest p.1 in
-                  literal-made tokens (PLUS ∷ number s.0 ∷ []) l (signed false s.0) rest (starts-inv PLUS tokens p.0 ∙ ap (λ r. PLUS ∷ r) s.1) positive s.2
+                  literal-made tokens (PLUS ∷ number s.0 ∷ []) l (signed_literal false s.0) rest
+                  (starts-inv PLUS tokens p.0 ∙ ap (λ r. PLUS ∷ r) s.1) positive s.2
               | inr p ↦
                   let s = signed-spelled false tokens l rest p.1 in
-                  literal-made tokens (number s.0 ∷ []) l (signed false s.0) rest s.1 plain s.2
+                  literal-made tokens (number s.0 ∷ []) l (signed_literal false s.0) rest s.1 plain s.2
             ]
           ]
     ]
@@ -360,7 +362,7 @@ condition-spelled : (between : List Symbol → Option (List Cond × List Symbol)
     → read_condition between tokens ≡ Some (cs, rest) → Took IsCondition tokens cs rest
 unfolding read_condition
 condition-spelled between reads tokens cs rest e =
-    elim (pick-inv (starts OPEN tokens) (closed (between (rest_of tokens))) (read_simple tokens >>= λ p. Some (p.0 ∷ [], p.1)) (Some (cs, rest)) e) [
+    elim (pick-inv (starts OPEN tokens) (then_close (between (rest_of tokens))) (read_simple tokens >>= λ p. Some (p.0 ∷ [], p.1)) (Some (cs, rest)) e) [
       | inl o ↦
           let c = closed-inv (between (rest_of tokens)) cs rest o.1 in
           let t = reads (rest_of tokens) cs (CLOSE ∷ rest) c in

@@ -15,7 +15,7 @@ use Rattle.beas_core.proofs.Identifiers.{name_facts}
 use Rattle.sql_tree.specs.Symbols.{Symbol, word, mark}
 use Rattle.sql_tree.specs.Grammar.{Commas, last, comma, IsId, id, IsMaybeIds, no_ids, ids, IsColumn, integer, int, text, IsLiteral, plain, positive, negative, between_quotes, IsTuple, tuple, IsRef, bare, dotted, IsSide, placed, written, IsSign, equal, differs, not_equal, less, at_most, more, at_least, is_literal, IsCondition, comparison, range, parentheses}
 use Rattle.sql_tree.specs.Words.{AND, BETWEEN, INT, INTEGER, TEXT, OPEN, CLOSE, COMMA, DOT}
-use Rattle.sql_parser.specs.Reading.{starts, rest_of, starts_id, read_id, read_number, read_quoted, read_commas, read_list, closed, read_maybe_ids, read_kind, read_column, read_signed, starts_quoted, read_literal, read_tuple, read_ref, read_side, sign_of, read_sign, read_range, read_comparison, read_simple, read_condition, read_conditions}
+use Rattle.sql_parser.specs.Reading.{starts, rest_of, starts_id, read_id, read_number, read_quoted, read_commas, read_list, then_close, read_maybe_ids, read_kind, read_column, read_signed, starts_quoted, read_literal, read_tuple, read_ref, read_side, sign_of, read_sign, read_range, read_comparison, read_simple, read_condition, read_conditions}
 
 -- an identifier is none of the words of the grammar
 pub id_is_no_word : (w n : List ℕ) → is_reserved w ≡ true → is_name n ≡ true → bytes_eq w n ≡ false
@@ -91,8 +91,9 @@ pub no-comma_id : (a : List Symbol) (ns : List (List ℕ)) → Commas IsId a ns 
 no-comma_id a ns h m rest = commas-start IsId read_id Any (λ _ _ i rest _. id-reads i rest) (λ _ _ i. id-some i) (λ _. tt) (mark m)
     (λ _ _ i rest. id-no_mark i m rest) a ns h rest
 
-pub closed-reads : {X : Type 0} (read : Option (X × List Symbol)) (x : X) (rest : List Symbol) → read ≡ Some (x, CLOSE ∷ rest) → closed read ≡ Some (x, rest)
-unfolding closed starts rest_of
+pub closed-reads : {X : Type 0} (read : Option (X × List Symbol)) (x : X) (rest : List Symbol) → read ≡ Some (x, CLOSE ∷ rest) → then_close read
+    ≡ Some (x, rest)
+unfolding then_close starts rest_of
 closed-reads read x rest e = rw e refl
 
 pub maybe_ids-reads : {a : List Symbol} {ns : List (List ℕ)} → IsMaybeIds a ns → (rest : List Symbol)

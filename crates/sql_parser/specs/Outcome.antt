@@ -45,8 +45,8 @@ to_the_end None = Err Syntax
 to_the_end (Some (statement, [])) = with_distinct statement
 to_the_end (Some (statement, symbol ∷ rest)) = Err Syntax
 
-unfoldable pub parsed : List Symbol → Reading
-parsed tokens = if nat_lt 32 (depth tokens) then Err TooDeep else to_the_end (read_statement tokens)
+unfoldable pub outcome : List Symbol → Reading
+outcome tokens = if nat_lt 32 (depth tokens) then Err TooDeep else to_the_end (read_statement tokens)
 
 -- the answer is this reading, unless memory ran out
 abbrev pub Answers : Result Statement Fail → Reading → Type 0

@@ -24,7 +24,7 @@ use Rattle.sql_tree.specs.declared.tree.Statement.TheVariants.{CreateTable, Crea
 use Rattle.sql_tree.specs.Trees.{Tree, Block}
 use Rattle.beas_core.specs.Spelling.{is_name}
 use Rattle.sql_tree.specs.Symbols.{Symbol, word, number, quoted, mark}
-use Rattle.sql_tree.specs.Grammar.{signed, is_literal, Source}
+use Rattle.sql_tree.specs.Grammar.{signed_literal, is_literal, Source}
 use Rattle.sql_parser.specs.Fronts.{joined_to}
 use Rattle.sql_tree.specs.Words.{ACCESS, AND, AS, BETWEEN, CREATE, CROSS, DELETE, DISCOVER, DISTINCT, DROP, EXCEPT, EXPLAIN, FETCH, FROM, INNER, INSERT, INT, INTEGER, INTO, JOIN, LIMIT, LOAD, ON, SELECT, TABLE, TEXT, UNION, VALUES, WHERE, OPEN, CLOSE, COMMA, DOT, STAR, PLUS, MINUS}
 
@@ -46,12 +46,12 @@ Adds (Err errors.Syntax) new rest read = read ≡ None
 Adds (Err errors.NoMemory) new rest read = Unit {0}
 
 -- what was there before, and then what is read
-unfoldable pub behind : {X : Type 0} → List X → Option (List X × List Symbol) → Option (List X × List Symbol)
-behind front read = read >>= λ p. Some (front ++ p.0, p.1)
+unfoldable pub after : {X : Type 0} → List X → Option (List X × List Symbol) → Option (List X × List Symbol)
+after front read = read >>= λ p. Some (front ++ p.0, p.1)
 
 -- the same of items and conditions
-unfoldable pub behind_both : Source → Option (Source × List Symbol) → Option (Source × List Symbol)
-behind_both front read = read >>= λ p. Some ((front.0 ++ p.0.0, front.1 ++ p.0.1), p.1)
+unfoldable pub after_both : Source → Option (Source × List Symbol) → Option (Source × List Symbol)
+after_both front read = read >>= λ p. Some ((front.0 ++ p.0.0, front.1 ++ p.0.1), p.1)
 
 -- The same of a call that answers nothing.
 abbrev pub Passes : {X : Type 0} → Result X ReadError → List Symbol → Option (List Symbol) → Type 0
@@ -104,8 +104,8 @@ abbrev pub read_list : {X : Type 0} → (List Symbol → Option (X × List Symbo
 read_list read tokens = read_commas read (length tokens) tokens
 
 -- what is read, and a mark after it
-unfoldable pub closed : {X : Type 0} → Option (X × List Symbol) → Option (X × List Symbol)
-closed read = do
+unfoldable pub then_close : {X : Type 0} → Option (X × List Symbol) → Option (X × List Symbol)
+then_close read = do
   (x, rest) ← read
   rest ← expect CLOSE rest
   Some (x, rest)
@@ -128,7 +128,7 @@ read_column tokens = do
 unfoldable pub read_signed : Bool → List Symbol → Option (Literal × List Symbol)
 read_signed negative tokens = do
   (digits, rest) ← read_number tokens
-  Some (signed negative digits, rest)
+  Some (signed_literal negative digits, rest)
 
 -- whether a text between quotes is next
 unfoldable pub starts_quoted : List Symbol → Bool
@@ -144,7 +144,7 @@ read_literal tokens =
 unfoldable pub read_tuple : List Symbol → Option (List Literal × List Symbol)
 read_tuple tokens = do
   rest ← expect OPEN tokens
-  closed (read_list read_literal rest)
+  then_close (read_list read_literal rest)
 
 unfoldable pub read_ref : List Symbol → Option (ColumnRef × List Symbol)
 read_ref tokens = do
@@ -194,7 +194,7 @@ read_simple tokens = do
 -- a condition, with a reader of those between parentheses
 unfoldable pub read_condition : (List Symbol → Option (List Cond × List Symbol)) → List Symbol → Option (List Cond × List Symbol)
 read_condition between tokens =
-    if starts OPEN tokens then closed (between (rest_of tokens)) else (read_simple tokens >>= λ p. Some (p.0 ∷ [], p.1))
+    if starts OPEN tokens then then_close (between (rest_of tokens)) else (read_simple tokens >>= λ p. Some (p.0 ∷ [], p.1))
 
 unfoldable pub read_conditions : ℕ → List Symbol → Option (List Cond × List Symbol)
 read_conditions zero tokens = None
@@ -271,13 +271,13 @@ read_output tokens =
     if starts STAR tokens then Some ((true, []), rest_of tokens)
     else (read_list read_ref tokens >>= λ p. Some ((false, p.0), p.1))
 
-unfoldable pub behind_distinct : List Symbol → List Symbol
-behind_distinct tokens = if starts DISTINCT tokens then rest_of tokens else tokens
+unfoldable pub after_distinct : List Symbol → List Symbol
+after_distinct tokens = if starts DISTINCT tokens then rest_of tokens else tokens
 
 unfoldable pub read_block : List Symbol → Option (BlockTree × List Symbol)
 read_block tokens = do
   start ← expect SELECT tokens
-  (output, rest) ← read_output (behind_distinct start)
+  (output, rest) ← read_output (after_distinct start)
   rest ← expect FROM rest
   (sources, rest) ← read_sources (length rest) rest
   (conditions, rest) ← read_where rest
@@ -291,7 +291,7 @@ read_block_term tokens = do
 -- a term, with a reader of a query between parentheses
 unfoldable pub read_term : (List Symbol → Option (Tree × List Symbol)) → List Symbol → Option (Tree × List Symbol)
 read_term between tokens =
-    if starts OPEN tokens then closed (between (rest_of tokens)) else read_block_term tokens
+    if starts OPEN tokens then then_close (between (rest_of tokens)) else read_block_term tokens
 
 unfoldable pub read_query : ℕ → Front → List Symbol → Option (Tree × List Symbol)
 read_query zero front tokens = None
@@ -307,20 +307,20 @@ read_whole_query tokens = read_query (length tokens) Nothing tokens
 unfoldable pub read_columns : List Symbol → Option (List Column × List Symbol)
 read_columns tokens = do
   rest ← expect OPEN tokens
-  closed (read_list read_column rest)
+  then_close (read_list read_column rest)
 
 -- ( [ ids ] )
 unfoldable pub read_key : List Symbol → Option (List (List ℕ) × List Symbol)
 read_key tokens = do
   rest ← expect OPEN tokens
-  closed (read_maybe_ids rest)
+  then_close (read_maybe_ids rest)
 
 -- FETCH ( ids )
 unfoldable pub read_fetched : List Symbol → Option (List (List ℕ) × List Symbol)
 read_fetched tokens = do
   rest ← expect FETCH tokens
   rest ← expect OPEN rest
-  closed (read_list read_id rest)
+  then_close (read_list read_id rest)
 
 unfoldable pub read_create_table : List Symbol → Option (Statement × List Symbol)
 read_create_table tokens = do

@@ -1,6 +1,6 @@
 // Blocks: SELECT with its items, FROM items and conditions.
 ghost use Rattle.std.specs.Prelude.{◌≡◌, ◌∷◌, [], ◌++◌, codes, length};
-ghost use Rattle.sql_parser.specs.Reading.{Gives, Adds, behind, behind_both, read_alias, read_item, read_joined, read_crossed, starts_join, read_join, read_joins, read_source, read_sources, read_output, read_block};
+ghost use Rattle.sql_parser.specs.Reading.{Gives, Adds, after, after_both, read_alias, read_item, read_joined, read_crossed, starts_join, read_join, read_joins, read_source, read_sources, read_output, read_block};
 
 use crate::conditions::{conditions, where_conditions};
 use crate::parts::commas;
@@ -32,14 +32,14 @@ fn from_item(reader: &mut Reader, alloc: Global) -> Result<FromItem, ReadError>
 }
 
 /// Reads what stands after the words of a join with conditions, and adds it.
-#[tactic(auto, unfolding(crate::specs::Reading::read_joined, crate::specs::Reading::behind, crate::specs::Reading::behind_both))]
+#[tactic(auto, unfolding(crate::specs::Reading::read_joined, crate::specs::Reading::after, crate::specs::Reading::after_both))]
 fn inner_join(
     reader: &mut Reader,
     alloc: Global,
     items: &mut List<FromItem>,
     found: &mut List<Cond>,
 ) -> Result<(), ReadError>
-    ensures { Adds result (items.new, found.new) reader.new (behind_both (items.old, found.old)
+    ensures { Adds result (items.new, found.new) reader.new (after_both (items.old, found.old)
         (read_joined reader.old)) }
 {
     let item = from_item(reader, alloc)?;
@@ -49,14 +49,14 @@ fn inner_join(
 }
 
 /// Reads what stands after CROSS, and adds it.
-#[tactic(auto, unfolding(crate::specs::Reading::read_crossed, crate::specs::Reading::behind, crate::specs::Reading::behind_both))]
+#[tactic(auto, unfolding(crate::specs::Reading::read_crossed, crate::specs::Reading::after, crate::specs::Reading::after_both))]
 fn cross_join(
     reader: &mut Reader,
     alloc: Global,
     items: &mut List<FromItem>,
     found: &List<Cond>,
 ) -> Result<(), ReadError>
-    ensures { Adds result (items.new, found.now) reader.new (behind_both (items.old, found.now)
+    ensures { Adds result (items.new, found.now) reader.new (after_both (items.old, found.now)
         (read_crossed reader.old)) }
 {
     reader.want_word("join")?;
@@ -72,7 +72,7 @@ fn next_is_join(reader: &Reader) -> bool
     reader.next_is_word("join") || reader.next_is_word("inner") || reader.next_is_word("cross")
 }
 
-#[tactic(auto, unfolding(crate::specs::Reading::read_join, crate::specs::Reading::behind, crate::specs::Reading::behind_both))]
+#[tactic(auto, unfolding(crate::specs::Reading::read_join, crate::specs::Reading::after, crate::specs::Reading::after_both))]
 fn join(
     reader: &mut Reader,
     alloc: Global,
@@ -80,7 +80,7 @@ fn join(
     found: &mut List<Cond>,
 ) -> Result<(), ReadError>
     ensures { Adds result (items.new, found.new) reader.new
-        (behind_both (items.old, found.old) (read_join reader.old)) }
+        (after_both (items.old, found.old) (read_join reader.old)) }
 {
     if reader.takes_word("join") {
         return inner_join(reader, alloc, items, found);
@@ -99,7 +99,7 @@ fn joins(
     items: &mut List<FromItem>,
     found: &mut List<Cond>,
 ) -> Result<(), ReadError>
-    ensures { Adds result (items.new, found.new) reader.new (behind_both (items.old, found.old)
+    ensures { Adds result (items.new, found.new) reader.new (after_both (items.old, found.old)
         (read_joins (length reader.old) reader.old)) }
 {
     let mut room = reader.tokens_left();
@@ -113,14 +113,14 @@ fn joins(
     Ok(())
 }
 
-#[tactic(auto, unfolding(crate::specs::Reading::read_source, crate::specs::Reading::behind_both))]
+#[tactic(auto, unfolding(crate::specs::Reading::read_source, crate::specs::Reading::after_both))]
 fn from_source(
     reader: &mut Reader,
     alloc: Global,
     items: &mut List<FromItem>,
     found: &mut List<Cond>,
 ) -> Result<(), ReadError>
-    ensures { Adds result (items.new, found.new) reader.new (behind_both (items.old, found.old)
+    ensures { Adds result (items.new, found.new) reader.new (after_both (items.old, found.old)
         (read_source reader.old)) }
 {
     let item = from_item(reader, alloc)?;
@@ -134,7 +134,7 @@ fn from_sources(
     items: &mut List<FromItem>,
     found: &mut List<Cond>,
 ) -> Result<(), ReadError>
-    ensures { Adds result (items.new, found.new) reader.new (behind_both (items.old, found.old)
+    ensures { Adds result (items.new, found.new) reader.new (after_both (items.old, found.old)
         (read_sources (length reader.old) reader.old)) }
 {
     let mut room = reader.tokens_left();
@@ -160,7 +160,7 @@ fn output(reader: &mut Reader, alloc: Global) -> Result<(bool, List<ColumnRef>),
 }
 
 /// Reads a block.
-#[tactic(auto, unfolding(crate::specs::Reading::read_block, crate::specs::Reading::behind_distinct, crate::specs::Reading::behind, crate::specs::Reading::behind_both))]
+#[tactic(auto, unfolding(crate::specs::Reading::read_block, crate::specs::Reading::after_distinct, crate::specs::Reading::after, crate::specs::Reading::after_both))]
 pub fn block(reader: &mut Reader, alloc: Global) -> Result<BlockTree, ReadError>
     ensures { Gives result reader.new (read_block reader.old) }
 {

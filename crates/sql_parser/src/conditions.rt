@@ -1,6 +1,6 @@
 // Conditions. Parentheses around them leave no trace.
 ghost use Rattle.std.specs.Prelude.{◌≡◌, ◌∷◌, [], ◌++◌, codes, length};
-ghost use Rattle.sql_parser.specs.Reading.{Gives, Adds, behind, closed, starts_id, read_side, sign_of, read_sign, read_range, read_comparison, read_simple, read_condition, read_conditions, read_all_conditions, read_where};
+ghost use Rattle.sql_parser.specs.Reading.{Gives, Adds, after, then_close, starts_id, read_side, sign_of, read_sign, read_range, read_comparison, read_simple, read_condition, read_conditions, read_all_conditions, read_where};
 
 use crate::parts::Part;
 use crate::reader::{ReadError, Reader};
@@ -59,14 +59,14 @@ fn simple_condition(reader: &mut Reader, alloc: Global) -> Result<Cond, ReadErro
 }
 
 #[cycle(conditions)]
-#[tactic(auto, unfolding(crate::specs::Reading::read_condition, crate::specs::Reading::closed, crate::specs::Reading::behind))]
+#[tactic(auto, unfolding(crate::specs::Reading::read_condition, crate::specs::Reading::then_close, crate::specs::Reading::after))]
 fn condition(
     reader: &mut Reader,
     alloc: Global,
     room: usize,
     found: &mut List<Cond>,
 ) -> Result<(), ReadError>
-    ensures { Adds result found.new reader.new (behind found.old (read_condition (read_conditions room) reader.old)) }
+    ensures { Adds result found.new reader.new (after found.old (read_condition (read_conditions room) reader.old)) }
 {
     if reader.takes_mark("(") {
         some_conditions(reader, alloc, room, found)?;
@@ -86,7 +86,7 @@ fn some_conditions(
     mut room: usize,
     found: &mut List<Cond>,
 ) -> Result<(), ReadError>
-    ensures { Adds result found.new reader.new (behind found.old (read_conditions room reader.old)) }
+    ensures { Adds result found.new reader.new (after found.old (read_conditions room reader.old)) }
 {
     while room > 0 {
         room -= 1;
@@ -104,20 +104,20 @@ pub fn conditions(
     alloc: Global,
     found: &mut List<Cond>,
 ) -> Result<(), ReadError>
-    ensures { Adds result found.new reader.new (behind found.old (read_all_conditions reader.old)) }
+    ensures { Adds result found.new reader.new (after found.old (read_all_conditions reader.old)) }
 {
     let room = reader.tokens_left();
     some_conditions(reader, alloc, room, found)
 }
 
 /// Reads the conditions after WHERE, where it stands there, and adds them.
-#[tactic(auto, unfolding(crate::specs::Reading::read_where, crate::specs::Reading::behind))]
+#[tactic(auto, unfolding(crate::specs::Reading::read_where, crate::specs::Reading::after))]
 pub fn where_conditions(
     reader: &mut Reader,
     alloc: Global,
     found: &mut List<Cond>,
 ) -> Result<(), ReadError>
-    ensures { Adds result found.new reader.new (behind found.old (read_where reader.old)) }
+    ensures { Adds result found.new reader.new (after found.old (read_where reader.old)) }
 {
     if !reader.takes_word("where") {
         return Ok(());

@@ -1,6 +1,6 @@
 // How deep the tokens of a statement are nested.
 ghost use Rattle.std.specs.Prelude.{◌≡◌, ◌<◌, ◌≤◌, ◌+◌, ◌-◌, ◌^◌, nat_lt, codes};
-ghost use Rattle.sql_tree.specs.Symbols.{symbol_of, symbols, is_word, is_mark, joins_blocks, depth_behind, joins_behind, depth};
+ghost use Rattle.sql_tree.specs.Symbols.{symbol_of, symbols, is_word, is_mark, joins_blocks, depth_after, joins_after, depth};
 
 use sql_text::{Token, TokenKind};
 
@@ -26,7 +26,7 @@ fn joins_two_blocks(token: &Token) -> bool
 /// The depth after a token.
 fn depth_after(depth: usize, joins: usize, token: &Token) -> usize
     requires { depth ≤ 32 }
-    ensures { result ≡ depth_behind depth joins (symbol_of token.now.kind token.now.text) }
+    ensures { result ≡ depth_after depth joins (symbol_of token.now.kind token.now.text) }
 {
     let opens = token_is(token, TokenKind::Mark, "(");
     let closes = token_is(token, TokenKind::Mark, ")");
@@ -43,7 +43,7 @@ fn depth_after(depth: usize, joins: usize, token: &Token) -> usize
 /// The number of words UNION and EXCEPT up to a token.
 fn joins_after(joins: usize, token: &Token) -> usize
     requires { joins < 2 ^ 64 - 1 }
-    ensures { result ≡ joins_behind joins (symbol_of token.now.kind token.now.text) }
+    ensures { result ≡ joins_after joins (symbol_of token.now.kind token.now.text) }
 {
     if joins_two_blocks(token) {
         joins + 1

@@ -1,14 +1,14 @@
 // Digits without leading zeros.
 ghost use Rattle.std.specs.Prelude.{◌≡◌, ◌<◌, IfOk, MatchOption, length};
-ghost use Rattle.sql_tree.specs.Grammar.{trimmed};
+ghost use Rattle.sql_tree.specs.Grammar.{significant_digits};
 
 use beas_core::{NoMemory, Text};
 use std::alloc::Global;
 
 /// The digits without one leading zero, where other digits stand after it.
 fn without_zero(digits: &str) -> Option<&str>
-    ensures same { MatchOption result (trimmed digits.now ≡ digits.now)
-        (λ rest. trimmed digits.now ≡ trimmed rest.now) }
+    ensures same { MatchOption result (significant_digits digits.now ≡ digits.now)
+        (λ rest. significant_digits digits.now ≡ significant_digits rest.now) }
     ensures shorter { MatchOption result (Unit {0}) (λ rest. length rest.now < length digits.now) }
 {
     let rest = digits.strip_prefix('0')?;
@@ -20,7 +20,7 @@ fn without_zero(digits: &str) -> Option<&str>
 
 /// Digits without their leading zeros, of which one digit is kept.
 pub fn significant_digits(alloc: Global, digits: &Text) -> Result<Text, NoMemory>
-    ensures { IfOk result (λ kept. kept ≡ trimmed digits.now) }
+    ensures { IfOk result (λ kept. kept ≡ significant_digits digits.now) }
 {
     let mut digits = digits.as_str();
     while let Some(rest) = without_zero(digits) {

@@ -1,6 +1,6 @@
 // The small parts of statements, and lists of them.
 ghost use Rattle.std.specs.Prelude.{◌≡◌, List, Option, ◌∷◌, [], codes, length};
-ghost use Rattle.sql_parser.specs.Reading.{Gives, read_commas, read_list, read_id, read_column, read_kind, read_signed, read_literal, read_tuple, read_ref, read_maybe_ids, starts_quoted, closed};
+ghost use Rattle.sql_parser.specs.Reading.{Gives, read_commas, read_list, read_id, read_column, read_kind, read_signed, read_literal, read_tuple, read_ref, read_maybe_ids, starts_quoted, then_close};
 ghost use Rattle.sql_tree.specs.Symbols.{Symbol};
 
 use crate::numbers::significant_digits;
@@ -110,7 +110,7 @@ impl Part for Literal {
 impl Part for Items<Literal> {
     ghost reads = { read_tuple };
 
-    #[tactic(auto, unfolding(crate::specs::Reading::read_tuple, crate::specs::Reading::closed))]
+    #[tactic(auto, unfolding(crate::specs::Reading::read_tuple, crate::specs::Reading::then_close))]
     fn read(reader: &mut Reader, alloc: Global) -> Result<Items<Literal>, ReadError> {
         reader.want_mark("(")?;
         let literals = commas::<Literal>(reader, alloc)?;

@@ -2,7 +2,7 @@
 ghost use Rattle.std.specs.Prelude.{◌≡◌, IfOk, length};
 ghost use Rattle.sql_tree.specs.Trees.{Block, Union, Except};
 ghost use Rattle.sql_parser.specs.Fronts.{joined_to};
-ghost use Rattle.sql_parser.specs.Reading.{Gives, read_block_term, read_term, read_query, read_whole_query, closed};
+ghost use Rattle.sql_parser.specs.Reading.{Gives, read_block_term, read_term, read_query, read_whole_query, then_close};
 
 use crate::blocks::block;
 use crate::reader::{ReadError, Reader};
@@ -51,7 +51,7 @@ fn block_term(reader: &mut Reader, alloc: Global) -> Result<SelectTree, ReadErro
 }
 
 #[cycle(queries)]
-#[tactic(auto, unfolding(crate::specs::Reading::read_term, crate::specs::Reading::closed))]
+#[tactic(auto, unfolding(crate::specs::Reading::read_term, crate::specs::Reading::then_close))]
 fn term(reader: &mut Reader, alloc: Global, room: usize) -> Result<SelectTree, ReadError>
     ensures { Gives result reader.new (read_term (read_query room Front.Nothing) reader.old) }
 {

@@ -1,6 +1,6 @@
 // Statements.
 ghost use Rattle.std.specs.Prelude.{◌≡◌, length};
-ghost use Rattle.sql_parser.specs.Reading.{Gives, Adds, behind, closed, read_columns, read_key, read_fetched, read_create_table, read_create_access, read_create, read_drop_access, read_load, read_insert, read_delete, read_pairs, read_group, read_discover, read_explain, read_select, read_statement};
+ghost use Rattle.sql_parser.specs.Reading.{Gives, Adds, after, then_close, read_columns, read_key, read_fetched, read_create_table, read_create_access, read_create, read_drop_access, read_load, read_insert, read_delete, read_pairs, read_group, read_discover, read_explain, read_select, read_statement};
 
 use crate::conditions::where_conditions;
 use crate::parts::{commas, maybe_names};
@@ -10,7 +10,7 @@ use beas_core::{AccessSpec, Column, List, Name};
 use sql_tree::{Literal, Statement};
 use std::alloc::Global;
 
-#[tactic(auto, unfolding(crate::specs::Reading::read_columns, crate::specs::Reading::closed))]
+#[tactic(auto, unfolding(crate::specs::Reading::read_columns, crate::specs::Reading::then_close))]
 fn columns(reader: &mut Reader, alloc: Global) -> Result<List<Column>, ReadError>
     ensures { Gives result reader.new (read_columns reader.old) }
 {
@@ -20,7 +20,7 @@ fn columns(reader: &mut Reader, alloc: Global) -> Result<List<Column>, ReadError
     Ok(columns)
 }
 
-#[tactic(auto, unfolding(crate::specs::Reading::read_key, crate::specs::Reading::closed))]
+#[tactic(auto, unfolding(crate::specs::Reading::read_key, crate::specs::Reading::then_close))]
 fn key(reader: &mut Reader, alloc: Global) -> Result<List<Name>, ReadError>
     ensures { Gives result reader.new (read_key reader.old) }
 {
@@ -30,7 +30,7 @@ fn key(reader: &mut Reader, alloc: Global) -> Result<List<Name>, ReadError>
     Ok(names)
 }
 
-#[tactic(auto, unfolding(crate::specs::Reading::read_fetched, crate::specs::Reading::closed))]
+#[tactic(auto, unfolding(crate::specs::Reading::read_fetched, crate::specs::Reading::then_close))]
 fn fetch_list(reader: &mut Reader, alloc: Global) -> Result<List<Name>, ReadError>
     ensures { Gives result reader.new (read_fetched reader.old) }
 {
@@ -112,7 +112,7 @@ fn insert(reader: &mut Reader, alloc: Global) -> Result<Statement, ReadError>
     Ok(Statement::Insert { table, rows })
 }
 
-#[tactic(auto, unfolding(crate::specs::Reading::read_delete, crate::specs::Reading::behind))]
+#[tactic(auto, unfolding(crate::specs::Reading::read_delete, crate::specs::Reading::after))]
 fn delete(reader: &mut Reader, alloc: Global) -> Result<Statement, ReadError>
     ensures { Gives result reader.new (read_delete reader.old) }
 {

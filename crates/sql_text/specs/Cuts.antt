@@ -29,12 +29,12 @@ abbrev pub end_of : First → ℕ
 end_of (Blank to) = to
 end_of (Found token) = token.to
 
-abbrev pub found : First → List Token
-found (Blank to) = []
-found (Found token) = token ∷ []
+abbrev pub token_in : First → List Token
+token_in (Blank to) = []
+token_in (Found token) = token ∷ []
 
 pub record LeadsAt (source : List ℕ) (at : ℕ) (first : First) : Type 0 where
-  pub tokens : tokens_from at 0 (drop at source) ≡ found first ++ tokens_from (end_of first) 0 (drop (end_of first) source)
+  pub tokens : tokens_from at 0 (drop at source) ≡ token_in first ++ tokens_from (end_of first) 0 (drop (end_of first) source)
   pub some : at < end_of first
   pub within : end_of first ≤ length source
   pub cut : IsCharBoundary source (end_of first)

@@ -6,7 +6,7 @@ use Rattle.std.specs.Char.{to_ascii_lowercase}
 use Rattle.sql_text.specs.declared.token.Token.{Token}
 use Rattle.sql_text.specs.declared.token.TokenKind.{TokenKind}
 use Rattle.sql_text.specs.declared.token.TokenKind.TheVariants.{Word, Number, Quoted, Mark, Bad}
-use Rattle.sql_text.specs.Tokens.{quoted}
+use Rattle.sql_text.specs.Tokens.{in_quotes}
 
 -- every token takes at least one byte
 abbrev pub AreInOrder : ℕ → List Token → ℕ → Type 0
@@ -16,7 +16,7 @@ AreInOrder from (token ∷ tokens) end = (from ≤ token.from) × (token.from < 
 abbrev pub Spells : List ℕ → TokenKind → List ℕ → Type 0
 Spells spelling Word text = text ≡ map to_ascii_lowercase spelling
 Spells spelling Number text = text ≡ spelling
-Spells spelling Quoted text = spelling ≡ quoted text
+Spells spelling Quoted text = spelling ≡ in_quotes text
 Spells spelling Mark text = text ≡ spelling
 Spells spelling Bad text = text ≡ spelling
 

@@ -31,11 +31,11 @@ abbrev pub quote : ℕ
 quote = 39
 
 -- each quote of the text stands twice
-abbrev pub doubled : List ℕ → List ℕ
-doubled text = flat_map (λ byte. if byte == quote then quote ∷ quote ∷ [] else byte ∷ []) text
+abbrev pub double_quotes : List ℕ → List ℕ
+double_quotes text = flat_map (λ byte. if byte == quote then quote ∷ quote ∷ [] else byte ∷ []) text
 
-abbrev pub quoted : List ℕ → List ℕ
-quoted text = quote ∷ (doubled text ++ quote ∷ [])
+abbrev pub in_quotes : List ℕ → List ℕ
+in_quotes text = quote ∷ (double_quotes text ++ quote ∷ [])
 
 -- the text whose spelling goes on with these bytes after its first quote, if it has an end: two quotes are one, a lone one is the end
 abbrev pub quoted_text : List ℕ → Option (List ℕ)
@@ -61,7 +61,7 @@ word spelling =
 
 -- without an end, all the rest is bad
 abbrev pub quoted_or_bad : List ℕ → Option (List ℕ) → Lead
-quoted_or_bad rest (Some text) = Lexeme Quoted (length (quoted text)) text
+quoted_or_bad rest (Some text) = Lexeme Quoted (length (in_quotes text)) text
 quoted_or_bad rest None = plain Bad rest
 
 abbrev pub mark_or_bad : List ℕ → Option (List ℕ) → Lead

@@ -1,12 +1,12 @@
 // Texts as the language quotes them.
 ghost use Rattle.std.specs.Prelude.{◌≡◌, ◌++◌, OnOk};
-ghost use Rattle.sql_text.specs.Tokens.{doubled, quoted};
+ghost use Rattle.sql_text.specs.Tokens.{double_quotes, in_quotes};
 
 use beas_core::{NoMemory, Text};
 
 /// Adds a text between quotes, with each of its own quotes doubled.
 pub fn push_quoted(text: &mut Text, content: &str) -> Result<(), NoMemory>
-    ensures { OnOk result (text.new ≡ text.old ++ quoted content.now) }
+    ensures { OnOk result (text.new ≡ text.old ++ in_quotes content.now) }
 {
     text.push_str("'")?;
     push_doubled(text, content)?;
@@ -14,7 +14,7 @@ pub fn push_quoted(text: &mut Text, content: &str) -> Result<(), NoMemory>
 }
 
 fn push_doubled(text: &mut Text, content: &str) -> Result<(), NoMemory>
-    ensures ok { OnOk result (text.new ≡ text.old ++ doubled content.now) }
+    ensures ok { OnOk result (text.new ≡ text.old ++ double_quotes content.now) }
 {
     let mut rest = content;
     while let Some((front, back)) = rest.split_once('\'') {

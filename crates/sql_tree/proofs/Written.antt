@@ -3,7 +3,7 @@ use Rattle.std.proofs.Common.{◌≡◌, ℕ, ◌+◌, ◌<◌, ◌≤◌, true,
 use Rattle.std.specs.List.{flat_map}
 use Rattle.std.proofs.lemmas.List.{append-nil, at_drop_more, drop_all, nil_from_length}
 use Rattle.std.proofs.lemmas.List.Concat.{flat_map-cons}
-use Rattle.sql_tree.specs.Canonical.{Lexeme, written, parted}
+use Rattle.sql_tree.specs.Canonical.{Lexeme, text_of_lexemes, parts_with}
 use Rattle.sql_tree.specs.Writing.{Written, put, put_all}
 
 pub put_all_append : (w : Written) (xs ys : List Lexeme) → put_all w (xs ++ ys) ≡ put_all (put_all w xs) ys
@@ -11,7 +11,7 @@ unfolding put_all
 put_all_append w [] ys = refl
 put_all_append w (x ∷ xs) ys = put_all_append (put w x) xs ys
 
-pub put_all_text : (w : Written) (xs : List Lexeme) → (put_all w xs).text ≡ w.text ++ written w.held xs
+pub put_all_text : (w : Written) (xs : List Lexeme) → (put_all w xs).text ≡ w.text ++ text_of_lexemes w.held xs
 unfolding put_all
 put_all_text w [] = sym (append-nil w.text)
 put_all_text w (x ∷ xs) = put_all_text (put w x) xs ∙ simp append_assoc
@@ -35,15 +35,15 @@ unfolding put_all
 parts_done between part w xs i le = ap (λ ys. put_all w (flat_map (λ y. between ∷ part y) ys)) (drop_all i xs le)
 
 pub parted_first : {X : Type 0} (between : Lexeme) (part : X → List Lexeme) (w next : Written) (xs rest : List X) (first : X) → xs ≡ first ∷ rest
-    → next ≡ put_all w (part first) → put_all next (flat_map (λ y. between ∷ part y) rest) ≡ put_all w (parted between part xs)
+    → next ≡ put_all w (part first) → put_all next (flat_map (λ y. between ∷ part y) rest) ≡ put_all w (parts_with between part xs)
 parted_first between part w next xs rest first e n =
     ap (λ v. put_all v (flat_map (λ y. between ∷ part y) rest)) n ∙ sym (put_all_append w (part first) (flat_map (λ y. between ∷ part y) rest))
-    ∙ ap (λ ys. put_all w (parted between part ys)) (sym e)
+    ∙ ap (λ ys. put_all w (parts_with between part ys)) (sym e)
 
 pub parted_nil : {X : Type 0} (between : Lexeme) (part : X → List Lexeme) (w : Written) (xs ys : List X) → ys ≡ xs → length ys ≡ 0
-    → w ≡ put_all w (parted between part xs)
+    → w ≡ put_all w (parts_with between part xs)
 unfolding put_all
-parted_nil between part w xs ys e n = ap (λ zs. put_all w (parted between part zs)) (sym (nil_from_length ys n) ∙ e)
+parted_nil between part w xs ys e n = ap (λ zs. put_all w (parts_with between part zs)) (sym (nil_from_length ys n) ∙ e)
 
-pub from_start : (w v : Written) (xs : List Lexeme) → w.text ≡ [] → w.held ≡ true → v ≡ put_all w xs → v.text ≡ written true xs
-from_start w v xs t h e = ap (λ (u : Written). u.text) e ∙ put_all_text w xs ∙ ap (λ ts. ts ++ written w.held xs) t ∙ ap (λ b. written b xs) h
+pub from_start : (w v : Written) (xs : List Lexeme) → w.text ≡ [] → w.held ≡ true → v ≡ put_all w xs → v.text ≡ text_of_lexemes true xs
+from_start w v xs t h e = ap (λ (u : Written). u.text) e ∙ put_all_text w xs ∙ ap (λ ts. ts ++ text_of_lexemes w.held xs) t ∙ ap (λ b. text_of_lexemes b xs) h

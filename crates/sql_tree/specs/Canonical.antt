@@ -20,7 +20,7 @@ use Rattle.sql_tree.specs.declared.tree.FromItem.{FromItem}
 use Rattle.sql_tree.specs.declared.tree.BlockTree.{BlockTree}
 use Rattle.sql_tree.specs.declared.tree.Statement.{Statement}
 use Rattle.sql_tree.specs.declared.tree.Statement.TheVariants.{CreateTable, CreateAccess, DropAccess, Load, Insert, Delete, DiscoverGroup, DiscoverPairs, Select, Explain}
-use Rattle.sql_text.specs.Tokens.{quoted}
+use Rattle.sql_text.specs.Tokens.{in_quotes}
 use Rattle.sql_tree.specs.Trees.{Tree, Block, Union, Except}
 
 -- a word of the grammar in capitals, a name, the digits of a number, the content of a text, or a mark
@@ -35,7 +35,7 @@ abbrev pub spelling : Lexeme → List ℕ
 spelling (keyword text) = text
 spelling (name text) = text
 spelling (digits text) = text
-spelling (content text) = quoted text
+spelling (content text) = in_quotes text
 spelling (sign text) = text
 
 -- no space stands before a comma, a closing parenthesis and a point
@@ -53,20 +53,20 @@ abbrev pub gap : Bool → List ℕ
 gap held = if held then [] else 32 ∷ []
 
 -- the text of lexemes, where held says that no space stands before the first
-abbrev pub written : Bool → List Lexeme → List ℕ
-written held [] = []
-written held (lexeme ∷ rest) = gap (held || holds_left lexeme) ++ spelling lexeme ++ written (holds_right lexeme) rest
+abbrev pub text_of_lexemes : Bool → List Lexeme → List ℕ
+text_of_lexemes held [] = []
+text_of_lexemes held (lexeme ∷ rest) = gap (held || holds_left lexeme) ++ spelling lexeme ++ text_of_lexemes (holds_right lexeme) rest
 
 -- parts with a lexeme between
-abbrev pub parted : {X : Type 0} → Lexeme → (X → List Lexeme) → List X → List Lexeme
-parted between part [] = []
-parted between part (x ∷ xs) = part x ++ flat_map (λ y. between ∷ part y) xs
+abbrev pub parts_with : {X : Type 0} → Lexeme → (X → List Lexeme) → List X → List Lexeme
+parts_with between part [] = []
+parts_with between part (x ∷ xs) = part x ++ flat_map (λ y. between ∷ part y) xs
 
-abbrev pub listed : {X : Type 0} → (X → List Lexeme) → List X → List Lexeme
-listed part xs = parted (sign (codes ",")) part xs
+abbrev pub comma_list : {X : Type 0} → (X → List Lexeme) → List X → List Lexeme
+comma_list part xs = parts_with (sign (codes ",")) part xs
 
 abbrev pub names_of : List (List ℕ) → List Lexeme
-names_of names = listed (λ n. name n ∷ []) names
+names_of names = comma_list (λ n. name n ∷ []) names
 
 abbrev pub type_of : ColType → Lexeme
 type_of Integer = keyword (codes "INTEGER")
@@ -80,7 +80,7 @@ literal_of (Number negative text) = if negative then sign (codes "-") ∷ digits
 literal_of (Words text) = content text ∷ []
 
 abbrev pub tuple_of : List Literal → List Lexeme
-tuple_of literals = sign (codes "(") ∷ listed literal_of literals ++ sign (codes ")") ∷ []
+tuple_of literals = sign (codes "(") ∷ comma_list literal_of literals ++ sign (codes ")") ∷ []
 
 abbrev pub alias_before : Option (List ℕ) → List Lexeme
 alias_before None = []
@@ -107,20 +107,20 @@ condition_of (Between value low high) = ref_of value ++ keyword (codes "BETWEEN"
 
 abbrev pub where_of : List Cond → List Lexeme
 where_of [] = []
-where_of (c ∷ cs) = keyword (codes "WHERE") ∷ parted (keyword (codes "AND")) condition_of (c ∷ cs)
+where_of (c ∷ cs) = keyword (codes "WHERE") ∷ parts_with (keyword (codes "AND")) condition_of (c ∷ cs)
 
 -- an alias is printed where it differs from the table's name
 abbrev pub item_of : FromItem → List Lexeme
 item_of item = name item.table ∷ (if bytes_eq item.alias item.table then [] else keyword (codes "AS") ∷ name item.alias ∷ [])
 
 abbrev pub output_of : Bool → List ColumnRef → List Lexeme
-output_of star refs = if star then sign (codes "*") ∷ [] else listed ref_of refs
+output_of star refs = if star then sign (codes "*") ∷ [] else comma_list ref_of refs
 
 abbrev pub distinct_of : Bool → List Lexeme
 distinct_of distinct = if distinct then keyword (codes "DISTINCT") ∷ [] else []
 
 abbrev pub block_of : BlockTree → List Lexeme
-block_of block = keyword (codes "SELECT") ∷ distinct_of block.distinct ++ output_of block.star block.items ++ keyword (codes "FROM") ∷ listed item_of
+block_of block = keyword (codes "SELECT") ∷ distinct_of block.distinct ++ output_of block.star block.items ++ keyword (codes "FROM") ∷ comma_list item_of
     block.from_items ++ where_of block.conditions
 
 abbrev pub in_parentheses : List Lexeme → List Lexeme
@@ -148,16 +148,16 @@ access_of spec = keyword (codes "CREATE") ∷ keyword (codes "ACCESS") ∷ name 
     (names_of spec.key) ++ fetch_of spec.fetched ++ limit_of spec.limit
 
 abbrev pub lexemes_of : Statement → List Lexeme
-lexemes_of (CreateTable table columns) = keyword (codes "CREATE") ∷ keyword (codes "TABLE") ∷ name table ∷ in_parentheses (listed column_of columns)
+lexemes_of (CreateTable table columns) = keyword (codes "CREATE") ∷ keyword (codes "TABLE") ∷ name table ∷ in_parentheses (comma_list column_of columns)
 lexemes_of (CreateAccess spec) = access_of spec
 lexemes_of (DropAccess access) = keyword (codes "DROP") ∷ keyword (codes "ACCESS") ∷ name access ∷ []
 lexemes_of (Load table file) = keyword (codes "LOAD") ∷ name table ∷ keyword (codes "FROM") ∷ content file ∷ []
-lexemes_of (Insert table rows) = keyword (codes "INSERT") ∷ keyword (codes "INTO") ∷ name table ∷ keyword (codes "VALUES") ∷ listed tuple_of rows
+lexemes_of (Insert table rows) = keyword (codes "INSERT") ∷ keyword (codes "INTO") ∷ name table ∷ keyword (codes "VALUES") ∷ comma_list tuple_of rows
 lexemes_of (Delete table conditions) = keyword (codes "DELETE") ∷ keyword (codes "FROM") ∷ name table ∷ where_of conditions
 lexemes_of (DiscoverGroup table key fetched) = keyword (codes "DISCOVER") ∷ name table ∷ in_parentheses (names_of key) ++ fetch_of fetched
 lexemes_of (DiscoverPairs table limit) = keyword (codes "DISCOVER") ∷ name table ∷ limit_of limit
 lexemes_of (Select tree) = tree_lexemes tree
 lexemes_of (Explain tree) = keyword (codes "EXPLAIN") ∷ tree_lexemes tree
 
-abbrev pub printed : Statement → List ℕ
-printed statement = written true (lexemes_of statement)
+abbrev pub canonical_text : Statement → List ℕ
+canonical_text statement = text_of_lexemes true (lexemes_of statement)

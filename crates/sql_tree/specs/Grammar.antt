@@ -42,20 +42,20 @@ pub data IsColumn : List Symbol → Column → Type 0 where
   text : {a : List Symbol} {n : List ℕ} → IsId a n → IsColumn (a ++ TEXT ∷ []) (record { name = n; kind = Texts })
 
 -- digits without leading zeros, of which one digit is kept; 48 is the digit 0
-abbrev pub trimmed : List ℕ → List ℕ
-trimmed [] = []
-trimmed (digit ∷ []) = digit ∷ []
-trimmed (digit ∷ next ∷ digits) = if digit == 48 then trimmed (next ∷ digits) else digit ∷ next ∷ digits
+abbrev pub significant_digits : List ℕ → List ℕ
+significant_digits [] = []
+significant_digits (digit ∷ []) = digit ∷ []
+significant_digits (digit ∷ next ∷ digits) = if digit == 48 then significant_digits (next ∷ digits) else digit ∷ next ∷ digits
 
 -- zero has no sign
-abbrev pub signed : Bool → List ℕ → Literal
-signed negative digits = Number (negative && not (bytes_eq (trimmed digits) (codes "0"))) (trimmed digits)
+abbrev pub signed_literal : Bool → List ℕ → Literal
+signed_literal negative digits = Number (negative && not (bytes_eq (significant_digits digits) (codes "0"))) (significant_digits digits)
 
 -- [ + | - ] number | quoted
 pub data IsLiteral : List Symbol → Literal → Type 0 where
-  plain : {d : List ℕ} → IsLiteral (number d ∷ []) (signed false d)
-  positive : {d : List ℕ} → IsLiteral (PLUS ∷ number d ∷ []) (signed false d)
-  negative : {d : List ℕ} → IsLiteral (MINUS ∷ number d ∷ []) (signed true d)
+  plain : {d : List ℕ} → IsLiteral (number d ∷ []) (signed_literal false d)
+  positive : {d : List ℕ} → IsLiteral (PLUS ∷ number d ∷ []) (signed_literal false d)
+  negative : {d : List ℕ} → IsLiteral (MINUS ∷ number d ∷ []) (signed_literal true d)
   between_quotes : {t : List ℕ} → IsLiteral (quoted t ∷ []) (Words t)
 
 -- ( literal { , literal } )

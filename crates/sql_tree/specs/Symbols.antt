@@ -39,17 +39,17 @@ abbrev pub free_joins : ℕ
 free_joins = 1024
 
 -- the depth after a token, at a depth and after so many words UNION and EXCEPT
-abbrev pub depth_behind : ℕ → ℕ → Symbol → ℕ
-depth_behind depth joins symbol =
+abbrev pub depth_after : ℕ → ℕ → Symbol → ℕ
+depth_after depth joins symbol =
     if is_mark (codes "(") symbol || (joins_blocks symbol && nat_le free_joins joins) then depth + 1
     else if is_mark (codes ")") symbol then depth - 1 else depth
 
-abbrev pub joins_behind : ℕ → Symbol → ℕ
-joins_behind joins symbol = if joins_blocks symbol then joins + 1 else joins
+abbrev pub joins_after : ℕ → Symbol → ℕ
+joins_after joins symbol = if joins_blocks symbol then joins + 1 else joins
 
 abbrev pub depth_from : ℕ → ℕ → List Symbol → ℕ
 depth_from depth joins [] = depth
-depth_from depth joins (symbol ∷ rest) = max depth (depth_from (depth_behind depth joins symbol) (joins_behind joins symbol) rest)
+depth_from depth joins (symbol ∷ rest) = max depth (depth_from (depth_after depth joins symbol) (joins_after joins symbol) rest)
 
 -- the greatest depth of the walk over the tokens
 abbrev pub depth : List Symbol → ℕ

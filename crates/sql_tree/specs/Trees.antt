@@ -19,37 +19,37 @@ postfix (Block b) = inl b ∷ []
 postfix (Union left right) = postfix left ++ (postfix right ++ inr true ∷ [])
 postfix (Except left right) = postfix left ++ (postfix right ++ inr false ∷ [])
 
-abbrev pub joined : Bool → Tree → Tree → Tree
-joined true left right = Union left right
-joined false left right = Except left right
+abbrev pub combination : Bool → Tree → Tree → Tree
+combination true left right = Union left right
+combination false left right = Except left right
 
 -- the trees that a postfix text leaves on a stack
-abbrev pub stacked : List (BlockTree ⊎ Bool) → List Tree → List Tree
-stacked [] stack = stack
-stacked (inl b ∷ rest) stack = stacked rest (Block b ∷ stack)
-stacked (inr sign ∷ rest) (right ∷ left ∷ stack) = stacked rest (joined sign left right ∷ stack)
-stacked (inr sign ∷ rest) (right ∷ []) = []
-stacked (inr sign ∷ rest) [] = []
+abbrev pub stack_after : List (BlockTree ⊎ Bool) → List Tree → List Tree
+stack_after [] stack = stack
+stack_after (inl b ∷ rest) stack = stack_after rest (Block b ∷ stack)
+stack_after (inr sign ∷ rest) (right ∷ left ∷ stack) = stack_after rest (combination sign left right ∷ stack)
+stack_after (inr sign ∷ rest) (right ∷ []) = []
+stack_after (inr sign ∷ rest) [] = []
 
-stacked-postfix : (t : Tree) (rest : List (BlockTree ⊎ Bool)) (stack : List Tree) → stacked (postfix t ++ rest) stack ≡ stacked rest (t ∷ stack)
+stacked-postfix : (t : Tree) (rest : List (BlockTree ⊎ Bool)) (stack : List Tree) → stack_after (postfix t ++ rest) stack ≡ stack_after rest (t ∷ stack)
 stacked-postfix (Block b) rest stack = refl
 stacked-postfix (Union l r) rest stack =
-    ap (λ ts. stacked ts stack) (append_assoc (postfix l) (postfix r ++ inr true ∷ []) rest
+    ap (λ ts. stack_after ts stack) (append_assoc (postfix l) (postfix r ++ inr true ∷ []) rest
     ∙ ap (λ ts. postfix l ++ ts) (append_assoc (postfix r) (inr true ∷ []) rest))
     ∙ stacked-postfix l (postfix r ++ (inr true ∷ rest)) stack ∙ stacked-postfix r (inr true ∷ rest) (l ∷ stack)
 stacked-postfix (Except l r) rest stack =
-    ap (λ ts. stacked ts stack) (append_assoc (postfix l) (postfix r ++ inr false ∷ []) rest
+    ap (λ ts. stack_after ts stack) (append_assoc (postfix l) (postfix r ++ inr false ∷ []) rest
     ∙ ap (λ ts. postfix l ++ ts) (append_assoc (postfix r) (inr false ∷ []) rest))
     ∙ stacked-postfix l (postfix r ++ (inr false ∷ rest)) stack ∙ stacked-postfix r (inr false ∷ rest) (l ∷ stack)
 
-alone : (t : Tree) → stacked (postfix t) [] ≡ t ∷ []
-alone t = ap (λ ts. stacked ts []) (sym (append-nil (postfix t))) ∙ stacked-postfix t [] []
+alone : (t : Tree) → stack_after (postfix t) [] ≡ t ∷ []
+alone t = ap (λ ts. stack_after ts []) (sym (append-nil (postfix t))) ∙ stacked-postfix t [] []
 
 same_head : (s t : Tree) → s ∷ [] ≡ t ∷ [] → s ≡ t
 same_head s t e = cc
 
 pub postfix_tells : (s t : Tree) → postfix s ≡ postfix t → s ≡ t
-postfix_tells s t e = same_head s t (sym (alone s) ∙ ap (λ ts. stacked ts []) e ∙ alone t)
+postfix_tells s t e = same_head s t (sym (alone s) ∙ ap (λ ts. stack_after ts []) e ∙ alone t)
 
 abbrev pub coded_tree : Coded Tree
 coded_tree = coded_via (coded_list (coded⊎ the_row.coded coded_bool)) postfix postfix_tells

@@ -1,7 +1,7 @@
 // The canonical text of statements.
 ghost use Rattle.std.specs.Prelude.{◌≡◌, ◌++◌, ◌∷◌, [], List, OnOk, IfOk, Option, codes, if◌then◌else◌};
 ghost use Rattle.sql_tree.specs.declared.printing.Between.{Between as Separator};
-ghost use Rattle.sql_tree.specs.Canonical.{Lexeme, keyword, name, digits, content, sign, parted, listed, names_of, column_of, type_of, literal_of, tuple_of, alias_before, ref_of, side_of, sign_text, condition_of, where_of, item_of, output_of, distinct_of, block_of, in_parentheses, operand_of, tree_lexemes, fetch_of, limit_of, access_of, lexemes_of, printed};
+ghost use Rattle.sql_tree.specs.Canonical.{Lexeme, keyword, name, digits, content, sign, parts_with, comma_list, names_of, column_of, type_of, literal_of, tuple_of, alias_before, ref_of, side_of, sign_text, condition_of, where_of, item_of, output_of, distinct_of, block_of, in_parentheses, operand_of, tree_lexemes, fetch_of, limit_of, access_of, lexemes_of, canonical_text};
 ghost use Rattle.sql_tree.specs.Between.{lexeme_between};
 ghost use Rattle.sql_tree.specs.Writing.{put, put_all};
 
@@ -41,7 +41,7 @@ fn write_parted<T: Part>(
     between: Between,
     parts: &Items<T>,
 ) -> Result<(), NoMemory>
-    ensures { OnOk result (writer.new ≡ put_all writer.old (parted (lexeme_between between) T.lexemes parts.now)) }
+    ensures { OnOk result (writer.new ≡ put_all writer.old (parts_with (lexeme_between between) T.lexemes parts.now)) }
 {
     let Some((first, rest)) = parts.as_slice().split_first() else {
         return Ok(());
@@ -326,7 +326,7 @@ fn write_limit(writer: &mut Writer, limit: &Text) -> Result<(), NoMemory>
 
 #[tactic(auto, unfolding(crate::specs::Writing::put_all), using(crate::proofs::Written::put_all_append))]
 fn write_columns(writer: &mut Writer, columns: &Items<Column>) -> Result<(), NoMemory>
-    ensures { OnOk result (writer.new ≡ put_all writer.old (in_parentheses (listed column_of columns.now))) }
+    ensures { OnOk result (writer.new ≡ put_all writer.old (in_parentheses (comma_list column_of columns.now))) }
 {
     writer.mark("(")?;
     write_parted::<Column>(writer, Between::Comma, columns)?;
@@ -340,7 +340,7 @@ fn write_create_table(
     columns: &Items<Column>,
 ) -> Result<(), NoMemory>
     ensures { OnOk result (writer.new ≡ put_all writer.old (keyword (codes "CREATE") ∷ keyword (codes "TABLE") ∷ name
-        table.now ∷ in_parentheses (listed column_of columns.now))) }
+        table.now ∷ in_parentheses (comma_list column_of columns.now))) }
 {
     writer.word("CREATE")?;
     writer.word("TABLE")?;
@@ -390,7 +390,7 @@ fn write_insert(
     rows: &Items<Items<Literal>>,
 ) -> Result<(), NoMemory>
     ensures { OnOk result (writer.new ≡ put_all writer.old (keyword (codes "INSERT") ∷ keyword (codes "INTO") ∷ name
-        table.now ∷ keyword (codes "VALUES") ∷ listed tuple_of rows.now)) }
+        table.now ∷ keyword (codes "VALUES") ∷ comma_list tuple_of rows.now)) }
 {
     writer.word("INSERT")?;
     writer.word("INTO")?;
@@ -468,7 +468,7 @@ fn write_statement(writer: &mut Writer, statement: &Statement) -> Result<(), NoM
 /// The canonical text of a statement: words of the grammar in capitals, one space between tokens where one belongs,
 /// all conditions after WHERE, and parentheses only around a UNION or EXCEPT that is a right operand.
 pub fn print(alloc: Global, statement: &Statement) -> Result<Text, NoMemory>
-    ensures { IfOk result (λ text. text ≡ printed statement.now) }
+    ensures { IfOk result (λ text. text ≡ canonical_text statement.now) }
 {
     let mut writer = Writer::new(alloc);
     write_statement(&mut writer, statement)?;

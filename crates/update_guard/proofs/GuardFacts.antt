@@ -24,12 +24,12 @@ use Rattle.std.proofs.Math.ListN.{get_or-eq_default}
 use Rattle.beas_core.specs.declared.refusal.Refusal.TheVariants.{TooMany}
 use Rattle.beas_core.specs.declared.refusal.Counted.TheVariants.{Rows}
 use Rattle.catalogue.specs.Schema.{accesses_on}
-use Rattle.catalogue.specs.Refusing.{insert_refusal, wrong_width, wrong_type, refused_if, broken_bound, admit_refusal, already_broken, admitted, create_access_refusal}
-use Rattle.update_guard.specs.Guarding.{joined, database_of, IsIndexAt, IndexesOf, HoldOver, IsGuarded, create_access_reads}
+use Rattle.catalogue.specs.Refusing.{insert_refusal, wrong_width, wrong_type, refused_if, broken_bound, admit_refusal, already_broken, new_access, create_access_refusal}
+use Rattle.update_guard.specs.Guarding.{tables_with, database_of, IsIndexAt, IndexesOf, HoldOver, IsGuarded, create_access_reads}
 use Rattle.update_guard.specs.Making.{AddsIndex, DropsIndex}
 
 -- tables and their rows, joined
-schemas_of_joined : (tables : List TableSchema) (rows : List (List Row)) → length rows ≡ length tables → map table_schema (joined tables rows) ≡ tables
+schemas_of_joined : (tables : List TableSchema) (rows : List (List Row)) → length rows ≡ length tables → map table_schema (tables_with tables rows) ≡ tables
 schemas_of_joined [] rows e = refl
 schemas_of_joined (t ∷ tables) [] e = absurd (omega (arith, e))
 schemas_of_joined (t ∷ tables) (r ∷ rows) e = ap (λ ts. t ∷ ts) (schemas_of_joined tables rows (omega (arith, e)))
@@ -38,13 +38,13 @@ pub schema_of_stored : (schema : Schema) (rows : List (List Row)) → length row
 schema_of_stored schema rows e = ap (λ ts. let s : Schema = record { tables = ts; accesses = schema.accesses; created = schema.created } in s)
     (schemas_of_joined schema.tables rows e)
 
-pub length-joined : (tables : List TableSchema) (rows : List (List Row)) → length rows ≡ length tables → length (joined tables rows) ≡ length tables
+pub length-joined : (tables : List TableSchema) (rows : List (List Row)) → length rows ≡ length tables → length (tables_with tables rows) ≡ length tables
 length-joined [] rows e = refl
 length-joined (t ∷ tables) [] e = absurd (omega (arith, e))
 length-joined (t ∷ tables) (r ∷ rows) e = ap suc (length-joined tables rows (omega (arith, e)))
 
 rows_of_joined : (tables : List TableSchema) (rows : List (List Row)) (i : ℕ) → length rows ≡ length tables
-    → (get_or (joined tables rows) i empty_table).rows ≡ get_or rows i []
+    → (get_or (tables_with tables rows) i empty_table).rows ≡ get_or rows i []
 rows_of_joined [] [] i e = refl
 rows_of_joined [] (r ∷ rows) i e = absurd (omega (arith, e))
 rows_of_joined (t ∷ tables) [] i e = absurd (omega (arith, e))
@@ -56,8 +56,8 @@ pub rows_at_stored : (schema : Schema) (rows : List (List Row)) (id : TableId) �
 rows_at_stored schema rows id e = rows_of_joined schema.tables rows id.0 e
 
 joined-push : (tables : List TableSchema) (rows : List (List Row)) (name : List ℕ) (columns : List Column) → length rows ≡ length tables
-    → joined (tables ++ record { name = name; columns = columns } ∷ []) (rows ++ [] ∷ [])
-    ≡ joined tables rows ++ record { name = name; columns = columns; rows = [] } ∷ []
+    → tables_with (tables ++ record { name = name; columns = columns } ∷ []) (rows ++ [] ∷ [])
+    ≡ tables_with tables rows ++ record { name = name; columns = columns; rows = [] } ∷ []
 joined-push [] [] name columns e = refl
 joined-push [] (r ∷ rows) name columns e = absurd (omega (arith, e))
 joined-push (t ∷ tables) [] name columns e = absurd (omega (arith, e))
@@ -65,7 +65,7 @@ joined-push (t ∷ tables) (r ∷ rows) name columns e = ap (λ ts. record { nam
     (joined-push tables rows name columns (omega (arith, e)))
 
 joined-set : (tables : List TableSchema) (rows : List (List Row)) (i : ℕ) (r : List Row) → length rows ≡ length tables
-    → joined tables (set rows i r) ≡ set (joined tables rows) i (record (get_or (joined tables rows) i empty_table) { rows = r })
+    → tables_with tables (set rows i r) ≡ set (tables_with tables rows) i (record (get_or (tables_with tables rows) i empty_table) { rows = r })
 joined-set [] [] i r e = refl
 joined-set [] (q ∷ rows) i r e = absurd (omega (arith, e))
 joined-set (t ∷ tables) [] i r e = absurd (omega (arith, e))
@@ -268,20 +268,20 @@ on_err (Err x) p f = f p
 -- the refusal of a constraint over the database that is kept, and what its making reads
 pub refusal_of_stored : (limits : Limits) (schema : Schema) (rows : List (List Row)) (spec : AccessSpec) → length rows ≡ length schema.tables
     → create_access_refusal limits (database_of schema rows) spec
-    ≡ option_or (admit_refusal limits schema spec) (already_broken (get_or rows (admitted schema spec).table.0 []) (admitted schema spec))
+    ≡ option_or (admit_refusal limits schema spec) (already_broken (get_or rows (new_access schema spec).table.0 []) (new_access schema spec))
 refusal_of_stored limits schema rows spec e =
-    ap (λ s. option_or (admit_refusal limits s spec) (already_broken (rows_at (database_of schema rows) (admitted s spec).table) (admitted s spec)))
+    ap (λ s. option_or (admit_refusal limits s spec) (already_broken (rows_at (database_of schema rows) (new_access s spec).table) (new_access s spec)))
     (schema_of_stored schema rows e)
-    ∙ ap (λ r. option_or (admit_refusal limits schema spec) (already_broken r (admitted schema spec)))
-    (rows_at_stored schema rows (admitted schema spec).table e)
+    ∙ ap (λ r. option_or (admit_refusal limits schema spec) (already_broken r (new_access schema spec)))
+    (rows_at_stored schema rows (new_access schema spec).table e)
 
 pub reads_of_stored : (limits : Limits) (schema : Schema) (rows : List (List Row)) (spec : AccessSpec) → length rows ≡ length schema.tables
     → create_access_reads limits (database_of schema rows) spec
-    ≡ (if is_none (admit_refusal limits schema spec) then length (get_or rows (admitted schema spec).table.0 []) else 0)
+    ≡ (if is_none (admit_refusal limits schema spec) then length (get_or rows (new_access schema spec).table.0 []) else 0)
 reads_of_stored limits schema rows spec e =
-    ap (λ s. if is_none (admit_refusal limits s spec) then length (rows_at (database_of schema rows) (admitted s spec).table) else 0)
+    ap (λ s. if is_none (admit_refusal limits s spec) then length (rows_at (database_of schema rows) (new_access s spec).table) else 0)
     (schema_of_stored schema rows e)
-    ∙ ap (λ (r : List Row). if is_none (admit_refusal limits schema spec) then length r else 0) (rows_at_stored schema rows (admitted schema spec).table e)
+    ∙ ap (λ (r : List Row). if is_none (admit_refusal limits schema spec) then length r else 0) (rows_at_stored schema rows (new_access schema spec).table e)
 
 pub on_ok_both : {A E P Q R : Type 0} (r : Result A E) → OnOk r P → OnOk r Q → (P → Q → R) → OnOk r R
 on_ok_both (Ok x) p q f = f p q

@@ -14,15 +14,15 @@ use Rattle.access_index.specs.Index.{Index, IsIndexOf}
 use Rattle.catalogue.specs.declared.tables.TableSchema.{TableSchema}
 use Rattle.catalogue.specs.Schema.{Schema, no_table}
 use Rattle.catalogue.specs.Database.{Database, Table, RowFits, schema_of, rows_at}
-use Rattle.catalogue.specs.Refusing.{admit_refusal, admitted}
+use Rattle.catalogue.specs.Refusing.{admit_refusal, new_access}
 
-abbrev pub joined : List TableSchema → List (List Row) → List Table
-joined [] rows = []
-joined (t ∷ tables) [] = []
-joined (t ∷ tables) (r ∷ rows) = record { name = t.name; columns = t.columns; rows = r } ∷ joined tables rows
+abbrev pub tables_with : List TableSchema → List (List Row) → List Table
+tables_with [] rows = []
+tables_with (t ∷ tables) [] = []
+tables_with (t ∷ tables) (r ∷ rows) = record { name = t.name; columns = t.columns; rows = r } ∷ tables_with tables rows
 
 abbrev pub database_of : Schema → List (List Row) → Database
-database_of schema rows = record { tables = joined schema.tables rows; accesses = schema.accesses; created = schema.created }
+database_of schema rows = record { tables = tables_with schema.tables rows; accesses = schema.accesses; created = schema.created }
 
 -- the index of a constraint's table's rows
 pub record IsIndexAt (rows : List (List Row)) (index : Index) (access : Access) : Type 0 where
@@ -45,4 +45,4 @@ pub record IsGuarded (schema : Schema) (rows : List (List Row)) (indexes : List 
 
 abbrev pub create_access_reads : Limits → Database → AccessSpec → ℕ
 create_access_reads limits db spec =
-    if is_none (admit_refusal limits (schema_of db) spec) then length (rows_at db (admitted (schema_of db) spec).table) else 0
+    if is_none (admit_refusal limits (schema_of db) spec) then length (rows_at db (new_access (schema_of db) spec).table) else 0

@@ -11,8 +11,8 @@ use Rattle.update_guard.specs.Guarding.{database_of}
 use Rattle.update_guard.specs.Indexing.{no_access}
 use Rattle.update_guard.specs.declared.guarded.Guarded.{Guarded}
 
-abbrev pub stored : Guarded → Database
-stored guarded = database_of guarded.catalogue guarded.rows
+abbrev pub contents : Guarded → Database
+contents guarded = database_of guarded.catalogue guarded.rows
 
 abbrev pub index_with_id : List Index → AccessId → Index
 index_with_id indexes id = unwrap_or (find (λ x. x.access.id.0 == id.0) indexes) (record { access = no_access; total = 0; buckets = [] })

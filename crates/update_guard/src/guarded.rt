@@ -3,8 +3,8 @@ ghost use Rattle.std.specs.Prelude.{◌≡◌, ◌≢◌, ◌+◌, ◌<◌, ◌�
 ghost use Rattle.beas_core.specs.declared.errors.Fail.TheVariants.{NoMemory as Want};
 ghost use Rattle.beas_core.specs.Shapes.{BlockIsWellFormed, width_of};
 ghost use Rattle.catalogue.specs.Schema.{columns_at};
-ghost use Rattle.catalogue.specs.Database.{schema_of, with_table, with_access, without_access, rows_at, appended, kept, kept_rows, block_table};
-ghost use Rattle.catalogue.specs.Refusing.{IsRefusedAs, add_table_refusal, create_access_refusal, drop_access_refusal, insert_refusal, admitted};
+ghost use Rattle.catalogue.specs.Database.{schema_of, with_table, with_access, without_access, rows_at, with_more_rows, with_rows_kept, kept_rows, block_table};
+ghost use Rattle.catalogue.specs.Refusing.{IsRefusedAs, add_table_refusal, create_access_refusal, drop_access_refusal, insert_refusal, new_access};
 ghost use Rattle.update_guard.specs.Guarding.{IsGuarded, create_access_reads};
 
 use crate::deleting::delete_from;
@@ -30,15 +30,15 @@ pub struct Guarded {
     pub rows: List<Rows>,
     /// The index of each live constraint, in the order of the constraints.
     pub indexes: List<AccessIndex>,
-    ghost kept: { IsGuarded catalogue rows indexes },
+    ghost with_rows_kept: { IsGuarded catalogue rows indexes },
 }
 
 impl Guarded {
-    ghost use Rattle.update_guard.specs.Stored.{stored};
+    ghost use Rattle.update_guard.specs.Stored.{contents};
 
     /// A database without tables. It takes no memory.
     pub fn new(alloc: Global) -> Guarded
-        ensures { stored result ≡ record { tables = []; accesses = []; created = 0 } }
+        ensures { contents result ≡ record { tables = []; accesses = []; created = 0 } }
     {
         Guarded {
             catalogue: Catalogue::new(alloc),
@@ -56,10 +56,11 @@ impl Guarded {
         columns: List<Column>,
     ) -> Result<TableId, Fail>
         requires { 1 ≤ length columns }
-        ensures refused { IsRefusedAs result (add_table_refusal limits.now (schema_of (stored self.old)) name columns) }
-        ensures id { IfOk result (λ id. id.0 ≡ length (stored self.old).tables) }
-        ensures ok { OnOk result (stored self.new ≡ with_table (stored self.old) name columns) }
-        ensures err { OnErr result (stored self.new ≡ stored self.old) }
+        ensures refused { IsRefusedAs result (add_table_refusal limits.now
+            (schema_of (contents self.old)) name columns) }
+        ensures id { IfOk result (λ id. id.0 ≡ length (contents self.old).tables) }
+        ensures ok { OnOk result (contents self.new ≡ with_table (contents self.old) name columns) }
+        ensures err { OnErr result (contents self.new ≡ contents self.old) }
     {
         let mut rows = mem::replace(&mut self.rows, List::new(alloc)).into_vec();
         let made = make_table(alloc, &mut self.catalogue, &mut rows, limits, name, columns);
@@ -78,14 +79,14 @@ impl Guarded {
         steps: &mut Steps<L>,
     ) -> Result<AccessId, Fail>
         requires { 1 ≤ length spec.now.fetched }
-        ensures refused { IsRefusedAs result (create_access_refusal limits.now (stored self.old) spec.now) }
-        ensures id { IfOk result (λ id. id.0 ≡ (stored self.old).created) }
-        ensures ok { OnOk result (stored self.new ≡ with_access (stored self.old)
-            (admitted (schema_of (stored self.old)) spec.now)) }
-        ensures err { OnErr result (stored self.new ≡ stored self.old) }
-        ensures cost { result ≢ Err Want → steps.new ≡ steps.old + create_access_reads limits.now (stored self.old)
+        ensures refused { IsRefusedAs result (create_access_refusal limits.now (contents self.old) spec.now) }
+        ensures id { IfOk result (λ id. id.0 ≡ (contents self.old).created) }
+        ensures ok { OnOk result (contents self.new ≡ with_access (contents self.old)
+            (new_access (schema_of (contents self.old)) spec.now)) }
+        ensures err { OnErr result (contents self.new ≡ contents self.old) }
+        ensures cost { result ≢ Err Want → steps.new ≡ steps.old + create_access_reads limits.now (contents self.old)
             spec.now }
-        ensures at_most { steps.new ≤ steps.old + create_access_reads limits.now (stored self.old) spec.now }
+        ensures at_most { steps.new ≤ steps.old + create_access_reads limits.now (contents self.old) spec.now }
         ensures no_fewer { steps.old ≤ steps.new }
     {
         let mut indexes = mem::replace(&mut self.indexes, List::new(alloc)).into_vec();
@@ -104,9 +105,9 @@ impl Guarded {
 
     /// Drops a constraint with its index. After any error the database is as it was.
     pub fn drop_access(&mut self, alloc: Global, name: &Name) -> Result<(), Fail>
-        ensures refused { IsRefusedAs result (drop_access_refusal (schema_of (stored self.old)) name.now) }
-        ensures ok { OnOk result (stored self.new ≡ without_access (stored self.old) name.now) }
-        ensures err { OnErr result (stored self.new ≡ stored self.old) }
+        ensures refused { IsRefusedAs result (drop_access_refusal (schema_of (contents self.old)) name.now) }
+        ensures ok { OnOk result (contents self.new ≡ without_access (contents self.old) name.now) }
+        ensures err { OnErr result (contents self.new ≡ contents self.old) }
     {
         let mut indexes = mem::replace(&mut self.indexes, List::new(alloc)).into_vec();
         let outcome = drop_index(alloc, &mut self.catalogue, &mut indexes, name);
@@ -124,13 +125,13 @@ impl Guarded {
         table: TableId,
         rows: List<Row>,
     ) -> Result<u32, Fail>
-        requires live { table.0 < length (stored self.old).tables }
+        requires live { table.0 < length (contents self.old).tables }
         requires few { length rows < 2 ^ 32 }
         requires narrow { All (λ row. length row < 2 ^ 32) rows }
-        ensures refused { IsRefusedAs result (insert_refusal limits.now (stored self.old) table rows) }
+        ensures refused { IsRefusedAs result (insert_refusal limits.now (contents self.old) table rows) }
         ensures count { IfOk result (λ count. count ≡ length rows) }
-        ensures ok { OnOk result (stored self.new ≡ appended (stored self.old) table rows) }
-        ensures err { OnErr result (stored self.new ≡ stored self.old) }
+        ensures ok { OnOk result (contents self.new ≡ with_more_rows (contents self.old) table rows) }
+        ensures err { OnErr result (contents self.new ≡ contents self.old) }
     {
         let count = rows.len() as u32;
         let mut stores = mem::replace(&mut self.rows, List::new(alloc)).into_vec();
@@ -157,13 +158,13 @@ impl Guarded {
     pub fn delete<L: Ledger>(&mut self, filter: &Block, steps: &mut Steps<L>) -> u32
         requires form { BlockIsWellFormed filter.now }
         requires one { length filter.now.atoms ≡ 1 }
-        requires live { (block_table filter.now).0 < length (stored self.old).tables }
+        requires live { (block_table filter.now).0 < length (contents self.old).tables }
         requires wide { width_of filter.now.atoms 0 ≡ length
-            (columns_at (schema_of (stored self.old)) (block_table filter.now)) }
-        ensures kept { stored self.new ≡ kept filter.now (stored self.old) }
-        ensures count { result + length (kept_rows filter.now (rows_at (stored self.old) (block_table filter.now)))
-            ≡ length (rows_at (stored self.old) (block_table filter.now)) }
-        ensures cost { steps.new ≡ steps.old + length (rows_at (stored self.old) (block_table filter.now)) }
+            (columns_at (schema_of (contents self.old)) (block_table filter.now)) }
+        ensures kept { contents self.new ≡ with_rows_kept filter.now (contents self.old) }
+        ensures count { result + length (kept_rows filter.now (rows_at (contents self.old) (block_table filter.now)))
+            ≡ length (rows_at (contents self.old) (block_table filter.now)) }
+        ensures cost { steps.new ≡ steps.old + length (rows_at (contents self.old) (block_table filter.now)) }
     {
         let table = table_of(filter);
         let alloc = self.catalogue.alloc();

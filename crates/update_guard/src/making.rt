@@ -5,7 +5,7 @@ ghost use Rattle.std.specs.Option.{is_none, option_or};
 ghost use Rattle.beas_core.specs.declared.errors.Fail.TheVariants.{NoMemory as Want};
 ghost use Rattle.access_index.specs.Index.{IsIndexOf, Index};
 ghost use Rattle.catalogue.specs.Schema.{schema_with_table, schema_with_access, schema_without_access};
-ghost use Rattle.catalogue.specs.Refusing.{IsRefusedAs, add_table_refusal, admit_refusal, already_broken, admitted, drop_access_refusal};
+ghost use Rattle.catalogue.specs.Refusing.{IsRefusedAs, add_table_refusal, admit_refusal, already_broken, new_access, drop_access_refusal};
 ghost use Rattle.update_guard.specs.Making.{AddsIndex, DropsIndex};
 
 use access_index::AccessIndex;
@@ -78,7 +78,7 @@ fn put_access(
     requires may { admit_refusal limits.now catalogue.old spec.now ≡ None }
     ensures refused { IsRefusedAs result None }
     ensures id { IfOk result (λ id. id.0 ≡ catalogue.old.created) }
-    ensures ok { OnOk result (catalogue.new ≡ schema_with_access catalogue.old (admitted catalogue.old spec.now)) }
+    ensures ok { OnOk result (catalogue.new ≡ schema_with_access catalogue.old (new_access catalogue.old spec.now)) }
     ensures index { OnOk result (indexes.new.items ≡ indexes.old.items ++ index ∷ []) }
     ensures err { OnErr result (catalogue.new ≡ catalogue.old) }
     ensures indexes_stay { OnErr result (indexes.new.items ≡ indexes.old.items) }
@@ -102,20 +102,20 @@ pub fn make_access<L: Ledger>(
     requires fetches { 1 ≤ length spec.now.fetched }
     requires tables { length rows.now ≡ length catalogue.old.tables }
     ensures refused { IsRefusedAs result (option_or (admit_refusal limits.now catalogue.old spec.now)
-        (already_broken (slice_index_or rows.now (admitted catalogue.old spec.now).table.0 [])
-        (admitted catalogue.old spec.now))) }
+        (already_broken (slice_index_or rows.now (new_access catalogue.old spec.now).table.0 [])
+        (new_access catalogue.old spec.now))) }
     ensures id { IfOk result (λ id. id.0 ≡ catalogue.old.created) }
-    ensures ok { OnOk result (catalogue.new ≡ schema_with_access catalogue.old (admitted catalogue.old spec.now)) }
-    ensures index { OnOk result (AddsIndex (slice_index_or rows.now (admitted catalogue.old spec.now).table.0 [])
-        (admitted catalogue.old spec.now) indexes.old.items indexes.new.items) }
+    ensures ok { OnOk result (catalogue.new ≡ schema_with_access catalogue.old (new_access catalogue.old spec.now)) }
+    ensures index { OnOk result (AddsIndex (slice_index_or rows.now (new_access catalogue.old spec.now).table.0 [])
+        (new_access catalogue.old spec.now) indexes.old.items indexes.new.items) }
     ensures err { OnErr result (catalogue.new ≡ catalogue.old) }
     ensures indexes_stay { OnErr result (indexes.new.items ≡ indexes.old.items) }
     ensures cost { result ≢ Err Want → steps.new ≡ steps.old
         + (if is_none (admit_refusal limits.now catalogue.old spec.now) then length
-        (slice_index_or rows.now (admitted catalogue.old spec.now).table.0 []) else 0) }
+        (slice_index_or rows.now (new_access catalogue.old spec.now).table.0 []) else 0) }
     ensures at_most { steps.new ≤ steps.old
         + (if is_none (admit_refusal limits.now catalogue.old spec.now) then length
-        (slice_index_or rows.now (admitted catalogue.old spec.now).table.0 []) else 0) }
+        (slice_index_or rows.now (new_access catalogue.old spec.now).table.0 []) else 0) }
     ensures no_fewer { steps.old ≤ steps.new }
 {
     let access = catalogue.admit(alloc, limits, spec)?;

@@ -1,9 +1,9 @@
 use Rattle.std.proofs.Common.{◌≡◌, ◌==◌, ◌++◌, map, take}
 use Rattle.std.specs.List.{filter}
-use Rattle.attribute_closure.specs.Uses.{seen}
+use Rattle.attribute_closure.specs.Uses.{as_use}
 use Rattle.attribute_closure.proofs.Listed.{use_of_access}
 use Rattle.attribute_closure.proofs.uses.push_uses.Given as goal
 
 abbrev pub invariant-loop-access : goal.invariant-loop-access
-invariant-loop-access l = map seen l.found
-    ≡ map seen l.initial.found ++ map (use_of_access l.atom) (filter (λ access. access.table.0 == l.table.0) (take l.access-index l.accesses))
+invariant-loop-access l = map as_use l.found
+    ≡ map as_use l.initial.found ++ map (use_of_access l.atom) (filter (λ access. access.table.0 == l.table.0) (take l.access-index l.accesses))

@@ -1,8 +1,8 @@
 use Rattle.std.proofs.Common.{◌≡◌, map, take}
 use Rattle.std.specs.List.{flat_map, enumerate_from}
-use Rattle.attribute_closure.specs.Uses.{seen}
+use Rattle.attribute_closure.specs.Uses.{as_use}
 use Rattle.attribute_closure.proofs.Listed.{uses_on}
 use Rattle.attribute_closure.proofs.uses.uses_of.Given as goal
 
 abbrev pub invariant-loop-number : goal.invariant-loop-number
-invariant-loop-number l = map seen l.found ≡ flat_map (uses_on l.accesses) (take l.number (enumerate_from 0 l.block.atoms))
+invariant-loop-number l = map as_use l.found ≡ flat_map (uses_on l.accesses) (take l.number (enumerate_from 0 l.block.atoms))

@@ -1,6 +1,6 @@
 use Rattle.std.proofs.Common.{◌≡◌, drop, false, []}
 use Rattle.session.specs.Applied.{settings_of}
-use Rattle.session.specs.Ties.{seen}
+use Rattle.session.specs.Ties.{view}
 use Rattle.beas_run.specs.Scripts.{readings_at}
 use Rattle.beas_run.specs.Walks.{scene}
 use Rattle.beas_run.proofs.Counted.{Counting}
@@ -8,8 +8,8 @@ use Rattle.beas_run.proofs.demonstration.count_all.Given as goal
 
 abbrev pub invariant-loop-piece : goal.invariant-loop-piece
 invariant-loop-piece g l =
-    let files_then = seen g.F.Files.told g.F.Files.content g.F.Files.faults g.F.Files.taken l.fn.files in
-    let files_now = seen g.F.Files.told g.F.Files.content g.F.Files.faults g.F.Files.taken l.files in
+    let files_then = view g.F.Files.told g.F.Files.content g.F.Files.faults g.F.Files.taken l.fn.files in
+    let files_now = view g.F.Files.told g.F.Files.content g.F.Files.faults g.F.Files.taken l.files in
     record {
       counting : Counting (settings_of l.fn.session) (readings_at l.tokens l.pieces) (readings_at l.tokens (drop l.piece-index l.pieces))
           l.piece-index l.refused l.summary

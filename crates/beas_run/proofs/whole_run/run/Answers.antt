@@ -1,5 +1,5 @@
 use Rattle.std.proofs.Common.{refl, inl, inr, ap, arith, length}
-use Rattle.session.specs.Ties.{seen}
+use Rattle.session.specs.Ties.{view}
 use Rattle.beas_run.proofs.Complete.{completes, completes_demo, completes_without}
 use Rattle.beas_run.proofs.Empty.{early_said, not_without, ran_nothing}
 use Rattle.beas_run.proofs.Pieces.{none_sent}
@@ -34,7 +34,7 @@ returns-in-Ok g c =
       not_text = λ s. absurd (not_without _ o.statuses (inr (inr (inr s))));
       complete = λ name script named told is quiet out_quiet fits text. but_faults _ o.statuses (λ four. out_quiet (o.fault four));
       complete_without = λ name script named told is quiet.
-          completes_without _ _ _ (seen g.F.Files.told g.F.Files.content g.F.Files.faults g.F.Files.taken c.run_over.new.files)
+          completes_without _ _ _ (view g.F.Files.told g.F.Files.content g.F.Files.faults g.F.Files.taken c.run_over.new.files)
           (most _ o.statuses) (λ s. absurd (not_without _ o.statuses (inl s))) (λ s. absurd (not_without _ o.statuses (inr (inl s))))
           (λ s. absurd (not_without _ o.statuses (inr (inr (inl s))))) (λ s. absurd (not_without _ o.statuses (inr (inr (inr s)))))
           name script named told is quiet _ run.has;

@@ -1,6 +1,6 @@
 use Rattle.std.proofs.Common.{◌∙◌, ◌++◌, ◌*◌, ◌/◌, ◌%◌, ◌^◌, ap, append-nil, arith, sym, ℕ}
 use Rattle.std.specs.List.{flat_map}
-use Rattle.demo_gen.specs.Demo.{delete_text, ended, queries}
+use Rattle.demo_gen.specs.Demo.{delete_text, with_end, queries}
 use Rattle.demo_gen.specs.Draws.{next, state_after}
 use Rattle.demo_gen.proofs.States.{after_both, no_draw}
 use Rattle.demo_gen.proofs.Written.{no_rounds, round_written}
@@ -16,7 +16,7 @@ loop-round-preserved c =
     let at = c.loop-round.invariant.1 in
     let asked = c.in_ok-push_queries.ensures.draws ∙ ap (λ (s : ℕ). state_after s 30) at in (
       round_written first n c.args.text.now c.loop-round.text _ _ _ c.loop-round.invariant.0
-          (c.in_ok-push_queries.ensures.text ∙ ap (λ (s : ℕ). c.loop-round.text ++ flat_map ended (queries s 10)) at)
+          (c.in_ok-push_queries.ensures.text ∙ ap (λ (s : ℕ). c.loop-round.text ++ flat_map with_end (queries s 10)) at)
           c.in_ok-push_deletion.ensures.text
           (ap (λ (d : ℕ). delete_text (next d / 2 ^ 33 % 2000)) (no_draw _ ∙ asked)),
       c.in_ok-push_deletion.ensures.draws ∙ ap (λ (s : ℕ). state_after s 1) asked ∙ after_both (state_after first (31 * n)) 30 1

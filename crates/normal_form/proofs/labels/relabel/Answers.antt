@@ -1,8 +1,8 @@
 use Rattle.std.proofs.Common.{arith}
 use Rattle.std.proofs.lemmas.Grind.{common_steps}
 use Rattle.std.proofs.lemmas.List.Edits.{map_over_more}
-use Rattle.normal_form.specs.Labels.{replaced}
+use Rattle.normal_form.specs.Labels.{replace}
 use Rattle.normal_form.proofs.labels.relabel.Goals as goal
 
 pub loop-label-preserved : goal.loop-label-preserved
-loop-label-preserved c = grind (arith, common_steps, map_over_more (replaced c.args.from c.args.to))
+loop-label-preserved c = grind (arith, common_steps, map_over_more (replace c.args.from c.args.to))

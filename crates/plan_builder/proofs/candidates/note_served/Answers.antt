@@ -2,13 +2,13 @@ use Rattle.std.proofs.Common.{◌∙◌, Bool, true, List, cond, get_or, map, ap
 use Rattle.std.specs.List.{slice_set}
 use Rattle.beas_core.specs.Coverage.{holds_needed}
 use Rattle.beas_core.specs.Types.{Use}
-use Rattle.attribute_closure.specs.Uses.{seen, use_at}
+use Rattle.attribute_closure.specs.Uses.{as_use, use_at}
 use Rattle.plan_builder.proofs.CandidateFacts.{seen_is, served_step}
 use Rattle.plan_builder.proofs.candidates.note_served.Goals as goal
 
 pub loop-number-preserved : goal.loop-number-preserved
 loop-number-preserved c =
-    let us = map seen c.args.uses.now in
+    let us = map as_use c.args.uses.now in
     let i = c.loop-number.number-index in
     let number = get_or c.args.numbers.now i 0 in
     let found = seen_is c.args.uses.now number c.index-uses-number.result (c.requires i 0 c.loop-number-test.true) c.index-uses-number.is in

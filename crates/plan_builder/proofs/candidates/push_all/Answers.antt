@@ -3,14 +3,14 @@ use Rattle.std.specs.BinaryHeap.{heap_items}
 use Rattle.std.specs.List.Sorted.{IsPermutation}
 use Rattle.std.proofs.lemmas.List.Sorted.{IsPermutation-push_more}
 use Rattle.beas_core.specs.Types.{Use}
-use Rattle.attribute_closure.specs.Uses.{seen}
+use Rattle.attribute_closure.specs.Uses.{as_use}
 use Rattle.plan_builder.specs.Candidates.{Entry, entry_of}
 use Rattle.plan_builder.proofs.CandidateFacts.{entries_step, seen_is}
 use Rattle.plan_builder.proofs.candidates.push_all.Goals as goal
 
 pub loop-number-preserved : goal.loop-number-preserved
 loop-number-preserved c =
-    let us = map seen c.args.uses.now in
+    let us = map as_use c.args.uses.now in
     let i = c.loop-number.number-index in
     let number = get_or c.args.numbers.now i 0 in
     let found = seen_is c.args.uses.now number c.index-uses-number.result (c.requires i 0 c.loop-number-test.true) c.index-uses-number.is in

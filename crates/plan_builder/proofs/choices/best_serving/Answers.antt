@@ -1,6 +1,6 @@
 use Rattle.std.proofs.Common.{◌∙◌, ap}
 use Rattle.std.specs.Option.{option_map}
-use Rattle.attribute_closure.specs.Uses.{seen}
+use Rattle.attribute_closure.specs.Uses.{as_use}
 use Rattle.plan_builder.specs.Choices.{may_serve}
 use Rattle.plan_builder.proofs.ChoiceFacts.{best_taken, best_left}
 use Rattle.plan_builder.proofs.choices.best_serving.Goals as goal
@@ -8,12 +8,12 @@ use Rattle.plan_builder.proofs.choices.best_serving.Goals.{then-may-better, else
 
 pub loop-found-preserved : goal.loop-found-preserved
 loop-found-preserved c = elim c.if-may-better.branch [
-  | then-may-better w ↦ ap (option_map seen) w.best-is
+  | then-may-better w ↦ ap (option_map as_use) w.best-is
       ∙ best_taken (may_serve c.args.block.now c.args.set.now c.args.atom) c.args.uses.now c.loop-found.found-index c.found-item.result
-      c.loop-found-test.true c.found-item.is (option_map seen c.loop-found.best) c.serves_now-may.result c.beats-better.result
+      c.loop-found-test.true c.found-item.is (option_map as_use c.loop-found.best) c.serves_now-may.result c.beats-better.result
       c.loop-found.invariant c.serves_now-may.ensures c.beats-better.ensures w.if-may-better.true
-  | else-may-better w ↦ ap (option_map seen) w.best-is
+  | else-may-better w ↦ ap (option_map as_use) w.best-is
       ∙ best_left (may_serve c.args.block.now c.args.set.now c.args.atom) c.args.uses.now c.loop-found.found-index c.found-item.result
-      c.loop-found-test.true c.found-item.is (option_map seen c.loop-found.best) c.serves_now-may.result c.beats-better.result
+      c.loop-found-test.true c.found-item.is (option_map as_use c.loop-found.best) c.serves_now-may.result c.beats-better.result
       c.loop-found.invariant c.serves_now-may.ensures c.beats-better.ensures w.if-may-better.false
 ]

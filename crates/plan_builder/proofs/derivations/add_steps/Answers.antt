@@ -2,7 +2,7 @@ use Rattle.std.proofs.Common.{◌∙◌, ap, sym, map, arith}
 use Rattle.std.specs.List.{filter}
 use Rattle.beas_core.specs.Coverage.{is_covered, uses}
 use Rattle.beas_core.specs.Derivations.{least_bound, enabled_uses, with_use}
-use Rattle.attribute_closure.specs.Uses.{seen}
+use Rattle.attribute_closure.specs.Uses.{as_use}
 use Rattle.plan_builder.specs.Choices.{may_add}
 use Rattle.plan_builder.proofs.Turns.{left_done, left_stuck, left_out, plan_bound, plan_uses, plan_left, chosen_member, by_bool}
 use Rattle.plan_builder.proofs.derivations.add_steps.Goals as goal
@@ -11,7 +11,7 @@ pub returns-then-cover-clause-come : goal.returns-then-cover-clause-come
 returns-then-cover-clause-come c = λ accesses once same.
     let now = c.loop-turn.invariant in
     let so_far = now.come accesses once same in
-    let covered = ap (is_covered c.args.block.now accesses) (sym now.set) ∙ sym (c.cover.ensures accesses (ap (map seen) now.listed ∙ same))
+    let covered = ap (is_covered c.args.block.now accesses) (sym now.set) ∙ sym (c.cover.ensures accesses (ap (map as_use) now.listed ∙ same))
     ∙ c.if-cover.true in (
       so_far.0,
       left_done c.args.block.now accesses c.args.plan.now.set.items c.loop-turn.plan.set.items c.loop-turn.plan.steps c.args.block.now.count
@@ -21,7 +21,7 @@ returns-then-cover-clause-come c = λ accesses once same.
 pub returns-in-None-clause-come : goal.returns-in-None-clause-come
 returns-in-None-clause-come c = λ accesses once same.
     let now = c.loop-turn.invariant in
-    let listed = ap (map seen) now.listed ∙ same in
+    let listed = ap (map as_use) now.listed ∙ same in
     let so_far = now.come accesses once same in
     let covered = ap (is_covered c.args.block.now accesses) (sym now.set) ∙ sym (c.cover.ensures accesses listed) ∙ c.if-cover.false in
     let best = ap (λ s. least_bound (enabled_uses c.args.block.now accesses s)) (sym now.set)
@@ -43,16 +43,16 @@ loop-turn-preserved c =
     record {
       are = take.are;
       listed = take.uses ∙ ap (λ k. k.uses) c.in-Some.ensures.keys ∙ now.listed;
-      set = take.set ∙ ap (λ k. with_use normal k.set.items (seen found)) c.in-Some.ensures.keys ∙ ap (λ s. with_use normal s (seen found)) now.set
+      set = take.set ∙ ap (λ k. with_use normal k.set.items (as_use found)) c.in-Some.ensures.keys ∙ ap (λ s. with_use normal s (as_use found)) now.set
           ∙ sym step.set;
       come = λ accesses once same.
-          let listed = ap (map seen) now.listed ∙ same in
+          let listed = ap (map as_use) now.listed ∙ same in
           let so_far = now.come accesses once same in
           let covered = ap (is_covered normal accesses) (sym now.set) ∙ sym (c.cover.ensures accesses listed) ∙ c.if-cover.false in
           let chosen = c.in-Some.ensures.best
           ∙ ap (λ us. least_bound (filter (may_add normal c.loop-turn.candidates.keys.set.items) us)) listed in
           let best = ap (λ s. least_bound (enabled_uses normal accesses s)) (sym now.set) ∙ sym chosen in
-          let member = chosen_member (may_add normal c.loop-turn.candidates.keys.set.items) (uses normal accesses) (seen found) chosen in (
+          let member = chosen_member (may_add normal c.loop-turn.candidates.keys.set.items) (uses normal accesses) (as_use found) chosen in (
             record {
               bound = plan_bound normal accesses once start set steps c.loop-turn.taken found member plan.set.items plan.steps step.set step.steps
                   so_far.0.bound;
@@ -69,7 +69,7 @@ returns-clause-come c = λ accesses once same.
     let now = c.loop-turn.invariant in
     let so_far = now.come accesses once same in
     by_bool c.cover-2.result (is_covered c.args.block.now accesses c.loop-turn.plan.set.items)
-    (c.cover-2.ensures accesses (ap (map seen) now.listed ∙ same) ∙ ap (is_covered c.args.block.now accesses) now.set)
+    (c.cover-2.ensures accesses (ap (map as_use) now.listed ∙ same) ∙ ap (is_covered c.args.block.now accesses) now.set)
     (λ h. (
       so_far.0,
       left_done c.args.block.now accesses c.args.plan.now.set.items c.loop-turn.plan.set.items c.loop-turn.plan.steps c.args.block.now.count

@@ -4,7 +4,7 @@ use Rattle.beas_core.specs.declared.schema.Access.{Access}
 use Rattle.beas_core.specs.Coverage.{uses}
 use Rattle.beas_core.specs.Derivations.{adding_steps}
 use Rattle.beas_core.specs.Shapes.{EachIdOnce}
-use Rattle.attribute_closure.specs.Uses.{seen}
+use Rattle.attribute_closure.specs.Uses.{as_use}
 use Rattle.plan_builder.specs.Candidates.{AreCandidates}
 use Rattle.plan_builder.specs.Plans.{HasCome}
 use Rattle.plan_builder.proofs.derivations.add_steps.Given as goal
@@ -14,7 +14,7 @@ invariant-loop-turn l = record {
   are : AreCandidates l.block l.candidates;
   listed : l.candidates.keys.uses ≡ l.initial.candidates.keys.uses;
   set : l.candidates.keys.set.items ≡ l.plan.set.items;
-  come : (accesses : List Access) → EachIdOnce accesses → map seen l.initial.candidates.keys.uses ≡ uses l.block accesses
+  come : (accesses : List Access) → EachIdOnce accesses → map as_use l.initial.candidates.keys.uses ≡ uses l.block accesses
       → HasCome l.block accesses l.initial.plan.set.items l.plan l.taken
       × (adding_steps l.block.count l.block accesses l.initial.plan.set.items
       ≡ option_map (λ more. l.plan.steps ++ more) (adding_steps (l.block.count - l._turn) l.block accesses l.plan.set.items));

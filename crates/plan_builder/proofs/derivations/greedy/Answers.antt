@@ -1,7 +1,7 @@
 use Rattle.std.proofs.Common.{◌∙◌, ap, map, refl, sym}
 use Rattle.beas_core.specs.Coverage.{uses}
 use Rattle.beas_core.specs.Derivations.{use_of}
-use Rattle.attribute_closure.specs.Uses.{seen}
+use Rattle.attribute_closure.specs.Uses.{as_use}
 use Rattle.plan_builder.proofs.Turns.{from_true, from_false, greedy_whole, greedy_nothing}
 use Rattle.plan_builder.proofs.derivations.greedy.Goals as goal
 
@@ -14,14 +14,14 @@ returns-then-not-branch c =
 
 pub serve_atoms-requires-clause-uses : goal.serve_atoms-requires-clause-uses
 serve_atoms-requires-clause-uses c =
-    ap (map seen) (c.as_slice-3.ensures ∙ c.in_ok-add_steps.ensures.uses) ∙ c.in_ok-candidates.ensures.uses
+    ap (map as_use) (c.as_slice-3.ensures ∙ c.in_ok-add_steps.ensures.uses) ∙ c.in_ok-candidates.ensures.uses
     ∙ ap (uses c.args.block.now) (c.as_slice.ensures ∙ sym c.as_slice-2.ensures)
 
 pub serve_atoms-requires-clause-taken : goal.serve_atoms-requires-clause-taken
 serve_atoms-requires-clause-taken c =
     let same = c.in_ok-candidates.ensures.uses ∙ ap (uses c.args.block.now) c.as_slice.ensures in
     let added = from_true _ _ c.in_ok-add_steps.field-0 (c.in_ok-add_steps.ensures.come c.args.accesses.now c.requires.ids same) c.if-not-branch.false in
-    ap (λ a. map (use_of a) c.add_steps.new.plan.steps) c.as_slice-2.ensures ∙ added.0.uses ∙ ap (map seen) (sym c.as_slice-4.ensures)
+    ap (λ a. map (use_of a) c.add_steps.new.plan.steps) c.as_slice-2.ensures ∙ added.0.uses ∙ ap (map as_use) (sym c.as_slice-4.ensures)
 
 pub returns : goal.returns
 returns c =

@@ -2,7 +2,7 @@ use Rattle.std.proofs.Common.{◌≡◌, ◌≤◌, ◌<◌, ◌+◌, ◌++◌, 
 use Rattle.std.specs.List.{filter}
 use Rattle.beas_core.specs.Coverage.{atoms_of, uses}
 use Rattle.beas_core.specs.Derivations.{least_bound, serving_steps}
-use Rattle.attribute_closure.specs.Uses.{seen}
+use Rattle.attribute_closure.specs.Uses.{as_use}
 use Rattle.plan_builder.specs.Choices.{may_serve}
 use Rattle.plan_builder.proofs.Turns.{serve_served, serve_none, serve_taken, serve_end, served_same}
 use Rattle.plan_builder.proofs.derivations.serve_atoms.Goals as goal
@@ -11,7 +11,7 @@ use Rattle.plan_builder.proofs.derivations.serve_atoms.Goals.{then-not-is_served
 pub loop-atom-preserved : goal.loop-atom-preserved
 loop-atom-preserved c =
     let here : c.loop-atom.atom < length c.args.block.now.atoms = subst (λ n. c.loop-atom.atom < n) c.len-atom-end.ensures c.loop-atom-test.true in
-    let same = served_same c.args.block.now c.args.accesses.now c.args.plan.now.steps (map seen c.args.taken.now) c.loop-atom.atom c.requires.taken in
+    let same = served_same c.args.block.now c.args.accesses.now c.args.plan.now.steps (map as_use c.args.taken.now) c.loop-atom.atom c.requires.taken in
     elim c.if-not-is_served_among.branch [
       | then-not-is_served_among+in-Some+in_ok-take_step w ↦ (
           let out = same ∙ sym c.is_served_among.ensures ∙ w.if-not-is_served_among.true in
@@ -23,7 +23,7 @@ loop-atom-preserved c =
           ≡ p.steps ++ serving_steps c.args.block.now c.args.accesses.now c.args.plan.now.steps p.set.items (drop (c.loop-atom.atom + 1)
           (atoms_of c.args.block.now))) (sym w.plan-is)
           (serve_taken c.args.block.now c.args.accesses.now c.args.plan.now.steps c.loop-atom.plan.steps c.loop-atom.plan.set.items c.loop-atom.atom here
-          _ c.loop-atom.invariant (seen w.in-Some.found) out best
+          _ c.loop-atom.invariant (as_use w.in-Some.found) out best
           w.take_step.new.plan.steps w.take_step.new.plan.set.items w.in_ok-take_step.ensures.steps w.in_ok-take_step.ensures.set))
       | then-not-is_served_among+in_default w ↦ (
           let out = same ∙ sym c.is_served_among.ensures ∙ w.if-not-is_served_among.true in

@@ -2,7 +2,7 @@ use Rattle.std.proofs.Common.{◌<◌, ◌≤◌, ◌+◌, ◌∷◌, [], ◌++�
 use Rattle.std.proofs.lemmas.Result.{err_from_is_err_and}
 use Rattle.beas_core.specs.Trees.{blocks_of}
 use Rattle.beas_core.specs.Full.{full_of_block}
-use Rattle.beas_core.specs.Numbers.{announced, own_announced_of_all}
+use Rattle.beas_core.specs.Numbers.{announced_from, own_announced_of_all}
 use Rattle.beas_core.specs.Reads.{own_reads, own_reads_of_all}
 use Rattle.beas_core.specs.Valuations.{own_answers}
 use Rattle.plan_executor.proofs.FrontFacts.{at_error}
@@ -197,7 +197,7 @@ loop-at-preserved g c =
     let reads_now = c.in_ok-rows.ensures.reads in
     let steps_now = c.in_ok-rows.ensures.steps in
     let few = c.in_ok-rows.ensures.bound in
-    let number = ap (announced accesses 1) steps in
+    let number = ap (announced_from accesses 1) steps in
     let room = subst (λ ps. c.loop-at.reads + own_announced_of_all accesses ps ≤ c.args.reads.now + prepared.bound) first_plan c.loop-at.invariant.room in
     record {
       left = subst (λ answers. Left rows accesses (drop (at + 1) (blocks_of prepared.query)) normals plans answers whole) (sym c.in_ok-push.ensures.items) next;

@@ -2,7 +2,7 @@ use Rattle.std.proofs.Common.{ap, sym, subst, ◌∙◌, false}
 use Rattle.std.specs.Prelude.{replicate}
 use Rattle.std.proofs.lemmas.List.{length-replicate}
 use Rattle.beas_core.specs.Derivations.{bound_by, member_classes, use_of}
-use Rattle.evaluation_facts.specs.Extensions.{kept}
+use Rattle.evaluation_facts.specs.Extensions.{keep_met}
 use Rattle.evaluation_facts.proofs.ClassSetFacts.{length-with}
 use Rattle.plan_ops.specs.Over.{IsOver, bound_set}
 use Rattle.plan_ops.proofs.BoundSets.{bound_set_is}
@@ -27,5 +27,5 @@ returns-clause-rows g c =
     let counted = length-with (member_classes normal (use_of accesses c.args.step.now)) before
     ∙ length-with c.args.from.now.classes (replicate normal.count false) ∙ length-replicate normal.count false in
     c.keep.ensures.rows
-    ∙ ap (λ s. kept normal s c.in_ok-found.found.rows) (bound_set_is normal set c.in_ok-found.found counted c.in_ok-found.ensures.over)
-    ∙ ap (kept normal set) c.in_ok-found.ensures.rows
+    ∙ ap (λ s. keep_met normal s c.in_ok-found.found.rows) (bound_set_is normal set c.in_ok-found.found counted c.in_ok-found.ensures.over)
+    ∙ ap (keep_met normal set) c.in_ok-found.ensures.rows

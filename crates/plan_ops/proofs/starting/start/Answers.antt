@@ -1,7 +1,7 @@
 use Rattle.std.proofs.Common.{◌≡◌, ◌<◌, ◌∷◌, [], ◌∙◌, ℕ, List, ap, sym, subst, length, map, All, if◌then◌else◌}
 use Rattle.beas_core.specs.Types.{Binding, Row}
 use Rattle.beas_core.specs.Valuations.{value_of, agrees, classes_in}
-use Rattle.evaluation_facts.specs.Extensions.{kept}
+use Rattle.evaluation_facts.specs.Extensions.{keep_met}
 use Rattle.plan_ops.specs.Over.{set_of}
 use Rattle.plan_ops.specs.Places.{place_of}
 use Rattle.plan_ops.proofs.BoundSets.{counted, set_again}
@@ -57,7 +57,7 @@ returns-clause-rows c =
     let set = set_of c.args.block.now (firsts constants) in
     let classes = c.in_ok-classes.ensures ∙ ap (λ cs. classes_in (set_of c.args.block.now cs)) is in
     c.keep.ensures.rows
-    ∙ ap (λ s. kept c.args.block.now s c.in_ok-rows.rows)
+    ∙ ap (λ s. keep_met c.args.block.now s c.in_ok-rows.rows)
     (ap (set_of c.args.block.now) classes ∙ set_again c.args.block.now set (counted c.args.block.now (firsts constants)))
     ∙ one_valued c.args.block.now set constants c.in_ok-rows.rows (c.in_ok-rows.ensures
     ∙ ap (λ cs. if agrees cs then map (value_of cs) c.as_slice.result.now ∷ [] else []) c.as_slice-constants.ensures

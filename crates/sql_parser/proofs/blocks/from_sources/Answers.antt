@@ -1,7 +1,7 @@
 use Rattle.std.proofs.Common.{◌∙◌, sym, length, arith}
 use Rattle.std.proofs.lemmas.Result.{err_from_is_err_and}
 use Rattle.sql_tree.specs.Grammar.{Source}
-use Rattle.sql_parser.specs.Reading.{behind_both, read_source, read_sources}
+use Rattle.sql_parser.specs.Reading.{after_both, read_source, read_sources}
 use Rattle.sql_parser.proofs.Fronts.{adding_fails, sources-go_on, sources-end, sources-none, sources-over}
 use Rattle.sql_parser.proofs.blocks.from_sources.Goals as goal
 
@@ -9,8 +9,8 @@ pub returns-in_err-from_source : goal.returns-in_err-from_source
 returns-in_err-from_source c =
     let p = err_from_is_err_and c.from_residual.result c.from_residual.ensures.1 in
     let front : Source = (c.loop-room.items, c.loop-room.found) in
-    let part = behind_both front (read_source c.loop-room.reader) in
-    let whole = behind_both (c.args.items.now, c.args.found.now) (read_sources (length c.args.reader.now) c.args.reader.now) in
+    let part = after_both front (read_source c.loop-room.reader) in
+    let whole = after_both (c.args.items.now, c.args.found.now) (read_sources (length c.args.reader.now) c.args.reader.now) in
     rw (p.1, p.2) (adding_fails c.in_err-from_source.field-0.0 (c.from_source.new.items, c.from_source.new.found)
     (c.from_source.new.items, c.from_source.new.found) c.from_source.new.reader part whole c.in_err-from_source.ensures
     (λ e. sources-none c.loop-room.room (omega arith) front c.loop-room.reader whole c.loop-room.invariant e))

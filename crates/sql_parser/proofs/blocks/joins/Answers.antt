@@ -1,7 +1,7 @@
 use Rattle.std.proofs.Common.{◌∙◌, sym, length, arith}
 use Rattle.std.proofs.lemmas.Result.{err_from_is_err_and}
 use Rattle.sql_tree.specs.Grammar.{Source}
-use Rattle.sql_parser.specs.Reading.{behind_both, read_join, read_joins}
+use Rattle.sql_parser.specs.Reading.{after_both, read_join, read_joins}
 use Rattle.sql_parser.proofs.Fronts.{adding_fails, joins-go_on, joins-end, joins-none, joins-over}
 use Rattle.sql_parser.proofs.blocks.joins.Goals as goal
 
@@ -13,8 +13,8 @@ pub returns-in_err-join : goal.returns-in_err-join
 returns-in_err-join c =
     let p = err_from_is_err_and c.from_residual.result c.from_residual.ensures.1 in
     let front : Source = (c.more.items, c.more.found) in
-    let part = behind_both front (read_join c.more.reader) in
-    let whole = behind_both (c.args.items.now, c.args.found.now) (read_joins (length c.args.reader.now) c.args.reader.now) in
+    let part = after_both front (read_join c.more.reader) in
+    let whole = after_both (c.args.items.now, c.args.found.now) (read_joins (length c.args.reader.now) c.args.reader.now) in
     rw (p.1, p.2) (adding_fails c.in_err-join.field-0.0 (c.join.new.items, c.join.new.found) (c.join.new.items, c.join.new.found) c.join.new.reader part whole
     c.in_err-join.ensures
     (λ e. joins-none c.more.room (omega arith) front c.more.reader whole c.more.invariant (sym c.next_is_join.ensures ∙ c.more-test.true) e))

@@ -16,12 +16,14 @@ returns-in_err-part g c =
 
 pub returns-then-not-takes_mark : goal.returns-then-not-takes_mark
 returns-then-not-takes_mark g c =
-    sym c.loop-room.invariant ∙ rw (c.in_ok-push.ensures.ok, c.if-not-takes_mark.ensures.rest) (commas-end g.T.Part.reads c.loop-room.parts c.loop-room.room (omega arith) c.loop-room.reader
+    sym c.loop-room.invariant ∙ rw (c.in_ok-push.ensures.ok, c.if-not-takes_mark.ensures.rest)
+    (commas-end g.T.Part.reads c.loop-room.parts c.loop-room.room (omega arith) c.loop-room.reader
     c.in_ok-part.part c.read.new.reader c.in_ok-part.ensures (sym c.if-not-takes_mark.ensures.found))
 
 pub loop-room-preserved : goal.loop-room-preserved
 loop-room-preserved g c =
-    rw (c.in_ok-push.ensures.ok, c.if-not-takes_mark.ensures.rest) (sym (commas-go_on g.T.Part.reads c.loop-room.parts c.loop-room.room (omega arith) c.loop-room.reader
+    rw (c.in_ok-push.ensures.ok, c.if-not-takes_mark.ensures.rest) (sym
+    (commas-go_on g.T.Part.reads c.loop-room.parts c.loop-room.room (omega arith) c.loop-room.reader
     c.in_ok-part.part c.read.new.reader c.in_ok-part.ensures (sym c.if-not-takes_mark.ensures.found)) ∙ c.loop-room.invariant)
 
 pub returns : goal.returns

@@ -8,7 +8,7 @@ use Rattle.beas_core.specs.declared.schema.AccessId.{AccessId}
 use Rattle.beas_core.specs.Types.{Row}
 use Rattle.beas_core.specs.Groups.{Holds}
 use Rattle.access_index.specs.Index.{Index, IsIndexOf}
-use Rattle.catalogue.specs.Refusing.{IsRefusedAs, admit_refusal, admitted, already_broken}
+use Rattle.catalogue.specs.Refusing.{IsRefusedAs, admit_refusal, new_access, already_broken}
 use Rattle.catalogue.proofs.MayMake.{may_make_access}
 use Rattle.update_guard.proofs.GuardFacts.{on_ok}
 use Rattle.update_guard.proofs.InsertFacts.{refused_alike}
@@ -16,7 +16,7 @@ use Rattle.update_guard.proofs.making.make_access.Goals as goal
 
 pub returns-in-Err-clause-refused : goal.returns-in-Err-clause-refused
 returns-in-Err-clause-refused g c =
-    let a = admitted c.args.catalogue.now c.args.spec.now in
+    let a = new_access c.args.catalogue.now c.args.spec.now in
     let rows = get_or c.args.rows.now a.table.0 [] in
     let lent = c.index-as_slice-table.result in
     let same : c.in_ok-access.access ≡ a = c.in_ok-access.ensures.admitted in
@@ -36,7 +36,7 @@ returns-in-Err-clause-refused g c =
 
 pub returns-in-Err-clause-cost : goal.returns-in-Err-clause-cost
 returns-in-Err-clause-cost g c n =
-    let a = admitted c.args.catalogue.now c.args.spec.now in
+    let a = new_access c.args.catalogue.now c.args.spec.now in
     let rows = get_or c.args.rows.now a.table.0 [] in
     let lent = c.index-as_slice-table.result in
     let same : c.in_ok-access.access ≡ a = c.in_ok-access.ensures.admitted in
@@ -52,7 +52,7 @@ returns-in-Err-clause-cost g c n =
 
 pub returns-in-Err-clause-at_most : goal.returns-in-Err-clause-at_most
 returns-in-Err-clause-at_most g c =
-    let a = admitted c.args.catalogue.now c.args.spec.now in
+    let a = new_access c.args.catalogue.now c.args.spec.now in
     let rows = get_or c.args.rows.now a.table.0 [] in
     let lent = c.index-as_slice-table.result in
     let same : c.in_ok-access.access ≡ a = c.in_ok-access.ensures.admitted in
@@ -68,7 +68,7 @@ returns-in-Err-clause-at_most g c =
 
 pub returns-in-Ok-clause-refused : goal.returns-in-Ok-clause-refused
 returns-in-Ok-clause-refused g c =
-    let a = admitted c.args.catalogue.now c.args.spec.now in
+    let a = new_access c.args.catalogue.now c.args.spec.now in
     let rows = get_or c.args.rows.now a.table.0 [] in
     let lent = c.index-as_slice-table.result in
     let same : c.in_ok-access.access ≡ a = c.in_ok-access.ensures.admitted in
@@ -87,7 +87,7 @@ returns-in-Ok-clause-refused g c =
 
 pub returns-in-Ok-clause-index : goal.returns-in-Ok-clause-index
 returns-in-Ok-clause-index g c =
-    let a = admitted c.args.catalogue.now c.args.spec.now in
+    let a = new_access c.args.catalogue.now c.args.spec.now in
     let rows = get_or c.args.rows.now a.table.0 [] in
     let lent = c.index-as_slice-table.result in
     let same : c.in_ok-access.access ≡ a = c.in_ok-access.ensures.admitted in
@@ -108,7 +108,7 @@ returns-in-Ok-clause-index g c =
 
 pub returns-in-Ok-clause-cost : goal.returns-in-Ok-clause-cost
 returns-in-Ok-clause-cost g c n =
-    let a = admitted c.args.catalogue.now c.args.spec.now in
+    let a = new_access c.args.catalogue.now c.args.spec.now in
     let rows = get_or c.args.rows.now a.table.0 [] in
     let lent = c.index-as_slice-table.result in
     let same : c.in_ok-access.access ≡ a = c.in_ok-access.ensures.admitted in
@@ -124,7 +124,7 @@ returns-in-Ok-clause-cost g c n =
 
 pub returns-in-Ok-clause-at_most : goal.returns-in-Ok-clause-at_most
 returns-in-Ok-clause-at_most g c =
-    let a = admitted c.args.catalogue.now c.args.spec.now in
+    let a = new_access c.args.catalogue.now c.args.spec.now in
     let rows = get_or c.args.rows.now a.table.0 [] in
     let lent = c.index-as_slice-table.result in
     let same : c.in_ok-access.access ≡ a = c.in_ok-access.ensures.admitted in

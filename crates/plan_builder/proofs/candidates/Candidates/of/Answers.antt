@@ -1,6 +1,6 @@
 use Rattle.std.proofs.Common.{◌≡◌, ◌∙◌, false, [], length, map, replicate, ap, sym, subst}
 use Rattle.std.specs.BinaryHeap.{heap_items}
-use Rattle.attribute_closure.specs.Uses.{seen}
+use Rattle.attribute_closure.specs.Uses.{as_use}
 use Rattle.attribute_closure.proofs.Counting.{written}
 use Rattle.plan_builder.specs.Candidates.{AreServed}
 use Rattle.plan_builder.proofs.CandidateFacts.{joined_same, noted_same, served_first, uses_inside, waiting_first}
@@ -9,10 +9,10 @@ use Rattle.plan_builder.proofs.candidates.Candidates.of.Goals as goal
 pub returns-clause-are : goal.returns-clause-are
 returns-clause-are c =
     let keys = c.add_set.new.self in
-    let us = map seen keys.uses in
+    let us = map as_use keys.uses in
     let normal = c.args.block.now in
     let counted = c.in_ok-add_set.ensures.counted in
-    let atoms = uses_inside normal c.args.accesses.now us (ap (map seen) c.in_ok-add_set.ensures.uses ∙ c.in_ok-keys.ensures.uses) in
+    let atoms = uses_inside normal c.args.accesses.now us (ap (map as_use) c.in_ok-add_set.ensures.uses ∙ c.in_ok-keys.ensures.uses) in
     let fresh : c.in_ok-served.served.items ≡ replicate (length normal.atoms) false = c.in_ok-served.ensures.items_if_clones_equal (λ y h. h)
     ∙ ap (λ n. replicate n false) c.len.ensures in
     record {

@@ -1,6 +1,6 @@
 use Rattle.std.proofs.Common.{◌∙◌, ◌+◌, ◌≤◌, ap, sym, subst}
 use Rattle.catalogue.specs.Database.{with_access}
-use Rattle.catalogue.specs.Refusing.{IsRefusedAs, admitted}
+use Rattle.catalogue.specs.Refusing.{IsRefusedAs, new_access}
 use Rattle.update_guard.specs.Guarding.{database_of}
 use Rattle.update_guard.proofs.GuardFacts.{after_create_access, refusal_of_stored, reads_of_stored, schema_of_stored, on_ok}
 use Rattle.update_guard.proofs.guarded.Guarded.create_access.Goals as goal
@@ -11,7 +11,7 @@ invariant_of-self g c =
     record {
       kept = after_create_access c.make_access-made.result c.args.self.now.catalogue c.make_access-made.new.catalogue c.args.self.now.rows
           c.args.self.now.indexes
-          c.into_vec-indexes.result.items c.make_access-made.new.indexes.items c.from_vec.result (admitted c.args.self.now.catalogue c.args.spec.now)
+          c.into_vec-indexes.result.items c.make_access-made.new.indexes.items c.from_vec.result (new_access c.args.self.now.catalogue c.args.spec.now)
           c.args.self.now.kept
           (c.into_vec-indexes.ensures ∙ c.replace.ensures.value) c.from_vec.ensures made.ok made.index made.err made.indexes_stay;
     }
@@ -26,7 +26,7 @@ pub returns-clause-ok : goal.returns-clause-ok
 returns-clause-ok g c =
     on_ok c.make_access-made.result c.make_access-made.ensures.ok (λ e.
     ap (λ s. database_of s c.args.self.now.rows) e
-    ∙ ap (λ s. with_access (database_of c.args.self.now.catalogue c.args.self.now.rows) (admitted s c.args.spec.now))
+    ∙ ap (λ s. with_access (database_of c.args.self.now.catalogue c.args.self.now.rows) (new_access s c.args.spec.now))
     (sym (schema_of_stored c.args.self.now.catalogue c.args.self.now.rows c.args.self.now.kept.tables)))
 
 pub returns-clause-cost : goal.returns-clause-cost
