@@ -1,10 +1,8 @@
 // Drawn queries whose outputs lose their columns.
 use crate::outcomes::{Outcome, outcome_of};
-use beas_core::{Fail, Limits, List, NoMemory, Query, QueryNode, Refusal, Row, Steps, Text};
-use binder::bind;
-use drawn_scenes::{Twin, creations, draw_query, draw_scene, reports, statement_of, tables_of};
+use beas_core::{Fail, Limits, List, NoMemory, Query, QueryNode, Row, Steps, Text};
+use drawn_scenes::{Twin, bound_query, creations, draw_query, draw_scene, reports, tables_of};
 use session::Session;
-use sql_tree::Statement;
 use std::alloc::Global;
 use std::sync::ledger::Ledger;
 use update_guard::Guarded;
@@ -82,16 +80,6 @@ fn drop_columns(alloc: Global, query: &mut Query) {
     }
 }
 
-/// The query that a text spells, over the tables of a store.
-fn bound_query(alloc: Global, guarded: &Guarded, spelled: &str) -> Result<Query, Fail> {
-    match statement_of(alloc, spelled)? {
-        Statement::Select { tree } => {
-            bind(alloc, &guarded.catalogue, &Limits::standard(), &tree)
-        }
-        _ => Err(Fail::Refused(Refusal::Syntax)),
-    }
-}
-
 /// What comes of the query that a text spells, without columns.
 fn try_query<L: Ledger>(
     alloc: Global,
@@ -100,7 +88,7 @@ fn try_query<L: Ledger>(
     spelled: &str,
     steps: &mut Steps<L>,
 ) -> Result<Outcome, NoMemory> {
-    match bound_query(alloc, guarded, spelled) {
+    match bound_query(alloc, &guarded.catalogue, spelled) {
         Ok(mut query) => {
             drop_columns(alloc, &mut query);
             outcome_of(alloc, guarded, tables, query, BUDGET, steps)

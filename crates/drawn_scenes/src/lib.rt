@@ -3,13 +3,14 @@
 //!
 //! What is drawn depends on a seed alone, so that it is the same in each run. A `Twin` draws updates and carries them
 //! out on a plain list of rows by scans; a `Batch` has them as a script, with what a session is to report of it.
-//! `reports` has a session carry out such a script. `draw_query` draws the text of a query, and `statement_of` reads
-//! it. Beside them stands what such programs need of their words and of folders of files.
+//! `reports` has a session carry out such a script. `draw_query` draws the text of a query, `statement_of` reads
+//! it and `bound_query` binds it. Beside them stands what such programs need of their words and of folders of files.
 //!
-//! It promises nothing but safety, and of `statement_of` that a statement has what a session asks for: what is drawn
-//! can be seen by what is printed of it.
+//! It promises nothing but safety, and of `statement_of` that a statement has what a session asks for, of `bound_query`
+//! that a query is well-formed: what is drawn can be seen by what is printed of it.
 #![tactic(auto)]
 
+mod bound;
 mod conditions;
 mod draws;
 mod folders;
@@ -21,6 +22,7 @@ mod tables;
 mod updates;
 mod words;
 
+pub use bound::bound_query;
 pub use conditions::{Test, push_column, push_conditions};
 pub use draws::Draws;
 pub use folders::{files_in, names_in, text_in};

@@ -4,29 +4,15 @@ ghost use Rattle.beas_core.specs.Shapes.{QueryIsWellFormed};
 
 use crate::coverage::is_agreed;
 use crate::numbers::{Numbers, numbers_of};
-use beas_core::{Block, Fail, Limits, List, Name, NoMemory, Query, Refusal, Row, Steps, Text};
-use binder::bind;
-use drawn_scenes::{column_name, statement_of};
+use beas_core::{Block, Fail, List, Name, NoMemory, Query, Refusal, Row, Steps, Text};
+use drawn_scenes::{bound_query, column_name};
 use full_meaning::evaluate;
 use normal_form::blocks;
 use reference_evaluation::full_of;
 use report::Report;
-use sql_tree::Statement;
 use std::alloc::Global;
 use std::sync::ledger::Ledger;
 use update_guard::Guarded;
-
-/// The query that a text spells, over the tables of a store.
-pub fn bound_query(alloc: Global, guarded: &Guarded, spelled: &str) -> Result<Query, Fail>
-    ensures { IfOk result QueryIsWellFormed }
-{
-    match statement_of(alloc, spelled)? {
-        Statement::Select { tree } => {
-            bind(alloc, &guarded.catalogue, &Limits::standard(), &tree)
-        }
-        _ => Err(Fail::Refused(Refusal::Syntax)),
-    }
-}
 
 /// The names of a block's output.
 fn header_of(alloc: Global, block: &Block) -> Result<List<Name>, NoMemory> {
@@ -93,7 +79,7 @@ pub fn wanted_report<L: Ledger>(
     spelled: &str,
     steps: &mut Steps<L>,
 ) -> Result<Report, Fail> {
-    let query = bound_query(alloc, guarded, spelled)?;
+    let query = bound_query(alloc, &guarded.catalogue, spelled)?;
     if !is_agreed(alloc, guarded.catalogue.accesses(), &query)? {
         return Err(Fail::Refused(Refusal::Syntax));
     }

@@ -1,3 +1,3 @@
+pub mod Keys
 pub mod ListSteps
-pub mod Valued
 pub mod Ways

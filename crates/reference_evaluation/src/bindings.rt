@@ -2,16 +2,16 @@
 ghost use Rattle.std.specs.Prelude.{◌≡◌, ◌<◌, ◌++◌, ◌∷◌, [], if◌then◌else◌, OnOk, pos, map, filter, flat_map, zip, length, is_some, IfOk};
 ghost use Rattle.std.specs.List.{list_all, range_with_len};
 ghost use Rattle.beas_core.specs.declared.value.Value.TheVariants.{Int as Number};
-ghost use Rattle.beas_core.specs.Groups.{member_columns, value_at};
+ghost use Rattle.beas_core.specs.Groups.{value_at};
 ghost use Rattle.beas_core.specs.Full.{same_value, comparison_holds};
-ghost use Rattle.beas_core.specs.Coverage.{has, class_at, place_class};
-ghost use Rattle.beas_core.specs.Derivations.{access_in, table_of, bound_after};
-ghost use Rattle.beas_core.specs.Valuations.{value_of, agrees, bindings_of, with_row_for, comparison_is_bound, operand_is_bound, comparison_is_met, is_consistent, as_bindings, classes_in, starts, ways, valuations};
+ghost use Rattle.beas_core.specs.Coverage.{has, class_at, place_class, start_classes};
+ghost use Rattle.beas_core.specs.Derivations.{table_of, bound_after};
+ghost use Rattle.beas_core.specs.Valuations.{value_of, agrees, bindings_of, valued_rows, with_row_for, comparison_is_bound, operand_is_bound, comparison_is_met, is_consistent, as_bindings, classes_in, starts, ways, valuations};
 ghost use Rattle.reference_evaluation.specs.Tables.{rows_in};
-ghost use Rattle.reference_evaluation.specs.Ways.{with_each_row};
 
+use crate::block_on_tables::BlockOnTables;
 use crate::full::sign_holds;
-use crate::rows::{distinct_rows, rows_of, value_or};
+use crate::rows::{copy_of_value, distinct_rows, rows_of};
 use beas_core::{
     Access, ColumnId, Comparison, DStep, Duplicate, List, NoMemory, Normal, Operand, Row, TableId,
     Value,
@@ -26,7 +26,7 @@ use std::alloc::Global;
 pub type Bindings = List<(u16, Value)>;
 
 /// The value of a class by its first binding. `zero` stands where it has none.
-pub fn value_of<'a>(bindings: &'a [(u16, Value)], class: u16, zero: &'a Value) -> &'a Value
+fn value_of<'a>(bindings: &'a [(u16, Value)], class: u16, zero: &'a Value) -> &'a Value
     requires { zero.now ≡ Number (pos 0) }
     ensures { result.now ≡ value_of bindings.now class }
 {
@@ -50,101 +50,41 @@ fn agrees(bindings: &[(u16, Value)], zero: &Value) -> bool
     bindings.iter().all(|binding| binding.1 == *value_of(bindings, binding.0, zero))
 }
 
+/// What a row of an atom binds.
 fn bindings_on(
     alloc: Global,
     normal: &Normal,
     atom: u16,
     columns: &[ColumnId],
     row: &[Value],
-    zero: &Value,
 ) -> Result<Bindings, NoMemory>
-    requires { zero.now ≡ Number (pos 0) }
     ensures { IfOk result (λ bindings. bindings ≡ map (λ c. (class_at normal.now atom c, value_at row.now c))
         columns.now) }
 {
     let mut bindings = List::new(alloc);
     for column in columns {
-        let value = value_or(row, *column, zero).copy(alloc)?;
+        let value = copy_of_value(alloc, row, *column)?;
         bindings.push((class_at(normal, atom, *column), value))?;
     }
     Ok(bindings)
 }
 
-/// A way with what one more row binds.
-fn with_row(
+/// What each row of an atom binds.
+fn bindings_on_each(
     alloc: Global,
     normal: &Normal,
-    accesses: &[Access],
-    step: &DStep,
-    columns: &[ColumnId],
-    way: &Bindings,
-    row: &[Value],
-    zero: &Value,
-) -> Result<Bindings, NoMemory>
-    requires columns { columns.now ≡ member_columns (access_in accesses.now step.now.access) }
-    requires zero { zero.now ≡ Number (pos 0) }
-    ensures { IfOk result (λ more. more ≡ way.now ++ bindings_of normal.now accesses.now step.now row.now) }
-{
-    let bindings = bindings_on(alloc, normal, step.atom, columns, row, zero)?;
-    let more = append(way.copy(alloc)?, bindings)?;
-    Ok(more)
-}
-
-/// Adds one way with each row of a step's table.
-#[tactic(auto, unfolding(crate::specs::Ways::with_each_row))]
-fn push_ways(
-    alloc: Global,
-    ways: &mut List<Bindings>,
-    normal: &Normal,
-    accesses: &[Access],
-    step: &DStep,
+    atom: u16,
     columns: &[ColumnId],
     rows: &[Row],
-    way: &Bindings,
-    zero: &Value,
-) -> Result<(), NoMemory>
-    requires columns { columns.now ≡ member_columns (access_in accesses.now step.now.access) }
-    requires zero { zero.now ≡ Number (pos 0) }
-    ensures { OnOk result (ways.new ≡ ways.old ++ with_each_row rows.now normal.now accesses.now step.now way.now) }
-{
-    for row in rows {
-        ways.push(with_row(
-            alloc,
-            normal,
-            accesses,
-            step,
-            columns,
-            way,
-            row.as_slice(),
-            zero,
-        )?)?;
-    }
-    Ok(())
-}
-
-#[tactic(auto, using(crate::proofs::ListSteps::flat_map_step))]
-fn each_with_rows(
-    alloc: Global,
-    normal: &Normal,
-    accesses: &[Access],
-    step: &DStep,
-    columns: &[ColumnId],
-    rows: &[Row],
-    found: &[Bindings],
-    zero: &Value,
 ) -> Result<List<Bindings>, NoMemory>
-    requires columns { columns.now ≡ member_columns (access_in accesses.now step.now.access) }
-    requires zero { zero.now ≡ Number (pos 0) }
-    ensures { IfOk result (λ ways. ways
-        ≡ flat_map (with_each_row rows.now normal.now accesses.now step.now) found.now) }
+    ensures { IfOk result (λ all. all
+        ≡ map (λ row. map (λ c. (class_at normal.now atom c, value_at row c)) columns.now) rows.now) }
 {
-    let mut ways = List::new(alloc);
-    for way in found {
-        push_ways(
-            alloc, &mut ways, normal, accesses, step, columns, rows, way, zero,
-        )?;
+    let mut all = List::new(alloc);
+    for row in rows {
+        all.push(bindings_on(alloc, normal, atom, columns, row.as_slice())?)?;
     }
-    Ok(ways)
+    Ok(all)
 }
 
 fn table_of(normal: &Normal, atom: u16) -> TableId
@@ -156,59 +96,80 @@ fn table_of(normal: &Normal, atom: u16) -> TableId
     }
 }
 
-#[tactic(auto, using(crate::proofs::Ways::with_step_is))]
+/// What each row of a step's table binds.
+fn fetches(alloc: Global, block: &BlockOnTables, step: &DStep) -> Result<List<Bindings>, NoMemory>
+    ensures { IfOk result (λ fetched. fetched
+        ≡ map (bindings_of block.now.normal.now block.now.accesses.now step.now)
+        (rows_in block.now.tables.now (table_of block.now.normal.now step.now.atom))) }
+{
+    let columns = columns_of(alloc, block.accesses, step.access)?;
+    let rows = rows_of(block.tables, table_of(block.normal, step.atom));
+    bindings_on_each(alloc, block.normal, step.atom, columns.as_slice(), rows)
+}
+
+/// A way with what one more row binds.
+fn with_row(alloc: Global, way: &Bindings, fetched: &Bindings) -> Result<Bindings, NoMemory>
+    ensures { IfOk result (λ more. more ≡ way.now ++ fetched.now) }
+{
+    append(way.copy(alloc)?, fetched.copy(alloc)?)
+}
+
+/// Adds a way with each of the rows.
+fn push_ways(
+    alloc: Global,
+    ways: &mut List<Bindings>,
+    way: &Bindings,
+    fetched: &[Bindings],
+) -> Result<(), NoMemory>
+    ensures { OnOk result (ways.new ≡ ways.old ++ map (λ row. way.now ++ row) fetched.now) }
+{
+    for row in fetched {
+        ways.push(with_row(alloc, way, row)?)?;
+    }
+    Ok(())
+}
+
+/// Each way with each of the rows.
+fn with_each_row(
+    alloc: Global,
+    found: &[Bindings],
+    fetched: &[Bindings],
+) -> Result<List<Bindings>, NoMemory>
+    ensures { IfOk result (λ ways. ways ≡ flat_map (λ way. map (λ row. way ++ row) fetched.now) found.now) }
+{
+    let mut ways = List::new(alloc);
+    for way in found {
+        push_ways(alloc, &mut ways, way, fetched)?;
+    }
+    Ok(ways)
+}
+
 fn with_step(
     alloc: Global,
-    tables: &[List<Row>],
-    normal: &Normal,
-    accesses: &[Access],
+    block: &BlockOnTables,
     found: &[Bindings],
     step: &DStep,
-    zero: &Value,
 ) -> Result<List<Bindings>, NoMemory>
-    requires { zero.now ≡ Number (pos 0) }
     ensures { IfOk result (λ ways. ways
-        ≡ with_row_for (rows_in tables.now) normal.now accesses.now found.now step.now) }
+        ≡ with_row_for (rows_in block.now.tables.now) block.now.normal.now block.now.accesses.now found.now step.now) }
 {
-    let columns = columns_of(alloc, accesses, step.access)?;
-    let rows = rows_of(tables, table_of(normal, step.atom));
-    let ways = each_with_rows(
-        alloc,
-        normal,
-        accesses,
-        step,
-        columns.as_slice(),
-        rows,
-        found,
-        zero,
-    )?;
-    Ok(ways)
+    let fetched = fetches(alloc, block, step)?;
+    with_each_row(alloc, found, fetched.as_slice())
 }
 
 /// The ways after some steps, from those before them.
 fn ways(
     alloc: Global,
-    tables: &[List<Row>],
-    normal: &Normal,
-    accesses: &[Access],
+    block: &BlockOnTables,
     starts: List<Bindings>,
     steps: &[DStep],
-    zero: &Value,
 ) -> Result<List<Bindings>, NoMemory>
-    requires { zero.now ≡ Number (pos 0) }
-    ensures { IfOk result (λ found. found ≡ ways (rows_in tables.now) normal.now accesses.now starts steps.now) }
+    ensures { IfOk result (λ found. found
+        ≡ ways (rows_in block.now.tables.now) block.now.normal.now block.now.accesses.now starts steps.now) }
 {
     let mut found = starts;
     for step in steps {
-        found = with_step(
-            alloc,
-            tables,
-            normal,
-            accesses,
-            found.as_slice(),
-            step,
-            zero,
-        )?;
+        found = with_step(alloc, block, found.as_slice(), step)?;
     }
     Ok(found)
 }
@@ -290,7 +251,8 @@ fn is_consistent(normal: &Normal, set: &[bool], bindings: &[(u16, Value)], zero:
     same & met
 }
 
-fn values_of(
+/// The values of some classes by their first bindings. `zero` stands where one has none.
+pub fn values_of(
     alloc: Global,
     bindings: &[(u16, Value)],
     classes: &[u16],
@@ -304,27 +266,6 @@ fn values_of(
         row.push(value_of(bindings, *class, zero).copy(alloc)?)?;
     }
     Ok(row)
-}
-
-fn valuations_from(
-    alloc: Global,
-    normal: &Normal,
-    set: &[bool],
-    classes: &[u16],
-    found: &[Bindings],
-    zero: &Value,
-) -> Result<List<Row>, NoMemory>
-    requires { zero.now ≡ Number (pos 0) }
-    ensures { IfOk result (λ rows. rows ≡ map (λ w. map (value_of w) classes.now)
-        (filter (is_consistent normal.now set.now) found.now)) }
-{
-    let mut rows = List::new(alloc);
-    for way in found {
-        if is_consistent(normal, set, way.as_slice(), zero) {
-            rows.push(values_of(alloc, way.as_slice(), classes, zero)?)?;
-        }
-    }
-    Ok(rows)
 }
 
 /// Classes with their values, as far as both lists go.
@@ -375,7 +316,7 @@ fn with_answers(
 }
 
 /// The bindings that stand before the first step, in each way that they can.
-pub fn starts(
+fn starts(
     alloc: Global,
     normal: &Normal,
     guide: &Option<List<Row>>,
@@ -396,13 +337,84 @@ pub fn starts(
 }
 
 /// Whether there are answers that guide a block.
-pub fn is_guided(guide: &Option<List<Row>>) -> bool
+fn is_guided(guide: &Option<List<Row>>) -> bool
     ensures { result ≡ is_some guide.now }
 {
     match guide {
         None => false,
         Some(_) => true,
     }
+}
+
+/// The classes that are bound after some steps.
+pub fn classes_after(
+    alloc: Global,
+    block: &BlockOnTables,
+    guide: &Option<List<Row>>,
+    steps: &[DStep],
+) -> Result<List<bool>, NoMemory>
+    ensures set { IfOk result (λ set. set ≡ bound_after block.now.normal.now block.now.accesses.now
+        (start_classes block.now.normal.now (is_some guide.now)) steps.now) }
+    ensures len { IfOk result (λ set. length set ≡ block.now.normal.now.count) }
+{
+    let start = start_classes(alloc, block.normal, is_guided(guide))?;
+    bound_after(alloc, block.normal, block.accesses, start.as_slice(), steps)
+}
+
+fn rows_on(
+    alloc: Global,
+    normal: &Normal,
+    set: &[bool],
+    classes: &[u16],
+    found: &[Bindings],
+    zero: &Value,
+) -> Result<List<Row>, NoMemory>
+    requires { zero.now ≡ Number (pos 0) }
+    ensures { IfOk result (λ rows. rows ≡ map (λ w. map (value_of w) classes.now)
+        (filter (is_consistent normal.now set.now) found.now)) }
+{
+    let mut rows = List::new(alloc);
+    for way in found {
+        if is_consistent(normal, set, way.as_slice(), zero) {
+            rows.push(values_of(alloc, way.as_slice(), classes, zero)?)?;
+        }
+    }
+    Ok(rows)
+}
+
+/// The values of the classes of a set in each way that agrees with itself and meets the comparisons that are bound.
+fn valued(
+    alloc: Global,
+    normal: &Normal,
+    set: &[bool],
+    found: &[Bindings],
+) -> Result<List<Row>, NoMemory>
+    requires { length set.now < 65536 }
+    ensures { IfOk result (λ rows. rows ≡ valued_rows normal.now set.now found.now) }
+{
+    let zero = Value::Int(0);
+    let classes = classes_in(alloc, set)?;
+    let rows = rows_on(alloc, normal, set, &classes, found, &zero)?;
+    Ok(distinct_rows(rows))
+}
+
+/// The valuations after some steps.
+#[tactic(auto, unfolding(beas_core::specs::Valuations::valuations))]
+pub fn valuations_of(
+    alloc: Global,
+    block: &BlockOnTables,
+    guide: &Option<List<Row>>,
+    steps: &[DStep],
+) -> Result<List<Row>, NoMemory>
+    ensures { IfOk result (λ found. found
+        ≡ valuations (rows_in block.now.tables.now) block.now.normal.now block.now.accesses.now guide.now steps.now) }
+{
+    // Read for what its type tells: there are fewer than 65536 classes, as `valued` asks of the set.
+    let _count = block.normal.count;
+    let set = classes_after(alloc, block, guide, steps)?;
+    let starts = starts(alloc, block.normal, guide)?;
+    let found = ways(alloc, block, starts, steps)?;
+    valued(alloc, block.normal, set.as_slice(), found.as_slice())
 }
 
 /// The valuations after some steps, over tables: the values of the bound classes, ascending by class.
@@ -417,21 +429,10 @@ pub fn valuations(
     ensures { IfOk result (λ found. found
         ≡ valuations (rows_in tables.now) normal.now accesses.now guide.now steps.now) }
 {
-    let zero = Value::Int(0);
-    // Read for what its type tells: there are fewer than 65536 classes, as `classes_in` asks of the set.
-    let _count = normal.count;
-    let start = start_classes(alloc, normal, is_guided(guide))?;
-    let set = bound_after(alloc, normal, accesses, start.as_slice(), steps)?;
-    let classes = classes_in(alloc, set.as_slice())?;
-    let starts = starts(alloc, normal, guide)?;
-    let found = ways(alloc, tables, normal, accesses, starts, steps, &zero)?;
-    let rows = valuations_from(
-        alloc,
+    let block = BlockOnTables {
+        tables,
         normal,
-        set.as_slice(),
-        classes.as_slice(),
-        found.as_slice(),
-        &zero,
-    )?;
-    Ok(distinct_rows(rows))
+        accesses,
+    };
+    valuations_of(alloc, &block, guide, steps)
 }

@@ -12,6 +12,7 @@ use beas_core::{
     Atom, Block, Comparison, Duplicate, List, NoMemory, Operand, Place, Query, QueryNode, Row,
     Sign, Value, compare, compare_rows,
 };
+use reference_coverage::{append, with_first};
 use std::alloc::Global;
 use std::cmp::Ordering;
 
@@ -34,12 +35,7 @@ pub fn sign_holds(sign: Sign, left: &Value, right: &Value) -> bool
 fn with_row(alloc: Global, row: &Row, others: &List<Row>) -> Result<List<Row>, NoMemory>
     ensures { IfOk result (λ choice. choice ≡ row.now ∷ others.now) }
 {
-    let mut choice = List::new(alloc);
-    choice.push(row.copy(alloc)?)?;
-    for other in others.as_slice() {
-        choice.push(other.copy(alloc)?)?;
-    }
-    Ok(choice)
+    with_first(alloc, row.copy(alloc)?, others.copy(alloc)?)
 }
 
 fn add_choices(
@@ -102,26 +98,18 @@ fn equalities_hold(equalities: &[(Place, Place)], choice: &[Row], zero: &Value) 
     ensures { result ≡ list_all (λ e. same_value (choice_value choice.now e.0) (choice_value choice.now e.1))
         equalities.now }
 {
-    for equality in equalities {
+    equalities.iter().all(|equality| {
         let left = choice_value(choice, equality.0, zero);
         let right = choice_value(choice, equality.1, zero);
-        if left != right {
-            return false;
-        }
-    }
-    true
+        left == right
+    })
 }
 
 fn constants_hold(constants: &[(Place, Value)], choice: &[Row], zero: &Value) -> bool
     requires { zero.now ≡ Number (pos 0) }
     ensures { result ≡ list_all (λ c. same_value (choice_value choice.now c.0) c.1) constants.now }
 {
-    for constant in constants {
-        if *choice_value(choice, constant.0, zero) != constant.1 {
-            return false;
-        }
-    }
-    true
+    constants.iter().all(|constant| *choice_value(choice, constant.0, zero) == constant.1)
 }
 
 fn comparison_holds(comparison: &Comparison, choice: &[Row], zero: &Value) -> bool
@@ -139,12 +127,9 @@ fn comparisons_hold(comparisons: &[Comparison], choice: &[Row], zero: &Value) ->
     requires { zero.now ≡ Number (pos 0) }
     ensures { result ≡ list_all (comparison_holds (choice_value choice.now)) comparisons.now }
 {
-    for comparison in comparisons {
-        if !comparison_holds(comparison, choice, zero) {
-            return false;
-        }
-    }
-    true
+    comparisons
+        .iter()
+        .all(|comparison| comparison_holds(comparison, choice, zero))
 }
 
 fn meets(block: &Block, choice: &[Row], zero: &Value) -> bool
@@ -212,22 +197,13 @@ pub fn full_of_block(
 fn has_row(rows: &[Row], row: &Row) -> bool
     ensures { result ≡ list_any (same_row row.now) rows.now }
 {
-    for other in rows {
-        if compare_rows(row.as_slice(), other.as_slice()) == Ordering::Equal {
-            return true;
-        }
-    }
-    false
+    rows.iter().any(|other| compare_rows(row.as_slice(), other.as_slice()) == Ordering::Equal)
 }
 
 fn set_union(left: List<Row>, right: List<Row>) -> Result<List<Row>, NoMemory>
     ensures { IfOk result (λ rows. rows ≡ set_union left right) }
 {
-    let mut rows = left;
-    for row in right.into_vec() {
-        rows.push(row)?;
-    }
-    Ok(distinct_rows(rows))
+    Ok(distinct_rows(append(left, right)?))
 }
 
 fn set_difference(alloc: Global, left: List<Row>, right: &[Row]) -> Result<List<Row>, NoMemory>

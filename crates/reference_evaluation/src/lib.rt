@@ -5,6 +5,7 @@
 #![tactic(auto)]
 
 mod bindings;
+mod block_on_tables;
 mod full;
 mod reads;
 mod rows;

@@ -4,4 +4,4 @@ use Rattle.reference_evaluation.specs.Tables.{rows_in}
 use Rattle.reference_evaluation.proofs.bindings.ways.Given as goal
 
 abbrev pub invariant-loop-step : goal.invariant-loop-step
-invariant-loop-step l = l.found ≡ ways (rows_in l.tables) l.normal l.accesses l.initial.found (take l.step-index l.steps)
+invariant-loop-step l = l.found ≡ ways (rows_in l.block.tables.now) l.block.normal.now l.block.accesses.now l.initial.found (take l.step-index l.steps)

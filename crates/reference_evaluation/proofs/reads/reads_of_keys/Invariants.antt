@@ -7,6 +7,6 @@ use Rattle.reference_evaluation.proofs.reads.reads_of_keys.Given as goal
 
 abbrev pub invariant-loop-key : goal.invariant-loop-key
 invariant-loop-key l = record {
-  total : l.reads ≡ sum_by (probe_reads (rows_in l.tables) (access_in l.accesses l.fn.id)) (take l.key-index l.keys);
+  total : l.reads ≡ sum_by (probe_reads (rows_in l.block.tables.now) (access_in l.block.accesses.now l.fn.id)) (take l.key-index l.keys);
   fits : l.reads ≤ l.key-index * 18446744073709551615;
 }

@@ -1,7 +1,8 @@
 // Queries whose answers a person worked out, as folders of files.
-use crate::answers::bound_query;
 use beas_core::{Fail, Limits, List, NoMemory, Row, Steps, Text};
-use drawn_scenes::{files_in, names_in, out_of_memory, reports_over, statement_of, text_in};
+use drawn_scenes::{
+    bound_query, files_in, names_in, out_of_memory, reports_over, statement_of, text_in,
+};
 use full_meaning::evaluate;
 use outside::MemoryFiles;
 use report::{Report, text};
@@ -40,7 +41,7 @@ fn rows_of<L: Ledger>(
     spelled: &str,
     steps: &mut Steps<L>,
 ) -> Result<List<Row>, Fail> {
-    let query = bound_query(alloc, guarded, spelled)?;
+    let query = bound_query(alloc, &guarded.catalogue, spelled)?;
     Ok(evaluate(alloc, guarded, &query, steps)?)
 }
 
