@@ -30,7 +30,7 @@ pub struct Guarded {
     pub rows: List<Rows>,
     /// The index of each live constraint, in the order of the constraints.
     pub indexes: List<AccessIndex>,
-    ghost with_rows_kept: { IsGuarded catalogue rows indexes },
+    ghost kept: { IsGuarded catalogue rows indexes },
 }
 
 impl Guarded {
