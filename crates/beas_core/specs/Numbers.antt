@@ -1,7 +1,7 @@
 -- The announced number, an unbounded whole number.
---     announced accesses b steps      the reads of the steps at most, where b valuations stand before the first
+--     announced_from accesses b steps  the reads of the steps at most, where b valuations stand before the first
 --     last_size accesses b steps      the valuations after the last step at most
---     capped number                   the number, or 2^128 where it is greater
+--     cap number                      the number, or 2^128 where it is greater
 use Rattle.std.specs.Prelude.{◌+◌, ◌*◌, ◌^◌, if◌then◌else◌, ℕ, List, [], ◌∷◌, map, min}
 use Rattle.beas_core.specs.declared.schema.Access.{Access}
 use Rattle.beas_core.specs.declared.plan.DStep.{DStep}

@@ -1,7 +1,7 @@
 -- Valuations of the classes that are bound after some steps, by choice of rows.
 --     starts normal guide                           the bindings before the first step, in each way that they can stand
 --     ways rows normal accesses starts steps        the bindings of each choice of a start and of one row of its atom's table for each step
---     valued normal set found                       the values of the classes of a set, ascending by class, of each of these ways that
+--     valued_rows normal set found                  the values of the classes of a set, ascending by class, of each of these ways that
 --                                                   agrees with itself and meets the comparisons whose columns are all in the set; as a set in order
 --     valuations rows normal accesses guide steps   the ways, valued on the classes that are bound after the steps
 --     answers_of rows normal accesses guide steps   the valuations, projected to the output

@@ -8,7 +8,7 @@ use Rattle.std.proofs.lemmas.Bool.Decides.{nat_tests}
 use Rattle.std.proofs.lemmas.List.Sums.{take_while-cons}
 use Rattle.sql_text.specs.declared.token.TokenKind.TheVariants.{Word, Number, Quoted, Bad}
 use Rattle.beas_core.specs.Spelling.{begins_word, continues_word}
-use Rattle.sql_text.specs.Tokens.{lead, plain, word as word_lead, in_quotes, double_quotes, quoted_text, quoted_or_bad, longest_word, quote}
+use Rattle.sql_text.specs.Tokens.{lead, plain, word as word_lead, in_quotes, with_quotes_doubled, quoted_text, quoted_or_bad, longest_word, quote}
 use Rattle.sql_text.specs.Tokens.Lead.{Lexeme}
 use Rattle.sql_text.proofs.Leads.{lead-word, lead-number, lead-quoted, digit-no_word}
 use Rattle.beas_laws.proofs.Lexicals.{IsWordText, IsDigitText, run_first}
@@ -79,10 +79,10 @@ text-more b (c ∷ bytes) text e h = rw (e, h) refl
 text-doubled : (bytes text : List ℕ) → quoted_text bytes ≡ Some text → quoted_text (quote ∷ quote ∷ bytes) ≡ Some (quote ∷ text)
 text-doubled bytes text h = rw h refl
 
-text-read : (text rest : List ℕ) → ends rest ≡ true → quoted_text ((double_quotes text ++ quote ∷ []) ++ rest) ≡ Some text
+text-read : (text rest : List ℕ) → ends rest ≡ true → quoted_text ((with_quotes_doubled text ++ quote ∷ []) ++ rest) ≡ Some text
 text-read [] rest e = text-ends rest e
 text-read (b ∷ bs) rest e =
-    let bytes : List ℕ = (double_quotes bs ++ quote ∷ []) ++ rest in
+    let bytes : List ℕ = (with_quotes_doubled bs ++ quote ∷ []) ++ rest in
     let more : quoted_text bytes ≡ Some bs = text-read bs rest e in
     elim (cases_Bool (eqb b quote)) [
       | inl q ↦ rw (eqb-true b quote q) (text-doubled bytes bs more)

@@ -7,7 +7,7 @@ use Rattle.std.proofs.lemmas.Bool.Decides.{nat_tests}
 use Rattle.sql_text.specs.declared.token.Token.{Token}
 use Rattle.sql_text.specs.declared.token.TokenKind.{TokenKind}
 use Rattle.sql_text.specs.declared.token.TokenKind.TheVariants.{Word, Number, Quoted, Mark}
-use Rattle.sql_text.specs.Tokens.{lead, in_quotes as quoted_bytes, quote, double_quotes, first_then, tokens_from, tokens_of, Lead}
+use Rattle.sql_text.specs.Tokens.{lead, in_quotes as quoted_bytes, quote, with_quotes_doubled, first_then, tokens_from, tokens_of, Lead}
 use Rattle.sql_text.specs.Tokens.Lead.{Gap, Lexeme as Found}
 use Rattle.sql_tree.specs.Canonical.{Lexeme, sign, holds_left, holds_right, gap, text_of_lexemes}
 use Rattle.sql_tree.specs.Symbols.{Symbol, word, number, quoted, mark, symbol_of, symbols}
@@ -67,7 +67,7 @@ number-read [] rest h e = absurd (false≢true h.first)
 number-read (b ∷ bs) rest h e = one_token Number (b ∷ bs) b bs rest (lead-of_number b bs rest h e)
 
 quoted-read : (text rest : List ℕ) → ends rest ≡ true → read (quoted_bytes text ++ rest) ≡ quoted text ∷ read rest
-quoted-read text rest e = one_token Quoted text quote (double_quotes text ++ quote ∷ []) rest (lead-of_quoted text rest e)
+quoted-read text rest e = one_token Quoted text quote (with_quotes_doubled text ++ quote ∷ []) rest (lead-of_quoted text rest e)
 
 minus-lead : (b : ℕ) (bs : List ℕ) → eqb 45 b ≡ false → lead (45 ∷ b ∷ bs) ≡ Found Mark 1 (codes "-")
 unfolding lead

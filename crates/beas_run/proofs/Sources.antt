@@ -18,7 +18,7 @@ use Rattle.beas_run.specs.Demonstrations.{Demonstrated}
 use Rattle.beas_run.specs.NoScripts.{status_of}
 use Rattle.beas_run.specs.Runs.{seed_of, demo_seed, settings_for, settings_of_words, longest_script, HasRun, IsNoText, IsScriptOf, IsTooLong, IsWith, IsWithout, WalkedFor}
 use Rattle.beas_run.specs.Scripts.{readings_of}
-use Rattle.beas_run.specs.Sources.{HasNoScript, IsSource, IsUnread, RanOver}
+use Rattle.beas_run.specs.Sources.{HasNoScript, IsSource, DemoReadsNothing, RanOver}
 use Rattle.beas_run.specs.Walks.{Scene}
 use Rattle.beas_run.proofs.Empty.{early_said, ran_demo, ran_file}
 use Rattle.beas_run.proofs.Reached.{same_later}
@@ -81,7 +81,7 @@ settings_for_same args asked limits settings e same = same ∙ ap (settings_for 
 ran_source : (limits : Limits) (words : List (List ℕ)) (asked : Args) (script : List ℕ) (status : ℕ) (db : Database) (steps : ℕ) (told : Bool) (sent : List ℕ)
     (files now : Seen) (after : Scene)
     → args_of words ≡ Some asked → length script ≤ longest_script → IsUtf8 script → IsScriptOf (Some asked) files script
-    → (status < 2) ⊎ (status ≡ 4) ⊎ (status ≡ 5) → IsUnread asked files now → IsLater files now
+    → (status < 2) ⊎ (status ≡ 4) ⊎ (status ≡ 5) → DemoReadsNothing asked files now → IsLater files now
     → WalkedFor (Some asked) (settings_for limits asked) (readings_of script) status
     (record { db = db; steps = steps; told = told; sent = sent; files = now }) after
     → HasRun limits words status (record { db = db; steps = steps; told = told; sent = sent; files = files }) after

@@ -2,7 +2,7 @@
 --     outcome_of report      what is counted of a report
 --     totals_in turns        the totals of these turns' reports
 --     summary_of turns       the line of the totals
---     unwritten scene        a moment, with no word on what the output was sent
+--     without_output scene   a moment, with no word on what the output was sent
 --     IsCounted ..           one piece was carried out, and its report counted
 --     Tallied ..             all were, or as far as memory went
 --     Demonstrated ..        and the line of the totals was written, or a part of it

@@ -16,7 +16,7 @@ use Rattle.sql_text.specs.declared.token.Piece.{Piece}
 use Rattle.sql_text.specs.Tokens.{tokens_of}
 use Rattle.sql_text.specs.Pieces.{statements_of}
 use Rattle.sql_tree.specs.Symbols.{symbols}
-use Rattle.sql_parser.specs.Outcome.{Reading, Parses, outcome}
+use Rattle.sql_parser.specs.Outcome.{Reading, Parses, found_reading}
 
 -- the pieces of a script that hold a token
 abbrev pub pieces : List ℕ → List (List Token)
@@ -27,7 +27,7 @@ Readings script readings = AllZip (λ tokens reading. Parses (symbols tokens) re
 
 -- the same, as they are found
 abbrev pub reading_of : List Token → Reading
-reading_of tokens = outcome (symbols tokens)
+reading_of tokens = found_reading (symbols tokens)
 
 abbrev pub readings_of : List ℕ → List Reading
 readings_of script = map reading_of (pieces script)
@@ -49,7 +49,7 @@ pub record Next : Type 0 where
 abbrev pub next : Act → List Outcome → Option Next
 next (Does effect) outcomes = Some (record { turn = record { effect = effect; read = None }; left = outcomes })
 next (Reads name effect) [] = None
-next (Reads name effect) (outcome ∷ outcomes) = Some (record { turn = turn_of (Reads name effect) outcome; left = outcomes })
+next (Reads name effect) (found_reading ∷ outcomes) = Some (record { turn = turn_of (Reads name effect) found_reading; left = outcomes })
 
 -- up to the first read without an outcome: more outcomes only make the list longer
 abbrev pub turns : Settings → Database → List Reading → List Outcome → List Turn

@@ -1,10 +1,9 @@
 -- What the statements of a run come from, and what is done with them.
---     IsUnread args before after     a demonstration reads no file
+--     DemoReadsNothing args before after     a demonstration reads no file
 --     IsSource asked ..              this is asked for, and this is its text
 --     HasNoScript asked why ..       why there is none
 --     RanOver args text ..           the statements of the text were carried out, or as far as the run came
 use Rattle.std.specs.Prelude.{◌≡◌, ◌≢◌, ◌<◌, ◌≤◌, ◌⊎◌, ℕ, List, length, Option, Some, None, option_and_then, IsSomeAnd}
-use Rattle.std.specs.Str.{IsUtf8}
 use Rattle.beas_core.specs.declared.limits.Limits.{Limits}
 use Rattle.command_words.specs.declared.arguments.Args.{Args}
 use Rattle.command_words.specs.declared.arguments.Args.TheVariants.{Script, Demo}
@@ -18,15 +17,15 @@ use Rattle.beas_run.specs.Runs.{path_of, seed_of, settings_for, longest_script, 
 use Rattle.beas_run.specs.Scripts.{readings_of}
 use Rattle.beas_run.specs.Walks.{Scene}
 
-abbrev pub IsUnread : Args → Seen → Seen → Type 0
-IsUnread (Script path budget explain) before after = Unit {0}
-IsUnread (Demo seed budget explain) before after = after ≡ before
+abbrev pub DemoReadsNothing : Args → Seen → Seen → Type 0
+DemoReadsNothing (Script path budget explain) before after = Unit {0}
+DemoReadsNothing (Demo seed budget explain) before after = after ≡ before
 
 pub record IsSource (asked : Option Args) (before after : Seen) (source : Source) : Type 0 where
   pub asked_is : asked ≡ Some source.args
   pub fits : length source.text ≤ longest_script
   pub is : IsScriptOf (Some source.args) before source.text
-  pub unread : IsUnread source.args before after
+  pub unread : DemoReadsNothing source.args before after
   pub later : IsLater before after
 
 pub record HasNoScript (asked : Option Args) (why : NoScript) (before after : Seen) : Type 0 where

@@ -9,7 +9,7 @@ use Rattle.outside.specs.Parts.{SentPart}
 use Rattle.catalogue.specs.Database.{Database}
 use Rattle.report.specs.Reports.{report_text}
 use Rattle.sql_parser.specs.Outcome.{Reading}
-use Rattle.update_guard.specs.Stored.{contents}
+use Rattle.update_guard.specs.Stored.{database_in}
 use Rattle.session.specs.declared.outcome.Outcome.{Outcome}
 use Rattle.session.specs.declared.session.Session.{Session}
 use Rattle.session.specs.Effects.{Settings}
@@ -27,7 +27,7 @@ pub record Scene : Type 0 where
 
 abbrev pub scene : Session → ℕ → Bool → List ℕ → Seen → Scene
 scene session steps told sent files =
-    record { db = contents session.guarded; steps = steps; told = told; sent = sent; files = files }
+    record { db = database_in session.guarded; steps = steps; told = told; sent = sent; files = files }
 
 -- an answered query reads at most the number that was announced
 abbrev pub AreWithin : List Turn → Type 0

@@ -3,7 +3,7 @@ ghost use Rattle.std.specs.Prelude.{◌≡◌, ◌≢◌, ◌<◌, ◌≤◌, �
 ghost use Rattle.demo_gen.specs.Summaries.{summary_text, totals_of};
 ghost use Rattle.outside.specs.Counts.{Rose};
 ghost use Rattle.outside.specs.Parts.{SentPart};
-ghost use Rattle.update_guard.specs.Stored.{contents};
+ghost use Rattle.update_guard.specs.Stored.{database_in};
 ghost use Rattle.session.specs.Applied.{settings_of};
 ghost use Rattle.session.specs.Ties.{IsLater, view};
 ghost use Rattle.beas_run.specs.Demonstrations.{outcome_of, ended_at, IsCounted, Tallied, Demonstrated};
@@ -54,12 +54,12 @@ fn count_one<F: Files, L: Ledger>(
     requires short { length tokens.now < 2 ^ 32 - 1 }
     requires room { summary.old.statements + 1 < 2 ^ 32 }
     ensures counted { IfOk result (λ refused. IsCounted session.old.limits.file
-        (act_for (settings_of session.old) (contents session.old.guarded) (reading_of tokens.now))
+        (act_for (settings_of session.old) (database_in session.old.guarded) (reading_of tokens.now))
         refused summary.old summary.new
         (scene session.old steps.old false [] (view F.told F.content F.faults F.taken files.old))
         (scene session.new steps.new false [] (view F.told F.content F.faults F.taken files.new))) }
     ensures undone { OnErr result (IsUndone
-        (act_for (settings_of session.old) (contents session.old.guarded) (reading_of tokens.now))
+        (act_for (settings_of session.old) (database_in session.old.guarded) (reading_of tokens.now))
         (scene session.old steps.old false [] (view F.told F.content F.faults F.taken files.old))
         (scene session.new steps.new false [] (view F.told F.content F.faults F.taken files.new))) }
     ensures settings { settings_of session.new ≡ settings_of session.old }

@@ -15,12 +15,15 @@ pub enum NoScript {
     Words,
     /// The script can't be read.
     Unread,
+    /// The script has more than 16,777,216 bytes.
     TooLong,
     /// The script is not UTF-8.
     NotText,
+    /// Memory ran out before there was a script.
     NoMemory,
 }
 
+/// The status of the program.
 fn status_of(why: NoScript) -> u8
     ensures { result ≡ status_of why }
 {
@@ -33,6 +36,7 @@ fn status_of(why: NoScript) -> u8
     }
 }
 
+/// What is said on `err`.
 fn line_of(why: NoScript) -> &'static str
     ensures { result.now ≡ line (status_of why) }
 {

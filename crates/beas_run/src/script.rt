@@ -3,7 +3,7 @@ ghost use Rattle.std.specs.Prelude.{◌≡◌, ◌≢◌, ◌<◌, ◌≤◌, �
 ghost use Rattle.outside.specs.Counts.{Rose};
 ghost use Rattle.outside.specs.Parts.{SentPart};
 ghost use Rattle.report.specs.Reports.{report_text};
-ghost use Rattle.update_guard.specs.Stored.{contents};
+ghost use Rattle.update_guard.specs.Stored.{database_in};
 ghost use Rattle.session.specs.Applied.{Applied, MayCost, settings_of};
 ghost use Rattle.session.specs.Ties.{IsLater, view};
 ghost use Rattle.session.specs.Turns.{is_refusal, IsWithin};
@@ -72,14 +72,15 @@ pub fn report_on<F: Files, L: Ledger>(
 ) -> Result<Report, NoMemory>
     requires { length tokens.now < 2 ^ 32 - 1 }
     ensures applied { IfOk result (λ report. Applied session.old.limits.file
-        (act_for (settings_of session.old) (contents session.old.guarded) (reading_of tokens.now))
-        report (contents session.new.guarded) steps.old steps.new
+        (act_for (settings_of session.old) (database_in session.old.guarded) (reading_of tokens.now))
+        report (database_in session.new.guarded) steps.old steps.new
         (view F.told F.content F.faults F.taken files.old) (view F.told F.content F.faults F.taken files.new)) }
     ensures within { IfOk result IsWithin }
     ensures settings { settings_of session.new ≡ settings_of session.old }
-    ensures unchanged { OnErr result (contents session.new.guarded ≡ contents session.old.guarded) }
+    ensures unchanged { OnErr result (database_in session.new.guarded ≡ database_in session.old.guarded) }
     ensures no_fewer { steps.old ≤ steps.new }
-    ensures at_most { MayCost (act_for (settings_of session.old) (contents session.old.guarded) (reading_of tokens.now))
+    ensures at_most { MayCost (act_for (settings_of session.old) (database_in session.old.guarded)
+        (reading_of tokens.now))
         steps.old steps.new }
     ensures later { IsLater
         (view F.told F.content F.faults F.taken files.old) (view F.told F.content F.faults F.taken files.new) }
@@ -126,7 +127,7 @@ fn carry_out<F: Files, O: Sink, L: Ledger>(
 ) -> Result<bool, Ending>
     requires { length tokens.now < 2 ^ 32 - 1 }
     ensures reported { IfOk result (λ refused. IsReported session.old.limits.file
-        (act_for (settings_of session.old) (contents session.old.guarded) (reading_of tokens.now)) number refused
+        (act_for (settings_of session.old) (database_in session.old.guarded) (reading_of tokens.now)) number refused
         (scene session.old steps.old (O.told out.old) (O.sent out.old)
         (view F.told F.content F.faults F.taken files.old))
         (scene session.new steps.new (O.told out.new) (O.sent out.new)
@@ -136,7 +137,7 @@ fn carry_out<F: Files, O: Sink, L: Ledger>(
         (view F.told F.content F.faults F.taken files.old) in
         let after = scene session.new steps.new (O.told out.new) (O.sent out.new)
         (view F.told F.content F.faults F.taken files.new) in
-        let act = act_for (settings_of session.old) (contents session.old.guarded) (reading_of tokens.now) in
+        let act = act_for (settings_of session.old) (database_in session.old.guarded) (reading_of tokens.now) in
         ((why ≡ Ending.NoMemory) × IsUndone act before after)
         ⊎ IsUnreported session.old.limits.file act number why before after) }
     ensures settings { settings_of session.new ≡ settings_of session.old }

@@ -6,7 +6,7 @@ ghost use Rattle.command_words.specs.Words.{args_of};
 ghost use Rattle.outside.specs.Counts.{Rose};
 ghost use Rattle.session.specs.Ties.{IsLater, view};
 ghost use Rattle.beas_run.specs.Runs.{longest_script, IsContent, IsNoText, IsScriptOf, IsTooLong};
-ghost use Rattle.beas_run.specs.Sources.{HasNoScript, IsSource, IsUnread};
+ghost use Rattle.beas_run.specs.Sources.{HasNoScript, IsSource, DemoReadsNothing};
 
 use crate::no_script::NoScript;
 use beas_core::{Bytes, NoMemory, Text};
@@ -64,7 +64,7 @@ fn text_for<F: Files>(alloc: Global, args: &Args, files: &mut F) -> Result<Text,
     ensures asked { IfOk result (IsScriptOf (Some args.now) (view F.told F.content F.faults F.taken files.old)) }
     ensures none { IfErr result (λ why. HasNoScript (Some args.now) why
         (view F.told F.content F.faults F.taken files.old) (view F.told F.content F.faults F.taken files.new)) }
-    ensures unread { IsUnread args.now
+    ensures unread { DemoReadsNothing args.now
         (view F.told F.content F.faults F.taken files.old) (view F.told F.content F.faults F.taken files.new) }
     ensures later { IsLater
         (view F.told F.content F.faults F.taken files.old) (view F.told F.content F.faults F.taken files.new) }

@@ -13,7 +13,7 @@ use Rattle.sql_tree.specs.declared.tree.BlockTree.{BlockTree}
 use Rattle.sql_tree.specs.declared.tree.Cond.{Cond}
 use Rattle.sql_tree.specs.declared.tree.FromItem.{FromItem}
 use Rattle.sql_tree.specs.Trees as tree
-use Rattle.binder.specs.Binding.{delete_block, blocks_of, binding_of}
+use Rattle.binder.specs.Binding.{delete_block, blocks_of, bound_query}
 use Rattle.binder.specs.LookedUp.{atom_of, looked_up, bound_block}
 use Rattle.binder.specs.Meanings.{columns_named}
 use Rattle.binder.specs.Refusing.{first, unknown_table, unknown_tables}
@@ -40,14 +40,14 @@ block_over schema block none =
     (each_map (atom_of schema) (λ (item : FromItem). first (unknown_table schema item.table) ≡ None) (AtomIsOver schema)
     (λ item known. atom_over schema item known) block.from_items (none_each (λ (item : FromItem). unknown_table schema item.table) block.from_items none))
 
-pub query_over : (schema : Schema) (t : tree.Tree) → first (flat_map (unknown_tables schema) (blocks_of t)) ≡ None → QueryIsOver schema (binding_of schema t)
+pub query_over : (schema : Schema) (t : tree.Tree) → first (flat_map (unknown_tables schema) (blocks_of t)) ≡ None → QueryIsOver schema (bound_query schema t)
 query_over schema t none =
     subst (All (BlockIsOver schema)) (sym (blocks_made (λ b. bound_block (looked_up schema b)) t))
     (all_of (BlockIsOver schema) (map (λ b. bound_block (looked_up schema b)) (blocks_of t))
     (each_map (λ b. bound_block (looked_up schema b)) (λ b. first (unknown_tables schema b) ≡ None) (BlockIsOver schema)
     (λ b known. block_over schema b known) (blocks_of t) (none_each (unknown_tables schema) (blocks_of t) none)))
 
-pub as_many_blocks : (schema : Schema) (t : tree.Tree) → length (query.blocks_of (binding_of schema t)) ≡ length (blocks_of t)
+pub as_many_blocks : (schema : Schema) (t : tree.Tree) → length (query.blocks_of (bound_query schema t)) ≡ length (blocks_of t)
 as_many_blocks schema t =
     ap length (blocks_made (λ b. bound_block (looked_up schema b)) t) ∙ length-map (blocks_of t) (λ b. bound_block (looked_up schema b))
 

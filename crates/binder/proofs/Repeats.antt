@@ -9,7 +9,7 @@ use Rattle.sql_tree.specs.declared.tree.FromItem.{FromItem}
 use Rattle.catalogue.specs.Schema.{Schema}
 use Rattle.beas_core.specs.declared.schema.Column.{Column}
 use Rattle.binder.specs.Meanings.{Source, sources, columns_named}
-use Rattle.binder.specs.Refusing.{repeats, repeated_among, first}
+use Rattle.binder.specs.Refusing.{repeated_names, repeated_among, first}
 use Rattle.binder.proofs.Numbered.{enumerate_append}
 
 abbrev pub stands_before : List (List ℕ) → ℕ × List ℕ → Bool
@@ -35,8 +35,8 @@ pub none_more : (names : List (List ℕ)) (i : ℕ) (name : List ℕ) → i < le
     → list_any (λ earlier. bytes_eq earlier name) (take i names) ≡ false → NoneBelow names i → NoneBelow names (i + 1)
 none_more names i name below is fresh so_far = record { none = up_to names i name below is so_far ∙ ap (λ b. cond b ((i, name) ∷ []) []) fresh }
 
-pub none_at_all : (names : List (List ℕ)) (n : ℕ) → NoneBelow names n → take n names ≡ names → repeats names ≡ []
-unfolding repeats
+pub none_at_all : (names : List (List ℕ)) (n : ℕ) → NoneBelow names n → take n names ≡ names → repeated_names names ≡ []
+unfolding repeated_names
 none_at_all names n below all = ap (λ ns. map (λ (m : ℕ × List ℕ). m.1) (filter (stands_before names) (enumerate_from 0 ns))) (sym all)
     ∙ ap (map (λ (m : ℕ × List ℕ). m.1)) below.none
 
@@ -49,8 +49,8 @@ first_of names front back i name split here =
 
 pub first_repeated : (names : List (List ℕ)) (i : ℕ) (name : List ℕ) → i < length names → name ≡ get_or names i name
     → list_any (λ earlier. bytes_eq earlier name) (take i names) ≡ true → NoneBelow names i
-    → first (map DuplicateName (repeats names)) ≡ Some (DuplicateName name)
-unfolding repeats
+    → first (map DuplicateName (repeated_names names)) ≡ Some (DuplicateName name)
+unfolding repeated_names
 first_repeated names i name below is seen so_far =
     first_of names (enumerate_from 0 (take (i + 1) names)) (enumerate_from (0 + length (take (i + 1) names)) (drop (i + 1) names)) i name
     (ap (enumerate_from 0) (sym (take-append-drop (i + 1) names)) ∙ enumerate_append 0 (take (i + 1) names) (drop (i + 1) names))

@@ -35,7 +35,7 @@ use Rattle.binder.specs.declared.meaning.Meaning.{Meaning}
 use Rattle.binder.specs.declared.meaning.Meaning.TheVariants.{At, Fixed, Unknown, Ambiguous, OutOfRange}
 use Rattle.binder.specs.declared.meaning.Part.{Part}
 use Rattle.binder.specs.declared.meaning.Part.TheVariants as part
-use Rattle.binder.specs.Binding.{delete_block, blocks_of, with_blocks, binding_of, kinds, places_in_all, shape_of, looked_refusals}
+use Rattle.binder.specs.Binding.{delete_block, blocks_of, with_blocks, bound_query, kinds, places_in_all, shape_of, looked_refusals}
 use Rattle.binder.specs.LookedUp.{atom_of, column_of, looked_up, output_kinds, place_of, mirrored_sign, with_column, with_value, part_of, parts, equality_of, constant_of, comparison_of, place_at, all_places, outputs, bound_block}
 use Rattle.binder.specs.Meanings.{Source, sources, columns_named, meaning, condition}
 use Rattle.binder.specs.Refusing.{first, refused_if, unknown_table, unknown_tables, same_kind, same_kinds, places}
@@ -290,7 +290,7 @@ blocks_made f (tree.Except l r) = ap (λ bs. bs ++ query.blocks_of (with_blocks 
 pub query_fits : (limits : Limits) (schema : Schema) (t : tree.Tree) → SchemaIsSound schema → limits.atoms ≤ 16
     → All (λ b. 1 ≤ length b.from_items) (blocks_of t)
     → first (flat_map (unknown_tables schema) (blocks_of t)) ≡ None → first (looked_refusals limits (map (looked_up schema) (blocks_of t))) ≡ None
-    → QueryIsWellFormed (binding_of schema t)
+    → QueryIsWellFormed (bound_query schema t)
 query_fits limits schema t sound sixteen some none no_places =
     let trees : List BlockTree = blocks_of t in
     let found : List LookedUp = map (looked_up schema) trees in

@@ -1,6 +1,6 @@
 -- What a query, the rows of an INSERT and the conditions of a DELETE are bound to.
 --     refusals limits schema tree       why a query is refused: the first counts
---     bound schema tree                 the query, where there is none
+--     bound_query schema tree           the query, where there is none
 --     row_refusals limits rows, bound_rows rows
 --     delete_refusals limits schema table conditions, bound_delete schema table conditions
 use Rattle.std.specs.Prelude.{ℕ, true, false, List, [], ◌∷◌, ◌++◌, map, Option, Some, None}
@@ -63,8 +63,8 @@ with_blocks bind (tree.Block b) = query.Single (bind b)
 with_blocks bind (tree.Union left right) = query.Either (with_blocks bind left) (with_blocks bind right)
 with_blocks bind (tree.Except left right) = query.Minus (with_blocks bind left) (with_blocks bind right)
 
-abbrev pub binding_of : Schema → tree.Tree → query.QueryTree
-binding_of schema tree = with_blocks (λ b. bound_block (looked_up schema b)) tree
+abbrev pub bound_query : Schema → tree.Tree → query.QueryTree
+bound_query schema tree = with_blocks (λ b. bound_block (looked_up schema b)) tree
 
 -- ---- rows
 

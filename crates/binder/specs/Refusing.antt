@@ -43,12 +43,12 @@ abbrev pub unknown_tables : Schema → BlockTree → List Refusal
 unknown_tables schema block = flat_map (λ item. unknown_table schema item.table) block.from_items
 
 -- the names that stand among those before them
-unfoldable pub repeats : List (List ℕ) → List (List ℕ)
-repeats names =
+unfoldable pub repeated_names : List (List ℕ) → List (List ℕ)
+repeated_names names =
     map (λ n. n.1) (filter (λ n. list_any (λ earlier. bytes_eq earlier n.1) (take n.0 names)) (enumerate_from 0 names))
 
 abbrev pub repeated_among : List FromItem → List Refusal
-repeated_among items = map refusal.DuplicateName (repeats (map (λ item. item.alias) items))
+repeated_among items = map refusal.DuplicateName (repeated_names (map (λ item. item.alias) items))
 
 abbrev pub repeated_aliases : BlockTree → List Refusal
 repeated_aliases block = repeated_among block.from_items

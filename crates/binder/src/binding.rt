@@ -7,7 +7,7 @@ ghost use Rattle.catalogue.specs.Queries.{QueryIsOver};
 ghost use Rattle.catalogue.specs.Schema.{SchemaIsSound};
 ghost use Rattle.beas_core.specs.Shapes.{QueryIsWellFormed};
 ghost use Rattle.beas_core.specs.Trees.{blocks_of as blocks_in};
-ghost use Rattle.binder.specs.Binding.{blocks_of, kinds, places_in_all, shape_of, looked_refusals, refusals, with_blocks, binding_of};
+ghost use Rattle.binder.specs.Binding.{blocks_of, kinds, places_in_all, shape_of, looked_refusals, refusals, with_blocks, bound_query};
 ghost use Rattle.binder.specs.LookedUp.{looked_up, bound_block, BlockIsSmall};
 ghost use Rattle.binder.specs.Refusing.{Tells, unknown_tables, repeated_aliases, places};
 
@@ -234,7 +234,7 @@ pub fn bind(
     requires blocks { length (blocks_of tree.now) < 2 ^ 32 }
     requires conditions { All (λ b. length b.conditions < 2 ^ 32) (blocks_of tree.now) }
     ensures refused { Tells result (refusals limits.now catalogue.now tree.now) }
-    ensures query { IfOk result (λ query. query ≡ binding_of catalogue.now tree.now) }
+    ensures query { IfOk result (λ query. query ≡ bound_query catalogue.now tree.now) }
     ensures well_formed { IfOk result (λ query.
         All (λ b. 1 ≤ length b.from_items) (blocks_of tree.now) → QueryIsWellFormed query) }
     ensures over { IfOk result (QueryIsOver catalogue.now) }

@@ -14,7 +14,7 @@ const QUERIES: u32 = 10;
 const BUDGET: u128 = 1000;
 
 /// How many queries came out with a row, without one, and not at all; and how many otherwise than by the reference
-/// programs.
+/// programs. The numbers of drawn queries fit 128 bits, so one that doesn't counts as a difference.
 #[derive(Clone, Copy)]
 struct Tally {
     with_row: u32,

@@ -5,7 +5,7 @@ ghost use Rattle.beas_core.specs.Shapes.{QueryIsWellFormed};
 ghost use Rattle.beas_core.specs.Trees.{blocks_of};
 ghost use Rattle.catalogue.specs.Database.{rows_at};
 ghost use Rattle.catalogue.specs.Queries.{QueryIsOver};
-ghost use Rattle.update_guard.specs.Stored.{contents};
+ghost use Rattle.update_guard.specs.Stored.{database_in};
 
 use crate::expected::{Numbers, numbers_of};
 use crate::shapes::is_right;
@@ -43,7 +43,7 @@ fn prepared_over(alloc: Global, guarded: &Guarded, query: Query) -> Result<Prepa
     requires well_formed { QueryIsWellFormed query }
     requires over { QueryIsOver guarded.now.catalogue query }
     requires few { length (blocks_of query) < 2 ^ 32 }
-    ensures { IfOk result (Fits guarded.now.catalogue.accesses (rows_at (contents guarded.now))) }
+    ensures { IfOk result (Fits guarded.now.catalogue.accesses (rows_at (database_in guarded.now))) }
 {
     prepare(alloc, &guarded.catalogue, query)
 }
@@ -57,7 +57,7 @@ fn outcome_by_reads<L: Ledger>(
     reads: Option<u128>,
     steps: &mut Steps<L>,
 ) -> Result<Outcome, NoMemory>
-    requires { Fits guarded.now.catalogue.accesses (rows_at (contents guarded.now)) prepared.now }
+    requires { Fits guarded.now.catalogue.accesses (rows_at (database_in guarded.now)) prepared.now }
 {
     let answer = execute(alloc, guarded, prepared, steps)?;
     let rows = full_of(alloc, tables, &prepared.query)?;
@@ -82,7 +82,7 @@ fn outcome_within<L: Ledger>(
     budget: u128,
     steps: &mut Steps<L>,
 ) -> Result<Outcome, NoMemory>
-    requires { Fits guarded.now.catalogue.accesses (rows_at (contents guarded.now)) prepared.now }
+    requires { Fits guarded.now.catalogue.accesses (rows_at (database_in guarded.now)) prepared.now }
 {
     match wanted {
         Some(numbers) if numbers.bound == Some(prepared.bound) => {

@@ -10,7 +10,7 @@ use normal_form::blocks;
 use std::alloc::Global;
 use update_guard::Guarded;
 
-/// A query of more blocks isn't right.
+/// A query of more blocks isn't right, since no statement may have more.
 const MOST_BLOCKS: usize = 64;
 
 /// Whether a place names an atom and a column of it.

@@ -45,7 +45,7 @@ fn number_of(word: &str) -> u32 {
 }
 
 /// What a call gives, told in words.
-fn told<L: Ledger>(
+fn answer_to<L: Ledger>(
     alloc: Global,
     scene: &mut Scene,
     call: (&str, &str, &str),
@@ -60,11 +60,11 @@ fn told<L: Ledger>(
         "faults" => scene.shelves.faults(alloc, first),
         "put" => scene.outputs.put(alloc, first),
         "full" => scene.outputs.fail_after(alloc, u64::from(number)),
-        "sent" => scene.outputs.sent(alloc),
+        "sent" => scene.outputs.line(alloc),
         "run" => run_of(alloc, first, &mut scene.shelves.steady, steps),
         _ => {
             scene.table.change(alloc, name, first, number_of(second))?;
-            scene.table.told(alloc, steps)
+            scene.table.line(alloc, steps)
         }
     }
 }
@@ -92,7 +92,7 @@ fn make_calls<L: Ledger>(rt: &HostRuntime, blank: Blank) -> io::Result<()>
     for line in rt.lines(alloc) {
         let line = line?;
         if !line.starts_with('#') {
-            match told(alloc, &mut scene, call_of(line.as_str()), &mut steps) {
+            match answer_to(alloc, &mut scene, call_of(line.as_str()), &mut steps) {
                 Ok(said) => println!(rt; "{said}")?,
                 Err(NoMemory) => println!(rt; "out of memory")?,
             }

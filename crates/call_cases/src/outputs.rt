@@ -41,7 +41,7 @@ impl Outputs {
     }
 
     /// What both took, and how many puts failed.
-    pub fn sent(&self, alloc: Global) -> Result<String, NoMemory> {
+    pub fn line(&self, alloc: Global) -> Result<String, NoMemory> {
         let one = str::from_utf8(self.memory.bytes());
         let other = str::from_utf8(self.steady.bytes());
         let faults = self.memory.faults();

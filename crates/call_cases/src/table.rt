@@ -85,7 +85,7 @@ impl Table {
     }
 
     /// The rows, with what came of the last change.
-    pub fn told<L: Ledger>(&self, alloc: Global, steps: &mut Steps<L>) -> Result<String, NoMemory> {
+    pub fn line<L: Ledger>(&self, alloc: Global, steps: &mut Steps<L>) -> Result<String, NoMemory> {
         let (ending, left) = (self.ending, self.left);
         let mut said = format!(in alloc; "{ending}, {left} left, {} rows:", self.rows.len())?;
         for i in 0..self.rows.len() {

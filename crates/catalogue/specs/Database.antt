@@ -3,8 +3,8 @@
 --     schema_of db                    the database without its rows
 --     rows_at db id                   the rows of a table
 --     with_table, with_rows, with_access, without_access      a table made, a table's rows replaced, a constraint made and dropped
---     appended db id rows             rows added at the end of a table
---     kept block db                   the rows of the block's one table that meet all its conditions are gone
+--     with_more_rows db id rows       rows added at the end of a table
+--     with_rows_kept block db         the rows of the block's one table that meet all its conditions are gone
 --     DatabaseIsSound db              what is true of every database
 use Rattle.std.specs.Prelude.{◌≡◌, ◌<◌, ◌+◌, ◌^◌, Bool, true, false, IsTrue, not, ℕ, List, [], ◌∷◌, ◌++◌, length, map, filter, zip, All, slice_index_or, slice_set}
 use Rattle.std.specs.List.{list_all}

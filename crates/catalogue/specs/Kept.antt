@@ -1,5 +1,4 @@
 -- What a catalogue keeps beside its lists, so that nothing is found by a walk.
---     number_by_name names name         the number that a map has for a name
 --     MayMakeTable, MayMakeAccess       a table or a constraint that can be made
 --     IsKept ..                         names give the numbers of tables and the ids of constraints, and each table has the ids of its constraints
 use Rattle.std.specs.Prelude.{◌≡◌, ◌<◌, ℕ, List, [], length, map, find, position, slice_index_or, Option, Vec, None, false, option_map}

@@ -6,7 +6,7 @@
 --     drop_access_refusal schema name
 --     insert_refusal limits db id rows
 --     create_access_refusal limits db spec
---     admitted schema spec                          the constraint that a statement makes
+--     new_access schema spec                        the constraint that a statement makes
 --     IsRefusedAs result refusal                    the result is this refusal, Ok where there is none, or out of memory
 use Rattle.std.specs.Prelude.{◌≡◌, ◌==◌, ◌+◌, if◌then◌else◌, Bool, not, nat_le, nat_lt, ℕ, List, [], ◌∷◌, ◌++◌, length, map, find, take, zip, Option, Some, None, Result, Ok, Err, option_map, is_some, unwrap_or}
 use Rattle.std.specs.List.{list_any, enumerate_from, position_or_len}

@@ -13,7 +13,7 @@ use Rattle.csv_load.specs.declared.header.Slot.{Slot}
 use Rattle.csv_load.specs.Fields.{cell}
 use Rattle.csv_load.specs.CsvRows.{Record, in_file_order, is_header, place_of}
 
--- columns behind references
+-- columns that are lent
 abbrev pub the_columns : List (Bor Column) → List Column
 the_columns columns = map (λ column. column.now) columns
 

@@ -1,5 +1,5 @@
 -- The numbers that a demonstration draws.
---     drawn state n     draw n from a state on, the first being draw 0
+--     draw_at state n   draw n from a state on, the first being draw 0
 use Rattle.std.specs.Prelude.{◌+◌, ◌*◌, ◌/◌, ◌%◌, ◌^◌, ℕ, zero, suc}
 
 -- a draw changes the state of 64 bits

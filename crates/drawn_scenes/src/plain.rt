@@ -69,7 +69,7 @@ impl Rule {
 
 impl Plain {
     /// The first live constraint whose group with a row is too great.
-    fn broken(&self, alloc: Global, row: &Fact) -> Result<Option<&Rule>, NoMemory> {
+    fn first_broken(&self, alloc: Global, row: &Fact) -> Result<Option<&Rule>, NoMemory> {
         for rule in self.rules.iter() {
             if rule.group(alloc, &self.rows, row)?.len() > rule.bound {
                 return Ok(Some(rule));
@@ -85,7 +85,7 @@ impl Plain {
         for row in more {
             self.rows.push(*row)?;
             nth = nth.saturating_add(1);
-            if let Some(rule) = self.broken(alloc, row)? {
+            if let Some(rule) = self.first_broken(alloc, row)? {
                 let name = rule.name.as_str();
                 let why = format!(in alloc; "refused 12 row {nth} breaks {name} at key ")?;
                 let mut why = Text::from_string(why);

@@ -135,7 +135,7 @@ fn lines_in<L: Ledger>(rt: &HostRuntime, folder: &str, steps: &mut Steps<L>) -> 
     lines_of(rt.alloc(), &mut session, queries.as_str(), steps).map_err(out_of_memory)
 }
 
-/// Tries a case, and says what was reported where that isn't as wanted. Whether it is.
+/// Tries a case, and says what was reported where that isn't as wanted. True where it is.
 fn try_case<L: Ledger>(rt: &HostRuntime, folder: &str, steps: &mut Steps<L>) -> io::Result<bool> {
     let output = text_in(rt, folder, "output")?;
     let lines = lines_in(rt, folder, steps)?;

@@ -1,4 +1,4 @@
--- What is bounded after each front of a list of steps: the valuations by `last_size`, the reads by `announced`.
+-- What is bounded after each front of a list of steps: the valuations by `last_size`, the reads by `announced_from`.
 --     Ready            what is known before further steps are taken
 --     sizes            the valuations after steps
 --     reads_room       the reads of a front, and what the next step may read, are within the announced number

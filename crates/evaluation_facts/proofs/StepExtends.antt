@@ -18,7 +18,7 @@ use Rattle.beas_core.specs.Valuations.{value_of, agrees, bindings_of, with_row_f
 use Rattle.beas_core.specs.Reads.{key_for}
 use Rattle.beas_core.proofs.Sets.{Has, Has-map, Has-from_map, Has-filter, Has-from_filter, Has-append_left, Has-append_right, Has-append_cases, Has-distinct, Has-from_distinct, distinct_same, distinct-filter}
 use Rattle.beas_core.proofs.ValueOrder.{row_cmp_tells}
-use Rattle.evaluation_facts.specs.Extensions.{bindings_with, fits, extension, group_for, extensions_of, extensions, meets_bound, keep_met}
+use Rattle.evaluation_facts.specs.Extensions.{bindings_with, fits, extended_row, group_for, extensions_of, extensions, meets_bound, keep_met}
 use Rattle.evaluation_facts.proofs.MemberTests.{and_left, and_right, and_both, which, all_has, all_by, Has-flat_map, Has-from_flat_map}
 use Rattle.evaluation_facts.proofs.ClassSetFacts.{has-with_kept}
 use Rattle.evaluation_facts.proofs.BindingFacts.{Binds, value-append_in, value-append_out, keys-zip, zip-maps, zip_of, map_same, same_row_to, same_value_to, agreed, Has-classes_in, from_classes_in, value_in_valuation, Binds-with, keys-map}
@@ -123,7 +123,7 @@ module _ (rows : TableRows) (normal : Normal) (accesses : List Access) (s : DSte
         differ : (d : ℕ) → has set d ≡ true → has set d ≡ false → ⊥
         differ d p q = cc
 
-    after_is : map (value_of (w ++ of_row row)) (classes_in more) ≡ extension normal accesses s set before tuple
+    after_is : map (value_of (w ++ of_row row)) (classes_in more) ≡ extended_row normal accesses s set before tuple
     after_is = map_same (value_of (w ++ of_row row)) (value_of (bindings_with normal accesses s set before tuple)) (classes_in more) (λ c h. value_after c)
 
     -- the tuple fits exactly where the way and the row agree
@@ -153,20 +153,21 @@ module _ (rows : TableRows) (normal : Normal) (accesses : List Access) (s : DSte
     ])
 
     -- the comparisons speak of bound classes alone
-    valuation_alike : (c : ℕ) → has more c ≡ true → value_of (as_bindings more (extension normal accesses s set before tuple)) c ≡ value_of (w ++ of_row row) c
+    valuation_alike : (c : ℕ) → has more c ≡ true → value_of (as_bindings more (extended_row normal accesses s set before tuple)) c
+        ≡ value_of (w ++ of_row row) c
     valuation_alike c h = ap (λ v. value_of (as_bindings more v) c) (sym after_is) ∙ value_in_valuation more (w ++ of_row row) c h
 
     meets_if : list_all (comparison_is_met normal more (w ++ of_row row)) normal.comparisons ≡ true
-        → meets_bound normal more (extension normal accesses s set before tuple) ≡ true
-    meets_if h = all_by (comparison_is_met normal more (as_bindings more (extension normal accesses s set before tuple))) normal.comparisons (λ c m.
-        met_alike normal more (w ++ of_row row) (as_bindings more (extension normal accesses s set before tuple)) (λ d k. sym (valuation_alike d k)) c
+        → meets_bound normal more (extended_row normal accesses s set before tuple) ≡ true
+    meets_if h = all_by (comparison_is_met normal more (as_bindings more (extended_row normal accesses s set before tuple))) normal.comparisons (λ c m.
+        met_alike normal more (w ++ of_row row) (as_bindings more (extended_row normal accesses s set before tuple)) (λ d k. sym (valuation_alike d k)) c
         (all_has (comparison_is_met normal more (w ++ of_row row)) normal.comparisons c h m))
 
-    met_if : meets_bound normal more (extension normal accesses s set before tuple) ≡ true
+    met_if : meets_bound normal more (extended_row normal accesses s set before tuple) ≡ true
         → list_all (comparison_is_met normal more (w ++ of_row row)) normal.comparisons ≡ true
     met_if h = all_by (comparison_is_met normal more (w ++ of_row row)) normal.comparisons (λ c m.
-        met_alike normal more (as_bindings more (extension normal accesses s set before tuple)) (w ++ of_row row) valuation_alike c
-        (all_has (comparison_is_met normal more (as_bindings more (extension normal accesses s set before tuple))) normal.comparisons c h m))
+        met_alike normal more (as_bindings more (extended_row normal accesses s set before tuple)) (w ++ of_row row) valuation_alike c
+        (all_has (comparison_is_met normal more (as_bindings more (extended_row normal accesses s set before tuple))) normal.comparisons c h m))
 
   pub Has-before : (w : Bindings) (row : Row) → Has found w
       → is_consistent normal (bound_by normal accesses set s) (w ++ bindings_of normal accesses s row) ≡ true
@@ -206,9 +207,9 @@ module _ (rows : TableRows) (normal : Normal) (accesses : List Access) (s : DSte
         let v = map (value_of w) (classes_in set) in
         let agree = and_left (agrees (w ++ of_row row)) (list_all (comparison_is_met normal more (w ++ of_row row)) normal.comparisons) consistent in
         subst (Has (flat_map (extensions_of rows normal accesses s set) (valued_rows normal set found))) (sym (after_is w row way))
-        (Has-flat_map (extensions_of rows normal accesses s set) (valued_rows normal set found) v (extension normal accesses s set v (project columns row))
+        (Has-flat_map (extensions_of rows normal accesses s set) (valued_rows normal set found) v (extended_row normal accesses s set v (project columns row))
         (Has-before w row way consistent)
-        (Has-map (extension normal accesses s set v) (filter (fits normal accesses s set v) (group_for rows normal accesses s set v)) (project columns row)
+        (Has-map (extended_row normal accesses s set v) (filter (fits normal accesses s set v) (group_for rows normal accesses s set v)) (project columns row)
         (Has-filter (fits normal accesses s set v) (group_for rows normal accesses s set v) (project columns row) (Has-tuple w row way stands agree)
         (fits_if w row way agree))))
 
@@ -229,7 +230,8 @@ module _ (rows : TableRows) (normal : Normal) (accesses : List Access) (s : DSte
         (subst (λ u. meets_bound normal more u ≡ true) (sym (after_is p.before p.row p.way)) (meets_if p.before p.row p.way met)))
 
   from_tuple : (v tuple : Row) → Way normal set found v → Has (group_for rows normal accesses s set v) tuple → fits normal accesses s set v tuple ≡ true
-      → meets_bound normal more (extension normal accesses s set v tuple) ≡ true → Has (some_valued normal more after) (extension normal accesses s set v tuple)
+      → meets_bound normal more (extended_row normal accesses s set v tuple) ≡ true
+      → Has (some_valued normal more after) (extended_row normal accesses s set v tuple)
   from_tuple v tuple w h fit met =
       let held = filter (λ r. same_row (project (access_in accesses s.access).key r) (key_for normal accesses s set v))
       (rows (access_in accesses s.access).table) in
@@ -238,8 +240,8 @@ module _ (rows : TableRows) (normal : Normal) (accesses : List Access) (s : DSte
       let f = Has-from_filter (λ r. same_row (project (access_in accesses s.access).key r) (key_for normal accesses s set v))
       (rows (access_in accesses s.access).table) m.0 m.1 in
       let u = map (value_of w.way) (classes_in set) in
-      let e : extension normal accesses s set v tuple ≡ extension normal accesses s set u
-      (project columns m.0) = ap (λ x. extension normal accesses s set x tuple) w.same ∙ ap (extension normal accesses s set u) m.2 in
+      let e : extended_row normal accesses s set v tuple ≡ extended_row normal accesses s set u
+      (project columns m.0) = ap (λ x. extended_row normal accesses s set x tuple) w.same ∙ ap (extended_row normal accesses s set u) m.2 in
       let fit_too = subst (λ t. fits normal accesses s set u t ≡ true) m.2 (subst (λ x. fits normal accesses s set x tuple ≡ true) w.same fit) in
       let met_too = subst (λ x. meets_bound normal more x ≡ true) e met in
       let agree = agrees_if w.way m.0 w.member (and_left (agrees w.way) (list_all (comparison_is_met normal set w.way) normal.comparisons) w.consistent)
@@ -255,7 +257,8 @@ module _ (rows : TableRows) (normal : Normal) (accesses : List Access) (s : DSte
   back v h =
       let f = Has-from_filter (meets_bound normal more) (flat_map (extensions_of rows normal accesses s set) (valued_rows normal set found)) v h in
       let x = Has-from_flat_map (extensions_of rows normal accesses s set) (valued_rows normal set found) v f.0 in
-      let m = Has-from_map (extension normal accesses s set x.0) (filter (fits normal accesses s set x.0) (group_for rows normal accesses s set x.0)) v x.2 in
+      let m = Has-from_map (extended_row normal accesses s set x.0) (filter (fits normal accesses s set x.0)
+      (group_for rows normal accesses s set x.0)) v x.2 in
       let t = Has-from_filter (fits normal accesses s set x.0) (group_for rows normal accesses s set x.0) m.0 m.1 in
       subst (Has (some_valued normal more after)) (sym m.2)
       (from_tuple x.0 m.0 (way_from normal set found x.0 x.1) t.0 t.1 (subst (λ u. meets_bound normal more u ≡ true) m.2 f.1))

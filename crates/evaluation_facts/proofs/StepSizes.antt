@@ -19,7 +19,7 @@ use Rattle.beas_core.specs.Valuations.{value_of, bindings_of, with_row_for, is_c
 use Rattle.beas_core.specs.Reads.{key_for, keys_for, probe_reads, step_reads}
 use Rattle.beas_core.proofs.Sets.{Has, Has-map, Has-from_map, Has-append_cases, IsInOrder-distinct, length-distinct-le}
 use Rattle.beas_core.proofs.ValueOrder.{row_cmp_tells}
-use Rattle.evaluation_facts.specs.Extensions.{extension, fits, group_for, extensions_of, extensions, meets_bound}
+use Rattle.evaluation_facts.specs.Extensions.{extended_row, fits, group_for, extensions_of, extensions, meets_bound}
 use Rattle.evaluation_facts.proofs.MemberTests.{from_not, all_has}
 use Rattle.evaluation_facts.proofs.ClassSetFacts.{has-with_kept, has-with_cases, length-with}
 use Rattle.evaluation_facts.proofs.SetSizes.{length_within, length-flat_map-le, length-filter_le}
@@ -31,7 +31,7 @@ module _ (rows : TableRows) (normal : Normal) (accesses : List Access) (s : DSte
     (holds : Holds (rows (access_in accesses s.access).table) (access_in accesses s.access)) where
   few_of_one : (v : Row) → length (extensions_of rows normal accesses s set v) ≤ (access_in accesses s.access).bound
   few_of_one v =
-      let mapped = length-map (filter (fits normal accesses s set v) (group_for rows normal accesses s set v)) (extension normal accesses s set v) in
+      let mapped = length-map (filter (fits normal accesses s set v) (group_for rows normal accesses s set v)) (extended_row normal accesses s set v) in
       let fewer = length-filter_le (fits normal accesses s set v) (group_for rows normal accesses s set v) in
       let h = holds (key_for normal accesses s set v) in
       omega (arith, mapped, fewer, h)

@@ -1,8 +1,8 @@
 -- How one step extends the valuations before it by the tuples that its probes find.
 --     fits ..           a tuple gives no class another value than the valuation, or than itself
---     extended ..       the valuation with the tuple's values
+--     extended_row ..   the valuation with the tuple's values
 --     extensions ..     all valuations with all tuples of their keys' groups that fit, as a set in order
---     kept ..           the valuations that meet every comparison whose columns are all bound
+--     keep_met ..       the valuations that meet every comparison whose columns are all bound
 use Rattle.std.specs.Prelude.{◌++◌, Bool, List, map, filter, flat_map, zip}
 use Rattle.std.specs.List.{list_all}
 use Rattle.beas_core.specs.declared.schema.Access.{Access}
@@ -23,8 +23,8 @@ bindings_with normal accesses s set valuation tuple = as_bindings set valuation 
 abbrev pub fits : Normal → List Access → DStep → ClassSet → Row → Row → Bool
 fits normal accesses s set valuation tuple = agrees (bindings_with normal accesses s set valuation tuple)
 
-abbrev pub extension : Normal → List Access → DStep → ClassSet → Row → Row → Row
-extension normal accesses s set valuation tuple = map (value_of (bindings_with normal accesses s set valuation tuple))
+abbrev pub extended_row : Normal → List Access → DStep → ClassSet → Row → Row → Row
+extended_row normal accesses s set valuation tuple = map (value_of (bindings_with normal accesses s set valuation tuple))
     (classes_in (bound_by normal accesses set s))
 
 -- the group of the key that a valuation gives to the step
@@ -34,7 +34,7 @@ group_for rows normal accesses s set valuation = group_of (rows (access_in acces
 
 abbrev pub extensions_of : TableRows → Normal → List Access → DStep → ClassSet → Row → List Row
 extensions_of rows normal accesses s set valuation =
-    map (extension normal accesses s set valuation) (filter (fits normal accesses s set valuation) (group_for rows normal accesses s set valuation))
+    map (extended_row normal accesses s set valuation) (filter (fits normal accesses s set valuation) (group_for rows normal accesses s set valuation))
 
 abbrev pub extensions : TableRows → Normal → List Access → DStep → ClassSet → List Row → List Row
 extensions rows normal accesses s set found = distinct row_cmp (flat_map (extensions_of rows normal accesses s set) found)

@@ -7,7 +7,7 @@ mod copies;
 ghost use Rattle.std.specs.Prelude.{◌≡◌, ◌+◌, ◌≤◌, length, sum_by, IfOk, OnOk};
 ghost use Rattle.beas_core.specs.Full.{full_of};
 ghost use Rattle.catalogue.specs.Database.{rows_at};
-ghost use Rattle.update_guard.specs.Stored.{contents};
+ghost use Rattle.update_guard.specs.Stored.{database_in};
 
 use crate::copies::copied_tables;
 use beas_core::{List, NoMemory, Query, Row, Steps};
@@ -24,7 +24,7 @@ pub fn evaluate<L: Ledger>(
     query: &Query,
     steps: &mut Steps<L>,
 ) -> Result<List<Row>, NoMemory>
-    ensures answer { IfOk result (λ answer. answer ≡ full_of (rows_at (contents guarded.now)) query.now) }
+    ensures answer { IfOk result (λ answer. answer ≡ full_of (rows_at (database_in guarded.now)) query.now) }
     ensures cost { OnOk result (steps.new ≡ steps.old + sum_by length guarded.now.rows) }
     ensures at_most { steps.new ≤ steps.old + sum_by length guarded.now.rows }
     ensures no_fewer { steps.old ≤ steps.new }

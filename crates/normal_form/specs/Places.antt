@@ -1,7 +1,7 @@
 -- The places of a block's atoms, numbered by atom and then column.
 --     offset atoms k           how many places stand before those of atom k
 --     place_number atoms p     how many places stand before a place
---     marked atoms used ps     the truth values of all places, with true at some more
+--     mark atoms used ps       the truth values of all places, with true at some more
 --     class_lists atoms classes, used_lists atoms used     what a list over all places says of each atom's columns
 use Rattle.std.specs.Prelude.{◌+◌, ℕ, zero, suc, Bool, List, [], ◌∷◌, map, filter, false, slice_index_or}
 use Rattle.std.specs.List.{enumerate_from, range_with_len}

@@ -1,7 +1,7 @@
 -- What is announced of a query over a schema, before any row is read.
 --     header_of schema blocks          the column names of the first block's output
 --     announced_number schema query    how many tuples the query reads at most, where its blocks are all covered
---     prepared schema query            the query with its header, and of each block its normal form and its canonical derivation
+--     prepared_query schema query      the query with its header, and of each block its normal form and its canonical derivation
 --     preparation schema query         so it is prepared, unless a block isn't covered or the number passes 2^128 - 1
 --     Prepares result preparation      a call answers so, or is out of memory
 use Rattle.std.specs.Prelude.{◌≡◌, ◌+◌, ◌^◌, if◌then◌else◌, nat_le, ℕ, List, [], ◌∷◌, map, slice_index_or, Option, Some, None, Result, Ok, Err, unwrap_or}

@@ -11,26 +11,26 @@ use Rattle.catalogue.specs.Database.{Database, rows_at, with_access}
 use Rattle.catalogue.specs.Schema.{SchemaIsSound}
 use Rattle.plan_builder.proofs.PreparationFacts.{ids_once}
 use Rattle.update_guard.specs.declared.guarded.Guarded.{Guarded}
-use Rattle.update_guard.specs.Stored.{contents}
+use Rattle.update_guard.specs.Stored.{database_in}
 
 abbrev pub FitsStore : Guarded → Prepared → Type 0
-FitsStore guarded prepared = Fits guarded.catalogue.accesses (rows_at (contents guarded)) prepared
+FitsStore guarded prepared = Fits guarded.catalogue.accesses (rows_at (database_in guarded)) prepared
 
 module _ (old new : Guarded) (prepared : Prepared) (fits : FitsStore old prepared) where
   abbrev FitsDatabase : Database → Type 0
   FitsDatabase db = Fits db.accesses (rows_at db) prepared
 
   -- the store is as it was
-  pub fits_the_same : contents new ≡ contents old → FitsStore new prepared
+  pub fits_the_same : database_in new ≡ database_in old → FitsStore new prepared
   fits_the_same e = subst FitsDatabase (sym e) fits
 
-  pub fits_with_access : (access : Access) → SchemaIsSound new.catalogue → contents new ≡ with_access (contents old) access → FitsStore new prepared
+  pub fits_with_access : (access : Access) → SchemaIsSound new.catalogue → database_in new ≡ with_access (database_in old) access → FitsStore new prepared
   fits_with_access access sound e =
       let few = old.catalogue.accesses in
       let longer : new.catalogue.accesses ≡ few ++ access ∷ [] = ap (λ (db : Database). db.accesses) e in
-      let rows : rows_at (contents new) ≡ rows_at (contents old) = ap rows_at e in
+      let rows : rows_at (database_in new) ≡ rows_at (database_in old) = ap rows_at e in
       subst (λ (r : TableRows). Fits new.catalogue.accesses r prepared) (sym rows)
       (still_fits few new.catalogue.accesses (ids_once new.catalogue sound)
       (λ a there. subst (λ (l : List Access). Contains l a) (sym longer)
       (Contains-from_has (few ++ access ∷ []) a (Has-append_left few (access ∷ []) a (Has-from_contains few a there))))
-      (rows_at (contents old)) prepared fits)
+      (rows_at (database_in old)) prepared fits)

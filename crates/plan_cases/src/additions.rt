@@ -1,7 +1,7 @@
 // Constraints that are made after a query was prepared.
 ghost use Rattle.beas_core.specs.Fits.{Fits};
 ghost use Rattle.catalogue.specs.Database.{rows_at};
-ghost use Rattle.update_guard.specs.Stored.{contents};
+ghost use Rattle.update_guard.specs.Stored.{database_in};
 
 use beas_core::{AccessSpec, Fail, Limits, NoMemory, Prepared, Steps};
 use std::alloc::Global;
@@ -17,8 +17,8 @@ fn add_constraint<L: Ledger>(
     prepared: &Prepared,
     steps: &mut Steps<L>,
 ) -> Result<bool, NoMemory>
-    requires { Fits guarded.old.catalogue.accesses (rows_at (contents guarded.old)) prepared.now }
-    ensures { Fits guarded.new.catalogue.accesses (rows_at (contents guarded.new)) prepared.now }
+    requires { Fits guarded.old.catalogue.accesses (rows_at (database_in guarded.old)) prepared.now }
+    ensures { Fits guarded.new.catalogue.accesses (rows_at (database_in guarded.new)) prepared.now }
 {
     if spec.fetched.is_empty() {
         return Ok(false);
@@ -41,8 +41,8 @@ pub fn add_constraints<L: Ledger>(
     prepared: &Prepared,
     steps: &mut Steps<L>,
 ) -> Result<u32, NoMemory>
-    requires { Fits guarded.old.catalogue.accesses (rows_at (contents guarded.old)) prepared.now }
-    ensures { Fits guarded.new.catalogue.accesses (rows_at (contents guarded.new)) prepared.now }
+    requires { Fits guarded.old.catalogue.accesses (rows_at (database_in guarded.old)) prepared.now }
+    ensures { Fits guarded.new.catalogue.accesses (rows_at (database_in guarded.new)) prepared.now }
 {
     let mut made: u32 = 0;
     for spec in specs {

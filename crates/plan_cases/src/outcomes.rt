@@ -1,7 +1,7 @@
 // What comes of a prepared query, compared with what plain programs give.
 ghost use Rattle.beas_core.specs.Fits.{Fits};
 ghost use Rattle.catalogue.specs.Database.{rows_at};
-ghost use Rattle.update_guard.specs.Stored.{contents};
+ghost use Rattle.update_guard.specs.Stored.{database_in};
 
 use beas_core::{Access, DStep, List, NoMemory, Normal, Prepared, Row, Steps};
 use plan_executor::execute;
@@ -48,7 +48,7 @@ pub fn comes_out<L: Ledger>(
     prepared: &Prepared,
     steps: &mut Steps<L>,
 ) -> Result<bool, NoMemory>
-    requires { Fits guarded.now.catalogue.accesses (rows_at (contents guarded.now)) prepared.now }
+    requires { Fits guarded.now.catalogue.accesses (rows_at (database_in guarded.now)) prepared.now }
 {
     let answer = execute(alloc, guarded, prepared, steps)?;
     let accesses = guarded.catalogue.accesses().as_slice();

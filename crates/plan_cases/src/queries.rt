@@ -2,7 +2,7 @@
 ghost use Rattle.std.specs.Prelude.{IfOk};
 ghost use Rattle.beas_core.specs.Fits.{Fits};
 ghost use Rattle.catalogue.specs.Database.{rows_at};
-ghost use Rattle.update_guard.specs.Stored.{contents};
+ghost use Rattle.update_guard.specs.Stored.{database_in};
 
 use crate::additions::add_constraints;
 use crate::constraints::draw_constraints;
@@ -73,7 +73,7 @@ impl Tally {
 
 /// A query as it is announced over the constraints as they are.
 fn prepared_query(alloc: Global, session: &Session, spelled: &str) -> Result<Prepared, Fail>
-    ensures { IfOk result (Fits session.now.guarded.catalogue.accesses (rows_at (contents session.now.guarded))) }
+    ensures { IfOk result (Fits session.now.guarded.catalogue.accesses (rows_at (database_in session.now.guarded))) }
 {
     match statement_of(alloc, spelled)? {
         Statement::Select { tree } => session.announce(alloc, &tree),
@@ -90,7 +90,7 @@ fn outcome_of<L: Ledger>(
     prepared: &Prepared,
     steps: &mut Steps<L>,
 ) -> Result<Outcome, NoMemory>
-    requires { Fits guarded.old.catalogue.accesses (rows_at (contents guarded.old)) prepared.now }
+    requires { Fits guarded.old.catalogue.accesses (rows_at (database_in guarded.old)) prepared.now }
 {
     add_constraints(alloc, guarded, specs, prepared, steps)?;
     let is_wanted = comes_out(alloc, guarded, tables, prepared, steps)?;

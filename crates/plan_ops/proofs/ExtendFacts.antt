@@ -26,7 +26,7 @@ use Rattle.beas_core.specs.Valuations.{value_of, agrees, classes_in, as_bindings
 use Rattle.beas_core.proofs.Groups.{length-project}
 use Rattle.beas_core.proofs.Sets.{Has, Has-get_or, Has-map, Has-distinct, Has-from_distinct, Has-from_map, Has-from_filter, IsInOrder-distinct, Contains-from_has, length-distinct-le}
 use Rattle.beas_core.proofs.ValueOrder.{row_cmp_tells}
-use Rattle.evaluation_facts.specs.Extensions.{bindings_with, fits, extension, extensions_of, extensions}
+use Rattle.evaluation_facts.specs.Extensions.{bindings_with, fits, extended_row, extensions_of, extensions}
 use Rattle.evaluation_facts.proofs.BindingFacts.{map_same, same_value_to, Has-classes_in, from_range}
 use Rattle.evaluation_facts.proofs.MemberTests.{all_has, Has-from_flat_map, all_by}
 use Rattle.plan_ops.specs.declared.joining.Join.{Join}
@@ -218,7 +218,7 @@ module _ (normal : Normal) (accesses : List Access) (s : DStep) (classes : List 
     fits_are = ap (λ cs. fits_by cs row tuple) is.checks_are
         ∙ sym (ap agrees bindings_are ∙ agrees_by_place joined (row ++ tuple) (length classes + length of_step.key) joined_wide known_few known_same)
 
-    rows_are : joined_by join.sources.items row tuple ≡ extension normal accesses s set row tuple
+    rows_are : joined_by join.sources.items row tuple ≡ extended_row normal accesses s set row tuple
     rows_are = ap (λ ps. joined_by ps row tuple) (is.sources_are ∙ ap (map (place_of joined)) is.classes_are)
         ∙ map-map (at_place row tuple) (place_of joined) (classes_in (bound_by normal accesses set s))
         ∙ map_same (λ c. at_place row tuple (place_of joined c)) (value_of (bindings_with normal accesses s set row tuple))
@@ -229,11 +229,11 @@ module _ (normal : Normal) (accesses : List Access) (s : DStep) (classes : List 
       → key_is_bound normal accesses set s ≡ true
       → ((t : Row) → Has tuples t → (j : ℕ) → j < length of_step.key → get_or t j (Int (pos 0)) ≡ get_or (key_for normal accesses s set row) j (Int (pos 0)))
       → joins join.sources.items join.checks.items row tuples
-      ≡ map (extension normal accesses s set row) (filter (fits normal accesses s set row) tuples)
+      ≡ map (extended_row normal accesses s set row) (filter (fits normal accesses s set row) tuples)
   joins_are row tuples wide all bound begins =
       ap (map (joined_by join.sources.items row)) (filter_alike (fits_by join.checks.items row) (fits normal accesses s set row) tuples
       (λ t m. fits_are row t wide (tuple_of t m) bound (begins t m)))
-      ∙ map_same (joined_by join.sources.items row) (extension normal accesses s set row) (filter (fits normal accesses s set row) tuples)
+      ∙ map_same (joined_by join.sources.items row) (extended_row normal accesses s set row) (filter (fits normal accesses s set row) tuples)
       (λ t m. let h = (Has-from_filter (fits normal accesses s set row) tuples t m).0 in rows_are row t wide (tuple_of t h) bound (begins t h))
     where
       tuple_of : (t : Row) → Has tuples t → IsTuple (member_columns (access_in accesses s.access)) t

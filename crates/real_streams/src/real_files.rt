@@ -148,6 +148,7 @@ impl ReadCounts {
         let mut bytes = Vec::new(alloc);
         let mut room = room_for_a_piece(alloc)?;
         let piece = room.as_mut_slice();
+        // Steps are counted, and so many are never made.
         'pieces: for _ in 0..u64::MAX {
             match self.take_piece(source, piece, &mut bytes, limit) {
                 Ok(Turn::More) => {}
@@ -195,6 +196,7 @@ fn read_some<S: Read>(source: &mut S, room: &mut [u8]) -> io::Result<usize>
     ensures bound { ReadsAtMost result room.new }
     ensures bytes { ReadConsumes (S.remaining source.old) (S.remaining source.new) result room.new }
 {
+    // Steps are counted, and so many are never made.
     'tries: for _ in 0..u64::MAX {
         match source.read(room) {
             Ok(count) => return Ok(count),

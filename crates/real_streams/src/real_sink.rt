@@ -74,6 +74,7 @@ fn write_some<W: Write>(writer: &mut W, bytes: &[u8]) -> io::Result<usize>
     ensures bound { WritesAtMost result bytes.now }
     ensures bytes { WriteAppends (W.contents writer.old) (W.contents writer.new) result bytes.now }
 {
+    // Steps are counted, and so many are never made.
     'tries: for _ in 0..u64::MAX {
         match writer.write(bytes) {
             Ok(count) => return Ok(count),
@@ -100,6 +101,7 @@ impl<W: Write> Sink for RealSink<W> {
         ensures rise { self.old.faults ≤ self.new.faults }
     {
         let mut rest = bytes;
+        // Steps are counted, and so many are never made.
         'parts: for _ in 0..u64::MAX {
             if rest.is_empty() {
                 return Ok(());

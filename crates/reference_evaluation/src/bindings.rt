@@ -383,7 +383,7 @@ fn rows_on(
 }
 
 /// The values of the classes of a set in each way that agrees with itself and meets the comparisons that are bound.
-fn valued(
+fn valued_rows(
     alloc: Global,
     normal: &Normal,
     set: &[bool],
@@ -409,12 +409,12 @@ pub fn valuations_of(
     ensures { IfOk result (λ found. found
         ≡ valuations (rows_in block.now.tables.now) block.now.normal.now block.now.accesses.now guide.now steps.now) }
 {
-    // Read for what its type tells: there are fewer than 65536 classes, as `valued` asks of the set.
+    // Read for what its type tells: there are fewer than 65536 classes, as `valued_rows` asks of the set.
     let _count = block.normal.count;
     let set = classes_after(alloc, block, guide, steps)?;
     let starts = starts(alloc, block.normal, guide)?;
     let found = ways(alloc, block, starts, steps)?;
-    valued(alloc, block.normal, set.as_slice(), found.as_slice())
+    valued_rows(alloc, block.normal, set.as_slice(), found.as_slice())
 }
 
 /// The valuations after some steps, over tables: the values of the bound classes, ascending by class.

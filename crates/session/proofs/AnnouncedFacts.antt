@@ -9,7 +9,7 @@ use Rattle.beas_core.specs.declared.refusal.Refusal.TheVariants.{OverBudget}
 use Rattle.beas_core.specs.Trees.{QueryTree}
 use Rattle.catalogue.specs.Schema.{Schema}
 use Rattle.sql_tree.specs.Trees.{Tree}
-use Rattle.binder.specs.Binding.{refusals, binding_of}
+use Rattle.binder.specs.Binding.{refusals, bound_query}
 use Rattle.binder.specs.Refusing.{Tells}
 use Rattle.plan_builder.specs.Preparation.{preparation}
 use Rattle.session.specs.Announced.{and_then, announcement, binding, within_budget}
@@ -26,22 +26,22 @@ module _ (limits : Limits) (budget : Option ℕ) (schema : Schema) (tree : Tree)
   unfolding announcement
   announced_unbound x told =
       given_fails QueryTree Prepared (binding limits schema tree) prepare_within x
-      (given (failed QueryTree x) (refusals limits schema tree) (binding_of schema tree) told tt)
+      (given (failed QueryTree x) (refusals limits schema tree) (bound_query schema tree) told tt)
 
-  module _ (query : QueryTree) (told : Tells (Ok query) (refusals limits schema tree)) (is : query ≡ binding_of schema tree) where
+  module _ (query : QueryTree) (told : Tells (Ok query) (refusals limits schema tree)) (is : query ≡ bound_query schema tree) where
     pub announced_unprepared : (x : Fail) → Gives (failed Prepared x) (preparation schema query)
         → Gives (failed Prepared x) (announcement limits budget schema tree)
     unfolding announcement
     announced_unprepared x h =
         given_next (binding limits schema tree) prepare_within query (failed Prepared x)
-        (given (Ok query) (refusals limits schema tree) (binding_of schema tree) told is)
+        (given (Ok query) (refusals limits schema tree) (bound_query schema tree) told is)
         (given_fails Prepared Prepared (preparation schema query) (within_budget budget) x h)
 
     pub announced : (prepared : Prepared) (r : Result Prepared Fail) → preparation schema query ≡ Ok prepared → Gives r (within_budget budget prepared)
         → Gives r (announcement limits budget schema tree)
     unfolding announcement
     announced prepared r e h =
-        given_next (binding limits schema tree) prepare_within query r (given (Ok query) (refusals limits schema tree) (binding_of schema tree) told is)
+        given_next (binding limits schema tree) prepare_within query r (given (Ok query) (refusals limits schema tree) (bound_query schema tree) told is)
         (given_next (preparation schema query) (within_budget budget) prepared r e h)
 
 abbrev kept_if : Bool → ℕ → Prepared → Result Prepared Refusal

@@ -9,7 +9,7 @@ use Rattle.beas_core.specs.declared.refusal.Refusal.TheVariants.{OverBudget}
 use Rattle.beas_core.specs.Trees.{QueryTree}
 use Rattle.catalogue.specs.Schema.{Schema}
 use Rattle.sql_tree.specs.Trees.{Tree}
-use Rattle.binder.specs.Binding.{refusals, binding_of}
+use Rattle.binder.specs.Binding.{refusals, bound_query}
 use Rattle.plan_builder.specs.Preparation.{preparation}
 
 -- an answer, unless there are refusals: then the first
@@ -22,7 +22,7 @@ and_then (Ok answer) next = next answer
 and_then (Err why) next = Err why
 
 abbrev pub binding : Limits → Schema → Tree → Result QueryTree Refusal
-binding limits schema tree = unless_refused (refusals limits schema tree) (binding_of schema tree)
+binding limits schema tree = unless_refused (refusals limits schema tree) (bound_query schema tree)
 
 -- a query whose number is above the budget is refused
 abbrev pub within_budget : Option ℕ → Prepared → Result Prepared Refusal

@@ -1,6 +1,6 @@
 -- How what reads gave is tied to the files: to their contents, where those are told, and to the counts of faults.
 --     Seen                                   what is known of files at a moment
---     seen told content faults taken files   so of a kind of files with these meanings
+--     view told content faults taken files   so of a kind of files with these meanings
 --     AreTied limit reads before after       what reads of at most so many bytes each gave between two moments
 --     IsLater before after                   contents stay, and no count falls
 use Rattle.std.specs.Prelude.{◌≡◌, ◌≢◌, ◌+◌, ◌*◌, ◌<◌, ◌≤◌, ◌&&◌, ℕ, Bool, true, false, List, length, All, Option, Some, IsSomeAnd}

@@ -3,7 +3,7 @@ ghost use Rattle.std.specs.Prelude.{◌≡◌, ◌<◌, ◌≤◌, ◌^◌, leng
 ghost use Rattle.beas_core.specs.Shapes.{BlockIsWellFormed, width_of};
 ghost use Rattle.catalogue.specs.Database.{block_table, schema_of};
 ghost use Rattle.catalogue.specs.Schema.{columns_at};
-ghost use Rattle.update_guard.specs.Stored.{contents};
+ghost use Rattle.update_guard.specs.Stored.{database_in};
 ghost use Rattle.session.specs.Carried.{Carries, Gives};
 ghost use Rattle.session.specs.Effects.{add_rows_effect, delete_binding, delete_effect, file_rows, insert_effect, load_effect, tuples_binding};
 ghost use Rattle.session.specs.Statements.{TuplesAreFew};
@@ -31,11 +31,11 @@ fn add_rows(
     table: TableId,
     rows: List<Row>,
 ) -> Result<Report, Fail>
-    requires live { table.0 < length (contents guarded.old).tables }
+    requires live { table.0 < length (database_in guarded.old).tables }
     requires few { length rows < 2 ^ 32 }
     requires narrow { All (λ row. length row < 2 ^ 32) rows }
-    ensures carried { Carries (add_rows_effect limits.now (contents guarded.old) table rows)
-        (contents guarded.old) result (contents guarded.new) 0 0 }
+    ensures carried { Carries (add_rows_effect limits.now (database_in guarded.old) table rows)
+        (database_in guarded.old) result (database_in guarded.new) 0 0 }
     ensures within { IfOk result IsWithin }
 {
     let rows = guarded.insert(alloc, limits, table, rows)?;
@@ -65,8 +65,8 @@ pub fn insert(
     tuples: &List<List<Literal>>,
 ) -> Result<Report, Fail>
     requires { TuplesAreFew tuples.now }
-    ensures carried { Carries (insert_effect limits.now (contents guarded.old) table.now tuples.now)
-        (contents guarded.old) result (contents guarded.new) 0 0 }
+    ensures carried { Carries (insert_effect limits.now (database_in guarded.old) table.now tuples.now)
+        (database_in guarded.old) result (database_in guarded.new) 0 0 }
     ensures within { IfOk result IsWithin }
 {
     let id = known_table(alloc, guarded, table)?;
@@ -83,9 +83,10 @@ fn rows_in_file(
     table: TableId,
     bytes: &Bytes,
 ) -> Result<List<Row>, Fail>
-    requires live { table.0 < length (contents guarded.now).tables }
+    requires live { table.0 < length (database_in guarded.now).tables }
     requires short { length bytes.now ≤ limits.now.file }
-    ensures read { Gives result (file_rows limits.now (columns_at (schema_of (contents guarded.now)) table) bytes.now) }
+    ensures read { Gives result (file_rows limits.now
+        (columns_at (schema_of (database_in guarded.now)) table) bytes.now) }
     ensures few { IfOk result (λ rows. length rows < 2 ^ 32) }
     ensures narrow { IfOk result (All (λ row. length row < 2 ^ 32)) }
 {
@@ -101,10 +102,10 @@ pub fn load(
     table: TableId,
     outcome: &Outcome,
 ) -> Result<Report, Fail>
-    requires live { table.0 < length (contents guarded.old).tables }
+    requires live { table.0 < length (database_in guarded.old).tables }
     requires short { OutcomeIsShort limits.now.file outcome.now }
-    ensures carried { Carries (load_effect limits.now (contents guarded.old) file.now table outcome.now)
-        (contents guarded.old) result (contents guarded.new) 0 0 }
+    ensures carried { Carries (load_effect limits.now (database_in guarded.old) file.now table outcome.now)
+        (database_in guarded.old) result (database_in guarded.new) 0 0 }
     ensures within { IfOk result IsWithin }
 {
     match outcome {
@@ -128,12 +129,12 @@ fn filter_of(
     conditions: &List<Cond>,
 ) -> Result<Block, Fail>
     requires { length conditions.now < 2 ^ 32 }
-    ensures bound { Gives result (delete_binding limits.now (contents guarded.now) table.now conditions.now) }
+    ensures bound { Gives result (delete_binding limits.now (database_in guarded.now) table.now conditions.now) }
     ensures form { IfOk result BlockIsWellFormed }
     ensures one { IfOk result (λ block. length block.atoms ≡ 1) }
-    ensures live { IfOk result (λ block. (block_table block).0 < length (contents guarded.now).tables) }
+    ensures live { IfOk result (λ block. (block_table block).0 < length (database_in guarded.now).tables) }
     ensures wide { IfOk result (λ block. width_of block.atoms 0
-        ≡ length (columns_at (schema_of (contents guarded.now)) (block_table block))) }
+        ≡ length (columns_at (schema_of (database_in guarded.now)) (block_table block))) }
 {
     bind_delete(alloc, &guarded.catalogue, limits, table, conditions)
 }
@@ -148,8 +149,8 @@ pub fn delete<L: Ledger>(
     steps: &mut Steps<L>,
 ) -> Result<Report, Fail>
     requires { length conditions.now < 2 ^ 32 }
-    ensures carried { Carries (delete_effect limits.now (contents guarded.old) table.now conditions.now)
-        (contents guarded.old) result (contents guarded.new) steps.old steps.new }
+    ensures carried { Carries (delete_effect limits.now (database_in guarded.old) table.now conditions.now)
+        (database_in guarded.old) result (database_in guarded.new) steps.old steps.new }
     ensures within { IfOk result IsWithin }
 {
     let filter = filter_of(alloc, guarded, limits, table, conditions)?;

@@ -1,7 +1,7 @@
 // The greatest groups of a table.
 ghost use Rattle.std.specs.Prelude.{◌≡◌, ◌<◌, ◌≤◌, length, slice_index_or, [], All, IfOk};
 ghost use Rattle.catalogue.specs.Database.{schema_of};
-ghost use Rattle.update_guard.specs.Stored.{contents};
+ghost use Rattle.update_guard.specs.Stored.{database_in};
 ghost use Rattle.session.specs.Carried.{Carries, Gives};
 ghost use Rattle.session.specs.Effects.{discover_group_effect, discover_pairs_effect, greatest_effect, limit_or_refusal, name_at, named_pairs, resolution};
 ghost use Rattle.session.specs.Turns.{IsWithin};
@@ -32,8 +32,8 @@ fn resolve_names(
     key: &List<Name>,
     fetched: &List<Name>,
 ) -> Result<Resolved, Fail>
-    ensures found { Gives result (resolution (schema_of (contents guarded.now)) table.now key.now fetched.now) }
-    ensures live { IfOk result (λ found. found.table.0 < length (contents guarded.now).tables) }
+    ensures found { Gives result (resolution (schema_of (database_in guarded.now)) table.now key.now fetched.now) }
+    ensures live { IfOk result (λ found. found.table.0 < length (database_in guarded.now).tables) }
 {
     let (table, key, fetched) = guarded.catalogue.resolve(alloc, table, key, fetched)?;
     Ok(Resolved {
@@ -49,9 +49,10 @@ fn greatest_of<L: Ledger>(
     found: &Resolved,
     steps: &mut Steps<L>,
 ) -> Result<Report, Fail>
-    requires { found.now.table.0 < length (contents guarded.now).tables }
-    ensures carried { Carries (greatest_effect (contents guarded.now) found.now.table found.now.key found.now.fetched)
-        (contents guarded.now) result (contents guarded.now) steps.old steps.new }
+    requires { found.now.table.0 < length (database_in guarded.now).tables }
+    ensures carried { Carries (greatest_effect (database_in guarded.now)
+        found.now.table found.now.key found.now.fetched)
+        (database_in guarded.now) result (database_in guarded.now) steps.old steps.new }
     ensures within { IfOk result IsWithin }
 {
     let rows = rows_of_table(guarded, found.table);
@@ -68,8 +69,8 @@ pub fn discover_group<L: Ledger>(
     fetched: &List<Name>,
     steps: &mut Steps<L>,
 ) -> Result<Report, Fail>
-    ensures carried { Carries (discover_group_effect (contents guarded.now) table.now key.now fetched.now)
-        (contents guarded.now) result (contents guarded.now) steps.old steps.new }
+    ensures carried { Carries (discover_group_effect (database_in guarded.now) table.now key.now fetched.now)
+        (database_in guarded.now) result (database_in guarded.now) steps.old steps.new }
     ensures within { IfOk result IsWithin }
 {
     let found = resolve_names(alloc, guarded, table, key, fetched)?;
@@ -121,8 +122,8 @@ pub fn discover_pairs<L: Ledger>(
     digits: &Text,
     steps: &mut Steps<L>,
 ) -> Result<Report, Fail>
-    ensures carried { Carries (discover_pairs_effect (contents guarded.now) table.now digits.now)
-        (contents guarded.now) result (contents guarded.now) steps.old steps.new }
+    ensures carried { Carries (discover_pairs_effect (database_in guarded.now) table.now digits.now)
+        (database_in guarded.now) result (database_in guarded.now) steps.old steps.new }
     ensures within { IfOk result IsWithin }
 {
     let id = known_table(alloc, guarded, table)?;

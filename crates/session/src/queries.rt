@@ -6,7 +6,7 @@ ghost use Rattle.beas_core.specs.Types.{TableRows};
 ghost use Rattle.catalogue.specs.Database.{rows_at, schema_of};
 ghost use Rattle.catalogue.specs.Queries.{RowsAreWide};
 ghost use Rattle.report.specs.Plans.{plan_text};
-ghost use Rattle.update_guard.specs.Stored.{contents};
+ghost use Rattle.update_guard.specs.Stored.{database_in};
 ghost use Rattle.session.specs.Announced.{announcement, binding, within_budget};
 ghost use Rattle.session.specs.Carried.{Carries, Gives};
 ghost use Rattle.session.specs.Effects.{answer_effect, explain_effect, plan_shown, reads_in, select_effect};
@@ -65,16 +65,16 @@ fn prepared_over(
     tree: &SelectTree,
 ) -> Result<Prepared, Fail>
     requires { TreeIsWellFormed tree.now }
-    ensures announced { Gives result (announcement limits.now budget (schema_of (contents guarded.now)) tree.now) }
+    ensures announced { Gives result (announcement limits.now budget (schema_of (database_in guarded.now)) tree.now) }
     ensures plan { IfOk result (PlanFits guarded.now.catalogue.accesses) }
-    ensures fits { IfOk result (Fits guarded.now.catalogue.accesses (rows_at (contents guarded.now))) }
+    ensures fits { IfOk result (Fits guarded.now.catalogue.accesses (rows_at (database_in guarded.now))) }
 {
     announcement(alloc, &guarded.catalogue, limits, budget, tree)
 }
 
 fn plan_lines(alloc: Global, guarded: &Guarded, prepared: &Prepared) -> Result<Text, NoMemory>
     requires { PlanFits guarded.now.catalogue.accesses prepared.now }
-    ensures { IfOk result (λ text. text ≡ plan_text (schema_of (contents guarded.now)) prepared.now) }
+    ensures { IfOk result (λ text. text ≡ plan_text (schema_of (database_in guarded.now)) prepared.now) }
 {
     plan_text(alloc, prepared, &guarded.catalogue)
 }
@@ -87,7 +87,7 @@ fn plan_shown(
     explain: bool,
 ) -> Result<Text, NoMemory>
     requires { PlanFits guarded.now.catalogue.accesses prepared.now }
-    ensures { IfOk result (λ text. text ≡ plan_shown explain (contents guarded.now) prepared.now) }
+    ensures { IfOk result (λ text. text ≡ plan_shown explain (database_in guarded.now) prepared.now) }
 {
     if explain {
         plan_lines(alloc, guarded, prepared)
@@ -103,12 +103,13 @@ fn answer<L: Ledger>(
     prepared: &Prepared,
     steps: &mut Steps<L>,
 ) -> Result<Answer, NoMemory>
-    requires { Fits guarded.now.catalogue.accesses (rows_at (contents guarded.now)) prepared.now }
-    ensures rows { IfOk result (λ answer. answer.rows ≡ full_of (rows_at (contents guarded.now)) prepared.now.query) }
-    ensures reads { IfOk result (λ answer. answer.reads ≡ reads_in (contents guarded.now) prepared.now) }
+    requires { Fits guarded.now.catalogue.accesses (rows_at (database_in guarded.now)) prepared.now }
+    ensures rows { IfOk result (λ answer. answer.rows
+        ≡ full_of (rows_at (database_in guarded.now)) prepared.now.query) }
+    ensures reads { IfOk result (λ answer. answer.reads ≡ reads_in (database_in guarded.now) prepared.now) }
     ensures within { IfOk result (λ answer. answer.reads ≤ prepared.now.bound) }
-    ensures cost { OnOk result (steps.new ≡ steps.old + reads_in (contents guarded.now) prepared.now) }
-    ensures at_most { steps.new ≤ steps.old + reads_in (contents guarded.now) prepared.now }
+    ensures cost { OnOk result (steps.new ≡ steps.old + reads_in (database_in guarded.now) prepared.now) }
+    ensures at_most { steps.new ≤ steps.old + reads_in (database_in guarded.now) prepared.now }
     ensures no_fewer { steps.old ≤ steps.new }
 {
     execute(alloc, guarded, prepared, steps)
@@ -123,9 +124,9 @@ fn answer_report<L: Ledger>(
     steps: &mut Steps<L>,
 ) -> Result<Report, Fail>
     requires plan { PlanFits guarded.now.catalogue.accesses prepared }
-    requires fits { Fits guarded.now.catalogue.accesses (rows_at (contents guarded.now)) prepared }
-    ensures carried { Carries (answer_effect explain (contents guarded.now) prepared)
-        (contents guarded.now) result (contents guarded.now) steps.old steps.new }
+    requires fits { Fits guarded.now.catalogue.accesses (rows_at (database_in guarded.now)) prepared }
+    ensures carried { Carries (answer_effect explain (database_in guarded.now) prepared)
+        (database_in guarded.now) result (database_in guarded.now) steps.old steps.new }
     ensures within { IfOk result IsWithin }
 {
     let plan = plan_shown(alloc, guarded, &prepared, explain)?;
@@ -152,8 +153,8 @@ pub fn select<L: Ledger>(
     requires { TreeIsWellFormed tree.now }
     ensures carried { Carries
         (select_effect (record { limits = limits.now; budget = budget; explain = explain })
-        (contents guarded.now) tree.now)
-        (contents guarded.now) result (contents guarded.now) steps.old steps.new }
+        (database_in guarded.now) tree.now)
+        (database_in guarded.now) result (database_in guarded.now) steps.old steps.new }
     ensures within { IfOk result IsWithin }
 {
     let prepared = prepared_over(alloc, guarded, limits, budget, tree)?;
@@ -169,8 +170,8 @@ pub fn explain(
     tree: &SelectTree,
 ) -> Result<Report, Fail>
     requires { TreeIsWellFormed tree.now }
-    ensures carried { Carries (explain_effect limits.now budget (contents guarded.now) tree.now)
-        (contents guarded.now) result (contents guarded.now) 0 0 }
+    ensures carried { Carries (explain_effect limits.now budget (database_in guarded.now) tree.now)
+        (database_in guarded.now) result (database_in guarded.now) 0 0 }
     ensures within { IfOk result IsWithin }
 {
     let prepared = prepared_over(alloc, guarded, limits, budget, tree)?;

@@ -38,12 +38,12 @@ pub struct Session {
 impl Session {
     ghost use Rattle.catalogue.specs.Database.{rows_at, schema_of};
     ghost use Rattle.catalogue.specs.Schema.{table_named};
-    ghost use Rattle.update_guard.specs.Stored.{contents};
+    ghost use Rattle.update_guard.specs.Stored.{database_in};
     ghost use Rattle.session.specs.Applied.{Applied, MayCost, settings_of};
 
     /// A session without tables. It takes no memory.
     pub fn new(alloc: Global, limits: Limits, budget: Option<u64>, explain: bool) -> Session
-        ensures db { contents result.guarded ≡ record { tables = []; accesses = []; created = 0 } }
+        ensures db { database_in result.guarded ≡ record { tables = []; accesses = []; created = 0 } }
         ensures settings { settings_of result ≡ record { limits = limits; budget = budget; explain = explain } }
     {
         Session {
@@ -60,7 +60,7 @@ impl Session {
         requires { TreeIsWellFormed tree.now }
         ensures announced { Gives result
             (announcement self.now.limits self.now.budget self.now.guarded.catalogue tree.now) }
-        ensures fits { IfOk result (Fits self.now.guarded.catalogue.accesses (rows_at (contents self.now.guarded))) }
+        ensures fits { IfOk result (Fits self.now.guarded.catalogue.accesses (rows_at (database_in self.now.guarded))) }
     {
         announcement(
             alloc,
@@ -82,21 +82,21 @@ impl Session {
     ) -> Result<Report, NoMemory>
         requires { StatementIsWellFormed statement.now }
         ensures applied { IfOk result (λ report. Applied self.old.limits.file
-            (act_of (settings_of self.old) (contents self.old.guarded) statement.now)
-            report (contents self.new.guarded) steps.old steps.new
+            (act_of (settings_of self.old) (database_in self.old.guarded) statement.now)
+            report (database_in self.new.guarded) steps.old steps.new
             (view F.told F.content F.faults F.taken files.old) (view F.told F.content F.faults F.taken files.new)) }
         ensures within { IfOk result IsWithin }
         ensures settings { settings_of self.new ≡ settings_of self.old }
 
         // Out of memory.
-        ensures unchanged { OnErr result (contents self.new.guarded ≡ contents self.old.guarded) }
+        ensures unchanged { OnErr result (database_in self.new.guarded ≡ database_in self.old.guarded) }
         ensures at_most { MayCost
-            (act_of (settings_of self.old) (contents self.old.guarded) statement.now) steps.old steps.new }
+            (act_of (settings_of self.old) (database_in self.old.guarded) statement.now) steps.old steps.new }
         ensures no_fewer { steps.old ≤ steps.new }
 
         // The files.
         ensures unread { (effect : Effect)
-            → act_of (settings_of self.old) (contents self.old.guarded) statement.now ≡ Does effect
+            → act_of (settings_of self.old) (database_in self.old.guarded) statement.now ≡ Does effect
             → files.new ≡ files.old }
         ensures later { IsLater
             (view F.told F.content F.faults F.taken files.old) (view F.told F.content F.faults F.taken files.new) }
@@ -117,8 +117,8 @@ impl Session {
         requires form { StatementIsWellFormed statement.now }
         requires no_load { IsNoLoad statement.now }
         ensures carried { (effect : Effect)
-            → act_of (settings_of self.old) (contents self.old.guarded) statement.now ≡ Does effect
-            → Carries effect (contents self.old.guarded) result (contents self.new.guarded) steps.old steps.new }
+            → act_of (settings_of self.old) (database_in self.old.guarded) statement.now ≡ Does effect
+            → Carries effect (database_in self.old.guarded) result (database_in self.new.guarded) steps.old steps.new }
         ensures within { IfOk result IsWithin }
         ensures settings { settings_of self.new ≡ settings_of self.old }
     {
@@ -161,14 +161,15 @@ impl Session {
         file: &Text,
     ) -> Result<Report, NoMemory>
         ensures applied { IfOk result (λ report. Applied self.old.limits.file
-            (load_act self.old.limits (contents self.old.guarded)
-            (table_or_refusal (schema_of (contents self.old.guarded)) table.now) file.now)
-            report (contents self.new.guarded) 0 0
+            (load_act self.old.limits (database_in self.old.guarded)
+            (table_or_refusal (schema_of (database_in self.old.guarded)) table.now) file.now)
+            report (database_in self.new.guarded) 0 0
             (view F.told F.content F.faults F.taken files.old) (view F.told F.content F.faults F.taken files.new)) }
         ensures within { IfOk result IsWithin }
         ensures settings { settings_of self.new ≡ settings_of self.old }
-        ensures unchanged { OnErr result (contents self.new.guarded ≡ contents self.old.guarded) }
-        ensures unread { table_named (schema_of (contents self.old.guarded)) table.now ≡ None → files.new ≡ files.old }
+        ensures unchanged { OnErr result (database_in self.new.guarded ≡ database_in self.old.guarded) }
+        ensures unread { table_named (schema_of (database_in self.old.guarded)) table.now ≡ None → files.new
+            ≡ files.old }
         ensures later { IsLater
             (view F.told F.content F.faults F.taken files.old) (view F.told F.content F.faults F.taken files.new) }
     {

@@ -2,7 +2,7 @@
 ghost use Rattle.std.specs.Prelude.{◌≡◌, ◌<◌, ◌≤◌, length, IfOk};
 ghost use Rattle.catalogue.specs.Database.{rows_at, schema_of};
 ghost use Rattle.catalogue.specs.Schema.{columns_at};
-ghost use Rattle.update_guard.specs.Stored.{contents};
+ghost use Rattle.update_guard.specs.Stored.{database_in};
 ghost use Rattle.session.specs.Carried.{Gives};
 ghost use Rattle.session.specs.Effects.{table_or_refusal};
 
@@ -13,8 +13,8 @@ use update_guard::Guarded;
 
 /// The table with this name.
 pub fn known_table(alloc: Global, guarded: &Guarded, name: &Name) -> Result<TableId, Fail>
-    ensures found { Gives result (table_or_refusal (schema_of (contents guarded.now)) name.now) }
-    ensures live { IfOk result (λ id. id.0 < length (contents guarded.now).tables) }
+    ensures found { Gives result (table_or_refusal (schema_of (database_in guarded.now)) name.now) }
+    ensures live { IfOk result (λ id. id.0 < length (database_in guarded.now).tables) }
 {
     match guarded.catalogue.table(name) {
         Some(id) => Ok(id),
@@ -26,8 +26,8 @@ pub fn known_table(alloc: Global, guarded: &Guarded, name: &Name) -> Result<Tabl
 
 /// The columns of a table.
 pub fn columns_of(guarded: &Guarded, id: TableId) -> &List<Column>
-    requires { id.0 < length (contents guarded.now).tables }
-    ensures columns { result.now ≡ columns_at (schema_of (contents guarded.now)) id }
+    requires { id.0 < length (database_in guarded.now).tables }
+    ensures columns { result.now ≡ columns_at (schema_of (database_in guarded.now)) id }
     ensures few { length result.now ≤ 64 }
 {
     guarded.catalogue.columns(id)
@@ -35,8 +35,8 @@ pub fn columns_of(guarded: &Guarded, id: TableId) -> &List<Column>
 
 /// The rows of a table.
 pub fn rows_of_table(guarded: &Guarded, id: TableId) -> &Rows
-    requires { id.0 < length (contents guarded.now).tables }
-    ensures { result.now ≡ rows_at (contents guarded.now) id }
+    requires { id.0 < length (database_in guarded.now).tables }
+    ensures { result.now ≡ rows_at (database_in guarded.now) id }
 {
     &guarded.rows.as_slice()[id.0 as usize]
 }

@@ -1,6 +1,6 @@
 // Tables and constraints are made, and constraints are dropped.
 ghost use Rattle.std.specs.Prelude.{◌≡◌, ◌≤◌, length, IfOk};
-ghost use Rattle.update_guard.specs.Stored.{contents};
+ghost use Rattle.update_guard.specs.Stored.{database_in};
 ghost use Rattle.session.specs.Carried.{Carries};
 ghost use Rattle.session.specs.Effects.{create_access_effect, create_table_effect, drop_access_effect};
 ghost use Rattle.session.specs.Turns.{IsWithin};
@@ -33,8 +33,8 @@ pub fn create_table(
     columns: &List<Column>,
 ) -> Result<Report, Fail>
     requires { 1 ≤ length columns.now }
-    ensures carried { Carries (create_table_effect limits.now (contents guarded.old) name.now columns.now)
-        (contents guarded.old) result (contents guarded.new) 0 0 }
+    ensures carried { Carries (create_table_effect limits.now (database_in guarded.old) name.now columns.now)
+        (database_in guarded.old) result (database_in guarded.new) 0 0 }
     ensures within { IfOk result IsWithin }
 {
     let name = name.copy(alloc)?;
@@ -52,8 +52,8 @@ pub fn create_access<L: Ledger>(
     steps: &mut Steps<L>,
 ) -> Result<Report, Fail>
     requires { 1 ≤ length spec.now.fetched }
-    ensures carried { Carries (create_access_effect limits.now (contents guarded.old) spec.now)
-        (contents guarded.old) result (contents guarded.new) steps.old steps.new }
+    ensures carried { Carries (create_access_effect limits.now (database_in guarded.old) spec.now)
+        (database_in guarded.old) result (database_in guarded.new) steps.old steps.new }
     ensures within { IfOk result IsWithin }
 {
     guarded.create_access(alloc, limits, spec, steps)?;
@@ -62,8 +62,8 @@ pub fn create_access<L: Ledger>(
 
 /// DROP ACCESS.
 pub fn drop_access(alloc: Global, guarded: &mut Guarded, name: &Name) -> Result<Report, Fail>
-    ensures carried { Carries (drop_access_effect (contents guarded.old) name.now)
-        (contents guarded.old) result (contents guarded.new) 0 0 }
+    ensures carried { Carries (drop_access_effect (database_in guarded.old) name.now)
+        (database_in guarded.old) result (database_in guarded.new) 0 0 }
     ensures within { IfOk result IsWithin }
 {
     guarded.drop_access(alloc, name)?;

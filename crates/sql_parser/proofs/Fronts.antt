@@ -20,23 +20,23 @@ pub adding_fails : {X Y : Type 0} (e : ReadError) (new : X) (after : Y) (rest : 
 adding_fails errors.Syntax new after rest part whole h f = f h
 adding_fails errors.NoMemory new after rest part whole h f = tt
 
-behind-inv : {X : Type 0} (front found : List X) (rest : List Symbol) (r : Option (List X × List Symbol)) → after front r ≡ Some (found, rest)
+after-inv : {X : Type 0} (front found : List X) (rest : List Symbol) (r : Option (List X × List Symbol)) → after front r ≡ Some (found, rest)
     → (xs : List X) × (r ≡ Some (xs, rest)) × (front ++ xs ≡ found)
 unfolding after
-behind-inv front found rest (Some p) e =
+after-inv front found rest (Some p) e =
     let whole : (front ++ p.0, p.1) ≡ (found, rest) = cc in
     (p.0, ap (λ t. Some (p.0, t)) (ap (λ (q : List _ × List Symbol). q.1) whole), ap (λ (q : List _ × List Symbol). q.0) whole)
-behind-inv front found rest None e = absurd cc
+after-inv front found rest None e = absurd cc
 
-behind-none : {X : Type 0} (front : List X) (r : Option (List X × List Symbol)) → after front r ≡ None → r ≡ None
+after-none : {X : Type 0} (front : List X) (r : Option (List X × List Symbol)) → after front r ≡ None → r ≡ None
 unfolding after
-behind-none front (Some p) e = absurd cc
-behind-none front None e = refl
+after-none front (Some p) e = absurd cc
+after-none front None e = refl
 
-behind-append : {X : Type 0} (front xs : List X) (r : Option (List X × List Symbol)) → after front (r >>= λ q. Some (xs ++ q.0, q.1)) ≡ after (front ++ xs) r
+after-append : {X : Type 0} (front xs : List X) (r : Option (List X × List Symbol)) → after front (r >>= λ q. Some (xs ++ q.0, q.1)) ≡ after (front ++ xs) r
 unfolding after
-behind-append front xs (Some p) = ap (λ ys. Some (ys, p.1)) (sym (append_assoc front xs p.0))
-behind-append front xs None = refl
+after-append front xs (Some p) = ap (λ ys. Some (ys, p.1)) (sym (append_assoc front xs p.0))
+after-append front xs None = refl
 
 -- ---- conditions
 
@@ -56,10 +56,10 @@ module _ (n : ℕ) (some : 0 < n) (front found : List Cond) (tokens rest : List 
   unfolding read_conditions
   conditions-go_on e t =
       let k : n ≡ suc (n - 1) = omega arith in
-      let b = behind-inv front found rest (read_condition (read_conditions (n - 1)) tokens) e in
+      let b = after-inv front found rest (read_condition (read_conditions (n - 1)) tokens) e in
       let one : read_conditions (suc (n - 1)) tokens ≡ (read_conditions (n - 1) (rest_of rest) >>= λ q. Some (b.0 ++ q.0, q.1)) = conditions-then (n - 1) tokens
       b.0 rest b.1 t in
-      ap (λ m. after front (read_conditions m tokens)) k ∙ ap (after front) one ∙ behind-append front b.0 (read_conditions (n - 1) (rest_of rest))
+      ap (λ m. after front (read_conditions m tokens)) k ∙ ap (after front) one ∙ after-append front b.0 (read_conditions (n - 1) (rest_of rest))
       ∙ ap (λ cs. after cs (read_conditions (n - 1) (rest_of rest))) b.2
 
   pub conditions-end : after front (read_condition (read_conditions (n - 1)) tokens) ≡ Some (found, rest) → starts AND rest ≡ false
@@ -67,7 +67,7 @@ module _ (n : ℕ) (some : 0 < n) (front found : List Cond) (tokens rest : List 
   unfolding read_conditions after
   conditions-end e t =
       let k : n ≡ suc (n - 1) = omega arith in
-      let b = behind-inv front found rest (read_condition (read_conditions (n - 1)) tokens) e in
+      let b = after-inv front found rest (read_condition (read_conditions (n - 1)) tokens) e in
       let one : read_conditions (suc (n - 1)) tokens ≡ Some (b.0, rest) = conditions-last (n - 1) tokens b.0 rest b.1 t in
       ap (λ m. after front (read_conditions m tokens)) k ∙ ap (after front) one ∙ ap (λ cs. Some (cs, rest)) b.2
 
@@ -76,7 +76,7 @@ pub conditions-none : (n : ℕ) → 0 < n → (front : List Cond) (tokens : List
 unfolding read_conditions after
 conditions-none n some front tokens whole so_far e =
     let k : n ≡ suc (n - 1) = omega arith in
-    let b = behind-none front (read_condition (read_conditions (n - 1)) tokens) e in
+    let b = after-none front (read_condition (read_conditions (n - 1)) tokens) e in
     let one : read_conditions (suc (n - 1)) tokens ≡ None = rw b refl in
     sym so_far ∙ ap (λ m. after front (read_conditions m tokens)) k ∙ ap (after front) one
 

@@ -6,15 +6,15 @@ use Rattle.sql_parser.specs.declared.reader.ReadError.TheVariants as errors
 use Rattle.sql_tree.specs.Words.{COMMA}
 use Rattle.sql_parser.specs.Reading.{◌>>=◌, Gives, starts, rest_of, after, read_commas}
 
-behind-some : {X : Type 0} (front xs : List X) (rest : List Symbol) → after front (Some (xs, rest)) ≡ Some (front ++ xs, rest)
+after-some : {X : Type 0} (front xs : List X) (rest : List Symbol) → after front (Some (xs, rest)) ≡ Some (front ++ xs, rest)
 unfolding after
-behind-some front xs rest = refl
+after-some front xs rest = refl
 
-pub behind-cons : {X : Type 0} (front : List X) (x : X) (read : Option (List X × List Symbol))
+pub after-cons : {X : Type 0} (front : List X) (x : X) (read : Option (List X × List Symbol))
     → after front (read >>= λ q. Some (x ∷ q.0, q.1)) ≡ after (front ++ x ∷ []) read
 unfolding after
-behind-cons front x (Some p) = ap (λ xs. Some (xs, p.1)) (sym (append_assoc front (x ∷ []) p.0))
-behind-cons front x None = refl
+after-cons front x (Some p) = ap (λ xs. Some (xs, p.1)) (sym (append_assoc front (x ∷ []) p.0))
+after-cons front x None = refl
 
 module _ {X : Type 0} (read : List Symbol → Option (X × List Symbol)) (front : List X) (n : ℕ) (some : 0 < n) (tokens : List Symbol) where
   pub commas-go_on : (x : X) (rest : List Symbol) → read tokens ≡ Some (x, rest) → starts COMMA rest ≡ true
@@ -23,7 +23,7 @@ module _ {X : Type 0} (read : List Symbol → Option (X × List Symbol)) (front 
   commas-go_on x rest e t =
       let k : n ≡ suc (n - 1) = omega arith in
       let one : read_commas read (suc (n - 1)) tokens ≡ (read_commas read (n - 1) (rest_of rest) >>= λ q. Some (x ∷ q.0, q.1)) = rw (e, t) refl in
-      ap (λ m. after front (read_commas read m tokens)) k ∙ ap (after front) one ∙ behind-cons front x (read_commas read (n - 1) (rest_of rest))
+      ap (λ m. after front (read_commas read m tokens)) k ∙ ap (after front) one ∙ after-cons front x (read_commas read (n - 1) (rest_of rest))
 
   pub commas-end : (x : X) (rest : List Symbol) → read tokens ≡ Some (x, rest) → starts COMMA rest ≡ false
       → after front (read_commas read n tokens) ≡ Some (front ++ x ∷ [], rest)
@@ -31,7 +31,7 @@ module _ {X : Type 0} (read : List Symbol → Option (X × List Symbol)) (front 
   commas-end x rest e t =
       let k : n ≡ suc (n - 1) = omega arith in
       let one : read_commas read (suc (n - 1)) tokens ≡ Some (x ∷ [], rest) = rw (e, t) refl in
-      ap (λ m. after front (read_commas read m tokens)) k ∙ ap (after front) one ∙ behind-some front (x ∷ []) rest
+      ap (λ m. after front (read_commas read m tokens)) k ∙ ap (after front) one ∙ after-some front (x ∷ []) rest
 
   pub commas-none : read tokens ≡ None → after front (read_commas read n tokens) ≡ None
   unfolding read_commas after
@@ -40,14 +40,14 @@ module _ {X : Type 0} (read : List Symbol → Option (X × List Symbol)) (front 
       let one : read_commas read (suc (n - 1)) tokens ≡ None = rw e refl in
       ap (λ m. after front (read_commas read m tokens)) k ∙ ap (after front) one
 
-pub behind-nil : {X : Type 0} (read : Option (List X × List Symbol)) → after [] read ≡ read
+pub after-nil : {X : Type 0} (read : Option (List X × List Symbol)) → after [] read ≡ read
 unfolding after
-behind-nil (Some p) = refl
-behind-nil None = refl
+after-nil (Some p) = refl
+after-nil None = refl
 
 pub commas-begin : {X : Type 0} (read : List Symbol → Option (X × List Symbol)) (front : List X) (n : ℕ) (tokens : List Symbol) → front ≡ [] → n ≡ length tokens
     → after front (read_commas read n tokens) ≡ read_commas read (length tokens) tokens
-commas-begin read front n tokens e k = rw (e, k) (behind-nil (read_commas read (length tokens) tokens))
+commas-begin read front n tokens e k = rw (e, k) (after-nil (read_commas read (length tokens) tokens))
 
 pub commas-over : {X : Type 0} (read : List Symbol → Option (X × List Symbol)) (front : List X) (n : ℕ) (tokens : List Symbol) → n ≡ 0
     → after front (read_commas read n tokens) ≡ None

@@ -12,7 +12,7 @@ use Rattle.beas_core.specs.declared.refusal.Refusal.TheVariants as refusal
 use Rattle.sql_tree.specs.Symbols.{Symbol, depth}
 use Rattle.sql_tree.specs.Grammar.{Spells, create_table, create_access, drop_access, load, insert, delete, discover_group, discover_pairs, select, explain, SpellsLone, lone, explained}
 use Rattle.sql_parser.specs.Reading.{read_statement}
-use Rattle.sql_parser.specs.Outcome.{Answers, Reading, Parses, SpellsNothing, lacks_distinct, with_distinct, to_the_end, outcome}
+use Rattle.sql_parser.specs.Outcome.{Answers, Reading, Parses, SpellsNothing, lacks_distinct, with_distinct, to_the_end, found_reading}
 use Rattle.sql_parser.proofs.ReadIsSpelled.{some_is}
 use Rattle.sql_parser.proofs.StatementIsSpelled.{SpellsAny, whole, lacking, lacking_explained, statement-spelled}
 use Rattle.sql_parser.proofs.StatementIsRead.{spelled-reads, lone-reads}
@@ -93,12 +93,12 @@ read_some tokens s e n =
 
 -- ---- the reading of all tokens
 
-fair-parsed : (tokens : List Symbol) → nat_lt 32 (depth tokens) ≡ false → outcome tokens ≡ to_the_end (read_statement tokens)
-unfolding outcome
+fair-parsed : (tokens : List Symbol) → nat_lt 32 (depth tokens) ≡ false → found_reading tokens ≡ to_the_end (read_statement tokens)
+unfolding found_reading
 fair-parsed tokens d = rw d refl
 
-pub deep-parsed : (tokens : List Symbol) → nat_lt 32 (depth tokens) ≡ true → outcome tokens ≡ Err refusal.TooDeep
-unfolding outcome
+pub deep-parsed : (tokens : List Symbol) → nat_lt 32 (depth tokens) ≡ true → found_reading tokens ≡ Err refusal.TooDeep
+unfolding found_reading
 deep-parsed tokens d = rw d refl
 
 end-none : (read : Option (Statement × List Symbol)) → ((s : Statement) → read ≡ Some (s, []) → ⊥) → to_the_end read ≡ Err refusal.Syntax
@@ -107,18 +107,19 @@ end-none (Some (s, [])) h = absurd (h s refl)
 end-none (Some (s, symbol ∷ rest)) h = refl
 
 pub syntax-parsed : (tokens : List Symbol) → nat_lt 32 (depth tokens) ≡ false → ((s : Statement) → read_statement tokens ≡ Some (s, []) → ⊥)
-    → outcome tokens ≡ Err refusal.Syntax
+    → found_reading tokens ≡ Err refusal.Syntax
 syntax-parsed tokens d h = fair-parsed tokens d ∙ end-none (read_statement tokens) h
 
-end-parsed : (tokens : List Symbol) (s : Statement) → nat_lt 32 (depth tokens) ≡ false → read_statement tokens ≡ Some (s, []) → outcome tokens ≡ with_distinct s
+end-parsed : (tokens : List Symbol) (s : Statement) → nat_lt 32 (depth tokens) ≡ false → read_statement tokens ≡ Some (s, []) → found_reading tokens
+    ≡ with_distinct s
 end-parsed tokens s d e = fair-parsed tokens d ∙ ap to_the_end e
 
 pub lone-parsed : (tokens : List Symbol) (s : Statement) → nat_lt 32 (depth tokens) ≡ false → read_statement tokens ≡ Some (s, []) → lacks_distinct s ≡ true
-    → outcome tokens ≡ Err refusal.NeedsDistinct
+    → found_reading tokens ≡ Err refusal.NeedsDistinct
 lone-parsed tokens s d e l = end-parsed tokens s d e ∙ (rw l refl)
 
 pub whole-parsed : (tokens : List Symbol) (s : Statement) → nat_lt 32 (depth tokens) ≡ false → read_statement tokens ≡ Some (s, []) → lacks_distinct s ≡ false
-    → outcome tokens ≡ Ok s
+    → found_reading tokens ≡ Ok s
 whole-parsed tokens s d e l = end-parsed tokens s d e ∙ (rw l refl)
 
 -- ---- it is a reading by the grammar
@@ -138,16 +139,16 @@ end-parses tokens (Some (s, symbol ∷ rest)) d e = (
       (λ t f. let g : symbol ∷ rest ≡ [] = ap (λ (p : Statement × List Symbol). p.1) (some_is (s, symbol ∷ rest) (t, []) (sym e ∙ f)) in cc),
 )
 
-parsed-as : (tokens : List Symbol) (b : Bool) → nat_lt 32 (depth tokens) ≡ b → Parses tokens (outcome tokens)
+parsed-as : (tokens : List Symbol) (b : Bool) → nat_lt 32 (depth tokens) ≡ b → Parses tokens (found_reading tokens)
 parsed-as tokens true d = subst (Parses tokens) (sym (deep-parsed tokens d)) (ltb-true 32 (depth tokens) d)
 parsed-as tokens false d = subst (Parses tokens) (sym (fair-parsed tokens d)) (end-parses tokens (read_statement tokens) (ltb-false 32 (depth tokens) d) refl)
 
-pub parsed-parses : (tokens : List Symbol) → Parses tokens (outcome tokens)
+pub parsed-parses : (tokens : List Symbol) → Parses tokens (found_reading tokens)
 parsed-parses tokens = parsed-as tokens (nat_lt 32 (depth tokens)) refl
 
 -- ---- and there is no other
 
-pub one_reading : (tokens : List Symbol) (reading : Reading) → Parses tokens reading → outcome tokens ≡ reading
+pub one_reading : (tokens : List Symbol) (reading : Reading) → Parses tokens reading → found_reading tokens ≡ reading
 one_reading tokens (Ok s) h =
     whole-parsed tokens s (le-ltb 32 (depth tokens) h.0) (spelled-reads h.1) (spells-no_lack h.1)
 one_reading tokens (Err refusal.TooDeep) h = deep-parsed tokens (lt-ltb 32 (depth tokens) h)
@@ -157,16 +158,16 @@ one_reading tokens (Err _) h = absurd h
 
 -- ---- what an answer tells, where it is the reading
 
-pub spelled : (tokens : List Symbol) (answer : Result Statement Fail) → Answers answer (outcome tokens) → IfOk answer (λ s. Parses tokens (Ok s))
+pub spelled : (tokens : List Symbol) (answer : Result Statement Fail) → Answers answer (found_reading tokens) → IfOk answer (λ s. Parses tokens (Ok s))
 spelled tokens (Ok s) e = subst (Parses tokens) e (parsed-parses tokens)
 spelled tokens (Err why) e = tt
 
-pub refused : (tokens : List Symbol) (answer : Result Statement Fail) → Answers answer (outcome tokens) → (why : Refusal) → IsErrOf answer (Refused why)
+pub refused : (tokens : List Symbol) (answer : Result Statement Fail) → Answers answer (found_reading tokens) → (why : Refusal) → IsErrOf answer (Refused why)
     → Parses tokens (Err why)
 refused tokens (Ok s) e why h = cc
 refused tokens (Err NoMemory) e why h = cc
 refused tokens (Err (Refused w)) e why h = let same : w ≡ why = cc in subst (Parses tokens) (e ∙ ap (λ (r : Refusal). Err r) same) (parsed-parses tokens)
 
-pub answered : (tokens : List Symbol) (answer : Result Statement Fail) → Answers answer (outcome tokens) → (reading : Reading) → Parses tokens reading
+pub answered : (tokens : List Symbol) (answer : Result Statement Fail) → Answers answer (found_reading tokens) → (reading : Reading) → Parses tokens reading
     → Answers answer reading
 answered tokens answer e reading h = subst (Answers answer) (one_reading tokens reading h) e

@@ -377,13 +377,13 @@ from-no : (rest : List Symbol) → (Never DOT (FROM ∷ rest)) × (Never COMMA (
 unfolding starts
 from-no rest = (refl, refl)
 
-block-steps : (start tail : List Symbol) (dis star : Bool) (rs : List ColumnRef) (from : List Symbol) (sources : Source) (behind_sources : List Symbol)
+block-steps : (start tail : List Symbol) (dis star : Bool) (rs : List ColumnRef) (from : List Symbol) (sources : Source) (after_sources : List Symbol)
     (cs : List Cond) (rest : List Symbol) → starts DISTINCT start ≡ dis → after_distinct start ≡ tail
-    → read_output tail ≡ Some ((star, rs), FROM ∷ from) → read_sources (length from) from ≡ Some (sources, behind_sources)
-    → read_where behind_sources ≡ Some (cs, rest)
+    → read_output tail ≡ Some ((star, rs), FROM ∷ from) → read_sources (length from) from ≡ Some (sources, after_sources)
+    → read_where after_sources ≡ Some (cs, rest)
     → read_block (SELECT ∷ start) ≡ Some (record { distinct = dis; star = star; items = rs; from_items = sources.0; conditions = sources.1 ++ cs }, rest)
 unfolding read_block starts rest_of
-block-steps start tail dis star rs from sources behind_sources cs rest d t o s w = rw (t, o, s, w, d) refl
+block-steps start tail dis star rs from sources after_sources cs rest d t o s w = rw (t, o, s, w, d) refl
 
 block-reads : {a : List Symbol} {b : BlockTree} → IsBlock a b → (rest : List Symbol) → BlockEnds rest → read_block (a ++ rest) ≡ Some (b, rest)
 unfolding read_block starts rest_of

@@ -284,19 +284,19 @@ term-spelled between reads tokens t rest e =
 -- what stands before a term, and how it is spelled
 data IsFront : List Symbol → Front → Type 0 where
   no_front : IsFront [] Nothing
-  behind_union : {a : List Symbol} {t : Tree} → IsQuery a t → IsFront (a ++ UNION ∷ []) (BeforeUnion t)
-  behind_except : {a : List Symbol} {t : Tree} → IsQuery a t → IsFront (a ++ EXCEPT ∷ []) (BeforeExcept t)
+  before_union : {a : List Symbol} {t : Tree} → IsQuery a t → IsFront (a ++ UNION ∷ []) (BeforeUnion t)
+  before_except : {a : List Symbol} {t : Tree} → IsQuery a t → IsFront (a ++ EXCEPT ∷ []) (BeforeExcept t)
 
 front-then : {a b : List Symbol} {front : Front} {t : Tree} → IsFront a front → IsTerm b t → IsQuery (a ++ b) (joined_to front t)
 front-then no_front h = term h
-front-then {b = b} {t = u} (behind_union {a} {t} q) h = subst (λ c. IsQuery c (Union t u)) (sym (append_assoc a (UNION ∷ []) b)) (union q h)
-front-then {b = b} {t = u} (behind_except {a} {t} q) h = subst (λ c. IsQuery c (Except t u)) (sym (append_assoc a (EXCEPT ∷ []) b)) (except q h)
+front-then {b = b} {t = u} (before_union {a} {t} q) h = subst (λ c. IsQuery c (Union t u)) (sym (append_assoc a (UNION ∷ []) b)) (union q h)
+front-then {b = b} {t = u} (before_except {a} {t} q) h = subst (λ c. IsQuery c (Except t u)) (sym (append_assoc a (EXCEPT ∷ []) b)) (except q h)
 
-abbrev Behind : List Symbol → List Symbol → Tree → Type 0
-Behind before a t = IsQuery (before ++ a) t
+abbrev After : List Symbol → List Symbol → Tree → Type 0
+After before a t = IsQuery (before ++ a) t
 
 joins-on : {tokens next rest : List Symbol} {t : Tree} (s : Symbol) (before a b : List Symbol) → next ≡ s ∷ rest_of next → tokens ≡ a ++ next
-    → rest_of next ≡ b ++ rest → IsQuery (((before ++ a) ++ s ∷ []) ++ b) t → Took (Behind before) tokens t rest
+    → rest_of next ≡ b ++ rest → IsQuery (((before ++ a) ++ s ∷ []) ++ b) t → Took (After before) tokens t rest
 joins-on {tokens} {next} {rest} {t} s before a b k e f q =
     record {
       front = a ++ s ∷ b;
@@ -305,7 +305,7 @@ joins-on {tokens} {next} {rest} {t} s before a b k e f q =
     }
 
 terms-spelled : (n : ℕ) (before : List Symbol) (front : Front) → IsFront before front → (tokens : List Symbol) (t : Tree) (rest : List Symbol)
-    → read_query n front tokens ≡ Some (t, rest) → Took (Behind before) tokens t rest
+    → read_query n front tokens ≡ Some (t, rest) → Took (After before) tokens t rest
 unfolding read_query
 terms-spelled zero before front f tokens t rest e = absurd (none_is (t, rest) e)
 terms-spelled (suc n) before front f tokens t rest e =
@@ -317,12 +317,12 @@ terms-spelled (suc n) before front f tokens t rest e =
     (cond (starts EXCEPT a.0.1) (read_query n (BeforeExcept (joined_to front a.0.0)) (rest_of a.0.1)) (Some (joined_to front a.0.0, a.0.1)))
     (Some (t, rest)) a.2) [
       | inl k ↦
-          let v = terms-spelled n ((before ++ u.front) ++ UNION ∷ []) (BeforeUnion (joined_to front a.0.0)) (behind_union q) (rest_of a.0.1) t rest k.1 in
+          let v = terms-spelled n ((before ++ u.front) ++ UNION ∷ []) (BeforeUnion (joined_to front a.0.0)) (before_union q) (rest_of a.0.1) t rest k.1 in
           joins-on UNION before u.front v.front (starts-inv UNION a.0.1 k.0) u.parts v.parts v.spelled
       | inr k ↦ elim (pick-inv (starts EXCEPT a.0.1) (read_query n (BeforeExcept (joined_to front a.0.0)) (rest_of a.0.1)) (Some (joined_to front a.0.0, a.0.1))
           (Some (t, rest)) k.1) [
             | inl x ↦
-                let v = terms-spelled n ((before ++ u.front) ++ EXCEPT ∷ []) (BeforeExcept (joined_to front a.0.0)) (behind_except q)
+                let v = terms-spelled n ((before ++ u.front) ++ EXCEPT ∷ []) (BeforeExcept (joined_to front a.0.0)) (before_except q)
                 (rest_of a.0.1) t rest x.1 in
                 joins-on EXCEPT before u.front v.front (starts-inv EXCEPT a.0.1 x.0) u.parts v.parts v.spelled
             | inr x ↦ took_as (record { front = u.front; parts = u.parts; spelled = q }) x.1

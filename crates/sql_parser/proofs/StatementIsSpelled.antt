@@ -53,11 +53,11 @@ pub data SpellsAny : List Symbol → Statement → Type 0 where
   lacking_explained : {a : List Symbol} {t : Tree} → IsQuery a t → wants_distinct t ≡ true → SpellsAny (EXPLAIN ∷ a) (Explain t)
 
 -- what spells a statement after its first words
-abbrev Behind : List Symbol → List Symbol → Statement → Type 0
-Behind words a s = SpellsAny (words ++ a) s
+abbrev After : List Symbol → List Symbol → Statement → Type 0
+After words a s = SpellsAny (words ++ a) s
 
 table-spelled : (tokens : List Symbol) (s : Statement) (rest : List Symbol) → read_create_table tokens ≡ Some (s, rest)
-    → Took (Behind (CREATE ∷ TABLE ∷ [])) tokens s rest
+    → Took (After (CREATE ∷ TABLE ∷ [])) tokens s rest
 unfolding read_create_table
 table-spelled tokens s rest e =
     let a = bind-inv (read_id tokens) _ (s, rest) e in
@@ -71,7 +71,7 @@ table-spelled tokens s rest e =
     }) b.2
 
 access-spelled : (tokens : List Symbol) (s : Statement) (rest : List Symbol) → read_create_access tokens ≡ Some (s, rest)
-    → Took (Behind (CREATE ∷ [])) tokens s rest
+    → Took (After (CREATE ∷ [])) tokens s rest
 unfolding read_create_access
 access-spelled tokens s rest e =
     let w = bind-inv (expect ACCESS tokens) _ (s, rest) e in
@@ -98,7 +98,7 @@ access-spelled tokens s rest e =
       spelled = whole (create_access i.spelled j.spelled k.spelled f.2);
     }) n.2
 
-create-spelled : (tokens : List Symbol) (s : Statement) (rest : List Symbol) → read_create tokens ≡ Some (s, rest) → Took (Behind (CREATE ∷ [])) tokens s rest
+create-spelled : (tokens : List Symbol) (s : Statement) (rest : List Symbol) → read_create tokens ≡ Some (s, rest) → Took (After (CREATE ∷ [])) tokens s rest
 unfolding read_create
 create-spelled tokens s rest e =
     elim (pick-inv (starts TABLE tokens) (read_create_table (rest_of tokens)) (read_create_access tokens) (Some (s, rest)) e) [
@@ -107,7 +107,7 @@ create-spelled tokens s rest e =
       | inr t ↦ access-spelled tokens s rest t.1
     ]
 
-drop-spelled : (tokens : List Symbol) (s : Statement) (rest : List Symbol) → read_drop_access tokens ≡ Some (s, rest) → Took (Behind (DROP ∷ [])) tokens s rest
+drop-spelled : (tokens : List Symbol) (s : Statement) (rest : List Symbol) → read_drop_access tokens ≡ Some (s, rest) → Took (After (DROP ∷ [])) tokens s rest
 unfolding read_drop_access
 drop-spelled tokens s rest e =
     let w = bind-inv (expect ACCESS tokens) _ (s, rest) e in
@@ -119,7 +119,7 @@ drop-spelled tokens s rest e =
       spelled = whole (drop_access i.spelled);
     }) a.2
 
-load-spelled : (tokens : List Symbol) (s : Statement) (rest : List Symbol) → read_load tokens ≡ Some (s, rest) → Took (Behind (LOAD ∷ [])) tokens s rest
+load-spelled : (tokens : List Symbol) (s : Statement) (rest : List Symbol) → read_load tokens ≡ Some (s, rest) → Took (After (LOAD ∷ [])) tokens s rest
 unfolding read_load
 load-spelled tokens s rest e =
     let a = bind-inv (read_id tokens) _ (s, rest) e in
@@ -133,7 +133,7 @@ load-spelled tokens s rest e =
       spelled = whole (load i.spelled);
     }) q.2
 
-insert-spelled : (tokens : List Symbol) (s : Statement) (rest : List Symbol) → read_insert tokens ≡ Some (s, rest) → Took (Behind (INSERT ∷ [])) tokens s rest
+insert-spelled : (tokens : List Symbol) (s : Statement) (rest : List Symbol) → read_insert tokens ≡ Some (s, rest) → Took (After (INSERT ∷ [])) tokens s rest
 unfolding read_insert
 insert-spelled tokens s rest e =
     let w = bind-inv (expect INTO tokens) _ (s, rest) e in
@@ -149,7 +149,7 @@ insert-spelled tokens s rest e =
       spelled = whole (insert i.spelled t.spelled);
     }) b.2
 
-delete-spelled : (tokens : List Symbol) (s : Statement) (rest : List Symbol) → read_delete tokens ≡ Some (s, rest) → Took (Behind (DELETE ∷ [])) tokens s rest
+delete-spelled : (tokens : List Symbol) (s : Statement) (rest : List Symbol) → read_delete tokens ≡ Some (s, rest) → Took (After (DELETE ∷ [])) tokens s rest
 unfolding read_delete
 delete-spelled tokens s rest e =
     let w = bind-inv (expect FROM tokens) _ (s, rest) e in
@@ -165,7 +165,7 @@ delete-spelled tokens s rest e =
     }) b.2
 
 discover-spelled : (tokens : List Symbol) (s : Statement) (rest : List Symbol) → read_discover tokens ≡ Some (s, rest)
-    → Took (Behind (DISCOVER ∷ [])) tokens s rest
+    → Took (After (DISCOVER ∷ [])) tokens s rest
 unfolding read_discover read_pairs read_group
 discover-spelled tokens s rest e =
     let a = bind-inv (read_id tokens) _ (s, rest) e in
@@ -207,7 +207,7 @@ any_explained {a} {t} q =
     go (wants_distinct t) refl
 
 explain-spelled : (tokens : List Symbol) (s : Statement) (rest : List Symbol) → read_explain tokens ≡ Some (s, rest)
-    → Took (Behind (EXPLAIN ∷ [])) tokens s rest
+    → Took (After (EXPLAIN ∷ [])) tokens s rest
 unfolding read_explain
 explain-spelled tokens s rest e =
     let a = bind-inv (read_whole_query tokens) _ (s, rest) e in
@@ -221,7 +221,7 @@ select-spelled tokens s rest e =
     let t = query-spelled tokens a.0.0 a.0.1 a.1 in
     took_as (record { front = t.front; parts = t.parts; spelled = any_query t.spelled }) a.2
 
-behind_word : (w : Symbol) (tokens : List Symbol) (s : Statement) (rest : List Symbol) → starts w tokens ≡ true → Took (Behind (w ∷ [])) (rest_of tokens) s rest
+behind_word : (w : Symbol) (tokens : List Symbol) (s : Statement) (rest : List Symbol) → starts w tokens ≡ true → Took (After (w ∷ [])) (rest_of tokens) s rest
     → Took SpellsAny tokens s rest
 behind_word w tokens s rest e t = record { front = w ∷ t.front; parts = starts-inv w tokens e ∙ ap (λ r. w ∷ r) t.parts; spelled = t.spelled }
 

@@ -1,6 +1,6 @@
 -- What the tokens of a piece are read as.
 --     Parses tokens reading      the reading is the statement that they spell, or why they spell none
---     parsed tokens              the reading, as it is found from left to right
+--     found_reading tokens       the reading, as it is found from left to right
 use Rattle.std.specs.Prelude.{◌≡◌, ◌<◌, ◌≤◌, nat_lt, if◌then◌else◌, Bool, false, List, [], ◌∷◌, Option, Some, None, Result, Ok, Err}
 use Rattle.beas_core.specs.declared.errors.Fail.{Fail}
 use Rattle.beas_core.specs.declared.errors.Fail.TheVariants.{Refused, NoMemory}
@@ -45,8 +45,8 @@ to_the_end None = Err Syntax
 to_the_end (Some (statement, [])) = with_distinct statement
 to_the_end (Some (statement, symbol ∷ rest)) = Err Syntax
 
-unfoldable pub outcome : List Symbol → Reading
-outcome tokens = if nat_lt 32 (depth tokens) then Err TooDeep else to_the_end (read_statement tokens)
+unfoldable pub found_reading : List Symbol → Reading
+found_reading tokens = if nat_lt 32 (depth tokens) then Err TooDeep else to_the_end (read_statement tokens)
 
 -- the answer is this reading, unless memory ran out
 abbrev pub Answers : Result Statement Fail → Reading → Type 0

@@ -13,7 +13,7 @@ use std::alloc::Global;
 fn alias(reader: &mut Reader, alloc: Global, table: &Name) -> Result<Name, ReadError>
     ensures { Gives result reader.new (read_alias table.now reader.old) }
 {
-    if reader.takes_word("as") {
+    if reader.take_word("as") {
         return reader.name(alloc);
     }
     if reader.next_is_name() {
@@ -82,10 +82,10 @@ fn join(
     ensures { Adds result (items.new, found.new) reader.new
         (after_both (items.old, found.old) (read_join reader.old)) }
 {
-    if reader.takes_word("join") {
+    if reader.take_word("join") {
         return inner_join(reader, alloc, items, found);
     }
-    if reader.takes_word("inner") {
+    if reader.take_word("inner") {
         reader.want_word("join")?;
         return inner_join(reader, alloc, items, found);
     }
@@ -141,7 +141,7 @@ fn from_sources(
     while room > 0 {
         room -= 1;
         from_source(reader, alloc, items, found)?;
-        if !reader.takes_mark(",") {
+        if !reader.take_mark(",") {
             return Ok(());
         }
     }
@@ -152,7 +152,7 @@ fn from_sources(
 fn output(reader: &mut Reader, alloc: Global) -> Result<(bool, List<ColumnRef>), ReadError>
     ensures { Gives result reader.new (read_output reader.old) }
 {
-    if reader.takes_mark("*") {
+    if reader.take_mark("*") {
         return Ok((true, List::new(alloc)));
     }
     let items = commas::<ColumnRef>(reader, alloc)?;
@@ -165,7 +165,7 @@ pub fn block(reader: &mut Reader, alloc: Global) -> Result<BlockTree, ReadError>
     ensures { Gives result reader.new (read_block reader.old) }
 {
     reader.want_word("select")?;
-    let distinct = reader.takes_word("distinct");
+    let distinct = reader.take_word("distinct");
     let (star, items) = output(reader, alloc)?;
     let mut tree = BlockTree {
         distinct,

@@ -52,7 +52,7 @@ fn simple_condition(reader: &mut Reader, alloc: Global) -> Result<Cond, ReadErro
     ensures { Gives result reader.new (read_simple reader.old) }
 {
     let left = side(reader, alloc)?;
-    if reader.takes_word("between") {
+    if reader.take_word("between") {
         return range(reader, alloc, left);
     }
     comparison(reader, alloc, left)
@@ -68,7 +68,7 @@ fn condition(
 ) -> Result<(), ReadError>
     ensures { Adds result found.new reader.new (after found.old (read_condition (read_conditions room) reader.old)) }
 {
-    if reader.takes_mark("(") {
+    if reader.take_mark("(") {
         some_conditions(reader, alloc, room, found)?;
         reader.want_mark(")")?;
         return Ok(());
@@ -91,7 +91,7 @@ fn some_conditions(
     while room > 0 {
         room -= 1;
         condition(reader, alloc, room, found)?;
-        if !reader.takes_word("and") {
+        if !reader.take_word("and") {
             return Ok(());
         }
     }
@@ -119,7 +119,7 @@ pub fn where_conditions(
 ) -> Result<(), ReadError>
     ensures { Adds result found.new reader.new (after found.old (read_where reader.old)) }
 {
-    if !reader.takes_word("where") {
+    if !reader.take_word("where") {
         return Ok(());
     }
     conditions(reader, alloc, found)

@@ -3,7 +3,7 @@ ghost use Rattle.std.specs.Prelude.{◌≡◌, List};
 ghost use Rattle.sql_tree.specs.declared.tree.Statement.{Statement as Tree};
 ghost use Rattle.sql_tree.specs.Symbols.{Symbol};
 ghost use Rattle.sql_tree.specs.Grammar.{Spells};
-ghost use Rattle.sql_parser.specs.Outcome.{Parses, Reading, outcome};
+ghost use Rattle.sql_parser.specs.Outcome.{Parses, Reading, found_reading};
 
 /// Tokens spell at most one statement.
 pub fn law_one_statement()
@@ -12,6 +12,6 @@ pub fn law_one_statement()
 
 /// Tokens have a reading, and no other: a statement that they spell, or why they spell none.
 pub fn law_one_reading()
-    ensures some { (tokens : List Symbol) → Parses tokens (outcome tokens) }
-    ensures one { (tokens : List Symbol) (reading : Reading) → Parses tokens reading → outcome tokens ≡ reading }
+    ensures some { (tokens : List Symbol) → Parses tokens (found_reading tokens) }
+    ensures one { (tokens : List Symbol) (reading : Reading) → Parses tokens reading → found_reading tokens ≡ reading }
 {}

@@ -29,7 +29,7 @@ pub fn commas<T: Part>(reader: &mut Reader, alloc: Global) -> Result<Items<T>, R
         room -= 1;
         let part = T::read(reader, alloc)?;
         parts.push(part)?;
-        if !reader.takes_mark(",") {
+        if !reader.take_mark(",") {
             return Ok(parts);
         }
     }
@@ -59,10 +59,10 @@ pub fn maybe_names(reader: &mut Reader, alloc: Global) -> Result<Items<Name>, Re
 fn column_kind(reader: &mut Reader) -> Result<ColType, ReadError>
     ensures { Gives result reader.new (read_kind reader.old) }
 {
-    if reader.takes_word("integer") || reader.takes_word("int") {
+    if reader.take_word("integer") || reader.take_word("int") {
         return Ok(ColType::Integer);
     }
-    if reader.takes_word("text") {
+    if reader.take_word("text") {
         return Ok(ColType::Words);
     }
     Err(ReadError::Syntax)
@@ -98,11 +98,11 @@ impl Part for Literal {
             let text = reader.quoted_text(alloc)?;
             return Ok(Literal::Words { text });
         }
-        if reader.takes_mark("-") {
+        if reader.take_mark("-") {
             return signed_number(reader, alloc, true);
         }
         // A plus changes nothing.
-        reader.takes_mark("+");
+        reader.take_mark("+");
         signed_number(reader, alloc, false)
     }
 }
@@ -125,7 +125,7 @@ impl Part for ColumnRef {
     #[tactic(auto, unfolding(crate::specs::Reading::read_ref))]
     fn read(reader: &mut Reader, alloc: Global) -> Result<ColumnRef, ReadError> {
         let first = reader.name(alloc)?;
-        if !reader.takes_mark(".") {
+        if !reader.take_mark(".") {
             return Ok(ColumnRef {
                 table: None,
                 column: first,

@@ -55,7 +55,7 @@ fn block_term(reader: &mut Reader, alloc: Global) -> Result<SelectTree, ReadErro
 fn term(reader: &mut Reader, alloc: Global, room: usize) -> Result<SelectTree, ReadError>
     ensures { Gives result reader.new (read_term (read_query room Front.Nothing) reader.old) }
 {
-    if reader.takes_mark("(") {
+    if reader.take_mark("(") {
         let tree = some_terms(reader, alloc, room)?;
         reader.want_mark(")")?;
         return Ok(tree);

@@ -104,7 +104,7 @@ impl<'a> Reader<'a> {
     }
 
     /// Goes after this word, where it is next, and says whether it was.
-    pub fn takes_word(&mut self, text: &str) -> bool
+    pub fn take_word(&mut self, text: &str) -> bool
         ensures found { result ≡ starts (word text.now) self.old }
         ensures rest { self.new ≡ (if result then rest_of self.old else self.old) }
     {
@@ -116,7 +116,7 @@ impl<'a> Reader<'a> {
     }
 
     /// Goes after this mark, where it is next, and says whether it was.
-    pub fn takes_mark(&mut self, text: &str) -> bool
+    pub fn take_mark(&mut self, text: &str) -> bool
         ensures found { result ≡ starts (mark text.now) self.old }
         ensures rest { self.new ≡ (if result then rest_of self.old else self.old) }
     {
@@ -131,7 +131,7 @@ impl<'a> Reader<'a> {
     pub fn want_word(&mut self, text: &str) -> Result<(), ReadError>
         ensures { Passes result self.new (expect (word text.now) self.old) }
     {
-        if self.takes_word(text) {
+        if self.take_word(text) {
             Ok(())
         } else {
             Err(ReadError::Syntax)
@@ -142,7 +142,7 @@ impl<'a> Reader<'a> {
     pub fn want_mark(&mut self, text: &str) -> Result<(), ReadError>
         ensures { Passes result self.new (expect (mark text.now) self.old) }
     {
-        if self.takes_mark(text) {
+        if self.take_mark(text) {
             Ok(())
         } else {
             Err(ReadError::Syntax)

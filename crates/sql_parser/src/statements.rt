@@ -76,7 +76,7 @@ fn create_access(reader: &mut Reader, alloc: Global) -> Result<Statement, ReadEr
 fn create(reader: &mut Reader, alloc: Global) -> Result<Statement, ReadError>
     ensures { Gives result reader.new (read_create reader.old) }
 {
-    if reader.takes_word("table") {
+    if reader.take_word("table") {
         return create_table(reader, alloc);
     }
     create_access(reader, alloc)
@@ -149,7 +149,7 @@ fn discover(reader: &mut Reader, alloc: Global) -> Result<Statement, ReadError>
     ensures { Gives result reader.new (read_discover reader.old) }
 {
     let table = reader.name(alloc)?;
-    if reader.takes_word("limit") {
+    if reader.take_word("limit") {
         return pairs(reader, alloc, table);
     }
     group(reader, alloc, table)
@@ -176,25 +176,25 @@ fn select(reader: &mut Reader, alloc: Global) -> Result<Statement, ReadError>
 pub fn statement(reader: &mut Reader, alloc: Global) -> Result<Statement, ReadError>
     ensures { Gives result reader.new (read_statement reader.old) }
 {
-    if reader.takes_word("create") {
+    if reader.take_word("create") {
         return create(reader, alloc);
     }
-    if reader.takes_word("drop") {
+    if reader.take_word("drop") {
         return drop_access(reader, alloc);
     }
-    if reader.takes_word("load") {
+    if reader.take_word("load") {
         return load(reader, alloc);
     }
-    if reader.takes_word("insert") {
+    if reader.take_word("insert") {
         return insert(reader, alloc);
     }
-    if reader.takes_word("delete") {
+    if reader.take_word("delete") {
         return delete(reader, alloc);
     }
-    if reader.takes_word("discover") {
+    if reader.take_word("discover") {
         return discover(reader, alloc);
     }
-    if reader.takes_word("explain") {
+    if reader.take_word("explain") {
         return explain(reader, alloc);
     }
     select(reader, alloc)

@@ -4,7 +4,7 @@ ghost use Rattle.beas_core.specs.declared.refusal.Refusal.{Refusal as Why};
 ghost use Rattle.sql_tree.specs.Grammar.{wants_distinct};
 ghost use Rattle.sql_tree.specs.Symbols.{symbols};
 ghost use Rattle.sql_tree.specs.declared.tree.Statement.{Statement as Tree};
-ghost use Rattle.sql_parser.specs.Outcome.{Answers, Parses, Reading, lacks_distinct, outcome};
+ghost use Rattle.sql_parser.specs.Outcome.{Answers, Parses, Reading, lacks_distinct, found_reading};
 ghost use Rattle.sql_parser.specs.Reading.{read_statement};
 
 use crate::nesting::is_too_deep;
@@ -50,7 +50,7 @@ fn lacks_distinct(statement: &Statement) -> bool
 
 /// Reads the tokens of a piece, unless memory runs out.
 fn reading(alloc: Global, tokens: &[Token]) -> Result<Statement, Fail>
-    ensures { Answers result (outcome (symbols tokens.now)) }
+    ensures { Answers result (found_reading (symbols tokens.now)) }
 {
     if is_too_deep(tokens) {
         return Err(Fail::Refused(Refusal::TooDeep));
@@ -75,7 +75,7 @@ pub fn parse(alloc: Global, tokens: &[Token]) -> Result<Statement, Fail>
     ensures refused { (why : Why) → IsErrOf result (Fail.Refused why) → Parses (symbols tokens.now) (Err why) }
     // What is so by the grammar is answered, unless memory runs out.
     ensures answered { (reading : Reading) → Parses (symbols tokens.now) reading → Answers result reading }
-    ensures parsed { Answers result (outcome (symbols tokens.now)) }
+    ensures parsed { Answers result (found_reading (symbols tokens.now)) }
 {
     reading(alloc, tokens)
 }

@@ -12,7 +12,7 @@ use Rattle.sql_text.specs.declared.token.Token.{Token}
 use Rattle.sql_text.specs.declared.token.TokenKind.{TokenKind}
 use Rattle.sql_text.specs.declared.token.TokenKind.TheVariants.{Word, Number, Quoted, Mark, Bad}
 use Rattle.beas_core.specs.Spelling.{begins_word, continues_word}
-use Rattle.sql_text.specs.Tokens.{lead, plain, word, quoted_or_bad, in_quotes, double_quotes, quoted_text, mark_or_bad, marks, is_in_line, continues_char, quote, longest_word}
+use Rattle.sql_text.specs.Tokens.{lead, plain, word, quoted_or_bad, in_quotes, with_quotes_doubled, quoted_text, mark_or_bad, marks, is_in_line, continues_char, quote, longest_word}
 use Rattle.sql_text.specs.Tokens.Lead.{Gap, Lexeme}
 use Rattle.sql_text.specs.Cuts.{BeginsToken, StandsAt}
 
@@ -193,11 +193,11 @@ lead-quoted_at s at l q =
 
 pub stands-quoted :
     (s : List ℕ) (at to : ℕ) (text : List ℕ) (t : Token) → at < length s → get_or s at 0 ≡ quote →
-    quoted_text (drop (at + 1) s) ≡ Some text → to ≡ at + 1 + length (double_quotes text) + 1 → to ≤ length s →
+    quoted_text (drop (at + 1) s) ≡ Some text → to ≡ at + 1 + length (with_quotes_doubled text) + 1 → to ≤ length s →
     IsCharBoundary s to → t ≡ record { kind = Quoted; from = at; to = to; text = text } → StandsAt s at t
 stands-quoted s at to text t l q known r within cut e =
     let size : length (in_quotes text) ≡ to - at =
-    omega (arith, length-append (double_quotes text) (quote ∷ []), r) in
+    omega (arith, length-append (with_quotes_doubled text) (quote ∷ []), r) in
     let Q : Token → Type 0 = λ v. StandsAt s at v in
     subst Q (sym e) (record {
       is = lead-quoted_at s at l q ∙ ap (quoted_or_bad (drop at s)) known ∙ ap (λ (n : ℕ). Lexeme Quoted n text) size;

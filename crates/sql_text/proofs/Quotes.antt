@@ -6,7 +6,7 @@ use Rattle.std.proofs.lemmas.Bool.{cases_Bool, cases_lt, eqb-true, not-false}
 use Rattle.std.proofs.lemmas.List.{get_or-drop, drop-drop, drop_all, take_more, get_or_past, length-take-le}
 use Rattle.std.proofs.lemmas.List.Sums.{prefix_len_stops}
 use Rattle.std.proofs.lemmas.Str.{IsCharBoundary-after_ascii, IsCharBoundary-before_ascii}
-use Rattle.sql_text.specs.Tokens.{quoted_text, quote, double_quotes}
+use Rattle.sql_text.specs.Tokens.{quoted_text, quote, with_quotes_doubled}
 
 abbrev pub unquoted : ℕ → Bool
 unquoted byte = not (byte == quote)
@@ -83,7 +83,7 @@ quoted_text-more (a ∷ b ∷ bs) (suc m) h l k =
     ]
 
 -- a stretch without a quote is spelled as it is, and a quote stands twice
-pub doubled-unquoted : (bs : List ℕ) (n : ℕ) → n ≤ prefix_len unquoted bs → double_quotes (take n bs) ≡ take n bs
+pub doubled-unquoted : (bs : List ℕ) (n : ℕ) → n ≤ prefix_len unquoted bs → with_quotes_doubled (take n bs) ≡ take n bs
 doubled-unquoted bs zero h = refl
 doubled-unquoted [] (suc n) h = refl
 doubled-unquoted (a ∷ bs) (suc n) h =
@@ -92,11 +92,11 @@ doubled-unquoted (a ∷ bs) (suc n) h =
       | inr e ↦ rw e (ap (λ (more : List ℕ). a ∷ more) (doubled-unquoted bs n (omega (arith, h, run_yes a bs e))))
     ]
 
-pub doubled-append : (xs ys : List ℕ) → double_quotes (xs ++ ys) ≡ double_quotes xs ++ double_quotes ys
+pub doubled-append : (xs ys : List ℕ) → with_quotes_doubled (xs ++ ys) ≡ with_quotes_doubled xs ++ with_quotes_doubled ys
 doubled-append [] ys = refl
 doubled-append (x ∷ xs) ys =
     ap (λ (more : List ℕ). (if x == quote then quote ∷ quote ∷ [] else x ∷ []) ++ more) (doubled-append xs ys)
-    ∙ sym (append_assoc (if x == quote then quote ∷ quote ∷ [] else x ∷ []) (double_quotes xs) (double_quotes ys))
+    ∙ sym (append_assoc (if x == quote then quote ∷ quote ∷ [] else x ∷ []) (with_quotes_doubled xs) (with_quotes_doubled ys))
 
 option_map-nil : (o : Option (List ℕ)) → option_map (λ text. [] ++ text) o ≡ o
 option_map-nil None = refl
@@ -111,7 +111,7 @@ option_map-append (Some text) xs ys = ap (λ (t : List ℕ). Some t) (sym (appen
 -- the bytes from the place `from` up to `at` are read as text
 pub record ReadUpTo (s : List ℕ) (from at : ℕ) (text : List ℕ) : Type 0 where
   pub cut : IsCharBoundary s at
-  pub spelled : at ≡ from + length (double_quotes text)
+  pub spelled : at ≡ from + length (with_quotes_doubled text)
   pub known : quoted_text (drop from s) ≡ option_map (λ more. text ++ more) (quoted_text (drop at s))
 
 pub read-start : (s : List ℕ) (from : ℕ) → IsCharBoundary s from → ReadUpTo s from from []
@@ -171,10 +171,10 @@ read-end s from at end text h r l k =
 
 length-stretch :
     (s : List ℕ) (at end : ℕ) → end ≡ at + prefix_len unquoted (drop at s) → end < length s →
-    length (double_quotes (slice_range s at end)) ≡ end - at
+    length (with_quotes_doubled (slice_range s at end)) ≡ end - at
 length-stretch s at end r l =
     let n = prefix_len unquoted (drop at s) in
-    ap (λ (bs : List ℕ). length (double_quotes bs)) (sym (stretch s at end r))
+    ap (λ (bs : List ℕ). length (with_quotes_doubled bs)) (sym (stretch s at end r))
     ∙ ap length (doubled-unquoted (drop at s) n (le_refl n))
     ∙ length-take-le n (drop at s) (omega (arith, r, length-drop at s))
     ∙ omega (arith, r)
@@ -182,9 +182,10 @@ length-stretch s at end r l =
 pub end-spelled :
     (s : List ℕ) (from at end : ℕ) (text : List ℕ) → ReadUpTo s from at text →
     end ≡ at + prefix_len unquoted (drop at s) → end < length s →
-    end + 1 ≡ from + length (double_quotes (text ++ slice_range s at end)) + 1
+    end + 1 ≡ from + length (with_quotes_doubled (text ++ slice_range s at end)) + 1
 end-spelled s from at end text h r l =
-    let whole = ap length (doubled-append text (slice_range s at end)) ∙ length-append (double_quotes text) (double_quotes (slice_range s at end)) in
+    let whole = ap length (doubled-append text (slice_range s at end)) ∙ length-append (with_quotes_doubled text)
+    (with_quotes_doubled (slice_range s at end)) in
     omega (arith, r, h.spelled, whole, length-stretch s at end r l)
 
 one_more : (s : List ℕ) (at : ℕ) → eqb (get_or s at 0) quote ≡ true → at < length s
@@ -203,7 +204,7 @@ stretch_and_quote s at end r =
 
 length-stretch_and_quote :
     (s : List ℕ) (at end : ℕ) → end ≡ at + prefix_len unquoted (drop at s) → at ≤ length s → end < length s →
-    length (double_quotes (slice_range s at (end + 1))) ≡ end + 2 - at
+    length (with_quotes_doubled (slice_range s at (end + 1))) ≡ end + 2 - at
 length-stretch_and_quote s at end r l m =
     let split : slice_range s at (end + 1) ≡ slice_range s at end ++ quote ∷ [] =
     ap (λ (k : ℕ). take k (drop at s)) (let k : end + 1 - at ≡ end - at + 1 = omega (arith, r) in k)
@@ -212,18 +213,18 @@ length-stretch_and_quote s at end r l m =
     (get_or-drop at s (end - at) 0
     ∙ ap (λ (k : ℕ). get_or s k 0) (let k : at + (end - at) ≡ end = omega (arith, r) in k)
     ∙ quote_at s at end r l m) in
-    ap (λ (bs : List ℕ). length (double_quotes bs)) split
+    ap (λ (bs : List ℕ). length (with_quotes_doubled bs)) split
     ∙ ap length (doubled-append (slice_range s at end) (quote ∷ []))
-    ∙ length-append (double_quotes (slice_range s at end)) (quote ∷ quote ∷ [])
+    ∙ length-append (with_quotes_doubled (slice_range s at end)) (quote ∷ quote ∷ [])
     ∙ omega (arith, r, length-stretch s at end r m)
 
 more-spelled :
     (s : List ℕ) (from at end : ℕ) (text : List ℕ) → ReadUpTo s from at text →
     end ≡ at + prefix_len unquoted (drop at s) → end < length s →
-    end + 2 ≡ from + length (double_quotes (text ++ slice_range s at (end + 1)))
+    end + 2 ≡ from + length (with_quotes_doubled (text ++ slice_range s at (end + 1)))
 more-spelled s from at end text h r l =
     let whole = ap length (doubled-append text (slice_range s at (end + 1)))
-    ∙ length-append (double_quotes text) (double_quotes (slice_range s at (end + 1))) in
+    ∙ length-append (with_quotes_doubled text) (with_quotes_doubled (slice_range s at (end + 1))) in
     omega (arith, r, h.spelled, whole, length-stretch_and_quote s at end r h.cut.0 l)
 
 more-known :

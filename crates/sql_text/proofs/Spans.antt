@@ -11,7 +11,7 @@ use Rattle.sql_text.specs.declared.token.Token.{Token}
 use Rattle.sql_text.specs.declared.token.TokenKind.{TokenKind}
 use Rattle.sql_text.specs.declared.token.TokenKind.TheVariants.{Word, Number, Mark, Bad}
 use Rattle.beas_core.specs.Spelling.{begins_word, continues_word}
-use Rattle.sql_text.specs.Tokens.{lead, Lead, plain, word, quoted_or_bad, in_quotes, double_quotes, quoted_text, mark_or_bad, marks, is_in_line, continues_char, quote, longest_word, tokens_from, tokens_of, first_then}
+use Rattle.sql_text.specs.Tokens.{lead, Lead, plain, word, quoted_or_bad, in_quotes, with_quotes_doubled, quoted_text, mark_or_bad, marks, is_in_line, continues_char, quote, longest_word, tokens_from, tokens_of, first_then}
 use Rattle.sql_text.specs.Tokens.Lead.{Gap, Lexeme}
 use Rattle.sql_text.specs.Spans.{AreInOrder, Spells, IsSpelled}
 use Rattle.sql_text.proofs.Leads.{word_from_begins, lead-blank, lead-comment, lead-word, lead-number, lead-quoted, lead-mark}
@@ -65,19 +65,19 @@ option_map-some :
 option_map-some f None text e = absurd (cc)
 option_map-some f (Some more) text e = let same : f more ≡ text = cc in (more, refl, sym same)
 
-doubled-other : (a : ℕ) (text : List ℕ) → eqb a quote ≡ false → double_quotes (a ∷ text) ≡ a ∷ double_quotes text
+doubled-other : (a : ℕ) (text : List ℕ) → eqb a quote ≡ false → with_quotes_doubled (a ∷ text) ≡ a ∷ with_quotes_doubled text
 doubled-other a text e = rw e refl
 
 -- a text between quotes is spelled by what stands there
 quoted-front :
-    (bytes text : List ℕ) → quoted_text bytes ≡ Some text → (more : List ℕ) × (bytes ≡ double_quotes text ++ quote ∷ more)
+    (bytes text : List ℕ) → quoted_text bytes ≡ Some text → (more : List ℕ) × (bytes ≡ with_quotes_doubled text ++ quote ∷ more)
 quoted-front [] text e = absurd (cc)
 quoted-front (a ∷ []) text e =
     elim (cases_Bool (eqb a quote)) [
       | inl y ↦
           (let none : Some [] ≡ Some text = sym (let k : quoted_text (a ∷ []) ≡ Some [] = rw y refl in k) ∙ e in
           let empty : [] ≡ text = cc in
-          ([], ap (λ (b : ℕ). b ∷ []) (eqb-true a quote y) ∙ ap (λ (t : List ℕ). double_quotes t ++ quote ∷ []) empty))
+          ([], ap (λ (b : ℕ). b ∷ []) (eqb-true a quote y) ∙ ap (λ (t : List ℕ). with_quotes_doubled t ++ quote ∷ []) empty))
       | inr y ↦ absurd (let k : quoted_text (a ∷ []) ≡ None = rw y refl in cc)
     ]
 quoted-front (a ∷ b ∷ bytes) text e =
@@ -89,24 +89,24 @@ quoted-front (a ∷ b ∷ bytes) text e =
             let rest = quoted-front bytes inner.0 inner.1 in (
               rest.0,
               ap (λ (x : ℕ). x ∷ b ∷ bytes) (eqb-true a quote y) ∙ ap (λ (x : ℕ). quote ∷ x ∷ bytes) (eqb-true b quote z)
-                  ∙ ap (λ (xs : List ℕ). quote ∷ quote ∷ xs) rest.1 ∙ ap (λ (t : List ℕ). double_quotes t ++ quote ∷ rest.0) (sym inner.2),
+                  ∙ ap (λ (xs : List ℕ). quote ∷ quote ∷ xs) rest.1 ∙ ap (λ (t : List ℕ). with_quotes_doubled t ++ quote ∷ rest.0) (sym inner.2),
             ))
         | inr z ↦
             (let k : quoted_text (a ∷ b ∷ bytes) ≡ Some [] = rw y (rw z refl) in
             let none : Some [] ≡ Some text = sym k ∙ e in
             let empty : [] ≡ text = cc in (
               b ∷ bytes,
-              ap (λ (x : ℕ). x ∷ b ∷ bytes) (eqb-true a quote y) ∙ ap (λ (t : List ℕ). double_quotes t ++ quote ∷ b ∷ bytes) empty,
+              ap (λ (x : ℕ). x ∷ b ∷ bytes) (eqb-true a quote y) ∙ ap (λ (t : List ℕ). with_quotes_doubled t ++ quote ∷ b ∷ bytes) empty,
             ))
       ]
       | inr y ↦
           (let k : quoted_text (a ∷ b ∷ bytes) ≡ option_map (λ t. a ∷ t) (quoted_text (b ∷ bytes)) = rw y refl in
           let inner = option_map-some (λ t. a ∷ t) (quoted_text (b ∷ bytes)) text (sym k ∙ e) in
           let rest = quoted-front (b ∷ bytes) inner.0 inner.1 in
-          let one : double_quotes (a ∷ inner.0) ≡ a ∷ double_quotes inner.0 = doubled-other a inner.0 y in (
+          let one : with_quotes_doubled (a ∷ inner.0) ≡ a ∷ with_quotes_doubled inner.0 = doubled-other a inner.0 y in (
             rest.0,
             ap (λ (xs : List ℕ). a ∷ xs) rest.1 ∙ ap (λ (xs : List ℕ). xs ++ quote ∷ rest.0) (sym one)
-                ∙ ap (λ (t : List ℕ). double_quotes t ++ quote ∷ rest.0) (sym inner.2),
+                ∙ ap (λ (t : List ℕ). with_quotes_doubled t ++ quote ∷ rest.0) (sym inner.2),
           ))
     ]
 
@@ -147,7 +147,7 @@ fits-quoted b rest (Some text) q e =
     let more = quoted-front rest text e in
     let whole : b ∷ rest ≡ in_quotes text ++ more.0 =
     ap (λ (x : ℕ). x ∷ rest) q
-    ∙ ap (λ (xs : List ℕ). quote ∷ xs) (more.1 ∙ sym (append_assoc (double_quotes text) (quote ∷ []) more.0)) in
+    ∙ ap (λ (xs : List ℕ). quote ∷ xs) (more.1 ∙ sym (append_assoc (with_quotes_doubled text) (quote ∷ []) more.0)) in
     let front = front-append (in_quotes text) more.0 (b ∷ rest) whole (omega arith) in
     (front.some, front.within, front.is)
 

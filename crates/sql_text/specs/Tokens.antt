@@ -1,7 +1,7 @@
 -- The tokens of a script, which is a list of bytes in UTF-8.
 --     lead bytes           what the bytes begin with: a gap between tokens or a token, and how many bytes it takes
 --     tokens_of source     the tokens of the script, in order
---     quoted text          the spelling of a text between quotes
+--     in_quotes text       the spelling of a text between quotes
 use Rattle.std.specs.Prelude.{ℕ, zero, suc, ◌+◌, ◌-◌, ◌==◌, ◌||◌, ◌&&◌, not, if◌then◌else◌, Bool, nat_lt, nat_le, List, [], ◌∷◌, ◌++◌, length, map, find, flat_map, take_while, codes, option_map, Option, Some, None, eqb}
 use Rattle.std.specs.Char.{is_ascii_whitespace, is_ascii_digit, to_ascii_lowercase}
 use Rattle.std.specs.List.{starts_with}
@@ -31,11 +31,11 @@ abbrev pub quote : ℕ
 quote = 39
 
 -- each quote of the text stands twice
-abbrev pub double_quotes : List ℕ → List ℕ
-double_quotes text = flat_map (λ byte. if byte == quote then quote ∷ quote ∷ [] else byte ∷ []) text
+abbrev pub with_quotes_doubled : List ℕ → List ℕ
+with_quotes_doubled text = flat_map (λ byte. if byte == quote then quote ∷ quote ∷ [] else byte ∷ []) text
 
 abbrev pub in_quotes : List ℕ → List ℕ
-in_quotes text = quote ∷ (double_quotes text ++ quote ∷ [])
+in_quotes text = quote ∷ (with_quotes_doubled text ++ quote ∷ [])
 
 -- the text whose spelling goes on with these bytes after its first quote, if it has an end: two quotes are one, a lone one is the end
 abbrev pub quoted_text : List ℕ → Option (List ℕ)

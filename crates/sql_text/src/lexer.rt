@@ -2,7 +2,7 @@
 ghost use Rattle.sql_text.specs.Cuts.{BeginsToken, StandsAt, LeadsAt, mark_of};
 ghost use Rattle.sql_text.specs.Spans.{AreInOrder, IsSpelled};
 ghost use Rattle.beas_core.specs.Spelling.{begins_word};
-ghost use Rattle.sql_text.specs.Tokens.{tokens_of, double_quotes, quote, quoted_text, marks};
+ghost use Rattle.sql_text.specs.Tokens.{tokens_of, with_quotes_doubled, quote, quoted_text, marks};
 ghost use Rattle.std.specs.Char.{is_ascii_digit, is_ascii_whitespace};
 ghost use Rattle.std.specs.List.{starts_with};
 ghost use Rattle.std.specs.Prelude.{◌≡◌, ◌≢◌, ◌==◌, ◌<◌, ◌≤◌, ◌+◌, ◌-◌, [], ◌∷◌, false, length, drop, codes, eqb, find, option_map, slice_index, slice_range, All, IfOk, IfSome, IsCharBoundary, IsTrue};
@@ -137,7 +137,7 @@ fn read_content(alloc: Global, source: &str, from: usize) -> Result<Option<Conte
     ensures text { IfOk result (λ found. option_map (λ content. content.text) found
         ≡ quoted_text (drop from source.now)) }
     ensures to { IfOk result (λ found. IfSome found
-        (λ content. content.to ≡ from + length (double_quotes content.text) + 1)) }
+        (λ content. content.to ≡ from + length (with_quotes_doubled content.text) + 1)) }
     ensures within { IfOk result (λ found. IfSome found (λ content. content.to ≤ length source.now)) }
     ensures end { IfOk result (λ found. IfSome found (λ content. IsCharBoundary source.now content.to)) }
 {

@@ -1,6 +1,6 @@
 // Texts as the language quotes them.
 ghost use Rattle.std.specs.Prelude.{◌≡◌, ◌++◌, OnOk};
-ghost use Rattle.sql_text.specs.Tokens.{double_quotes, in_quotes};
+ghost use Rattle.sql_text.specs.Tokens.{with_quotes_doubled, in_quotes};
 
 use beas_core::{NoMemory, Text};
 
@@ -14,7 +14,7 @@ pub fn push_quoted(text: &mut Text, content: &str) -> Result<(), NoMemory>
 }
 
 fn push_doubled(text: &mut Text, content: &str) -> Result<(), NoMemory>
-    ensures ok { OnOk result (text.new ≡ text.old ++ double_quotes content.now) }
+    ensures ok { OnOk result (text.new ≡ text.old ++ with_quotes_doubled content.now) }
 {
     let mut rest = content;
     while let Some((front, back)) = rest.split_once('\'') {

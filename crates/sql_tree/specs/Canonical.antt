@@ -1,6 +1,6 @@
 -- The canonical text of a statement.
 --     lexemes_of statement     its words, names, numbers, texts and marks, in order
---     printed statement        the same as text, with a space between two where one belongs
+--     canonical_text statement  the same as text, with a space between two where one belongs
 use Rattle.std.specs.Prelude.{ℕ, ◌||◌, if◌then◌else◌, Bool, true, false, List, [], ◌∷◌, ◌++◌, codes, bytes_eq, Option, Some, None}
 use Rattle.std.specs.List.{flat_map}
 use Rattle.beas_core.specs.declared.schema.ColType.{ColType}

@@ -1,5 +1,5 @@
 -- A guard as the database that it keeps, and what hits stand for in it.
---     stored guarded                the database
+--     database_in guarded           the database
 --     index_with_id indexes id      the index of the constraint with this id
 use Rattle.std.specs.Prelude.{◌==◌, List, [], find, unwrap_or}
 use Rattle.beas_core.specs.declared.schema.AccessId.{AccessId}
@@ -11,8 +11,8 @@ use Rattle.update_guard.specs.Guarding.{database_of}
 use Rattle.update_guard.specs.Indexing.{no_access}
 use Rattle.update_guard.specs.declared.guarded.Guarded.{Guarded}
 
-abbrev pub contents : Guarded → Database
-contents guarded = database_of guarded.catalogue guarded.rows
+abbrev pub database_in : Guarded → Database
+database_in guarded = database_of guarded.catalogue guarded.rows
 
 abbrev pub index_with_id : List Index → AccessId → Index
 index_with_id indexes id = unwrap_or (find (λ x. x.access.id.0 == id.0) indexes) (record { access = no_access; total = 0; buckets = [] })

@@ -34,11 +34,11 @@ pub struct Guarded {
 }
 
 impl Guarded {
-    ghost use Rattle.update_guard.specs.Stored.{contents};
+    ghost use Rattle.update_guard.specs.Stored.{database_in};
 
     /// A database without tables. It takes no memory.
     pub fn new(alloc: Global) -> Guarded
-        ensures { contents result ≡ record { tables = []; accesses = []; created = 0 } }
+        ensures { database_in result ≡ record { tables = []; accesses = []; created = 0 } }
     {
         Guarded {
             catalogue: Catalogue::new(alloc),
@@ -57,10 +57,10 @@ impl Guarded {
     ) -> Result<TableId, Fail>
         requires { 1 ≤ length columns }
         ensures refused { IsRefusedAs result (add_table_refusal limits.now
-            (schema_of (contents self.old)) name columns) }
-        ensures id { IfOk result (λ id. id.0 ≡ length (contents self.old).tables) }
-        ensures ok { OnOk result (contents self.new ≡ with_table (contents self.old) name columns) }
-        ensures err { OnErr result (contents self.new ≡ contents self.old) }
+            (schema_of (database_in self.old)) name columns) }
+        ensures id { IfOk result (λ id. id.0 ≡ length (database_in self.old).tables) }
+        ensures ok { OnOk result (database_in self.new ≡ with_table (database_in self.old) name columns) }
+        ensures err { OnErr result (database_in self.new ≡ database_in self.old) }
     {
         let mut rows = mem::replace(&mut self.rows, List::new(alloc)).into_vec();
         let made = make_table(alloc, &mut self.catalogue, &mut rows, limits, name, columns);
@@ -79,14 +79,14 @@ impl Guarded {
         steps: &mut Steps<L>,
     ) -> Result<AccessId, Fail>
         requires { 1 ≤ length spec.now.fetched }
-        ensures refused { IsRefusedAs result (create_access_refusal limits.now (contents self.old) spec.now) }
-        ensures id { IfOk result (λ id. id.0 ≡ (contents self.old).created) }
-        ensures ok { OnOk result (contents self.new ≡ with_access (contents self.old)
-            (new_access (schema_of (contents self.old)) spec.now)) }
-        ensures err { OnErr result (contents self.new ≡ contents self.old) }
-        ensures cost { result ≢ Err Want → steps.new ≡ steps.old + create_access_reads limits.now (contents self.old)
+        ensures refused { IsRefusedAs result (create_access_refusal limits.now (database_in self.old) spec.now) }
+        ensures id { IfOk result (λ id. id.0 ≡ (database_in self.old).created) }
+        ensures ok { OnOk result (database_in self.new ≡ with_access (database_in self.old)
+            (new_access (schema_of (database_in self.old)) spec.now)) }
+        ensures err { OnErr result (database_in self.new ≡ database_in self.old) }
+        ensures cost { result ≢ Err Want → steps.new ≡ steps.old + create_access_reads limits.now (database_in self.old)
             spec.now }
-        ensures at_most { steps.new ≤ steps.old + create_access_reads limits.now (contents self.old) spec.now }
+        ensures at_most { steps.new ≤ steps.old + create_access_reads limits.now (database_in self.old) spec.now }
         ensures no_fewer { steps.old ≤ steps.new }
     {
         let mut indexes = mem::replace(&mut self.indexes, List::new(alloc)).into_vec();
@@ -105,9 +105,9 @@ impl Guarded {
 
     /// Drops a constraint with its index. After any error the database is as it was.
     pub fn drop_access(&mut self, alloc: Global, name: &Name) -> Result<(), Fail>
-        ensures refused { IsRefusedAs result (drop_access_refusal (schema_of (contents self.old)) name.now) }
-        ensures ok { OnOk result (contents self.new ≡ without_access (contents self.old) name.now) }
-        ensures err { OnErr result (contents self.new ≡ contents self.old) }
+        ensures refused { IsRefusedAs result (drop_access_refusal (schema_of (database_in self.old)) name.now) }
+        ensures ok { OnOk result (database_in self.new ≡ without_access (database_in self.old) name.now) }
+        ensures err { OnErr result (database_in self.new ≡ database_in self.old) }
     {
         let mut indexes = mem::replace(&mut self.indexes, List::new(alloc)).into_vec();
         let outcome = drop_index(alloc, &mut self.catalogue, &mut indexes, name);
@@ -125,13 +125,13 @@ impl Guarded {
         table: TableId,
         rows: List<Row>,
     ) -> Result<u32, Fail>
-        requires live { table.0 < length (contents self.old).tables }
+        requires live { table.0 < length (database_in self.old).tables }
         requires few { length rows < 2 ^ 32 }
         requires narrow { All (λ row. length row < 2 ^ 32) rows }
-        ensures refused { IsRefusedAs result (insert_refusal limits.now (contents self.old) table rows) }
+        ensures refused { IsRefusedAs result (insert_refusal limits.now (database_in self.old) table rows) }
         ensures count { IfOk result (λ count. count ≡ length rows) }
-        ensures ok { OnOk result (contents self.new ≡ with_more_rows (contents self.old) table rows) }
-        ensures err { OnErr result (contents self.new ≡ contents self.old) }
+        ensures ok { OnOk result (database_in self.new ≡ with_more_rows (database_in self.old) table rows) }
+        ensures err { OnErr result (database_in self.new ≡ database_in self.old) }
     {
         let count = rows.len() as u32;
         let mut stores = mem::replace(&mut self.rows, List::new(alloc)).into_vec();
@@ -158,13 +158,13 @@ impl Guarded {
     pub fn delete<L: Ledger>(&mut self, filter: &Block, steps: &mut Steps<L>) -> u32
         requires form { BlockIsWellFormed filter.now }
         requires one { length filter.now.atoms ≡ 1 }
-        requires live { (block_table filter.now).0 < length (contents self.old).tables }
+        requires live { (block_table filter.now).0 < length (database_in self.old).tables }
         requires wide { width_of filter.now.atoms 0 ≡ length
-            (columns_at (schema_of (contents self.old)) (block_table filter.now)) }
-        ensures kept { contents self.new ≡ with_rows_kept filter.now (contents self.old) }
-        ensures count { result + length (kept_rows filter.now (rows_at (contents self.old) (block_table filter.now)))
-            ≡ length (rows_at (contents self.old) (block_table filter.now)) }
-        ensures cost { steps.new ≡ steps.old + length (rows_at (contents self.old) (block_table filter.now)) }
+            (columns_at (schema_of (database_in self.old)) (block_table filter.now)) }
+        ensures kept { database_in self.new ≡ with_rows_kept filter.now (database_in self.old) }
+        ensures count { result + length (kept_rows filter.now (rows_at (database_in self.old) (block_table filter.now)))
+            ≡ length (rows_at (database_in self.old) (block_table filter.now)) }
+        ensures cost { steps.new ≡ steps.old + length (rows_at (database_in self.old) (block_table filter.now)) }
     {
         let table = table_of(filter);
         let alloc = self.catalogue.alloc();

@@ -5,9 +5,9 @@ use std::sync::ledger::Ledger;
 
 impl AccessPort for Guarded {
     ghost use Rattle.catalogue.specs.Database.{rows_at};
-    ghost use Rattle.update_guard.specs.Stored.{contents, members_of, stands_in};
+    ghost use Rattle.update_guard.specs.Stored.{database_in, members_of, stands_in};
 
-    ghost rows = { λ g. rows_at (contents g) };
+    ghost rows = { λ g. rows_at (database_in g) };
 
     ghost accesses = { λ g. g.catalogue.accesses };
 

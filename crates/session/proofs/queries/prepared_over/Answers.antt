@@ -5,7 +5,7 @@ use Rattle.beas_core.specs.Fits.{Fits}
 use Rattle.beas_core.specs.Types.{TableRows}
 use Rattle.catalogue.specs.Database.{rows_at}
 use Rattle.catalogue.specs.Queries.{RowsAreWide}
-use Rattle.update_guard.specs.Stored.{contents}
+use Rattle.update_guard.specs.Stored.{database_in}
 use Rattle.session.specs.Announced.{announcement}
 use Rattle.session.specs.Carried.{Gives}
 use Rattle.session.proofs.StoreFacts.{schema_is_catalogue, stored_rows_are_wide}
@@ -20,5 +20,5 @@ pub returns-clause-fits : goal.returns-clause-fits
 returns-clause-fits c =
     let g = c.args.guarded.now in
     IfOk-weaker c.announcement.result (λ (p : Prepared). (rows : TableRows) → RowsAreWide g.catalogue rows → Fits g.catalogue.accesses rows p)
-    (λ (p : Prepared). Fits g.catalogue.accesses (rows_at (contents g)) p) (λ p fits. fits (rows_at (contents g)) (stored_rows_are_wide g))
+    (λ (p : Prepared). Fits g.catalogue.accesses (rows_at (database_in g)) p) (λ p fits. fits (rows_at (database_in g)) (stored_rows_are_wide g))
     c.announcement.ensures.fits

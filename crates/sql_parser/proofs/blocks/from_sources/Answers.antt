@@ -15,17 +15,17 @@ returns-in_err-from_source c =
     (c.from_source.new.items, c.from_source.new.found) c.from_source.new.reader part whole c.in_err-from_source.ensures
     (λ e. sources-none c.loop-room.room (omega arith) front c.loop-room.reader whole c.loop-room.invariant e))
 
-pub returns-then-not-takes_mark : goal.returns-then-not-takes_mark
-returns-then-not-takes_mark c =
-    sym c.loop-room.invariant ∙ rw c.if-not-takes_mark.ensures.rest (sources-end c.loop-room.room (omega arith) (c.loop-room.items, c.loop-room.found)
+pub returns-then-not-take_mark : goal.returns-then-not-take_mark
+returns-then-not-take_mark c =
+    sym c.loop-room.invariant ∙ rw c.if-not-take_mark.ensures.rest (sources-end c.loop-room.room (omega arith) (c.loop-room.items, c.loop-room.found)
     (c.from_source.new.items, c.from_source.new.found) c.loop-room.reader c.from_source.new.reader c.in_ok-from_source.ensures
-    (sym c.if-not-takes_mark.ensures.found))
+    (sym c.if-not-take_mark.ensures.found))
 
 pub loop-room-preserved : goal.loop-room-preserved
 loop-room-preserved c =
-    rw c.if-not-takes_mark.ensures.rest (sym (sources-go_on c.loop-room.room (omega arith) (c.loop-room.items, c.loop-room.found)
+    rw c.if-not-take_mark.ensures.rest (sym (sources-go_on c.loop-room.room (omega arith) (c.loop-room.items, c.loop-room.found)
     (c.from_source.new.items, c.from_source.new.found) c.loop-room.reader c.from_source.new.reader c.in_ok-from_source.ensures
-    (sym c.if-not-takes_mark.ensures.found)) ∙ c.loop-room.invariant)
+    (sym c.if-not-take_mark.ensures.found)) ∙ c.loop-room.invariant)
 
 pub returns : goal.returns
 returns c = sym c.loop-room.invariant ∙ sources-over c.loop-room.room (c.loop-room.items, c.loop-room.found) c.loop-room.reader (omega arith)

@@ -14,17 +14,17 @@ some_conditions-returns-in_err-condition t c =
     c.in_err-condition.ensures
     (λ e. conditions-none c.loop-room.room (omega arith) front c.loop-room.reader whole c.loop-room.invariant.0 e))
 
-pub some_conditions-returns-then-not-takes_word : goal.some_conditions-returns-then-not-takes_word
-some_conditions-returns-then-not-takes_word t c =
-    sym c.loop-room.invariant.0 ∙ rw c.if-not-takes_word.ensures.rest (conditions-end c.loop-room.room
+pub some_conditions-returns-then-not-take_word : goal.some_conditions-returns-then-not-take_word
+some_conditions-returns-then-not-take_word t c =
+    sym c.loop-room.invariant.0 ∙ rw c.if-not-take_word.ensures.rest (conditions-end c.loop-room.room
     (omega arith) c.loop-room.found c.condition.new.found c.loop-room.reader
-    c.condition.new.reader c.in_ok-condition.ensures (sym c.if-not-takes_word.ensures.found))
+    c.condition.new.reader c.in_ok-condition.ensures (sym c.if-not-take_word.ensures.found))
 
 pub some_conditions-loop-room-preserved : goal.some_conditions-loop-room-preserved
 some_conditions-loop-room-preserved t c = (
-  rw c.if-not-takes_word.ensures.rest (sym (conditions-go_on c.loop-room.room
+  rw c.if-not-take_word.ensures.rest (sym (conditions-go_on c.loop-room.room
       (omega arith) c.loop-room.found c.condition.new.found c.loop-room.reader c.condition.new.reader
-      c.in_ok-condition.ensures (sym c.if-not-takes_word.ensures.found)) ∙ c.loop-room.invariant.0),
+      c.in_ok-condition.ensures (sym c.if-not-take_word.ensures.found)) ∙ c.loop-room.invariant.0),
   omega (arith, c.loop-room.invariant.1),
 )
 

@@ -14,17 +14,17 @@ returns-in_err-part g c =
     (read_list g.T.Part.reads c.args.reader.now) c.in_err-part.ensures
     (λ e. sym c.loop-room.invariant ∙ commas-none g.T.Part.reads c.loop-room.parts c.loop-room.room (omega arith) c.loop-room.reader e))
 
-pub returns-then-not-takes_mark : goal.returns-then-not-takes_mark
-returns-then-not-takes_mark g c =
-    sym c.loop-room.invariant ∙ rw (c.in_ok-push.ensures.ok, c.if-not-takes_mark.ensures.rest)
+pub returns-then-not-take_mark : goal.returns-then-not-take_mark
+returns-then-not-take_mark g c =
+    sym c.loop-room.invariant ∙ rw (c.in_ok-push.ensures.ok, c.if-not-take_mark.ensures.rest)
     (commas-end g.T.Part.reads c.loop-room.parts c.loop-room.room (omega arith) c.loop-room.reader
-    c.in_ok-part.part c.read.new.reader c.in_ok-part.ensures (sym c.if-not-takes_mark.ensures.found))
+    c.in_ok-part.part c.read.new.reader c.in_ok-part.ensures (sym c.if-not-take_mark.ensures.found))
 
 pub loop-room-preserved : goal.loop-room-preserved
 loop-room-preserved g c =
-    rw (c.in_ok-push.ensures.ok, c.if-not-takes_mark.ensures.rest) (sym
+    rw (c.in_ok-push.ensures.ok, c.if-not-take_mark.ensures.rest) (sym
     (commas-go_on g.T.Part.reads c.loop-room.parts c.loop-room.room (omega arith) c.loop-room.reader
-    c.in_ok-part.part c.read.new.reader c.in_ok-part.ensures (sym c.if-not-takes_mark.ensures.found)) ∙ c.loop-room.invariant)
+    c.in_ok-part.part c.read.new.reader c.in_ok-part.ensures (sym c.if-not-take_mark.ensures.found)) ∙ c.loop-room.invariant)
 
 pub returns : goal.returns
 returns g c = sym c.loop-room.invariant ∙ commas-over g.T.Part.reads c.loop-room.parts c.loop-room.room c.loop-room.reader (omega arith)

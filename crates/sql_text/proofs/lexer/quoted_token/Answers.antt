@@ -3,7 +3,7 @@ use Rattle.std.specs.Prelude.{Some, None, IsCharBoundary}
 use Rattle.std.proofs.lemmas.Result.{IfOk-weaker}
 use Rattle.std.proofs.lemmas.Str.{IsCharBoundary-after_ascii}
 use Rattle.sql_text.specs.Cuts.{StandsAt}
-use Rattle.sql_text.specs.Tokens.{quoted_text, double_quotes}
+use Rattle.sql_text.specs.Tokens.{quoted_text, with_quotes_doubled}
 use Rattle.sql_text.proofs.Leads.{stands-quoted, stands-unclosed}
 use Rattle.sql_text.proofs.lexer.quoted_token.Goals as goal
 
@@ -16,7 +16,7 @@ returns-in-Some c =
     let s = c.args.source.now in
     let content = c.in-Some.content in
     let text : Some content.text ≡ quoted_text (drop (c.args.at + 1) s) = rw c.in-Some.is at c.in_ok-content.ensures.text in
-    let to : content.to ≡ c.args.at + 1 + length (double_quotes content.text) + 1 = rw c.in-Some.is at c.in_ok-content.ensures.to in
+    let to : content.to ≡ c.args.at + 1 + length (with_quotes_doubled content.text) + 1 = rw c.in-Some.is at c.in_ok-content.ensures.to in
     let within : content.to ≤ length s = rw c.in-Some.is at c.in_ok-content.ensures.within in
     let cut : IsCharBoundary s content.to = rw c.in-Some.is at c.in_ok-content.ensures.end in
     stands-quoted s c.args.at content.to content.text c.token.result c.requires.begins.within c.requires.class (sym text) to within cut c.token.ensures

@@ -1,7 +1,7 @@
 use Rattle.std.proofs.Common.{◌≡◌, ◌+◌, ◌++◌, true, false, drop, length, sym, ap, subst, ◌∙◌, arith}
 use Rattle.std.specs.Prelude.{List, ℕ, Some, slice_range, eqb, get_or}
 use Rattle.std.specs.List.{prefix_len}
-use Rattle.sql_text.specs.Tokens.{quote, double_quotes}
+use Rattle.sql_text.specs.Tokens.{quote, with_quotes_doubled}
 use Rattle.sql_text.proofs.Quotes.{unquoted, ReadUpTo, read-none, read-end, end-spelled, read-more, cut-before, cut-after}
 use Rattle.sql_text.proofs.lexer.read_content.Goals as goal
 
@@ -32,7 +32,7 @@ returns-then-not-has_quote-clause-to c =
     let run : c.run_end-end.result ≡ c.loop-at.at + prefix_len unquoted (drop c.loop-at.at s) = cc in
     let all : c.push_str.new.self ≡ c.loop-at.text ++ slice_range s c.loop-at.at c.run_end-end.result =
     c.in_ok-push_str.ensures.ok ∙ ap (λ (t : List ℕ). c.loop-at.text ++ t) c.range.ensures.value in
-    subst (λ (t : List ℕ). c.run_end-end.result + 1 ≡ c.args.from + length (double_quotes t) + 1) (sym all)
+    subst (λ (t : List ℕ). c.run_end-end.result + 1 ≡ c.args.from + length (with_quotes_doubled t) + 1) (sym all)
     (end-spelled s c.args.from c.loop-at.at c.run_end-end.result c.loop-at.text c.loop-at.invariant run (omega arith))
 
 pub returns-then-not-has_quote-clause-end : goal.returns-then-not-has_quote-clause-end
