@@ -1,6 +1,6 @@
 use Rattle.std.proofs.Common.{◌≡◌, ◌+◌, drop}
 use Rattle.beas_core.specs.Numbers.{announced_from, last_size}
-use Rattle.bound_calculator.proofs.bound_from.Given as goal
+use Rattle.bound_calculator.proofs.block_bound.Given as goal
 
 abbrev pub invariant-loop-step : goal.invariant-loop-step
 invariant-loop-step l = record {
