@@ -3,4 +3,5 @@ pub mod Extensions
 pub mod Fronts
 pub mod Guides
 pub mod Numbering
+pub mod Starts
 pub mod StepReads
