@@ -6,7 +6,9 @@ pub mod Found
 pub mod Full
 pub mod Groups
 pub mod Guiding
+pub mod Hashing
 pub mod Heights
+pub mod Kept
 pub mod Nodes
 pub mod Numbers
 pub mod Order
@@ -18,6 +20,7 @@ pub mod Results
 pub mod Sets
 pub mod Shapes
 pub mod Spelling
+pub mod Telling
 pub mod Texts
 pub mod Trees
 pub mod Types
