@@ -1,3 +1,4 @@
+pub mod AgreementFacts
 pub mod AnswerFacts
 pub mod BindingFacts
 pub mod ClassFacts
@@ -8,6 +9,7 @@ pub mod CoveredSetFacts
 pub mod DerivationsExist
 pub mod FrontBounds
 pub mod GuidedLaw
+pub mod KeptFacts
 pub mod MemberTests
 pub mod MoreAccesses
 pub mod PruningFacts

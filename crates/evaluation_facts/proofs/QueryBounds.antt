@@ -1,15 +1,16 @@
 -- The reads of a query are at most what is announced_in, and its answers at most its size.
-use Rattle.std.proofs.Common.{◌≡◌, ◌+◌, ◌≤◌, ℕ, Bool, true, false, cond, not, List, [], ◌∷◌, ◌++◌, length, map, Some, None, inl, inr, refl, ap, sym, ◌∙◌, subst, arith, length-append}
+use Rattle.std.proofs.Common.{◌≡◌, ◌≤◌, ℕ, Bool, true, false, cond, not, List, [], ◌∷◌, ◌++◌, length, map, Some, None, inl, inr, refl, ap, sym, ◌∙◌, subst, arith, length-append}
 use Rattle.std.specs.Option.{is_some}
-use Rattle.std.specs.List.{AllPairs, list_any, filter, zip, sum_by}
+use Rattle.std.specs.List.{All, AllPairs, list_any, filter, zip}
 use Rattle.std.proofs.lemmas.List.{length-map}
-use Rattle.std.proofs.lemmas.List.Sums.{sum_by-cons, sum_by-append}
+use Rattle.std.proofs.lemmas.List.Sums.{sum_by-append}
 use Rattle.std.proofs.lemmas.List.Elements.{All-contains, All-from_recursion}
 use Rattle.beas_core.specs.declared.schema.Access.{Access}
 use Rattle.beas_core.specs.declared.query.Block.{Block}
 use Rattle.beas_core.specs.declared.plan.DStep.{DStep}
 use Rattle.beas_core.specs.declared.plan.Normal.{Normal}
 use Rattle.beas_core.specs.declared.plan.Derivation.{Derivation}
+use Rattle.beas_core.specs.declared.plan.Prepared.{Prepared}
 use Rattle.beas_core.specs.Types.{Row, TableRows, Guide}
 use Rattle.beas_core.specs.Order.{row_cmp_total}
 use Rattle.beas_core.specs.Groups.{same_row}
@@ -18,26 +19,24 @@ use Rattle.beas_core.specs.Trees.{QueryTree, Single, Either, Minus, blocks_of}
 use Rattle.beas_core.specs.Shapes.{QueryIsWellFormed, BlockIsWellFormed, AccessIsWellFormed, width_of}
 use Rattle.beas_core.specs.Classes.{normal_of}
 use Rattle.beas_core.specs.Coverage.{start_classes, output_classes}
-use Rattle.beas_core.specs.Derivations.{access_in, bound_after, steps_are_sound, IsSound}
+use Rattle.beas_core.specs.Derivations.{access_in, bound_after, is_live, steps_are_sound, IsSound}
 use Rattle.beas_core.specs.Valuations.{starts, valuations, answers_of, output_row}
 use Rattle.beas_core.specs.Reads.{probes, reads_of}
-use Rattle.beas_core.specs.Fits.{PlanIsSound, PlansAreSound, GuidedOnlyWithGuide, StepsHold}
-use Rattle.beas_core.proofs.Sets.{Has, Has-from_map, Has-from_filter, Has-append_left, Has-append_right, Has-append_cases, Has-from_distinct, Contains-from_has, all_from, length-distinct-le}
+use Rattle.beas_core.specs.Fits.{PlanIsSound, PlansAreSound, GuidedOnlyWithGuide, PreparedIsWellFormed, PlanFits, StepsHold}
+use Rattle.beas_core.proofs.Sets.{Has, Has-from_map, Has-from_filter, Has-append_left, Has-append_right, Has-append_cases, Has-from_distinct, Contains-from_has, Has-from_contains, all_from, length-distinct-le}
 use Rattle.beas_core.proofs.ValueOrder.{row_cmp_tells}
 use Rattle.evaluation_facts.specs.Guides.{GuideFits}
 use Rattle.evaluation_facts.proofs.MemberTests.{first_of_pairs}
 use Rattle.evaluation_facts.proofs.SetSizes.{length-filter_le}
 use Rattle.evaluation_facts.proofs.ClassFacts.{classes_in_range, constants_in_range}
+use Rattle.evaluation_facts.proofs.ReadFacts.{sum_mapped}
+use Rattle.evaluation_facts.proofs.TaskFacts.{plan_at, plans_are_live}
 use Rattle.evaluation_facts.proofs.SoundParts.{sound_parts, steps_from}
 use Rattle.evaluation_facts.proofs.FrontBounds.{valuations_few, reads_few}
 use Rattle.std.proofs.lemmas.List.{append-nil}
 use Rattle.beas_core.specs.Guiding.{after}
-use Rattle.beas_core.specs.Queries.{is_guided, plan_of, guide_of, inside, answers, start_size, size_of, announced_in, probes_in, reads_at, reads_in}
+use Rattle.beas_core.specs.Queries.{is_guided, plan_of, guide_of, inside, answers, start_size, size_of, announced_in, probes_in, reads_at, reads_in, query_answers, query_size, query_reads}
 use Rattle.evaluation_facts.proofs.AnswerFacts.{answers_are_inside}
-
-sum_by-map : {A B : Type 0} (f : B → ℕ) (g : A → B) (xs : List A) → sum_by f (map g xs) ≡ sum_by (λ x. f (g x)) xs
-sum_by-map f g [] = refl
-sum_by-map f g (x ∷ xs) = sum_by-cons f (g x) (map g xs) ∙ ap (λ r. f (g x) + r) (sum_by-map f g xs) ∙ sym (sum_by-cons (λ y. f (g y)) x xs)
 
 -- each row has this many values
 abbrev pub Wide : ℕ → List Row → Type 0
@@ -75,6 +74,14 @@ chosen_fits normal width b true (Some rows) e g = (
 chosen_some : (flag : Bool) (guide : Guide) → (flag ≡ true → is_some guide ≡ true) → is_some (cond flag guide None) ≡ flag
 chosen_some true guide h = h refl
 chosen_some false guide h = refl
+
+-- the reads of a tree of one block are those of the block
+pub block_reads_are : (rows : TableRows) (accesses : List Access) (guided : List Bool) (plans : List Derivation) (n : ℕ) (guide : Guide) (block : Block)
+    → reads_in rows accesses guided plans n guide (Single block)
+    ≡ reads_of rows (normal_of block) accesses (guide_of guided n guide) (plan_of plans n).steps
+unfolding reads_of
+block_reads_are rows accesses guided plans n guide block = sum_mapped (reads_at rows accesses plans) (λ p. record { block = n; probe = p })
+    (probes rows (normal_of block) accesses (guide_of guided n guide) (plan_of plans n).steps)
 
 module _ (rows : TableRows) (accesses : List Access) (guided : List Bool) (plans : List Derivation)
     (hold : (n : ℕ) → StepsHold rows accesses (plan_of plans n).steps) where
@@ -128,15 +135,11 @@ module _ (rows : TableRows) (accesses : List Access) (guided : List Bool) (plans
         let o = outputs_few in
         omega (arith, v, e, o)
 
-    same_reads : reads_in rows accesses guided plans n guide (Single block) ≡ reads_of rows normal accesses own steps
-    unfolding reads_of
-    same_reads = sum_by-map (reads_at rows accesses plans) (λ p. record { block = n; probe = p }) (probes rows normal accesses own steps)
-
     block_reads : reads_in rows accesses guided plans n guide (Single block) ≤ announced_in accesses guided plans n b (Single block)
     block_reads =
         let r = reads_few rows normal accesses own (classes_in_range block shape) (constants_in_range block shape) fits.0
         (start_size guided n b) fits.1 steps each (hold n) in
-        let e = same_reads in
+        let e = block_reads_are rows accesses guided plans n guide block in
         omega (arith, r, e)
 
   wide_answers : (width n : ℕ) (guide : Guide) (t : QueryTree) → Shaped width t → Wide width (answers rows guided n guide t)
@@ -200,3 +203,28 @@ shaped_query t formed = by (blocks_of t) formed.shapes (λ b m. All-contains Blo
         ],
       ),
     )
+
+-- ---- of a prepared query
+
+-- it has one derivation for each block
+pub prepared_length : (prepared : Prepared) → PreparedIsWellFormed prepared → length prepared.derivations ≡ length (blocks_of prepared.query)
+prepared_length prepared formed = formed.derivations ∙ ap length formed.normals ∙ length-map (blocks_of prepared.query) normal_of
+
+pub prepared_is_live : (accesses : List Access) (prepared : Prepared) → PlanFits accesses prepared
+    → All (λ plan. All (λ s. is_live accesses s.access ≡ true) plan.steps) prepared.derivations
+prepared_is_live accesses prepared fits =
+    plans_are_live accesses prepared.guided prepared.derivations prepared.query (prepared_length prepared fits.well_formed) fits.plans
+
+-- where the constraints of its steps hold, its answers are at most its size, and its reads at most its bound
+pub prepared_few : (rows : TableRows) (accesses : List Access) (prepared : Prepared) → PlanFits accesses prepared
+    → ((plan : Derivation) → Has prepared.derivations plan → StepsHold rows accesses plan.steps)
+    → (length (query_answers rows prepared.guided prepared.query) ≤ query_size accesses prepared.guided prepared.derivations prepared.query)
+    × (query_reads rows accesses prepared.guided prepared.derivations prepared.query ≤ prepared.bound)
+prepared_few rows accesses prepared fits hold =
+    let shaped = shaped_query prepared.query fits.well_formed.query in
+    let Hold = λ (plan : Derivation). StepsHold rows accesses plan.steps in
+    let at : (n : ℕ) → StepsHold rows accesses (plan_of prepared.derivations n).steps = plan_at Hold prepared.derivations
+    (λ s none. absurd (Has-from_contains [] s none)) (All-from_recursion Hold prepared.derivations (all_from Hold prepared.derivations hold)) in
+    let both = few rows accesses prepared.guided prepared.derivations at shaped.0 0 1 None prepared.query shaped.1 (omega arith) fits.plans
+    fits.well_formed.guided in
+    (both.0, subst (λ n. query_reads rows accesses prepared.guided prepared.derivations prepared.query ≤ n) (sym fits.bound) both.1)

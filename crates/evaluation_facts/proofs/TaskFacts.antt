@@ -1,13 +1,16 @@
 -- The blocks of a query as tasks, and what is prepared of each by its number.
-use Rattle.std.proofs.Common.{◌≡◌, ◌+◌, ℕ, suc, Bool, true, false, not, List, [], ◌∷◌, ◌++◌, length, map, inl, inr, refl, ap, sym, ◌∙◌, subst, arith}
-use Rattle.std.specs.List.{AllZip}
+use Rattle.std.proofs.Common.{◌≡◌, ◌+◌, ◌<◌, ◌≤◌, ℕ, zero, suc, Bool, true, false, not, List, [], ◌∷◌, ◌++◌, length, map, inl, inr, refl, ap, sym, ◌∙◌, subst, arith, length-append}
+use Rattle.std.specs.List.{All, AllZip}
 use Rattle.std.proofs.lemmas.List.{map-append, length-map}
+use Rattle.std.proofs.lemmas.Bool.{cases_lt}
+use Rattle.std.proofs.lemmas.List.Elements.{All-head, All-tail, All-from_get_or}
 use Rattle.beas_core.specs.declared.schema.Access.{Access}
 use Rattle.beas_core.specs.declared.plan.Normal.{Normal}
 use Rattle.beas_core.specs.declared.plan.Derivation.{Derivation}
 use Rattle.beas_core.specs.Trees.{QueryTree, Single, Either, Minus, blocks_of}
 use Rattle.beas_core.specs.Classes.{normal_of}
 use Rattle.beas_core.specs.Coverage.{start_classes, own_is_covered}
+use Rattle.beas_core.specs.Derivations.{is_live}
 use Rattle.beas_core.specs.Guiding.{BlockTask, after, has_guides, tasks_from, block_tasks, is_guided_task, task_start}
 use Rattle.beas_core.specs.Queries.{is_guided, plan_of}
 use Rattle.beas_core.specs.Fits.{PlanIsSound, PlansAreSound, GuidedOnlyWithGuide}
@@ -16,6 +19,45 @@ use Rattle.evaluation_facts.proofs.MemberTests.{and_left}
 
 map-both : {A C : Type 0} (f : A → C) (xs ys : List A) (us vs : List C) → map f xs ≡ us → map f ys ≡ vs → map f (xs ++ ys) ≡ us ++ vs
 map-both f xs ys us vs e g = map-append f xs ys ∙ ap (λ s. s ++ map f ys) e ∙ ap (λ s. us ++ s) g
+
+-- ---- derivations by number
+
+-- what is true of each derivation and of one without steps is true of the derivation with any number
+pub plan_at : (P : Derivation → Type 0) (plans : List Derivation) → P (record { steps = [] }) → All P plans → (n : ℕ) → P (plan_of plans n)
+plan_at P [] none h n = none_at n
+  where
+    none_at : (k : ℕ) → P (plan_of [] k)
+    none_at zero = none
+    none_at (suc k) = none
+plan_at P (plan ∷ plans) none h zero = All-head P plan plans h
+plan_at P (plan ∷ plans) none h (suc n) = plan_at P plans none (All-tail P plan plans h) n
+
+-- the steps of sound derivations are live
+module _ (accesses : List Access) (guided : List Bool) (plans : List Derivation) where
+  abbrev IsLiveAt : ℕ → Type 0
+  IsLiveAt n = All (λ s. is_live accesses s.access ≡ true) (plan_of plans n).steps
+
+  live_in : (n : ℕ) (l r : QueryTree) (k : ℕ) → n ≤ k → k < n + length (blocks_of l ++ blocks_of r) → (n ≤ k → k < after n l → IsLiveAt k)
+      → (after n l ≤ k → k < after (after n l) r → IsLiveAt k) → IsLiveAt k
+  live_in n l r k low high left right =
+      let both = length-append (blocks_of l) (blocks_of r) in
+      elim (cases_lt k (after n l)) [
+        | inl less ↦ left low less
+        | inr more ↦ right more (omega (arith, high, both))
+      ]
+
+  live_at : (n : ℕ) (t : QueryTree) → PlansAreSound accesses guided plans n t → (k : ℕ) → n ≤ k → k < after n t → IsLiveAt k
+  live_at n (Single block) sound k low high = subst IsLiveAt (the_one n k low high) sound.sound.live
+    where
+      the_one : (n k : ℕ) → n ≤ k → k < n + 1 → n ≡ k
+      the_one n k low high = omega (arith, low, high)
+  live_at n (Either l r) sound k low high = live_in n l r k low high (live_at n l sound.0 k) (live_at (after n l) r sound.1 k)
+  live_at n (Minus l r) sound k low high = live_in n l r k low high (live_at n l sound.0 k) (live_at (after n l) r sound.1 k)
+
+  pub plans_are_live : (t : QueryTree) → length plans ≡ length (blocks_of t) → PlansAreSound accesses guided plans 0 t
+      → All (λ plan. All (λ s. is_live accesses s.access ≡ true) plan.steps) plans
+  plans_are_live t long sound = All-from_get_or (λ plan. All (λ s. is_live accesses s.access ≡ true) plan.steps) plans (record { steps = [] })
+      (λ k below. live_at 0 t sound k (omega arith) (omega (arith, below, long)))
 
 -- ---- the tasks of a tree
 

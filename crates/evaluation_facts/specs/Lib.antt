@@ -1,3 +1,4 @@
+pub mod Agreement
 pub mod Covered
 pub mod Extensions
 pub mod Fronts
