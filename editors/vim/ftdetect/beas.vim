@@ -1,0 +1,1 @@
+au BufRead,BufNewFile *.beas set filetype=beas
