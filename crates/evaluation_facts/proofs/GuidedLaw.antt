@@ -87,7 +87,7 @@ module _ (rows : TableRows) where
         (answers rows guided n guide l) (answers_in_order n guide l)
 
     -- inside the guide, a tree answers what it answers in full
-    alike : (n : ℕ) (guide : Guide) (t : QueryTree) (y : Row) → InGuide guide y
+    pub alike : (n : ℕ) (guide : Guide) (t : QueryTree) (y : Row) → InGuide guide y
         → (Has (answers rows guided n guide t) y → Has (full_of rows t) y) × (Has (full_of rows t) y → Has (answers rows guided n guide t) y)
     alike n guide (Single block) y g = (
       λ h. (Has-from_inside (guide_of guided n guide) (full_of_block rows block) y h).0,

@@ -57,6 +57,10 @@ rows_right old new l r kept =
     All-from_recursion (IsKept old new) (blocks_of r) (all_from (IsKept old new) (blocks_of r) (λ b m. All-contains (IsKept old new) (blocks_of l ++ blocks_of r) b kept
     (Contains-from_has (blocks_of l ++ blocks_of r) b (Has-append_right (blocks_of l) (blocks_of r) b m))))
 
+pub rows_kept : (rows : TableRows) (t : QueryTree) → KeepsRows rows rows t
+rows_kept rows t = All-from_recursion (IsKept rows rows) (blocks_of t) (all_from (IsKept rows rows) (blocks_of t) (λ block m.
+    All-from_recursion (λ (a : Atom). rows a.table ≡ rows a.table) block.atoms (all_from (λ (a : Atom). rows a.table ≡ rows a.table) block.atoms (λ a k. refl))))
+
 -- ---- over other rows
 
 module _ (old new : TableRows) (guided : List Bool) where
@@ -223,9 +227,9 @@ widths_stay old new block same wide =
     (sym (All-contains (λ (x : Atom). new x.table ≡ old x.table) block.atoms a same (Contains-from_has block.atoms a m)))
     (All-contains (Wide old) block.atoms a wide (Contains-from_has block.atoms a m))))
 
-pub still_fits : (few many : List Access) (old new : TableRows) (prepared : Prepared) → KeepsConstraints few many prepared.derivations
+pub stays_fit : (few many : List Access) (old new : TableRows) (prepared : Prepared) → KeepsConstraints few many prepared.derivations
     → KeepsRows old new prepared.query → Fits few old prepared → Fits many new prepared
-still_fits few many old new prepared keeps kept fits =
+stays_fit few many old new prepared keeps kept fits =
     let blocks = blocks_of prepared.query in
     record {
       plan = record {
