@@ -1,5 +1,5 @@
 // Laws on what a query answers, and on what the steps of a derivation find.
-ghost use Rattle.std.specs.Prelude.{◌≡◌, ◌↔◌, ℕ, List as Items, All, Contains, IsTrue, Some, is_some};
+ghost use Rattle.std.specs.Prelude.{◌≡◌, ◌↔◌, Bool, ℕ, List as Items, All, Contains, IsTrue, Some, is_some};
 ghost use Rattle.beas_core.specs.Types.{Guide, Row};
 ghost use Rattle.beas_core.specs.Shapes.{AccessIsWellFormed, BlockIsWellFormed, width_of};
 ghost use Rattle.beas_core.specs.Full.{full_of, full_of_block};
@@ -11,15 +11,16 @@ ghost use Rattle.beas_core.specs.Queries.{answers, inside, query_answers};
 ghost use Rattle.evaluation_facts.specs.Fronts.{FrontsExtend};
 ghost use Rattle.evaluation_facts.specs.Guides.{GuideFits};
 
-use beas_core::{AccessPort, Block, DStep, List, Normal, Query};
+use beas_core::{AccessPort, Block, DStep, List, Normal, Prepared};
 
-/// Whichever of its blocks are guided, a query answers what it answers in full. For every set of rows that guides it,
+/// A query answers what it answers in full, whichever of its blocks are guided. For every set of rows that guides it,
 /// its answers and its full answer have the same members in the set; without a guide they are equal.
-pub fn law_guided<P: AccessPort>(port: &P, query: &Query, guided: &List<bool>)
-    ensures inside { (n : ℕ) (found : Items Row) (row : Row) → Contains found row
-        → Contains (answers (P.rows port.now) guided.now n (Some found) query.now) row
-        ↔ Contains (full_of (P.rows port.now) query.now) row }
-    ensures alone { query_answers (P.rows port.now) guided.now query.now ≡ full_of (P.rows port.now) query.now }
+pub fn law_guided<P: AccessPort>(port: &P, prepared: &Prepared)
+    ensures inside { (guided : Items Bool) (n : ℕ) (found : Items Row) (row : Row) → Contains found row
+        → Contains (answers (P.rows port.now) guided n (Some found) prepared.now.query) row
+        ↔ Contains (full_of (P.rows port.now) prepared.now.query) row }
+    ensures alone { (guided : Items Bool) → query_answers (P.rows port.now) guided prepared.now.query
+        ≡ full_of (P.rows port.now) prepared.now.query }
 {}
 
 /// The valuations after one step more are the extensions of those before it that meet the comparisons.

@@ -55,7 +55,12 @@ pub fn law_bound<P: AccessPort>(port: &P, prepared: &Prepared)
 }
 
 /// More answers of its guide never lessen what is announced of a query.
-pub fn law_more_answers(accesses: &List<Access>, query: &Query, guided: &List<bool>, plans: &List<Derivation>)
+pub fn law_more_answers(
+    accesses: &List<Access>,
+    query: &Query,
+    guided: &List<bool>,
+    plans: &List<Derivation>,
+)
     ensures { (n few many : ℕ) → few ≤ many
         → announced_in accesses.now guided.now plans.now n few query.now
         ≤ announced_in accesses.now guided.now plans.now n many query.now }

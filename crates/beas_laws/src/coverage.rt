@@ -49,15 +49,14 @@ pub fn law_derivation_sound(normal: &Normal, accesses: &List<Access>, start: &Li
 
 /// The canonical derivation is what is left of the greedy steps: it is sound, and its capped number is no greater
 /// than theirs.
-pub fn law_pruned(accesses: &List<Access>, normal: &Normal, start: &List<bool>)
+pub fn law_pruned(accesses: &List<Access>, block: &Normal)
     requires { EachIdOnce accesses.now }
-    ensures left { (steps : Items Step) → greedy_steps normal.now accesses.now start.now ≡ Some steps
-        → derivation normal.now accesses.now start.now ≡ Some (pruned normal.now accesses.now start.now steps) }
-    ensures sound { (steps : Items Step) → greedy_steps normal.now accesses.now start.now ≡ Some steps
-        → IsSound normal.now accesses.now start.now (pruned normal.now accesses.now start.now steps) }
-    ensures no_greater { (steps : Items Step)
-        → capped_number accesses.now (pruned normal.now accesses.now start.now steps)
-        ≤ capped_number accesses.now steps }
+    ensures left { (start : ClassSet) (steps : Items Step) → greedy_steps block.now accesses.now start ≡ Some steps
+        → derivation block.now accesses.now start ≡ Some (pruned block.now accesses.now start steps) }
+    ensures sound { (start : ClassSet) (steps : Items Step) → greedy_steps block.now accesses.now start ≡ Some steps
+        → IsSound block.now accesses.now start (pruned block.now accesses.now start steps) }
+    ensures no_greater { (start : ClassSet) (steps : Items Step)
+        → capped_number accesses.now (pruned block.now accesses.now start steps) ≤ capped_number accesses.now steps }
 {}
 
 /// A derivation exists exactly where the block is covered, and is lacking exactly where there is a reason.

@@ -8,14 +8,13 @@ use Rattle.beas_laws.proofs.answers.law_guided.Goals as goal
 pub returns : goal.returns
 returns g c =
     let rows = g.P.AccessPort.rows c.args.port.now in
-    let guided = c.args.guided.now in
-    let t = c.args.query.now in
+    let t = c.args.prepared.now.query in
     record {
-      inside = λ n found row m.
+      inside = λ guided n found row m.
           let both = alike rows guided n (Some found) t row (Has-from_contains found row m) in
           let own = answers rows guided n (Some found) t in (
             λ h. Contains-from_has (full_of rows t) row (both.0 (Has-from_contains own row h)),
             λ h. Contains-from_has own row (both.1 (Has-from_contains (full_of rows t) row h)),
           );
-      alone = guided_answers_are_full rows guided t;
+      alone = λ guided. guided_answers_are_full rows guided t;
     }

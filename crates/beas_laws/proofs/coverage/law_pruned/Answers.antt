@@ -8,11 +8,10 @@ use Rattle.beas_laws.proofs.coverage.law_pruned.Goals as goal
 pub returns : goal.returns
 unfolding derivation
 returns c =
-    let normal = c.args.normal.now in
+    let block = c.args.block.now in
     let accesses = c.args.accesses.now in
-    let start = c.args.start.now in
     record {
-      left = λ steps h. ap (option_map (pruned normal accesses start)) h;
-      sound = λ steps h. pruned_sound normal accesses start steps (greedy_sound normal accesses c.requires start steps h);
-      no_greater = λ steps. pruned_no_greater normal accesses start steps;
+      left = λ start steps h. ap (option_map (pruned block accesses start)) h;
+      sound = λ start steps h. pruned_sound block accesses start steps (greedy_sound block accesses c.requires start steps h);
+      no_greater = λ start steps. pruned_no_greater block accesses start steps;
     }
