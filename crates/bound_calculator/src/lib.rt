@@ -12,10 +12,11 @@ ghost use Rattle.bound_calculator.specs.DerivationSizes.{sizes_of};
 
 use crate::bounds::bound_of;
 use beas_core::{Access, Derivation, List, Refusal, Sizes};
+pub use bounds::access_with;
 pub use sizes::size;
 
-// The sizes with one more step: nothing where the reads pass 2^128 - 1.
-fn with_step(sizes: Sizes, adds: bool, bound: u32) -> Option<Sizes>
+/// The sizes with one more step. Nothing where the reads pass 2^128 - 1.
+pub fn with_step(sizes: Sizes, adds: bool, bound: u32) -> Option<Sizes>
     ensures { MatchOption result (2 ^ 128 ≤ sizes.reads + sizes.last * bound)
         (λ next. next ≡ record {
           reads = sizes.reads + sizes.last * bound;

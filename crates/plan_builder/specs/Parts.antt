@@ -10,4 +10,5 @@ whole query parts = record {
   normals = parts.plans.normals;
   derivations = parts.plans.derivations;
   bound = parts.bound;
+  guided = parts.plans.guided;
 }
