@@ -60,6 +60,11 @@ tree_is n t few below = record {
   some_table = all_of (λ b. 1 ≤ length b.from_items) (blocks_of t) few.atoms;
 }
 
+over_well_formed : {words a : List Symbol} {t : Tree} {s : Statement} → IsOverQuery words t s → IsQuery a t → length (words ++ a) < 2 ^ 32 - 1
+    → StatementIsWellFormed s
+over_well_formed {a = a} {t = t} select q le = tree_is (length a) t (query_few a t q) (omega arith)
+over_well_formed {a = a} {t = t} explain q le = tree_is (length a) t (query_few a t q) (omega arith)
+
 pub well_formed : (a : List Symbol) (s : Statement) → Spells a s → length a < 2 ^ 32 - 1 → StatementIsWellFormed s
 well_formed a s (create_table {b = y} {cs = columns} n h) le = commas_some _ y columns h
 well_formed a s (create_access {d = y} {fetched = fetched} n t key h) le = commas_some _ y fetched h
@@ -76,8 +81,7 @@ well_formed a s (delete {a = x} {b = y} {t = t} {cs = cs} n w) le =
     omega (arith, where_few x y t cs n w, length-append (DELETE ∷ FROM ∷ x) y)
 well_formed a s (discover_group t key fetched) le = tt
 well_formed a s (discover_pairs t) le = tt
-well_formed a s (select {t = t} q d) le = tree_is (length a) t (query_few a t q) (omega arith)
-well_formed a s (explain {a = x} {t = t} q d) le = tree_is (length x) t (query_few x t q) (omega arith)
+well_formed a s (over_query o q d) le = over_well_formed o q le
 
 -- the same of what the tokens of a piece are read as
 pub parsed_well : (tokens : List Token) (s : Statement) → Parses (symbols tokens) (Ok s) → length tokens < 2 ^ 32 - 1 → StatementIsWellFormed s
