@@ -1,4 +1,3 @@
-pub mod Filtering
 pub mod Guarding
 pub mod Indexing
 pub mod Making

@@ -2,13 +2,14 @@
 ghost use Rattle.std.specs.Prelude.{◌≡◌, ◌≢◌, ◌+◌, ◌<◌, ◌≤◌, ◌^◌, ◌++◌, ◌∷◌, ℕ, List, [], length, take, drop, All, Some, None, if◌then◌else◌, IfOk, OnOk, OnErr, IfSome, IsTrue, option_map, vec_len, ◌==◌, slice_index_or, slice_set};
 ghost use Rattle.std.specs.List.{list_any};
 ghost use Rattle.std.specs.Option.{is_none};
-ghost use Rattle.beas_core.specs.declared.errors.Fail.TheVariants.{NoMemory as Want};
 ghost use Rattle.beas_core.specs.Types.{Row as Tuple};
 ghost use Rattle.access_index.specs.Index.{Index};
 ghost use Rattle.catalogue.specs.Schema.{accesses_on, access_with_id};
 ghost use Rattle.catalogue.specs.Kept.{ids_on};
-ghost use Rattle.catalogue.specs.Refusing.{IsRefusedAs, broken, broken_bound};
-ghost use Rattle.update_guard.specs.Guarding.{IndexesOf, HoldOver};
+ghost use Rattle.catalogue.specs.Refusing.{broken, broken_bound};
+ghost use Rattle.beas_core.specs.Results.{IsRefusedAs};
+ghost use Rattle.update_guard.specs.Guarding.{IndexesOf};
+ghost use Rattle.catalogue.specs.Stored.{HoldOver};
 ghost use Rattle.update_guard.specs.Indexing.{AreIndexed, IsPlaceOn, no_access};
 
 use access_index::AccessIndex;
