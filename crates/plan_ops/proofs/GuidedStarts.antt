@@ -1,6 +1,6 @@
 -- How a guided block starts, row by row of its guide.
 use Rattle.std.proofs.Common.{◌≡◌, ◌&&◌, ◌+◌, ◌<◌, ℕ, zero, suc, Bool, true, false, cond, List, [], ◌∷◌, ◌++◌, length, map, take, replicate, get_or, Some, inl, inr, refl, ap, sym, ◌∙◌, subst, arith, add-one, append_assoc}
-use Rattle.std.specs.List.{All, filter, flat_map, fold, list_all, slice_set, zip}
+use Rattle.std.specs.List.{All, filter, flat_map, list_all, slice_set, zip}
 use Rattle.std.proofs.Math.Seq.{take-suc}
 use Rattle.std.proofs.lemmas.List.{length-map, map-append, append-nil}
 use Rattle.std.proofs.lemmas.List.Elements.{All-contains, All-from_recursion, filter-append}
@@ -17,9 +17,9 @@ use Rattle.beas_core.proofs.ValueOrder.{row_cmp_tells}
 use Rattle.evaluation_facts.specs.Extensions.{meets_bound, keep_met}
 use Rattle.evaluation_facts.proofs.MemberTests.{Has-from_flat_map}
 use Rattle.plan_ops.specs.Over.{set_of}
-use Rattle.plan_ops.specs.Places.{place_of, places_in}
+use Rattle.plan_ops.specs.Places.{place_of}
 use Rattle.plan_ops.specs.Started.{one_row}
-use Rattle.plan_ops.proofs.ConstantFacts.{meets_alike, classes_small, classes_placed}
+use Rattle.plan_ops.proofs.ConstantFacts.{meets_alike, classes_placed}
 
 -- ---- the values of a row, place by place
 

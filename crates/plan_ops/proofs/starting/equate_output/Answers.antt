@@ -1,4 +1,4 @@
-use Rattle.std.proofs.Common.{rules, ◌≡◌, ◌<◌, ◌∙◌, length, get_or, arith, pos}
+use Rattle.std.proofs.Common.{rules, ◌≡◌, ◌<◌, ◌∙◌, length, get_or}
 use Rattle.beas_core.specs.declared.query.Place.{Place}
 use Rattle.beas_core.specs.Coverage.{place_class}
 use Rattle.plan_ops.proofs.GuidedStarts.{equated_more}

@@ -1,4 +1,4 @@
-use Rattle.std.proofs.Common.{◌≡◌, true, length, take, Some}
+use Rattle.std.proofs.Common.{◌≡◌, true, take, Some}
 use Rattle.std.specs.List.{flat_map}
 use Rattle.beas_core.specs.Coverage.{start_classes}
 use Rattle.beas_core.specs.Valuations.{starts}

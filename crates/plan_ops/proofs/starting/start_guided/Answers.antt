@@ -1,5 +1,4 @@
-use Rattle.std.proofs.Common.{rules, ◌≡◌, ◌<◌, ◌∙◌, true, Some, length, map, All, ap, sym, subst}
-use Rattle.std.specs.List.{flat_map}
+use Rattle.std.proofs.Common.{◌≡◌, ◌<◌, ◌∙◌, true, Some, length, All, ap, sym, subst}
 use Rattle.beas_core.specs.Types.{Row}
 use Rattle.beas_core.specs.Order.{row_cmp}
 use Rattle.beas_core.specs.Sets.{distinct}
@@ -7,7 +6,6 @@ use Rattle.beas_core.specs.Coverage.{start_classes}
 use Rattle.beas_core.specs.Valuations.{classes_in, starts}
 use Rattle.evaluation_facts.specs.Extensions.{keep_met}
 use Rattle.plan_ops.specs.Over.{set_of}
-use Rattle.plan_ops.specs.Started.{one_row}
 use Rattle.plan_ops.proofs.BoundSets.{counted, set_again}
 use Rattle.plan_ops.proofs.GuidedStarts.{keys, keys_small, start_set, kept_starts, starts_wide, distinct_wide}
 use Rattle.plan_ops.proofs.starting.start_guided.Goals as goal
