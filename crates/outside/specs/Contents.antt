@@ -5,7 +5,7 @@
 --     answer_of content limit      the same, or a failure where there is no content
 --     is_due files                 whether the next read was told to fail
 --     next_answer files name limit what the next read is to answer where memory is there
-use Rattle.std.specs.Prelude.{◌<◌, ℕ, Bool, List, Option, Some, None, Result, Ok, Err, length, bytes_eq, nat_eq, nat_lt, if◌then◌else◌}
+use Rattle.std.specs.Prelude.{ℕ, Bool, List, Option, Some, None, Result, Ok, Err, length, bytes_eq, nat_eq, nat_lt, if◌then◌else◌}
 use Rattle.std.specs.List.{find, count_by, list_any}
 use Rattle.std.specs.Option.{option_map}
 use Rattle.outside.specs.declared.files.FilesError.{FilesError}

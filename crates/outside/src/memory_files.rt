@@ -111,13 +111,12 @@ impl MemoryFiles {
 }
 
 impl Files for MemoryFiles {
-    ghost told = { λ _. true };
-
-    ghost content = { λ files. content_of files.shelf };
-
-    ghost faults = { λ files. times files.failed };
-
-    ghost taken = { λ _. 0 };
+    ghost seen = { λ files. record {
+        told = true;
+        content = content_of files.shelf;
+        faults = times files.failed;
+        taken = 0
+    } };
 
     fn read(&mut self, alloc: Global, name: &str, limit: u64) -> Result<Bytes, FilesError>
         ensures answer { IsErrOf result FilesError.NoMemory ⊎ (result ≡ next_answer self.old name.now limit) }
@@ -166,13 +165,12 @@ impl SteadyFiles {
 }
 
 impl Files for SteadyFiles {
-    ghost told = { λ _. true };
-
-    ghost content = { λ files name. Some (unwrap_or (content_of files.shelf name) []) };
-
-    ghost faults = { λ _ _. 0 };
-
-    ghost taken = { λ _. 0 };
+    ghost seen = { λ files. record {
+        told = true;
+        content = λ name. Some (unwrap_or (content_of files.shelf name) []);
+        faults = λ _. 0;
+        taken = 0
+    } };
 
     fn read(&mut self, alloc: Global, name: &str, limit: u64) -> Result<Bytes, FilesError>
         ensures answer { IsErrOf result FilesError.NoMemory ⊎ (result

@@ -1,5 +1,4 @@
 use Rattle.std.proofs.Common.{◌≡◌}
-use Rattle.outside.specs.declared.files.FilesError.{FilesError}
 use Rattle.outside.specs.declared.files.FilesError.TheVariants.{Failed}
 use Rattle.outside.proofs.Contents.{rose_after}
 use Rattle.outside.proofs.memory_files.MemoryFilesFiles.read.Goals as goal

@@ -9,10 +9,7 @@ untold (Err why) = tt
 
 pub read-tells : goal.read-tells
 read-tells g c = record {
-  told = refl;
-  content = refl;
-  faults = λ name. c.ensures.rise;
-  taken = c.ensures.least;
+  later = record { told = refl; content = refl; faults = λ name. c.ensures.rise; taken = c.ensures.least };
   ok = untold c.result;
   fits = c.ensures.fits;
   failed = λ failed. omega (arith, c.ensures.failed failed);
