@@ -11,7 +11,7 @@ pub record Seen : Type 0 where
   pub told : Bool
   -- the bytes of each name, or none, where contents are told
   pub content : List ℕ → Option (List ℕ)
-  -- how many reads of each name failed; a kind that doesn't tell may have one count for all names
+  -- how many loads of each name failed; a kind that doesn't tell may have one count for all names
   pub faults : List ℕ → ℕ
   -- how many bytes were taken; a kind that tells its contents may leave it at 0
   pub taken : ℕ

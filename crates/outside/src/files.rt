@@ -1,4 +1,4 @@
-// Files that are read whole, by name.
+// Files that are loaded whole, by name.
 ghost use Rattle.std.specs.Prelude.{◌≡◌, ◌≢◌, ◌+◌, ◌-◌, ◌^◌, ◌<◌, ◌≤◌, ℕ, true, Some, length, IfOk, IsErrOf, IsSomeAnd};
 ghost use Rattle.outside.specs.Counts.{Rose, RoseBy};
 ghost use Rattle.outside.specs.Seen.{IsLater, Seen};
@@ -6,7 +6,7 @@ ghost use Rattle.outside.specs.Seen.{IsLater, Seen};
 use beas_core::Bytes;
 use std::alloc::Global;
 
-/// Why a file wasn't read.
+/// Why a file wasn't loaded.
 #[derive(Clone, Copy, Debug, PartialEq, Eq)]
 pub enum FilesError {
     /// The file isn't there, or reading it failed.
@@ -17,13 +17,13 @@ pub enum FilesError {
     NoMemory,
 }
 
-/// Files that are read whole. Counts that are kept as a `u64` stand still at its last value.
+/// Files that are loaded whole. Counts that are kept as a `u64` stand still at its last value.
 pub trait Files {
     /// What is known of them.
     ghost seen: { Self → Seen };
 
     /// The bytes of a file, of which there are at most `limit`.
-    fn read(&mut self, alloc: Global, name: &str, limit: u64) -> Result<Bytes, FilesError>
+    fn load(&mut self, alloc: Global, name: &str, limit: u64) -> Result<Bytes, FilesError>
         requires { limit < 2 ^ 64 - 1 }
         ensures later { IsLater (seen self.old) (seen self.new) }
         ensures ok { IfOk result (λ bytes. (seen self.old).told ≡ true

@@ -13,7 +13,7 @@ use Rattle.binder.specs.Binding.{refusals, bound_query}
 use Rattle.binder.specs.Refusing.{Tells}
 use Rattle.plan_builder.specs.Preparation.{preparation}
 use Rattle.session.specs.Announced.{and_then, announcement, binding, within_budget}
-use Rattle.session.specs.Carried.{Gives}
+use Rattle.session.specs.Carrying.{Gives}
 use Rattle.session.proofs.CarryFacts.{failed}
 use Rattle.session.proofs.GivenFacts.{given, given_fails, given_next}
 

@@ -9,7 +9,7 @@ use Rattle.binder.specs.Refusing.{Tells, first}
 use Rattle.csv_load.specs.Reading.{FailsAs}
 use Rattle.plan_builder.specs.Preparation.{Prepares}
 use Rattle.session.specs.Announced.{and_then, unless_refused}
-use Rattle.session.specs.Carried.{Gives}
+use Rattle.session.specs.Carrying.{Gives}
 use Rattle.session.specs.Effects.{or_refusal}
 use Rattle.session.proofs.CarryFacts.{failed}
 

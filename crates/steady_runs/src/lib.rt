@@ -1,12 +1,12 @@
 //! Runs over files and sinks that never fail. Scripts with what is to be written for them are in `script_cases`.
 #![tactic(auto)]
 
-ghost use Rattle.std.specs.Prelude.{◌≡◌, ◌<◌, ℕ, List, [], true, Some, map, unwrap_or};
+ghost use Rattle.std.specs.Prelude.{◌≡◌, ℕ, List, [], Some, map, unwrap_or};
 ghost use Rattle.std.specs.String.{string_bytes};
 ghost use Rattle.outside.specs.Contents.{content_of};
-ghost use Rattle.beas_cases.specs.Loads.{NoneFailed, steady};
+ghost use Rattle.steady_runs.specs.Loads.{NoneFailed, steady, steady_out};
 ghost use Rattle.beas_run.specs.Runs.{script_name, Completes, CompletesWithout};
-ghost use Rattle.beas_run.specs.Walks.{scene};
+ghost use Rattle.beas_run.specs.Walks.{moment};
 
 use beas_core::Steps;
 use beas_run::run;
@@ -32,8 +32,8 @@ pub fn run_steady<L: Ledger>(
     ensures complete_without { (name : List ℕ) → script_name (map string_bytes words.now) ≡ Some name
         → CompletesWithout (unwrap_or (content_of files.old.shelf name) []) result }
     ensures loads { NoneFailed session.old.limits (map string_bytes words.now) result
-        (scene session.old steps.old true out.old.sent.items (steady files.old))
-        (scene session.new steps.new true out.new.sent.items (steady files.new)) }
+        (moment session.old steps.old (steady_out out.old) (steady files.old))
+        (moment session.new steps.new (steady_out out.new) (steady files.new)) }
 {
     let mut err = SteadySink::new(alloc);
     run(alloc, session, words, files, out, &mut err, steps)

@@ -1,6 +1,7 @@
-use Rattle.std.proofs.Common.{refl, arith}
-use Rattle.beas_run.proofs.Reached.{same_later, unstarted}
-use Rattle.beas_run.proofs.script.carry_out_text.Goals as goal
+use Rattle.std.proofs.Common.{refl}
+use Rattle.beas_run.proofs.Reached.{same_later}
+use Rattle.beas_run.proofs.Walking.{walk_unstarted}
+use Rattle.beas_run.proofs.script.walk.Goals as goal
 
 pub returns-in-Ok-clause-walked : goal.returns-in-Ok-clause-walked
 returns-in-Ok-clause-walked g c =
@@ -8,4 +9,4 @@ returns-in-Ok-clause-walked g c =
 
 -- out of memory before the first statement
 pub returns-in-Err-clause-walked : goal.returns-in-Err-clause-walked
-returns-in-Err-clause-walked g c = unstarted _ _ _ _ _ (λ _. refl) refl refl (same_later _) (omega arith) (omega arith)
+returns-in-Err-clause-walked g c = walk_unstarted _ _ _ _ _ _ (λ _. refl) refl refl (same_later _) refl

@@ -1,7 +1,7 @@
 use Rattle.std.proofs.Common.{◌≡◌}
 use Rattle.outside.specs.declared.files.FilesError.TheVariants.{Failed}
 use Rattle.outside.proofs.Contents.{rose_after}
-use Rattle.outside.proofs.memory_files.MemoryFilesFiles.read.Goals as goal
+use Rattle.outside.proofs.memory_files.MemoryFilesFiles.load.Goals as goal
 
 pub returns-in-Err-Failed-clause-rose : goal.returns-in-Err-Failed-clause-rose
 returns-in-Err-Failed-clause-rose c = λ failed.

@@ -6,11 +6,11 @@ use Rattle.command_words.specs.declared.arguments.Args.TheVariants.{Script, Demo
 use Rattle.outside.specs.Counts.{Rose, RoseBy}
 use Rattle.session.specs.Effects.{Settings}
 use Rattle.session.specs.Ties.{failures}
-use Rattle.session.specs.Turns.{reads_of}
-use Rattle.sql_parser.specs.Outcome.{Reading}
+use Rattle.session.specs.Turns.{loads_of}
+use Rattle.beas_run.specs.Readings.{Reading}
 use Rattle.beas_run.specs.Runs.{WalkedFor, outcomes_in}
 use Rattle.beas_run.specs.Scripts.{turns}
-use Rattle.beas_run.specs.Walks.{Scene}
+use Rattle.beas_run.specs.Walks.{Moment}
 
 pub none_rose : Rose 0 0 → ⊥
 none_rose h = omega arith
@@ -23,9 +23,9 @@ pub none_at : (n : ℕ) → RoseBy n 0 0 → n ≡ 0
 none_at n h = omega arith
 
 -- whatever is asked for, the failures of a name are at most the rise of its count
-pub walked_failures : (asked : Option Args) (s : Settings) (readings : List Reading) (status : ℕ) (before after : Scene)
+pub walked_failures : (asked : Option Args) (s : Settings) (readings : List Reading) (status : ℕ) (before after : Moment)
     (walked : WalkedFor asked s readings status before after) (name : List ℕ)
-    → RoseBy (failures name (reads_of (turns s before.db readings (outcomes_in asked s readings status before after walked))))
+    → RoseBy (failures name (loads_of (turns s before.state readings (outcomes_in asked s readings status before after walked))))
     (before.files.faults name) (after.files.faults name)
 walked_failures None s readings status before after walked name = walked.follows.tied.failed name
 walked_failures (Some (Script path budget explain)) s readings status before after walked name = walked.follows.tied.failed name
