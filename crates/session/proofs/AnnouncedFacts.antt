@@ -7,13 +7,13 @@ use Rattle.beas_core.specs.declared.plan.Prepared.{Prepared}
 use Rattle.beas_core.specs.declared.refusal.Refusal.{Refusal}
 use Rattle.beas_core.specs.declared.refusal.Refusal.TheVariants.{OverBudget}
 use Rattle.beas_core.specs.Trees.{QueryTree}
+use Rattle.beas_core.specs.Results.{Gives}
 use Rattle.catalogue.specs.Schema.{Schema}
 use Rattle.sql_tree.specs.Trees.{Tree}
 use Rattle.binder.specs.Binding.{refusals, bound_query}
 use Rattle.binder.specs.Refusing.{Tells}
 use Rattle.plan_builder.specs.Preparation.{preparation}
 use Rattle.session.specs.Announced.{and_then, announcement, binding, within_budget}
-use Rattle.session.specs.Carrying.{Gives}
 use Rattle.session.proofs.CarryFacts.{failed}
 use Rattle.session.proofs.GivenFacts.{given, given_fails, given_next}
 

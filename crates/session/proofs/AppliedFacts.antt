@@ -7,6 +7,7 @@ use Rattle.beas_core.specs.declared.errors.NoMemory.{NoMemory as Want}
 use Rattle.beas_core.specs.declared.limits.Limits.{Limits}
 use Rattle.beas_core.specs.declared.refusal.Refusal.{Refusal}
 use Rattle.beas_core.specs.declared.schema.TableId.{TableId}
+use Rattle.beas_core.specs.Results.{Gives}
 use Rattle.catalogue.specs.Database.{Database}
 use Rattle.outside.specs.Seen.{IsLater, Seen}
 use Rattle.report.specs.declared.reports.Report.{Report}
@@ -14,7 +15,7 @@ use Rattle.report.specs.declared.reports.Report.TheVariants.{Refused as Refusing
 use Rattle.session.specs.declared.loading.LoadOutcome.{LoadOutcome}
 use Rattle.session.specs.declared.loading.LoadOutcome.TheVariants.{Failed}
 use Rattle.session.specs.Applying.{IsApplied, MayCost}
-use Rattle.session.specs.Carrying.{CarriesOut, CarriesOutLoad, Gives, Happens, HappensByLoad, Performs, reported}
+use Rattle.session.specs.Carrying.{CarriesOut, CarriesOutLoad, Happens, HappensByLoad, Performs, reported}
 use Rattle.session.specs.Effects.{Action, Does, Loads, Effect, load_action, load_effect, refusal_effect}
 use Rattle.session.specs.Ties.{AreTied}
 use Rattle.session.specs.Turns.{IsWithin}

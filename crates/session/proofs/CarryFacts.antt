@@ -7,11 +7,12 @@ use Rattle.beas_core.specs.declared.refusal.Refusal.{Refusal}
 use Rattle.beas_core.specs.declared.limits.Limits.{Limits}
 use Rattle.beas_core.specs.declared.schema.Column.{Column}
 use Rattle.beas_core.specs.declared.schema.TableId.{TableId}
+use Rattle.beas_core.specs.Results.{Gives, IsRefusedAs}
 use Rattle.catalogue.specs.Database.{Database, schema_of, with_table}
-use Rattle.catalogue.specs.Refusing.{IsRefusedAs, add_table_refusal}
+use Rattle.catalogue.specs.Refusing.{add_table_refusal}
 use Rattle.report.specs.declared.reports.Report.{Report}
 use Rattle.report.specs.declared.reports.Report.TheVariants.{Done, Refused as Refusing}
-use Rattle.session.specs.Carrying.{CarriesOut, Gives, Happens, Stops}
+use Rattle.session.specs.Carrying.{CarriesOut, Happens, Stops}
 use Rattle.session.specs.Effects.{Effect, create_table_effect, refusal_effect, unless, with_answer}
 
 pub stops_at : (E : Effect) (b a : Database) (s : ℕ) → a ≡ b → Stops E b a s s

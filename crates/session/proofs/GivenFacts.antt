@@ -4,12 +4,10 @@ use Rattle.std.specs.Prelude.{IfOk, IfErr, OnOk}
 use Rattle.beas_core.specs.declared.errors.Fail.{Fail}
 use Rattle.beas_core.specs.declared.errors.Fail.TheVariants.{NoMemory, Refused}
 use Rattle.beas_core.specs.declared.refusal.Refusal.{Refusal}
-use Rattle.beas_core.specs.declared.plan.Prepared.{Prepared}
+use Rattle.beas_core.specs.Results.{Gives}
 use Rattle.binder.specs.Refusing.{Tells, first}
 use Rattle.csv_load.specs.Reading.{FailsAs}
-use Rattle.plan_builder.specs.Preparation.{Prepares}
 use Rattle.session.specs.Announced.{and_then, unless_refused}
-use Rattle.session.specs.Carrying.{Gives}
 use Rattle.session.specs.Effects.{or_refusal}
 use Rattle.session.proofs.CarryFacts.{failed}
 
@@ -50,9 +48,3 @@ given_next {B} w next a r e h = subst (λ v. Gives r (and_then v next)) (sym e) 
 pub ok_both : {A E : Type 0} (P Q R : A → Type 0) → ((a : A) → P a → Q a → R a) → (r : Result A E) → IfOk r P → IfOk r Q → IfOk r R
 ok_both P Q R so (Ok a) p q = so a p q
 ok_both P Q R so (Err e) p q = tt
-
--- what is prepared is given
-pub prepares_gives : (r : Result Prepared Fail) (w : Result Prepared Refusal) → Prepares r w → Gives r w
-prepares_gives (Ok a) w h = h
-prepares_gives (Err NoMemory) w h = tt
-prepares_gives (Err (Refused why)) w h = h

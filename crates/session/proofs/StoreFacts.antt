@@ -15,14 +15,14 @@ use Rattle.beas_core.specs.declared.errors.Fail.{Fail}
 use Rattle.beas_core.specs.declared.errors.Fail.TheVariants.{NoMemory, Refused}
 use Rattle.beas_core.specs.declared.refusal.Refusal.{Refusal}
 use Rattle.beas_core.specs.declared.schema.ColumnId.{ColumnId}
-use Rattle.catalogue.specs.Refusing.{IsRefusedAs, column_ids, columns_of_named, resolve_refusal}
+use Rattle.beas_core.specs.Results.{Gives, IsRefusedAs}
+use Rattle.catalogue.specs.Refusing.{column_ids, columns_of_named, resolve_refusal}
 use Rattle.session.specs.declared.discovery.Resolved.{Resolved}
-use Rattle.session.specs.Carrying.{Gives}
 use Rattle.session.proofs.CarryFacts.{failed}
 use Rattle.catalogue.specs.Schema.{Schema, columns_at, table_named}
 use Rattle.session.specs.Stores.{Store, database_in}
 use Rattle.session.specs.Effects.{or_refusal, resolution, resolved_in, table_or_refusal}
-use Rattle.update_guard.proofs.GuardFacts.{length-joined, rows_at_stored, schema_of_stored}
+use Rattle.catalogue.proofs.StoredFacts.{length-joined, rows_at_stored, schema_of_stored}
 
 pub schema_is_catalogue : (g : Store) → schema_of (database_in g) ≡ g.catalogue
 schema_is_catalogue g = schema_of_stored g.catalogue g.rows g.kept.tables

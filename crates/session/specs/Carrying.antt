@@ -1,5 +1,4 @@
 -- What the parts of a statement's call answer and leave, by the statement's effect.
---     Gives result wanted                      an answer or a refusal, or out of memory
 --     Happens effect report db ..              the report, the database and the reads are those of the effect
 --     Stops effect before after ..             out of memory: no change, and no more reads than the effect's
 --     CarriesOut effect before result ..       one of them; where the answer is a refusal, that is what is reported
@@ -9,7 +8,6 @@ use Rattle.std.specs.Prelude.{◌≡◌, ◌+◌, ◌≤◌, ℕ, List, [], ◌�
 use Rattle.beas_core.specs.declared.errors.Fail.{Fail}
 use Rattle.beas_core.specs.declared.errors.Fail.TheVariants.{NoMemory, Refused}
 use Rattle.beas_core.specs.declared.errors.NoMemory.{NoMemory as Want}
-use Rattle.beas_core.specs.declared.refusal.Refusal.{Refusal}
 use Rattle.catalogue.specs.Database.{Database}
 use Rattle.outside.specs.Seen.{Seen}
 use Rattle.report.specs.declared.reports.Report.{Report}
@@ -17,11 +15,6 @@ use Rattle.report.specs.declared.reports.Report.TheVariants.{Refused as Refusing
 use Rattle.session.specs.declared.loading.LoadOutcome.{LoadOutcome}
 use Rattle.session.specs.Effects.{Action, Does, Loads, Effect}
 use Rattle.session.specs.Ties.{AreTied}
-
-abbrev pub Gives : {A : Type 0} → Result A Fail → Result A Refusal → Type 0
-Gives (Ok answer) wanted = wanted ≡ Ok answer
-Gives (Err NoMemory) wanted = Unit {0}
-Gives (Err (Refused why)) wanted = wanted ≡ Err why
 
 pub record Happens (effect : Effect) (report : Report) (db : Database) (steps_before steps_after : ℕ) : Type 0 where
   pub report_is : report ≡ effect.report

@@ -18,7 +18,7 @@ use Rattle.beas_core.specs.declared.schema.ColumnId.{ColumnId}
 use Rattle.beas_core.specs.declared.schema.TableId.{TableId}
 use Rattle.beas_core.specs.Full.{full_of}
 use Rattle.beas_core.specs.Groups.{greatest}
-use Rattle.beas_core.specs.Reads.{own_reads_of_all}
+use Rattle.beas_core.specs.Queries.{query_reads}
 use Rattle.beas_core.specs.Spelling.{limit_in}
 use Rattle.beas_core.specs.Types.{Row}
 use Rattle.catalogue.specs.Database.{Database, schema_of, rows_at, with_table, with_access, without_access, with_more_rows, with_rows_kept, kept_rows, block_table}
@@ -200,7 +200,7 @@ discover_pairs_effect db table digits =
 -- ---- queries and EXPLAIN
 
 abbrev pub reads_in : Database → Prepared → ℕ
-reads_in db prepared = own_reads_of_all (rows_at db) prepared.normals db.accesses prepared.derivations
+reads_in db prepared = query_reads (rows_at db) db.accesses prepared.guided prepared.derivations prepared.query
 
 abbrev pub plan_shown : Bool → Database → Prepared → List ℕ
 plan_shown explain db prepared = if explain then plan_text (schema_of db) prepared else []

@@ -1,11 +1,12 @@
 // Rows come and go.
 ghost use Rattle.std.specs.Prelude.{◌≡◌, ◌<◌, ◌≤◌, ◌^◌, length, All, IfOk};
 ghost use Rattle.beas_core.specs.Shapes.{BlockIsWellFormed, width_of};
+ghost use Rattle.beas_core.specs.Results.{Gives};
 ghost use Rattle.catalogue.specs.Database.{block_table, schema_of};
 ghost use Rattle.outside.specs.Seen.{IsLater};
 ghost use Rattle.catalogue.specs.Schema.{columns_at};
 ghost use Rattle.session.specs.Stores.{database_in};
-ghost use Rattle.session.specs.Carrying.{CarriesOut, Gives, Performs};
+ghost use Rattle.session.specs.Carrying.{CarriesOut, Performs};
 ghost use Rattle.session.specs.Effects.{Effect, Does, add_rows_effect, delete_binding, delete_effect, file_rows, insert_effect, load_action, load_effect, table_or_refusal, tuples_binding};
 ghost use Rattle.session.specs.Statements.{TuplesAreFew};
 ghost use Rattle.session.specs.Ties.{LoadIsShort};

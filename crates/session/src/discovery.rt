@@ -1,8 +1,9 @@
 // The greatest groups of a table.
 ghost use Rattle.std.specs.Prelude.{◌≡◌, ◌<◌, ◌≤◌, length, slice_index_or, [], All, IfOk};
+ghost use Rattle.beas_core.specs.Results.{Gives};
 ghost use Rattle.catalogue.specs.Database.{schema_of};
 ghost use Rattle.session.specs.Stores.{database_in};
-ghost use Rattle.session.specs.Carrying.{CarriesOut, Gives};
+ghost use Rattle.session.specs.Carrying.{CarriesOut};
 ghost use Rattle.session.specs.Effects.{discover_group_effect, discover_pairs_effect, greatest_effect, limit_or_refusal, name_at, named_pairs, resolution};
 ghost use Rattle.session.specs.Turns.{IsWithin};
 

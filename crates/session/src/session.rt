@@ -1,9 +1,10 @@
 // A session: the database, and what its statements are decided by.
 ghost use Rattle.std.specs.Prelude.{◌≡◌, ◌≤◌, [], IfOk, OnErr};
 ghost use Rattle.beas_core.specs.Fits.{Fits};
+ghost use Rattle.beas_core.specs.Results.{Gives};
 ghost use Rattle.outside.specs.Seen.{IsLater};
 ghost use Rattle.session.specs.Announced.{announcement};
-ghost use Rattle.session.specs.Carrying.{Gives, Performs, reported};
+ghost use Rattle.session.specs.Carrying.{Performs, reported};
 ghost use Rattle.session.specs.Effects.{Effect, Does, action_of};
 ghost use Rattle.session.specs.Statements.{StatementIsWellFormed, TreeIsWellFormed};
 ghost use Rattle.session.specs.Turns.{IsWithin};

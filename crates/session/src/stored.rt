@@ -1,9 +1,9 @@
 // What the store has, in the terms of its database.
 ghost use Rattle.std.specs.Prelude.{◌≡◌, ◌<◌, ◌≤◌, length, IfOk};
+ghost use Rattle.beas_core.specs.Results.{Gives};
 ghost use Rattle.catalogue.specs.Database.{rows_at, schema_of};
 ghost use Rattle.catalogue.specs.Schema.{columns_at};
 ghost use Rattle.session.specs.Stores.{database_in};
-ghost use Rattle.session.specs.Carrying.{Gives};
 ghost use Rattle.session.specs.Effects.{table_or_refusal};
 
 use beas_core::{Column, Duplicate, Fail, List, Name, Refusal, TableId};

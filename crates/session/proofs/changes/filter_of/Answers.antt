@@ -1,13 +1,13 @@
 use Rattle.std.proofs.Common.{◌≡◌, ◌<◌, length, subst, sym}
 use Rattle.beas_core.specs.declared.query.Block.{Block}
 use Rattle.beas_core.specs.Shapes.{width_of}
+use Rattle.beas_core.specs.Results.{Gives}
 use Rattle.binder.specs.Binding.{bound_delete, delete_refusals}
 use Rattle.catalogue.specs.Database.{block_table, schema_of}
 use Rattle.catalogue.specs.Queries.{BlockIsOver}
 use Rattle.catalogue.specs.Schema.{columns_at}
 use Rattle.session.specs.Stores.{database_in}
 use Rattle.session.specs.Announced.{unless_refused}
-use Rattle.session.specs.Carrying.{Gives}
 use Rattle.session.proofs.GivenFacts.{given, ok_both}
 use Rattle.session.proofs.StoreFacts.{block_is_live, block_is_wide, schema_is_catalogue}
 use Rattle.session.proofs.changes.filter_of.Goals as goal

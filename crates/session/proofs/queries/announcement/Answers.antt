@@ -3,10 +3,8 @@ use Rattle.std.proofs.lemmas.Result.{err_from_is_err_and}
 use Rattle.beas_core.specs.declared.errors.Fail.TheVariants.{Refused}
 use Rattle.beas_core.specs.declared.plan.Prepared.{Prepared}
 use Rattle.beas_core.specs.Fits.{Fits}
-use Rattle.plan_builder.specs.Preparation.{preparation}
 use Rattle.session.proofs.AnnouncedFacts.{announced, announced_unbound, announced_unprepared, within_same}
 use Rattle.session.proofs.CarryFacts.{failed}
-use Rattle.session.proofs.GivenFacts.{prepares_gives}
 use Rattle.session.proofs.queries.announcement.Goals as goal
 
 pub returns-in_err-query-clause-announced : goal.returns-in_err-query-clause-announced
@@ -22,7 +20,7 @@ returns-in_err-prepared-clause-announced c =
     let x = c.in_err-prepared.field-0.0 in
     rw (p.1, p.2)
     (announced_unprepared c.args.settings.now.limits.now c.args.settings.now.budget c.args.catalogue.now c.args.tree.now query c.in_ok-query.ensures.refused c.in_ok-query.ensures.query x
-    (prepares_gives (failed Prepared x) (preparation c.args.catalogue.now query) c.in_err-prepared.ensures.prepared))
+    c.in_err-prepared.ensures.prepared)
 
 pub returns-in_err-refuse_above-clause-announced : goal.returns-in_err-refuse_above-clause-announced
 returns-in_err-refuse_above-clause-announced c =

@@ -3,11 +3,11 @@ use Rattle.std.proofs.lemmas.Result.{IfOk-weaker}
 use Rattle.beas_core.specs.declared.plan.Prepared.{Prepared}
 use Rattle.beas_core.specs.Fits.{Fits}
 use Rattle.beas_core.specs.Types.{TableRows}
+use Rattle.beas_core.specs.Results.{Gives}
 use Rattle.catalogue.specs.Database.{rows_at}
 use Rattle.catalogue.specs.Queries.{RowsAreWide}
 use Rattle.session.specs.Stores.{database_in}
 use Rattle.session.specs.Announced.{announcement}
-use Rattle.session.specs.Carrying.{Gives}
 use Rattle.session.proofs.StoreFacts.{schema_is_catalogue, stored_rows_are_wide}
 use Rattle.session.proofs.queries.prepared_over.Goals as goal
 
