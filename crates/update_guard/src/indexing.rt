@@ -11,6 +11,7 @@ ghost use Rattle.beas_core.specs.Results.{IsRefusedAs};
 ghost use Rattle.update_guard.specs.Guarding.{IndexesOf};
 ghost use Rattle.catalogue.specs.Stored.{HoldOver};
 ghost use Rattle.update_guard.specs.Indexing.{AreIndexed, IsPlaceOn, no_access};
+ghost use Rattle.update_guard.specs.Inserting.{StayIndexed};
 
 use access_index::AccessIndex;
 use beas_core::{AccessId, NoMemory, Row, TableId};
@@ -169,9 +170,7 @@ pub fn add_all(
         → IndexesOf catalogue.now.accesses rows indexes.old.items → HoldOver catalogue.now.accesses rows
         → is_none (broken (accesses_on catalogue.now.accesses table) (slice_index_or rows table.0 [] ++ added.now))
         ≡ all) }
-    ensures err { OnErr result ((rows : List (List Tuple)) (front : List Tuple) → table.0 < length rows
-        → IndexesOf catalogue.now.accesses (slice_set rows table.0 front) indexes.old.items
-        → IndexesOf catalogue.now.accesses (slice_set rows table.0 front) indexes.new.items) }
+    ensures err { OnErr result (StayIndexed catalogue.now.accesses table indexes.old.items indexes.new.items) }
     ensures len { vec_len indexes.new ≡ vec_len indexes.old }
 {
     for k in 0..catalogue.ids_on(table).len() {

@@ -7,6 +7,7 @@ ghost use Rattle.beas_core.specs.Results.{IsRefusedAs, refused_if};
 ghost use Rattle.update_guard.specs.Guarding.{IndexesOf, IsGuarded};
 ghost use Rattle.catalogue.specs.Stored.{HoldOver};
 ghost use Rattle.update_guard.specs.Indexing.{SomeRows, AreOwn};
+ghost use Rattle.update_guard.specs.Inserting.{IsRefusedOver, TakeRows, StayIndexed, HoldWith};
 ghost use Rattle.std.specs.Option.{option_or};
 
 use crate::indexing::{add_all, add_row, first_broken, remove_rows};
@@ -41,12 +42,8 @@ fn put_row(
         → IndexesOf catalogue.now.accesses rows indexes.old.items → HoldOver catalogue.now.accesses rows
         → IsRefusedAs result (option_map (breaks_bound (number, row.now))
         (broken (accesses_on catalogue.now.accesses table) (slice_index_or rows table.0 [] ++ row.now ∷ []))) }
-    ensures added { OnOk result ((rows : List (List Tuple)) (front : List Tuple) → table.0 < length rows
-        → IndexesOf catalogue.now.accesses (slice_set rows table.0 front) indexes.old.items
-        → IndexesOf catalogue.now.accesses (slice_set rows table.0 (front ++ row.now ∷ [])) indexes.new.items) }
-    ensures err { OnErr result ((rows : List (List Tuple)) (front : List Tuple) → table.0 < length rows
-        → IndexesOf catalogue.now.accesses (slice_set rows table.0 front) indexes.old.items
-        → IndexesOf catalogue.now.accesses (slice_set rows table.0 front) indexes.new.items) }
+    ensures added { OnOk result (TakeRows catalogue.now.accesses table (row.now ∷ []) indexes.old.items indexes.new.items) }
+    ensures err { OnErr result (StayIndexed catalogue.now.accesses table indexes.old.items indexes.new.items) }
     ensures len { vec_len indexes.new ≡ vec_len indexes.old }
 {
     match first_broken(catalogue, table, indexes, row) {
@@ -72,19 +69,10 @@ fn add_each(
     requires few { length rows.now < 2 ^ 32 }
     requires wide { All (λ row. length row ≡ length (columns_at catalogue.now table)) rows.now }
     requires known { SomeRows catalogue.now.accesses table.0 (length rows.now) indexes.old.items }
-    ensures refused { (all : List (List Tuple)) → table.0 < length all
-        → IndexesOf catalogue.now.accesses all indexes.old.items → HoldOver catalogue.now.accesses all
-        → IsRefusedAs result
-        (broken_bound (accesses_on catalogue.now.accesses table) (slice_index_or all table.0 []) rows.now) }
-    ensures added { OnOk result ((all : List (List Tuple)) (front : List Tuple) → table.0 < length all
-        → IndexesOf catalogue.now.accesses (slice_set all table.0 front) indexes.old.items
-        → IndexesOf catalogue.now.accesses (slice_set all table.0 (front ++ rows.now)) indexes.new.items) }
-    ensures hold { OnOk result ((all : List (List Tuple)) → table.0 < length all
-        → IndexesOf catalogue.now.accesses all indexes.old.items → HoldOver catalogue.now.accesses all
-        → HoldOver catalogue.now.accesses (slice_set all table.0 (slice_index_or all table.0 [] ++ rows.now))) }
-    ensures err { OnErr result ((all : List (List Tuple)) (front : List Tuple) → table.0 < length all
-        → IndexesOf catalogue.now.accesses (slice_set all table.0 front) indexes.old.items
-        → IndexesOf catalogue.now.accesses (slice_set all table.0 front) indexes.new.items) }
+    ensures refused { IsRefusedOver catalogue.now.accesses table rows.now result indexes.old.items }
+    ensures added { OnOk result (TakeRows catalogue.now.accesses table rows.now indexes.old.items indexes.new.items) }
+    ensures hold { OnOk result (HoldWith catalogue.now.accesses table rows.now indexes.old.items) }
+    ensures err { OnErr result (StayIndexed catalogue.now.accesses table indexes.old.items indexes.new.items) }
     ensures len { vec_len indexes.new ≡ vec_len indexes.old }
 {
     for (i, row) in rows.iter().enumerate() {
@@ -115,19 +103,10 @@ pub fn add_rows(
     requires few { length rows.now < 2 ^ 32 }
     requires wide { All (λ row. length row ≡ length (columns_at catalogue.now table)) rows.now }
     requires known { SomeRows catalogue.now.accesses table.0 (length rows.now) indexes.old.items }
-    ensures refused { (all : List (List Tuple)) → table.0 < length all
-        → IndexesOf catalogue.now.accesses all indexes.old.items → HoldOver catalogue.now.accesses all
-        → IsRefusedAs result
-        (broken_bound (accesses_on catalogue.now.accesses table) (slice_index_or all table.0 []) rows.now) }
-    ensures added { OnOk result ((all : List (List Tuple)) (front : List Tuple) → table.0 < length all
-        → IndexesOf catalogue.now.accesses (slice_set all table.0 front) indexes.old.items
-        → IndexesOf catalogue.now.accesses (slice_set all table.0 (front ++ rows.now)) indexes.new.items) }
-    ensures hold { OnOk result ((all : List (List Tuple)) → table.0 < length all
-        → IndexesOf catalogue.now.accesses all indexes.old.items → HoldOver catalogue.now.accesses all
-        → HoldOver catalogue.now.accesses (slice_set all table.0 (slice_index_or all table.0 [] ++ rows.now))) }
-    ensures err { OnErr result ((all : List (List Tuple)) (front : List Tuple) → table.0 < length all
-        → IndexesOf catalogue.now.accesses (slice_set all table.0 front) indexes.old.items
-        → IndexesOf catalogue.now.accesses (slice_set all table.0 front) indexes.new.items) }
+    ensures refused { IsRefusedOver catalogue.now.accesses table rows.now result indexes.old.items }
+    ensures added { OnOk result (TakeRows catalogue.now.accesses table rows.now indexes.old.items indexes.new.items) }
+    ensures hold { OnOk result (HoldWith catalogue.now.accesses table rows.now indexes.old.items) }
+    ensures err { OnErr result (StayIndexed catalogue.now.accesses table indexes.old.items indexes.new.items) }
     ensures len { vec_len indexes.new ≡ vec_len indexes.old }
 {
     if rows.len() < MANY {
