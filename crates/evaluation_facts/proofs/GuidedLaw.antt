@@ -78,7 +78,7 @@ module _ (rows : TableRows) where
   block_in_order (Minus l r) = IsInOrder-filter row_cmp (λ row. not (list_any (same_row row) (full_of rows r))) (full_of rows l) (block_in_order l)
 
   module _ (guided : List Bool) where
-    answers_in_order : (n : ℕ) (guide : Guide) (t : QueryTree) → IsInOrder row_cmp (answers rows guided n guide t)
+    pub answers_in_order : (n : ℕ) (guide : Guide) (t : QueryTree) → IsInOrder row_cmp (answers rows guided n guide t)
     answers_in_order n guide (Single block) = in_order-inside (guide_of guided n guide) (full_of_block rows block) (block_in_order (Single block))
     answers_in_order n guide (Either l r) = IsInOrder-distinct row_cmp_total row_cmp_tells
         (answers rows guided n guide l ++ answers rows guided (after n l) guide r)

@@ -98,11 +98,11 @@ module _ (rows : TableRows) (accesses : List Access) (guided : List Bool) (plans
     abbrev own : Guide
     own = guide_of guided n guide
 
-    fits : GuideFits normal own × (length (starts normal own) ≤ start_size guided n b)
+    pub fits : GuideFits normal own × (length (starts normal own) ≤ start_size guided n b)
     unfolding normal_of
     fits = chosen_fits (normal_of block) width b (is_guided guided n) guide wide guides
 
-    started : IsSound normal accesses (start_classes normal (is_some own)) steps
+    pub started : IsSound normal accesses (start_classes normal (is_some own)) steps
     started = subst (λ f. IsSound normal accesses (start_classes normal f) steps) (sym (chosen_some (is_guided guided n) guide has)) plan.sound
 
     each : steps_are_sound normal accesses (start_classes normal (is_some own)) steps ≡ true
@@ -114,7 +114,7 @@ module _ (rows : TableRows) (accesses : List Access) (guided : List Bool) (plans
     formed s h = All-contains (λ t. AccessIsWellFormed (width_of block.atoms t.atom) (access_in accesses t.access)) steps s plan.well_formed
         (Contains-from_has steps s h)
 
-    block_answers : answers_of rows normal accesses own steps ≡ inside own (full_of_block rows block)
+    pub block_answers : answers_of rows normal accesses own steps ≡ inside own (full_of_block rows block)
     block_answers = answers_are_inside rows block shape accesses steps own fits.0 started formed
 
     outputs_few : length (answers_of rows normal accesses own steps) ≤ length (valuations rows normal accesses own steps)
@@ -142,7 +142,7 @@ module _ (rows : TableRows) (accesses : List Access) (guided : List Bool) (plans
         let e = block_reads_are rows accesses guided plans n guide block in
         omega (arith, r, e)
 
-  wide_answers : (width n : ℕ) (guide : Guide) (t : QueryTree) → Shaped width t → Wide width (answers rows guided n guide t)
+  pub wide_answers : (width n : ℕ) (guide : Guide) (t : QueryTree) → Shaped width t → Wide width (answers rows guided n guide t)
   wide_answers width n guide (Single block) shaped row h =
       Wide-inside (length block.output) (guide_of guided n guide) (full_of_block rows block) (Wide-block rows block) row h ∙ (shaped block (inl refl)).1
   wide_answers width n guide (Either l r) shaped row h =
