@@ -4,7 +4,7 @@
 mod bounds;
 mod sizes;
 
-ghost use Rattle.std.specs.Prelude.{◌≡◌, ◌+◌, ◌*◌, ◌≤◌, ◌^◌, MatchOption, MatchResult, sum_by, if◌then◌else◌};
+ghost use Rattle.std.specs.Prelude.{◌≡◌, ◌+◌, ◌*◌, ◌≤◌, ◌<◌, ◌^◌, IfSome, MatchOption, MatchResult, sum_by, if◌then◌else◌};
 ghost use Rattle.beas_core.specs.declared.refusal.Refusal.TheVariants.{TooLarge};
 ghost use Rattle.beas_core.specs.Numbers.{announced_from, last_size};
 ghost use Rattle.beas_core.specs.Shapes.{EachIdOnce};
@@ -17,7 +17,8 @@ pub use sizes::size;
 
 /// The sizes with one more step. Nothing where the reads pass 2^128 - 1.
 pub fn with_step(sizes: Sizes, adds: bool, bound: u32) -> Option<Sizes>
-    ensures { MatchOption result (2 ^ 128 ≤ sizes.reads + sizes.last * bound)
+    ensures small { IfSome result (λ next. next.reads < 2 ^ 128) }
+    ensures sizes { MatchOption result (2 ^ 128 ≤ sizes.reads + sizes.last * bound)
         (λ next. next ≡ record {
           reads = sizes.reads + sizes.last * bound;
           last = if adds then sizes.last * bound else sizes.last;

@@ -1,25 +1,22 @@
 -- Dropping steps, by their uses alone.
-use Rattle.std.proofs.Common.{◌≡◌, ◌&&◌, ◌+◌, ◌*◌, ◌==◌, ◌<◌, ◌≤◌, ◌^◌, ℕ, zero, suc, Bool, true, false, not, cond, nat_lt, List, [], ◌∷◌, ◌++◌, length, map, take, drop, fold, Option, Some, None, refl, ap, sym, ◌∙◌, subst, arith}
+use Rattle.std.proofs.Common.{◌≡◌, ◌&&◌, ◌+◌, ◌*◌, ◌==◌, ℕ, zero, suc, Bool, true, false, not, cond, nat_lt, List, [], ◌∷◌, ◌++◌, length, map, take, drop, refl, ap, sym, ◌∙◌, subst}
 use Rattle.std.specs.List.{list_all, list_any}
-use Rattle.std.specs.Option.{option_map}
-use Rattle.std.specs.Prelude.{min, MatchOption}
 use Rattle.std.proofs.lemmas.List.{map-append, length-map}
 use Rattle.std.proofs.lemmas.Bool.{eqb-true}
-use Rattle.std.proofs.lemmas.Bool.Decides.{nat_tests}
 use Rattle.beas_core.specs.declared.schema.Access.{Access}
 use Rattle.beas_core.specs.declared.schema.AccessId.{AccessId}
 use Rattle.beas_core.specs.declared.plan.DStep.{DStep}
 use Rattle.beas_core.specs.declared.plan.Normal.{Normal}
 use Rattle.beas_core.specs.Types.{ClassSet, Use}
-use Rattle.beas_core.specs.Coverage.{atoms_of, holds_classes, is_open, key_classes, needed_places}
-use Rattle.beas_core.specs.Derivations.{access_in, adds_class, adds_rightly, bound_after, bound_by, each_step, is_on_table, is_served_by, is_sound, key_is_bound, greedy_steps, step_of, steps_are_sound, use_of, with_use, IsSound}
-use Rattle.beas_core.specs.Numbers.{announced_from, cap, size_after}
-use Rattle.beas_core.specs.Pruning.{capped_number, derivation, may_go, pruned, pruned_at, pruned_below, shorter, with_adds, without}
+use Rattle.beas_core.specs.Coverage.{atoms_of, is_open, needed_places}
+use Rattle.beas_core.specs.Derivations.{access_in, adds_class, adds_rightly, bound_after, bound_by, each_step, is_on_table, is_served_by, is_sound, key_is_bound, use_of, IsSound}
+use Rattle.beas_core.specs.Numbers.{announced_from, cap}
+use Rattle.beas_core.specs.Pruning.{capped_number, may_go, pruned, pruned_at, pruned_below, shorter, with_adds, without}
 use Rattle.beas_core.proofs.Accesses.{access_in-first, access_in-rest}
 use Rattle.evaluation_facts.proofs.MemberTests.{and_both, and_left, and_right}
 use Rattle.evaluation_facts.proofs.SoundParts.{sound_parts}
 use Rattle.plan_builder.specs.Plans.{served_among}
-use Rattle.plan_builder.specs.Trials.{all_are_served, are_sound, binds_needed, capped_uses, keys_are_bound, more_size, number_from, number_or_cap, set_after, steps_from, use_may_go, uses_pruned, uses_pruned_at, uses_pruned_below, uses_without}
+use Rattle.plan_builder.specs.Trials.{all_are_served, are_sound, binds_needed, capped_uses, keys_are_bound, more_size, number_from, set_after, steps_from, use_may_go, uses_pruned, uses_pruned_at, uses_pruned_below, uses_without}
 use Rattle.plan_builder.proofs.Turns.{served_same}
 
 -- ---- lists without an item

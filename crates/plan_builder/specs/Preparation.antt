@@ -6,7 +6,7 @@
 --     preparation_with schema accesses constraints query the query with its header, and of each block its normal form, its derivation and
 --                                                        whether it is guided, unless a block isn't covered or the number passes 2^128 - 1
 --     preparation schema query                           so it is prepared, where each block may use all live constraints
-use Rattle.std.specs.Prelude.{◌≡◌, ◌+◌, ◌^◌, if◌then◌else◌, nat_le, Bool, ℕ, List, [], ◌∷◌, map, slice_index_or, Option, Some, None, Result, Ok, Err, unwrap_or}
+use Rattle.std.specs.Prelude.{◌+◌, ◌^◌, if◌then◌else◌, nat_le, Bool, ℕ, List, [], ◌∷◌, map, slice_index_or, Option, Some, None, Result, Ok, Err, unwrap_or}
 use Rattle.beas_core.specs.declared.schema.Access.{Access}
 use Rattle.beas_core.specs.declared.schema.ColumnId.{ColumnId}
 use Rattle.beas_core.specs.declared.schema.TableId.{TableId}

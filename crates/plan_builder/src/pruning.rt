@@ -1,5 +1,6 @@
 // Steps that a derivation does without: each is tried, from the last to the first, by the uses of constraints alone.
-ghost use Rattle.std.specs.Prelude.{◌≡◌, ◌≤◌, ◌<◌, ◌^◌, All, IfOk, IsTrue, MatchOption, OnTrue, length, map, nat_lt, not};
+ghost use Rattle.std.specs.Prelude.{◌≡◌, ◌≤◌, ◌<◌, ◌^◌, All, IfOk, IfSome, IsTrue, MatchOption, length, map, nat_lt, not};
+ghost use Rattle.std.specs.Bool.{OnTrue};
 ghost use Rattle.beas_core.specs.Derivations.{IsSound, is_live, use_of};
 ghost use Rattle.beas_core.specs.Pruning.{pruned};
 ghost use Rattle.beas_core.specs.Shapes.{EachIdOnce};
@@ -38,6 +39,7 @@ fn uses_of_steps<'a>(
 }
 
 // Adds the classes of each use to the set. False where the set doesn't hold the key of one when it comes up.
+#[tactic(auto, using(crate::proofs::DropTurns::keys_broken, crate::proofs::DropTurns::keys_go_on, crate::proofs::DropTurns::set_goes_on, crate::proofs::DropTurns::keys_end, crate::proofs::DropTurns::set_end))]
 fn keys_are_bound(block: &Normal, uses: &[UseAt<'_>], set: &mut [bool]) -> bool
     ensures keys { result ≡ all_keys_are_bound block.now set.old (map as_use uses.now) }
     ensures set { OnTrue result (set.new ≡ set_after block.now set.old (map as_use uses.now)) }
@@ -51,6 +53,7 @@ fn keys_are_bound(block: &Normal, uses: &[UseAt<'_>], set: &mut [bool]) -> bool
     true
 }
 
+#[tactic(auto, using(crate::proofs::DropTurns::served_broken, crate::proofs::DropTurns::served_goes_on, crate::proofs::DropTurns::served_end))]
 fn all_served(block: &Normal, uses: &[UseAt<'_>]) -> bool
     requires { length block.now.atoms < 65536 }
     ensures { result ≡ all_are_served block.now (map as_use uses.now) }
@@ -61,6 +64,20 @@ fn all_served(block: &Normal, uses: &[UseAt<'_>]) -> bool
         }
     }
     true
+}
+
+fn bind_all(block: &Normal, uses: &[UseAt<'_>], set: &mut [bool]) -> bool
+    requires atoms { length block.now.atoms < 65536 }
+    requires needed { length block.now.needed ≤ 65536 }
+    ensures { result ≡ are_sound block.now set.old (map as_use uses.now) }
+{
+    if !keys_are_bound(block, uses, set) {
+        return false;
+    }
+    match open_place(block, set) {
+        Some(_place) => false,
+        None => all_served(block, uses),
+    }
 }
 
 fn is_sound(
@@ -74,19 +91,15 @@ fn is_sound(
     ensures { IfOk result (λ sound. sound ≡ are_sound block.now start.now (map as_use uses.now)) }
 {
     let mut set = Vec::from_slice(alloc, start)?;
-    if !keys_are_bound(block, uses, &mut set) {
-        return Ok(false);
-    }
-    match open_place(block, &set) {
-        Some(_place) => Ok(false),
-        None => Ok(all_served(block, uses)),
-    }
+    Ok(bind_all(block, uses, &mut set))
 }
 
 // The reads of the steps at most, where one valuation stands before the first. Nothing where they pass 2^128 - 1.
+#[tactic(auto, using(crate::proofs::DropTurns::number_goes_on, crate::proofs::DropTurns::number_end))]
 fn reads_of(block: &Normal, uses: &[UseAt<'_>], set: &mut [bool]) -> Option<u128>
-    ensures { MatchOption result (2 ^ 128 ≤ number_from block.now set.old 1 (map as_use uses.now))
+    ensures reads { MatchOption result (2 ^ 128 ≤ number_from block.now set.old 1 (map as_use uses.now))
         (λ reads. reads ≡ number_from block.now set.old 1 (map as_use uses.now)) }
+    ensures small { IfSome result (λ reads. reads < 2 ^ 128) }
 {
     let mut sizes = Sizes { reads: 0, last: 1 };
     for found in uses {
@@ -97,6 +110,7 @@ fn reads_of(block: &Normal, uses: &[UseAt<'_>], set: &mut [bool]) -> Option<u128
     Some(sizes.reads)
 }
 
+#[tactic(auto, using(crate::proofs::DropTurns::number_is_capped))]
 fn number_of(
     alloc: Global,
     block: &Normal,
@@ -122,11 +136,7 @@ fn is_no_greater(number: Option<u128>, most: Option<u128>) -> bool
     }
 }
 
-fn without<'a>(
-    alloc: Global,
-    place: usize,
-    uses: &[UseAt<'a>],
-) -> Result<List<UseAt<'a>>, NoMemory>
+fn without<'a>(alloc: Global, place: usize, uses: &[UseAt<'a>]) -> Result<List<UseAt<'a>>, NoMemory>
     requires { place < length uses.now }
     ensures { IfOk result (λ less. less ≡ uses_without place uses.now) }
 {
@@ -146,7 +156,7 @@ fn pruned_at<'a>(
     requires atoms { length block.now.atoms < 65536 }
     requires needed { length block.now.needed ≤ 65536 }
     requires place { place < length kept }
-    ensures { IfOk result (λ left.
+    ensures left { IfOk result (λ left.
         map as_use left ≡ uses_pruned_at block.now start.now place (map as_use kept.entry)) }
     ensures length { IfOk result (λ left. place ≤ length left) }
 {
@@ -182,6 +192,7 @@ fn prune<'a>(
     Ok(kept)
 }
 
+#[tactic(auto, using(crate::proofs::DropTurns::steps_go_on, crate::proofs::DropTurns::steps_end))]
 fn steps_of(
     alloc: Global,
     block: &Normal,
