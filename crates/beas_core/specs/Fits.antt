@@ -1,10 +1,10 @@
 -- When a prepared query fits the constraints and the rows that it is run over.
 --     PreparedIsWellFormed prepared     its query is well formed, its normals, derivations and flags are one for each block, and a block is
---                                       guided only where it has a guide: no word of a port
---     PlanFits accesses prepared        so it is, its derivations are sound over these constraints, and its bound is the announced number
---     Fits accesses rows prepared       so it is, and each row of an atom's table has the atom's width
---     KeepsConstraints old new plans    each step's constraint is live, and as it was
---     KeepsRows old new t               so are the rows of each table that the query names
+--                                       guided only where it has a guide. It speaks of no port
+--     PlanFits accesses prepared        it is well formed, its derivations are sound over these constraints, and its bound is the announced number
+--     Fits accesses rows prepared       its plan fits, and each row of an atom's table has the atom's width
+--     KeepsConstraints old new plans    each step's constraint is live in the new list, and is the one that it was in the old
+--     KeepsRows old new t               each table that the query names has the rows that it had
 use Rattle.std.specs.Prelude.{◌≡◌, ◌≤◌, Bool, true, false, ℕ, List, length, map, All, Contains, IsTrue}
 use Rattle.beas_core.specs.declared.schema.Access.{Access}
 use Rattle.beas_core.specs.declared.query.Block.{Block}

@@ -1,10 +1,10 @@
 -- Which blocks of a query are guided, and which are covered. A EXCEPT B is A without what B shares with A, so that the answers of A may
 -- guide the fetches of B: going up from a block, the left side of the first EXCEPT in whose right side it stands is its guide. Blocks are
 -- numbered from left to right from 0 on.
---     has_guides has t                     of each block whether it has a guide, where the whole tree has one or not
+--     has_guides has t                     of each block whether it has a guide, where `has` says it of the whole tree
 --     BlockTask                            a block to be planned: its normal form, the constraints that it may use, and whether it has a guide
 --     block_tasks constraints t            the blocks of a query as tasks; `constraints n` are those that block n may use
---     is_guided_task task                  the block has a guide, and isn't covered by itself: its guide's answers are among its starts
+--     is_guided_task task                  the block has a guide, and isn't covered by itself: it starts from its guide's answers
 --     task_start, task_reason, task_steps  the classes that are bound before its first step, why it isn't covered from there, its derivation
 --     first_uncovered tasks                the first block that isn't covered, with its reason
 use Rattle.std.specs.Prelude.{◌&&◌, ◌+◌, Bool, true, false, not, ℕ, List, [], ◌∷◌, ◌++◌, length, Option, Some, None, option_map}

@@ -1,7 +1,7 @@
 -- Which steps of a derivation may go.
 --     with_adds normal accesses set steps          the steps, each saying anew whether it adds a class, from a set of bound classes on
 --     shorter normal accesses start n steps        the steps but for the one at place n, each saying anew whether it adds a class
---     capped_number accesses steps                 the announced number from one valuation on, or 2^128 where it is greater
+--     capped_number accesses steps                 the announced number where one valuation stands before the first step, or 2^128 where it is greater
 --     may_go normal accesses start n steps         without it the steps are sound, and their capped number is no greater
 --     pruned normal accesses start steps           the steps that are left after each, from the last to the first, has gone where it may
 --     derivation normal accesses start             the canonical derivation, nothing where the block isn't covered
@@ -38,7 +38,7 @@ may_go normal accesses start n steps =
 abbrev pub pruned_at : Normal → List Access → ClassSet → ℕ → List DStep → List DStep
 pruned_at normal accesses start n steps = if may_go normal accesses start n steps then shorter normal accesses start n steps else steps
 
--- the steps at places below n are tried, the last first; what has gone stood after the place that is tried
+-- the steps at places below n are tried, the last first, so that places up to the one that is tried are as they were
 abbrev pub pruned_below : Normal → List Access → ClassSet → ℕ → List DStep → List DStep
 pruned_below normal accesses start zero steps = steps
 pruned_below normal accesses start (suc n) steps = pruned_below normal accesses start n (pruned_at normal accesses start n steps)

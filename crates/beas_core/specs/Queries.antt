@@ -1,11 +1,11 @@
--- What a query answers, and what it takes: over its tree, whose blocks are numbered from left to right. `guided` says of each block whether
+-- What a query answers, and how many reads it takes: over its tree, whose blocks are numbered from left to right. `guided` says of each block whether
 -- it is guided (Guiding), `plans` has the derivation of each, n is the number of a tree's first block, and `guide` are the answers of the
 -- tree's guide, none where it has none. In a query without EXCEPT no block has a guide. The steps' constraints are found by id in one
--- list, so no id stands for two.
---     answers rows guided n guide t                     the rows of its full answer that stand in its guide, where a guided block is asked alone
---     size_of accesses guided plans n b t               how many rows it answers at most, where its guide has at most b
+-- list, in which no two may have one id.
+--     answers rows guided n guide t                     its answers: a guided block gives those alone that stand in its guide's answers
+--     size_of accesses guided plans n b t               how many rows it answers at most, where its guide has at most b answers
 --     announced_in accesses guided plans n b t          how many reads it takes at most
---     probes_in rows accesses guided plans n guide t    its probes, each with its block and its step: those that are due from first to last
+--     probes_in rows accesses guided plans n guide t    its probes, each with its block and its step: block by block, step by step, keys in order
 --     reads_in rows accesses guided plans n guide t     for each probe the greater of 1 and the size of its group, summed
 -- and of a query as a whole, which has no guide:
 --     query_answers, query_size, query_bound, query_probes, query_reads

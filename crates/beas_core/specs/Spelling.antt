@@ -1,8 +1,8 @@
--- What texts spell: identifiers, and the bound of a constraint.
+-- What texts spell: identifiers, and numbers within a range.
 --     is_name text       the text is an identifier in lower case: a word that isn't reserved
 --     name_of text       the text in lower case, where it is an identifier
 --     number_within least most digits    the value of decimal digits alone, where it is from least to most
---     limit_in digits    that of a constraint's bound, from 1 to 4294967295
+--     limit_in digits    the bound of a constraint: a number from 1 to 4294967295
 use Rattle.std.specs.Prelude.{◌&&◌, ◌||◌, ◌==◌, Bool, not, if◌then◌else◌, nat_le, ℕ, List, [], ◌∷◌, length, codes, Option, Some, None, slice_index}
 use Rattle.std.specs.List.{list_any, list_all}
 use Rattle.std.specs.Char.{is_ascii_digit, is_ascii_alphabetic, is_ascii_uppercase}

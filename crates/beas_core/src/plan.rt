@@ -46,7 +46,7 @@ pub struct Sizes {
 }
 
 /// A query with all that is announced of it: the header, and for each block from left to right its normal form, its
-/// derivation and whether the answers of its guide are among its starts. `bound` is the greatest number of reads.
+/// derivation and whether it starts from the answers of its guide. `bound` is the greatest number of reads.
 #[derive(Drop)]
 pub struct Prepared {
     pub query: Query,
@@ -54,7 +54,7 @@ pub struct Prepared {
     pub normals: List<Normal>,
     pub derivations: List<Derivation>,
     pub bound: u128,
-    /// A block can be guided only where it stands in the right side of an EXCEPT.
+    /// Of each block whether it is guided: only one in the right side of an EXCEPT can be.
     pub guided: List<bool>,
 }
 
