@@ -150,9 +150,9 @@ pub record HasCause (words : List (List ℕ)) (status : ℕ) (before after : Mom
   -- there are no others
   pub statuses : status ≤ 7
   -- words that are refused end with 2, unless memory runs out
-  pub words : args_of words ≡ None → (status ≡ 2) ⊎ (status ≡ 5)
+  pub refused : args_of words ≡ None → (status ≡ 2) ⊎ (status ≡ 5)
   -- and no others do
-  pub words_alone : status ≡ 2 → args_of words ≡ None
+  pub refused_alone : status ≡ 2 → args_of words ≡ None
   -- 3: the file that the words name failed
   pub unread : status ≡ 3 → IsSomeAnd (script_name words) (λ name. Rose (before.files.faults name) (after.files.faults name))
   -- 4: the output failed
