@@ -1,5 +1,5 @@
 -- What a run does with what the words ask for, and what it says where there is no text.
-use Rattle.std.proofs.Common.{◌≡◌, ◌≢◌, ◌≤◌, ◌<◌, ◌⊎◌, ◌∙◌, ap, sym, subst, refl, inl, inr, ℕ, Bool, List, Option, Some, None, false, length, arith}
+use Rattle.std.proofs.Common.{◌≡◌, ◌≤◌, ◌<◌, ◌⊎◌, ◌∙◌, ap, sym, subst, refl, inl, inr, ℕ, Bool, List, Option, Some, None, false, length, arith}
 use Rattle.std.specs.Prelude.{option_and_then}
 use Rattle.std.specs.Option.{option_map_or}
 use Rattle.std.specs.Str.{IsUtf8}
@@ -16,7 +16,7 @@ use Rattle.beas_run.specs.declared.no_script.NoScript.TheVariants.{Words, Unread
 use Rattle.beas_run.specs.declared.script_source.Source.{Source}
 use Rattle.beas_run.specs.Demonstrations.{Demonstrated}
 use Rattle.beas_run.specs.NoScripts.{status_of}
-use Rattle.beas_run.specs.Runs.{seed_of, demo_seed, settings_for, settings_of_words, longest_script, HasRun, IsNoText, IsScriptOf, IsTooLong, IsWith, IsWithout, WalkedFor}
+use Rattle.beas_run.specs.Runs.{seed_of, demo_seed, settings_for, settings_of_words, longest_script, HasRun, IsNoText, IsScriptOf, IsTooLong, IsWith, WalkedFor}
 use Rattle.beas_run.specs.Readings.{readings_of}
 use Rattle.beas_run.specs.Sources.{HasNoScript, IsSource, DemoReadsNothing, RanOver}
 use Rattle.beas_run.specs.Walks.{Moment}

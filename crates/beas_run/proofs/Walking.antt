@@ -1,5 +1,5 @@
 -- Where a run is in the turns of its script, before one that takes the reports, and the line of their totals.
-use Rattle.std.proofs.Common.{◌≡◌, ◌≢◌, ◌<◌, ◌≤◌, ◌+◌, ◌++◌, ◌||◌, ◌⊎◌, ◌∙◌, sym, ap, subst, refl, inl, inr, ℕ, Bool, true, false, List, [], ◌∷◌, Ok, Err, Result, map, arith, append-nil}
+use Rattle.std.proofs.Common.{◌≡◌, ◌≢◌, ◌<◌, ◌≤◌, ◌+◌, ◌++◌, ◌||◌, ◌⊎◌, ◌∙◌, sym, ap, subst, refl, inl, inr, ℕ, Bool, true, false, List, [], ◌∷◌, Ok, Err, Result, arith, append-nil}
 use Rattle.std.proofs.lemmas.List.{length-map, map-append}
 use Rattle.demo_gen.specs.Summaries.{Totals, summary_text}
 use Rattle.outside.specs.Counts.{Rose}
@@ -16,7 +16,7 @@ use Rattle.beas_run.specs.Endings.{status_of}
 use Rattle.beas_run.specs.Pieces.{IsReported, IsUndone, IsUnreported}
 use Rattle.beas_run.specs.Readings.{Reading}
 use Rattle.beas_run.specs.Scripts.{action_for, turns}
-use Rattle.beas_run.specs.Walks.{Moment, Walked, WalkedBefore}
+use Rattle.beas_run.specs.Walks.{Moment, WalkedBefore}
 use Rattle.beas_run.proofs.Reached.{Reached, begun, begun_done, ended, ended_turns, more, more_done, status_for, stopped_in_report, stopped_in_statement, unstarted}
 
 -- these turns are done, and their reports taken
@@ -55,7 +55,7 @@ walk_more took took_after s here all rest reading place refused is before now af
     record {
       reached = more s all rest reading place refused is took took_after before now after w.reached p later told;
       took_these =
-          subst took
+          subst took_after
           (sym (map-append (λ (u : Turn). u.effect.report) done (t ∷ []))
           ∙ ap reports_in (sym (more_done s all rest reading place refused is took took_after before now after w.reached p later told)))
           (p.took (reports_in done) w.took_these);
@@ -138,7 +138,8 @@ module _ (s : Settings) (readings : List Reading) (sum : Totals) (before after :
       record {
         ended = status_of (Ok refused);
         walked = counted.walked;
-        whole = λ below. (whole_ended status (status_of (Ok refused)) below ended, λ on. put.whole below on ∙ ap (λ (t : Totals). before.out.bytes ++ summary_text t) same);
+        whole = λ below. (whole_ended status (status_of (Ok refused)) below ended,
+            λ on. put.whole below on ∙ ap (λ (t : Totals). before.out.bytes ++ summary_text t) same);
         part = λ on. subst (λ (t : Totals). SentPart before.out.bytes after.out.bytes (summary_text t)) same (put.part on);
         unsent = λ early fault. put.unsent (out_of_memory status (status_of (Ok refused)) late early fault ended);
         early = λ early. absurd (omega arith);

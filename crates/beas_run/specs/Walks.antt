@@ -5,7 +5,7 @@
 --     Follows ..                         the one or the other, with what holds of both
 --     Walked settings readings ..        so for the turns of these readings and some outcomes of the loads of files
 --     WalkedBefore took ..               the same, before one that takes the reports
-use Rattle.std.specs.Prelude.{◌≡◌, ◌≢◌, ◌<◌, ◌≤◌, ◌+◌, ◌++◌, ◌⊎◌, if◌then◌else◌, ℕ, Bool, true, List, [], ◌∷◌, length, take, All}
+use Rattle.std.specs.Prelude.{◌≡◌, ◌≢◌, ◌<◌, ◌≤◌, ◌+◌, ◌++◌, ◌⊎◌, if◌then◌else◌, ℕ, true, List, [], ◌∷◌, length, take, All}
 use Rattle.outside.specs.Parts.{SentPart}
 use Rattle.outside.specs.Seen.{Seen, Sent}
 use Rattle.report.specs.declared.reports.Report.{Report}

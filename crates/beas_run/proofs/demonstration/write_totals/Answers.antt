@@ -1,4 +1,4 @@
-use Rattle.std.proofs.Common.{ap, refl, subst}
+use Rattle.std.proofs.Common.{ap, refl, subst, Err}
 use Rattle.outside.specs.Seen.{Sent}
 use Rattle.beas_run.proofs.Walking.{IsPut, demonstrated, unfinished}
 use Rattle.beas_run.proofs.demonstration.write_totals.Goals as goal
@@ -15,4 +15,4 @@ returns-in-Ok-clause-demonstrated g c =
 pub returns-in-Err-clause-demonstrated : goal.returns-in-Err-clause-demonstrated
 returns-in-Err-clause-demonstrated g c =
     let same = ap g.O.Sink.seen (c.walk.ensures.unused (λ _. refl)) in
-    unfinished _ _ c.walk.new.audience.summary _ _ _ c.in-Err.ensures.walked c.in-Err.ensures.fault (λ _. ap (λ (m : Sent). m.bytes) same)
+    unfinished _ _ c.walk.new.audience.summary _ _ _ c.in-Err.ensures.walked (λ e. c.in-Err.ensures.fault (ap Err e)) (λ _. ap (λ (m : Sent). m.bytes) same)

@@ -1,4 +1,4 @@
-use Rattle.std.proofs.Common.{◌≡◌, ◌≤◌, ◌<◌, ◌+◌, ◌∙◌, ap, subst, refl, arith, ℕ, Bool, List, Ok, Err, true, false, length, drop, drop-cons, add-one, [], ◌∷◌, get_or}
+use Rattle.std.proofs.Common.{◌≡◌, ◌≤◌, ◌<◌, ◌+◌, ◌∙◌, ap, subst, refl, ℕ, Bool, List, Ok, Err, true, false, length, drop, drop-cons, add-one, [], ◌∷◌, get_or}
 use Rattle.std.specs.Prelude.{slice_range}
 use Rattle.std.proofs.Math.ListN.{drop_of_length-le}
 use Rattle.std.proofs.lemmas.Result.{err_from_is_err_and}
