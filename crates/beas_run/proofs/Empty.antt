@@ -159,7 +159,7 @@ ran limits words asked script status before after e silent has walked =
       walked = subst P (sym e) walked;
     }
 
--- a run over the script in the file that its words name, after the read of the file
+-- a run over the script in the file that its words name, after the load of the file
 pub ran_file : (limits : Limits) (words : List (List ℕ)) (path : List ℕ) (budget : Option ℕ) (explain : Bool) (script : List ℕ) (status : ℕ)
     (before after : Moment) (files : Seen)
     → args_of words ≡ Some (Script path budget explain)

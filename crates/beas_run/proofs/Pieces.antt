@@ -24,26 +24,29 @@ use Rattle.beas_run.proofs.Ties.{tied_none}
 
 -- ---- a piece that is a statement, and one that is none
 
-act_is : (s : Settings) (db : Database) (reading : Reading) (statement : Statement) → reading ≡ Ok statement → action_of s db statement ≡ action_for s db reading
+action_is : (s : Settings) (db : Database) (reading : Reading) (statement : Statement) → reading ≡ Ok statement
+    → action_of s db statement ≡ action_for s db reading
 unfolding action_for
-act_is s db reading statement e = ap (action_for s db) (sym e)
+action_is s db reading statement e = ap (action_for s db) (sym e)
 
 pub applied : (s : Settings) (db : Database) (reading : Reading) (statement : Statement) (limit : ℕ) (result : Result Report NoMemory) (after : Database)
     (m n : ℕ) (x y : Seen)
     → reading ≡ Ok statement → IfOk result (λ report. IsApplied limit (action_of s db statement) report after m n x y)
     → IfOk result (λ report. IsApplied limit (action_for s db reading) report after m n x y)
 applied s db reading statement limit result after m n x y e h =
-    let P : Action → Type 0 = λ action. IfOk result (λ report. IsApplied limit action report after m n x y) in subst P (act_is s db reading statement e) h
+    let P : Action → Type 0 = λ action. IfOk result (λ report. IsApplied limit action report after m n x y) in subst P (action_is s db reading statement e) h
 
 pub may_cost : (s : Settings) (db : Database) (reading : Reading) (statement : Statement) (m n : ℕ)
     → reading ≡ Ok statement → MayCost (action_of s db statement) m n → MayCost (action_for s db reading) m n
-may_cost s db reading statement m n e h = let P : Action → Type 0 = λ action. MayCost action m n in subst P (act_is s db reading statement e) h
+may_cost s db reading statement m n e h = let P : Action → Type 0 = λ action. MayCost action m n in subst P (action_is s db reading statement e) h
 
-act_refused : (s : Settings) (db : Database) (reading : Reading) (why : Refusal) → reading ≡ Err why → Does (refusal_effect db why) ≡ action_for s db reading
+action_refused : (s : Settings) (db : Database) (reading : Reading) (why : Refusal) → reading ≡ Err why
+    → Does (refusal_effect db why) ≡ action_for s db reading
 unfolding action_for
-act_refused s db reading why e = ap (action_for s db) (sym e)
+action_refused s db reading why e = ap (action_for s db) (sym e)
 
-applied_refusal : (db : Database) (why : Refusal) (limit m : ℕ) (x : Seen) → IsLater x x → IsApplied limit (Does (refusal_effect db why)) (Refused why) db m m x x
+applied_refusal : (db : Database) (why : Refusal) (limit m : ℕ) (x : Seen) → IsLater x x
+    → IsApplied limit (Does (refusal_effect db why)) (Refused why) db m m x x
 applied_refusal db why limit m x later = record { outcome = Failed; report_is = refl; db_is = refl; cost_is = omega arith; tied = tied_none limit x x later }
 
 pub refused : (s : Settings) (db : Database) (reading : Reading) (why : Refusal) (limit m : ℕ) (x : Seen)
@@ -51,7 +54,7 @@ pub refused : (s : Settings) (db : Database) (reading : Reading) (why : Refusal)
 refused s db reading why limit m x e =
     let later : IsLater x x = record { told = refl; content = refl; faults = λ name. omega arith; taken = omega arith } in
     let P : Action → Type 0 = λ action. IsApplied limit action (Refused why) db m m x x in
-    subst P (act_refused s db reading why e) (applied_refusal db why limit m x later)
+    subst P (action_refused s db reading why e) (applied_refusal db why limit m x later)
 
 -- ---- its report
 
@@ -74,7 +77,8 @@ reported limit action number report is took took_after before after within a tol
 
 pub unreported : (limit : ℕ) (action : Action) (number : ℕ) (report : Report) (why : Ending) (before after : Moment) → IsWithin report
     → IsApplied limit action report after.state before.steps after.steps before.files after.files
-    → (before.out.told ≡ true → SentPart before.out.bytes after.out.bytes (report_text number report)) → (why ≡ Want → before.out.told ≡ true → after.out.bytes ≡ before.out.bytes)
+    → (before.out.told ≡ true → SentPart before.out.bytes after.out.bytes (report_text number report))
+    → (why ≡ Want → before.out.told ≡ true → after.out.bytes ≡ before.out.bytes)
     → IsUnreported limit action number why before after
 unreported limit action number report why before after within a sent unsent = record {
   outcome = a.outcome;

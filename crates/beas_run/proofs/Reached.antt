@@ -28,7 +28,7 @@ use Rattle.beas_run.specs.Pieces.{IsTurn, IsReported, IsUnreported, IsUndone}
 use Rattle.beas_run.specs.Scripts.{next, action_for, turns}
 use Rattle.beas_run.specs.Walks.{Moment, AreWithin, Did, Stopped, whole_status, Follows, Walked}
 use Rattle.beas_run.proofs.Ties.{later_twice, tied_none, tied_twice, tied_later, tied_earlier}
-use Rattle.beas_run.proofs.Turns.{out_from, out-append, out-more, cost-append, refused-append, database-append, reads-append, taken_by, turns_taken, no_reads}
+use Rattle.beas_run.proofs.Turns.{out_from, out-append, out-more, cost-append, refused-append, database-append, loads-append, taken_by, turns_taken, no_loads}
 
 -- These turns are done. Whatever the reads to come give, the turns of the script are these and then those of the rest.
 pub record Reached (s : Settings) (all rest : List Reading) (place : ℕ) (refused : Bool) (before now : Moment) : Type 0 where
@@ -69,7 +69,8 @@ within_one t h = All-cons (λ t. IsWithin t.effect.report) t [] h (All-nil (λ t
 
 -- ---- one piece more
 
-did_more : (done : List Turn) (action : Action) (limit place : ℕ) (outcome : LoadOutcome) (before now after : Moment) → Did done before now → length done ≡ place
+did_more : (done : List Turn) (action : Action) (limit place : ℕ) (outcome : LoadOutcome) (before now after : Moment) → Did done before now
+    → length done ≡ place
     → now.out.told ≡ before.out.told
     → IsTurn limit action outcome now after
     → (now.out.told ≡ true → after.out.bytes ≡ now.out.bytes ++ report_text (place + 1) (turn_of action outcome).effect.report)
@@ -116,7 +117,7 @@ more s all rest reading place refused is took took_after before now after r p la
       did = did_more r.done action s.limits.file place p.outcome before now after r.did r.count r.told p.turn p.sent;
       refused_is = ap (λ b. b || is) r.refused_is ∙ ap (λ b. any_refused r.done || b) (p.refused_is ∙ sym (or_false (is_refusal t.effect.report)))
           ∙ sym (refused-append r.done (t ∷ []));
-      tied = subst (λ reads. AreTied s.limits.file reads before.files after.files) (sym (reads-append r.done (t ∷ [])))
+      tied = subst (λ reads. AreTied s.limits.file reads before.files after.files) (sym (loads-append r.done (t ∷ [])))
           (tied_twice s.limits.file (loads_of r.done) (loads_of (t ∷ [])) before.files now.files after.files r.later r.tied p.turn.tied);
       later = later_twice before.files now.files after.files r.later later;
       told = told ∙ r.told;
@@ -127,7 +128,8 @@ pub more_done : (s : Settings) (all rest : List Reading) (reading : Reading) (pl
     → (r : Reached s all (reading ∷ rest) place refused before now)
     → (p : IsReported s.limits.file (action_for s now.state reading) (place + 1) is took took_after now after)
     → (later : IsLater now.files after.files) (told : after.out.told ≡ now.out.told)
-    → (more s all rest reading place refused is took took_after before now after r p later told).done ≡ r.done ++ turn_of (action_for s now.state reading) p.outcome ∷ []
+    → (more s all rest reading place refused is took took_after before now after r p later told).done
+    ≡ r.done ++ turn_of (action_for s now.state reading) p.outcome ∷ []
 unfolding more
 more_done s all rest reading place refused is took took_after before now after r p later told = refl
 
@@ -180,7 +182,8 @@ front_le before cost rest after h = omega arith
 
 follows_paused : (limit : ℕ) (done left : List Turn) (status : ℕ) (before now after : Moment) → Did done before now → now.out.told ≡ before.out.told
     → AreTied limit (loads_of done) before.files after.files → loads_of left ≡ []
-    → (now.out.told ≡ true → after.out.bytes ≡ now.out.bytes) → now.steps ≤ after.steps → after.steps ≤ now.steps + cost_of (take 1 left) → after.state ≡ now.state
+    → (now.out.told ≡ true → after.out.bytes ≡ now.out.bytes) → now.steps ≤ after.steps → after.steps ≤ now.steps + cost_of (take 1 left)
+    → after.state ≡ now.state
     → 2 ≤ status → status ≢ 4 → Follows limit (done ++ left) status before after
 follows_paused limit done left status before now after did told tied none sent no_fewer at_most db early fault =
     let front = sum_by-take-le (λ (t : Turn). t.effect.cost) left 1 in
@@ -210,7 +213,7 @@ follows_paused limit done left status before now after did told tied none sent n
       no_fewer = omega arith;
       at_most = omega arith;
       tied = subst (λ reads. AreTied limit reads before.files after.files)
-          (sym (reads-append done left ∙ ap (λ reads. loads_of done ++ reads) none ∙ append-nil (loads_of done))) tied;
+          (sym (loads-append done left ∙ ap (λ reads. loads_of done ++ reads) none ∙ append-nil (loads_of done))) tied;
     }
 
 pub paused : (s : Settings) (all rest : List Reading) (place : ℕ) (refused : Bool) (before now after : Moment) (status : ℕ)
@@ -225,7 +228,8 @@ paused s all rest place refused before now after status r sent no_fewer at_most 
       follows =
           subst (λ ts. Follows s.limits.file ts status before after) (sym (r.joined []))
           (follows_paused s.limits.file r.done (turns s now.state rest []) status before now after r.did r.told
-          (tied_later s.limits.file (loads_of r.done) before.files now.files after.files r.tied later) (no_reads s now.state rest) sent no_fewer at_most db early
+          (tied_later s.limits.file (loads_of r.done) before.files now.files after.files r.tied later) (no_loads s now.state rest)
+          sent no_fewer at_most db early
           fault);
     }
 
@@ -281,7 +285,8 @@ unstarted s readings before after status sent steps db later early fault =
 part_after : (before now after first next : List ℕ) → now ≡ before ++ first → SentPart now after next → SentPart (before ++ first) after next
 part_after before now after first next e part = subst (λ xs. SentPart xs after next) e part
 
-follows_unreported : (limit : ℕ) (done left : List Turn) (action : Action) (outcome : LoadOutcome) (place status : ℕ) (before now after : Moment) → Did done before now
+follows_unreported : (limit : ℕ) (done left : List Turn) (action : Action) (outcome : LoadOutcome) (place status : ℕ) (before now after : Moment)
+    → Did done before now
     → length done ≡ place → now.out.told ≡ before.out.told → IsLater before.files now.files → AreTied limit (loads_of done) before.files now.files
     → IsTurn limit action outcome now after
     → (now.out.told ≡ true → SentPart now.out.bytes after.out.bytes (report_text (place + 1) (turn_of action outcome).effect.report))
@@ -298,8 +303,8 @@ follows_unreported limit done left action outcome place status before now after 
     let both : AreTied limit (loads_of done ++ loads_of (t ∷ [])) before.files after.files =
     tied_twice limit (loads_of done) (loads_of (t ∷ [])) before.files now.files after.files later tied turn.tied in
     let reads : loads_of done ++ loads_of (t ∷ []) ≡ loads_of (done ++ t ∷ left) =
-    ap (λ rs. loads_of done ++ rs) (sym (reads-append (t ∷ []) left ∙ ap (λ rs. loads_of (t ∷ []) ++ rs) none ∙ append-nil (loads_of (t ∷ []))))
-    ∙ sym (reads-append done (t ∷ left)) in
+    ap (λ rs. loads_of done ++ rs) (sym (loads-append (t ∷ []) left ∙ ap (λ rs. loads_of (t ∷ []) ++ rs) none ∙ append-nil (loads_of (t ∷ []))))
+    ∙ sym (loads-append done (t ∷ left)) in
     let text = report_text (length done + 1) t.effect.report in
     let sent_at : before.out.told ≡ true → SentPart (before.out.bytes ++ out_of done) after.out.bytes text =
     λ on. subst (λ k. SentPart (before.out.bytes ++ out_of done) after.out.bytes (report_text (k + 1) t.effect.report)) (sym count)
@@ -346,7 +351,8 @@ no_memory NoMemory status is fault = refl
 pub stopped_in_report : (s here : Settings) (all rest : List Reading) (reading : Reading) (place : ℕ) (refused : Bool) (before now after : Moment) (status : ℕ)
     (why : Ending)
     → Reached s all (reading ∷ rest) place refused before now → here ≡ s
-    → IsUnreported here.limits.file (action_for here now.state reading) (place + 1) why now after → status ≡ status_of (Err why) → Walked s all status before after
+    → IsUnreported here.limits.file (action_for here now.state reading) (place + 1) why now after → status ≡ status_of (Err why)
+    → Walked s all status before after
 stopped_in_report s here all rest reading place refused before now after status why r same halted status_is =
     let P : Settings → Type 0 = λ h. IsUnreported h.limits.file (action_for h now.state reading) (place + 1) why now after in
     let p : IsUnreported s.limits.file (action_for s now.state reading) (place + 1) why now after = subst P same halted in
@@ -362,7 +368,7 @@ stopped_in_report s here all rest reading place refused before now after status 
       follows =
           subst (λ ts. Follows s.limits.file ts status before after) (sym e)
           (follows_unreported s.limits.file r.done left action p.outcome place status before now after r.did r.count r.told r.later r.tied p.turn p.sent
-          (λ fault. p.unsent (no_memory why status status_is fault)) (no_reads s t.effect.db rest) (omega (arith, least)));
+          (λ fault. p.unsent (no_memory why status status_is fault)) (no_loads s t.effect.db rest) (omega (arith, least)));
     }
 
 -- ---- a run that began a little earlier, when files had been read less

@@ -46,10 +46,10 @@ refused-append done left = list_any-append (λ t. is_refusal t.effect.report) do
 pub database-append : (db : Database) (done left : List Turn) → database_after db (done ++ left) ≡ database_after (database_after db done) left
 database-append db done left = fold-append (λ before t. t.effect.db) db done left
 
-pub reads-append : (done left : List Turn) → loads_of (done ++ left) ≡ loads_of done ++ loads_of left
-reads-append done left = filter_map-append (λ t. t.load) done left
+pub loads-append : (done left : List Turn) → loads_of (done ++ left) ≡ loads_of done ++ loads_of left
+loads-append done left = filter_map-append (λ t. t.load) done left
 
--- ---- an action, with what its read gave
+-- ---- an action, with what its load gave
 
 -- the outcome that an action takes
 abbrev pub taken_by : Action → LoadOutcome → List LoadOutcome
@@ -69,12 +69,12 @@ turns_taken s db reading rest outcome later =
 
 -- ---- no outcome is left
 
-no_reads_in : (s : Settings) (rest : List Reading) (none : (db : Database) → loads_of (turns s db rest []) ≡ []) (action : Action)
+no_loads_in : (s : Settings) (rest : List Reading) (none : (db : Database) → loads_of (turns s db rest []) ≡ []) (action : Action)
     → loads_of (option_map_or (λ n. n.turn ∷ turns s n.turn.effect.db rest n.left) (next action []) []) ≡ []
-no_reads_in s rest none (Does effect) = none effect.db
-no_reads_in s rest none (Loads name effect) = refl
+no_loads_in s rest none (Does effect) = none effect.db
+no_loads_in s rest none (Loads name effect) = refl
 
 -- then no turn has a read
-pub no_reads : (s : Settings) (db : Database) (readings : List Reading) → loads_of (turns s db readings []) ≡ []
-no_reads s db [] = refl
-no_reads s db (reading ∷ rest) = no_reads_in s rest (λ after. no_reads s after rest) (action_for s db reading)
+pub no_loads : (s : Settings) (db : Database) (readings : List Reading) → loads_of (turns s db readings []) ≡ []
+no_loads s db [] = refl
+no_loads s db (reading ∷ rest) = no_loads_in s rest (λ after. no_loads s after rest) (action_for s db reading)

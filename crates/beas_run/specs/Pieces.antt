@@ -1,5 +1,5 @@
 -- What was done for one piece of a script.
---     IsTurn limit action outcome before after      its action was carried out, where the load of its file, if it has one, gave this
+--     IsTurn limit action outcome before after      its action was carried out, for what its file's load gave
 --     IsReported ..                              and its report was taken
 --     IsUnreported ..                            and its report has no text or its put failed, for this reason
 --     IsUndone action before after                  out of memory, the database is as it was
@@ -26,7 +26,8 @@ pub record IsReported (limit : ℕ) (action : Action) (number : ℕ) (refused : 
     (took_before took_after : List Report → Type 0) (before after : Moment) : Type 0 where
   pub outcome : LoadOutcome
   pub turn : IsTurn limit action outcome before after
-  pub sent : before.out.told ≡ true → after.out.bytes ≡ before.out.bytes ++ report_text number (turn_of action outcome).effect.report
+  pub sent : before.out.told ≡ true
+      → after.out.bytes ≡ before.out.bytes ++ report_text number (turn_of action outcome).effect.report
   pub refused_is : refused ≡ is_refusal (turn_of action outcome).effect.report
   pub took : (reports : List Report) → took_before reports
       → took_after (reports ++ (turn_of action outcome).effect.report ∷ [])

@@ -154,7 +154,8 @@ pub record HasCause (words : List (List ℕ)) (status : ℕ) (before after : Mom
   -- and no others do
   pub refused_alone : status ≡ 2 → args_of words ≡ None
   -- 3: the file that the words name failed
-  pub unread : status ≡ 3 → IsSomeAnd (script_name words) (λ name. Rose (before.files.faults name) (after.files.faults name))
+  pub unread : status ≡ 3 → IsSomeAnd (script_name words)
+      (λ name. Rose (before.files.faults name) (after.files.faults name))
   -- 4: the output failed
   pub fault : status ≡ 4 → Rose before.out.faults after.out.faults
   -- and at no other status did it
@@ -167,7 +168,8 @@ pub record HasCause (words : List (List ℕ)) (status : ℕ) (before after : Mom
 -- nothing but its own length and bytes, memory and the output keeps a script from being run
 pub record IsComplete (words : List (List ℕ)) (status : ℕ) (before after : Moment) : Type 0 where
   -- a text that isn't too long is run whole, unless memory runs out
-  pub complete : (name script : List ℕ) → script_name words ≡ Some name → IsReadable name script before.files after.files
+  pub complete : (name script : List ℕ) → script_name words ≡ Some name
+      → IsReadable name script before.files after.files
       → (Rose before.out.faults after.out.faults → ⊥) → Completes script status
   -- one that is too long, or is no text, has its own status
   pub complete_without : (name script : List ℕ) → script_name words ≡ Some name

@@ -1,6 +1,6 @@
 -- What a script means, by the readings of its pieces.
 --     action_for settings state reading         what a piece does in a state
---     turns settings state readings outcomes    what the pieces do one after another, where the loads of their files give these outcomes
+--     turns settings state readings outcomes    what the pieces do in turn, where loads give these outcomes
 -- What is written for the script is the `out_of` its turns, and what it reads their `cost_of`.
 use Rattle.std.specs.Prelude.{List, [], ◌∷◌, Option, Some, None, Ok, Err}
 use Rattle.std.specs.Option.{option_map_or}
@@ -24,7 +24,8 @@ pub record Next : Type 0 where
 abbrev pub next : Action → List LoadOutcome → Option Next
 next (Does effect) outcomes = Some (record { turn = record { effect = effect; load = None }; left = outcomes })
 next (Loads name effect) [] = None
-next (Loads name effect) (outcome ∷ outcomes) = Some (record { turn = turn_of (Loads name effect) outcome; left = outcomes })
+next (Loads name effect) (outcome ∷ outcomes) =
+    Some (record { turn = turn_of (Loads name effect) outcome; left = outcomes })
 
 -- up to the first load without an outcome: more outcomes only make the list longer
 abbrev pub turns : Settings → State → List Reading → List LoadOutcome → List Turn

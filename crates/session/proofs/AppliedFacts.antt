@@ -66,7 +66,8 @@ module _ (limit : ℕ) (limits : Limits) (db : Database) (w : Result TableId Ref
     by_outcome outcome (Err NoMemory) a x y h tied = h.unchanged
     by_outcome outcome (Err (Refused why)) a x y h tied = record { outcome = outcome; happens = h; tied = tied }
 
-    pub load_performed : (outcome : LoadOutcome) (r : Result Report Fail) (a : Database) (x y : Seen) → CarriesOut (load_effect limits db file id outcome) db r a 0 0
+    pub load_performed : (outcome : LoadOutcome) (r : Result Report Fail) (a : Database) (x y : Seen)
+        → CarriesOut (load_effect limits db file id outcome) db r a 0 0
         → AreTied limit (record { name = file; outcome = outcome } ∷ []) x y → Performs limit (load_action limits db w file) db r a 0 0 x y
     load_performed outcome r a x y h tied =
         let P : Result TableId Refusal → Type 0 = λ v. Performs limit (load_action limits db v file) db r a 0 0 x y in

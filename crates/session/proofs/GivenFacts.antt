@@ -4,8 +4,8 @@ use Rattle.std.specs.Prelude.{IfOk, IfErr, OnOk}
 use Rattle.beas_core.specs.declared.errors.Fail.{Fail}
 use Rattle.beas_core.specs.declared.errors.Fail.TheVariants.{NoMemory, Refused}
 use Rattle.beas_core.specs.declared.refusal.Refusal.{Refusal}
-use Rattle.beas_core.specs.Results.{Gives}
-use Rattle.binder.specs.Refusing.{Tells, first}
+use Rattle.beas_core.specs.Results.{Gives, IsRefusedAs}
+use Rattle.binder.specs.Refusing.{first}
 use Rattle.csv_load.specs.Reading.{FailsAs}
 use Rattle.session.specs.Announced.{and_then, unless_refused}
 use Rattle.session.specs.Effects.{or_refusal}
@@ -24,7 +24,7 @@ first_refused (other ∷ more) answer why h = ap (λ o. unless_refused (other_of
     other_of (Some x) = x ∷ []
 
 -- the first of the refusals, or the answer
-pub given : {A : Type 0} (r : Result A Fail) (refusals : List Refusal) (answer : A) → Tells r refusals → IfOk r (λ a. a ≡ answer)
+pub given : {A : Type 0} (r : Result A Fail) (refusals : List Refusal) (answer : A) → IsRefusedAs r (first refusals) → IfOk r (λ a. a ≡ answer)
     → Gives r (unless_refused refusals answer)
 given (Ok a) refusals answer told is = none_refused refusals answer a told is
 given (Err NoMemory) refusals answer told is = tt

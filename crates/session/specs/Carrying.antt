@@ -2,7 +2,7 @@
 --     Happens effect report db ..              the report, the database and the reads are those of the effect
 --     Stops effect before after ..             out of memory: no change, and no more reads than the effect's
 --     CarriesOut effect before result ..       one of them; where the answer is a refusal, that is what is reported
---     Performs limit action before result ..   so by the action's effect, where its file's load, if it has one, gave something
+--     Performs limit action before result ..   so by the action's effect, for what its file's load gave if it has one
 --     reported result                          a refusal is reported too
 use Rattle.std.specs.Prelude.{◌≡◌, ◌+◌, ◌≤◌, ℕ, List, [], ◌∷◌, Result, Ok, Err}
 use Rattle.beas_core.specs.declared.errors.Fail.{Fail}

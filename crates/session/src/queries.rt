@@ -168,7 +168,8 @@ pub fn explain(
     tree: &SelectTree,
 ) -> Result<Report, Fail>
     requires { TreeIsWellFormed tree.now }
-    ensures carried { CarriesOut (explain_effect settings.now.limits.now settings.now.budget (database_in store.now) tree.now)
+    ensures carried { CarriesOut
+        (explain_effect settings.now.limits.now settings.now.budget (database_in store.now) tree.now)
         (database_in store.now) result (database_in store.now) 0 0 }
     ensures within { IfOk result IsWithin }
 {

@@ -16,7 +16,12 @@ use Rattle.beas_run.specs.Scripts.{turns}
 use Rattle.beas_run.specs.Walks.{Moment}
 
 abbrev pub steady : SteadyFiles → Seen
-steady files = record { told = true; content = λ name. Some (unwrap_or (content_of files.shelf name) []); faults = λ _. 0; taken = 0 }
+steady files = record {
+  told = true;
+  content = λ name. Some (unwrap_or (content_of files.shelf name) []);
+  faults = λ _. 0;
+  taken = 0;
+}
 
 abbrev pub steady_out : SteadySink → Sent
 steady_out out = record { told = true; bytes = out.sent.items; faults = 0 }

@@ -9,10 +9,12 @@ pub returns-clause-sent : goal.returns-clause-sent
 returns-clause-sent g c = λ failed. none_rose (c.run.ensures.cause.fault failed)
 
 pub returns-clause-complete : goal.returns-clause-complete
-returns-clause-complete g c = λ name named. c.run.ensures.complete.complete name _ named (record { told = refl; content = refl; no_fault = none_rose }) none_rose
+returns-clause-complete g c = λ name named. c.run.ensures.complete.complete name _ named
+    (record { told = refl; content = refl; no_fault = none_rose }) none_rose
 
 pub returns-clause-complete_without : goal.returns-clause-complete_without
-returns-clause-complete_without g c = λ name named. c.run.ensures.complete.complete_without name _ named (record { told = refl; content = refl; no_fault = none_rose })
+returns-clause-complete_without g c = λ name named. c.run.ensures.complete.complete_without name _ named
+    (record { told = refl; content = refl; no_fault = none_rose })
 
 pub returns-clause-loads : goal.returns-clause-loads
 returns-clause-loads g c =

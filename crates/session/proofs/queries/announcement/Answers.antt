@@ -11,7 +11,8 @@ pub returns-in_err-query-clause-announced : goal.returns-in_err-query-clause-ann
 returns-in_err-query-clause-announced c =
     let p = err_from_is_err_and c.from_residual.result c.from_residual.ensures.1 in
     rw (p.1, p.2)
-    (announced_unbound c.args.settings.now.limits.now c.args.settings.now.budget c.args.catalogue.now c.args.tree.now c.in_err-query.field-0.0 c.in_err-query.ensures.refused)
+    (announced_unbound c.args.settings.now.limits.now c.args.settings.now.budget c.args.catalogue.now c.args.tree.now
+    c.in_err-query.field-0.0 c.in_err-query.ensures.refused)
 
 pub returns-in_err-prepared-clause-announced : goal.returns-in_err-prepared-clause-announced
 returns-in_err-prepared-clause-announced c =
@@ -19,7 +20,8 @@ returns-in_err-prepared-clause-announced c =
     let query = c.in_ok-query.query in
     let x = c.in_err-prepared.field-0.0 in
     rw (p.1, p.2)
-    (announced_unprepared c.args.settings.now.limits.now c.args.settings.now.budget c.args.catalogue.now c.args.tree.now query c.in_ok-query.ensures.refused c.in_ok-query.ensures.query x
+    (announced_unprepared c.args.settings.now.limits.now c.args.settings.now.budget c.args.catalogue.now c.args.tree.now query
+    c.in_ok-query.ensures.refused c.in_ok-query.ensures.query x
     c.in_err-prepared.ensures.prepared)
 
 pub returns-in_err-refuse_above-clause-announced : goal.returns-in_err-refuse_above-clause-announced
@@ -28,14 +30,16 @@ returns-in_err-refuse_above-clause-announced c =
     let query = c.in_ok-query.query in
     let prepared = c.in_ok-prepared.prepared in
     rw (p.1, p.2)
-    (announced c.args.settings.now.limits.now c.args.settings.now.budget c.args.catalogue.now c.args.tree.now query c.in_ok-query.ensures.refused c.in_ok-query.ensures.query prepared
+    (announced c.args.settings.now.limits.now c.args.settings.now.budget c.args.catalogue.now c.args.tree.now query
+    c.in_ok-query.ensures.refused c.in_ok-query.ensures.query prepared
     (failed Prepared (Refused c.in_err-refuse_above.field-0.0)) c.in_ok-prepared.ensures.prepared (sym c.in_err-refuse_above.ensures))
 
 pub returns-clause-announced : goal.returns-clause-announced
 returns-clause-announced c =
     let query = c.in_ok-query.query in
     let prepared = c.in_ok-prepared.prepared in
-    announced c.args.settings.now.limits.now c.args.settings.now.budget c.args.catalogue.now c.args.tree.now query c.in_ok-query.ensures.refused c.in_ok-query.ensures.query prepared
+    announced c.args.settings.now.limits.now c.args.settings.now.budget c.args.catalogue.now c.args.tree.now query
+    c.in_ok-query.ensures.refused c.in_ok-query.ensures.query prepared
     (Ok c.in_ok-refuse_above.field-0) c.in_ok-prepared.ensures.prepared (sym c.in_ok-refuse_above.ensures)
 
 pub returns-clause-fits : goal.returns-clause-fits

@@ -13,7 +13,8 @@ use Rattle.session.proofs.queries.prepared_over.Goals as goal
 
 pub returns-clause-announced : goal.returns-clause-announced
 returns-clause-announced c =
-    subst (λ s. Gives c.announcement.result (announcement c.args.settings.now.limits.now c.args.settings.now.budget s c.args.tree.now)) (sym (schema_is_catalogue c.args.store.now))
+    subst (λ s. Gives c.announcement.result (announcement c.args.settings.now.limits.now c.args.settings.now.budget s c.args.tree.now))
+    (sym (schema_is_catalogue c.args.store.now))
     c.announcement.ensures.announced
 
 pub returns-clause-fits : goal.returns-clause-fits
