@@ -7,7 +7,8 @@ use Rattle.std.proofs.lemmas.List.{drop_more, drop_all}
 use Rattle.beas_core.specs.declared.errors.Fail.{Fail}
 use Rattle.beas_core.specs.declared.errors.Fail.TheVariants.{NoMemory, Refused}
 use Rattle.beas_core.specs.declared.refusal.Refusal.{Refusal}
-use Rattle.binder.specs.Refusing.{first, Tells}
+use Rattle.beas_core.specs.Results.{IsRefusedAs}
+use Rattle.binder.specs.Refusing.{first}
 
 pub first_none : (xs ys : List Refusal) → first xs ≡ None → first (xs ++ ys) ≡ first ys
 first_none [] ys none = refl
@@ -47,22 +48,22 @@ at_end f xs i all = ap (λ ys. first (flat_map f ys)) (drop_all i xs all)
 
 -- ---- calls that are refused by the first
 
-pub err_first : (T U : Type 0) (e : Fail) (xs ys : List Refusal) → Tells {T = T} (Err e) xs → Tells {T = U} (Err e) (xs ++ ys)
+pub err_first : (T U : Type 0) (e : Fail) (xs ys : List Refusal) → IsRefusedAs {A = T} (Err e) (first xs) → IsRefusedAs {A = U} (Err e) (first (xs ++ ys))
 err_first T U NoMemory xs ys tells = tt
 err_first T U (Refused why) xs ys tells = first_some xs ys why tells
 
-pub err_second : (T U : Type 0) (e : Fail) (xs ys : List Refusal) → first xs ≡ None → Tells {T = T} (Err e) ys → Tells {T = U} (Err e) (xs ++ ys)
+pub err_second : (T U : Type 0) (e : Fail) (xs ys : List Refusal) → first xs ≡ None → IsRefusedAs {A = T} (Err e) (first ys) → IsRefusedAs {A = U} (Err e) (first (xs ++ ys))
 err_second T U NoMemory xs ys none tells = tt
 err_second T U (Refused why) xs ys none tells = first_none xs ys none ∙ tells
 
 pub err_next : (T U : Type 0) {X : Type 0} (e : Fail) (f : X → List Refusal) (xs : List X) (i : ℕ) (x : X) → first_from f xs i ≡ first (flat_map f xs)
     → i < length xs → x ≡ get_or xs i x
-    → Tells {T = T} (Err e) (f x) → Tells {T = U} (Err e) (flat_map f xs)
+    → IsRefusedAs {A = T} (Err e) (first (f x)) → IsRefusedAs {A = U} (Err e) (first (flat_map f xs))
 err_next T U NoMemory f xs i x so_far below is tells = tt
 err_next T U (Refused why) f xs i x so_far below is tells = sym so_far ∙ next_err f xs i x why below is tells
 
 -- a last call, after a list without refusals
-pub last_call : (T : Type 0) (r : Result T Fail) (xs ys : List Refusal) → first xs ≡ None → Tells r ys → Tells r (xs ++ ys)
+pub last_call : (T : Type 0) (r : Result T Fail) (xs ys : List Refusal) → first xs ≡ None → IsRefusedAs r (first ys) → IsRefusedAs r (first (xs ++ ys))
 last_call T (Ok x) xs ys none tells = first_none xs ys none ∙ tells
 last_call T (Err e) xs ys none tells = err_second T T e xs ys none tells
 
