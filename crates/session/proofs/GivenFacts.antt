@@ -1,12 +1,11 @@
 -- Calls that give an answer or a refusal, one after another.
 use Rattle.std.proofs.Common.{◌≡◌, sym, ap, ◌∙◌, subst, List, [], ◌∷◌, Option, Some, None, Result, Ok, Err}
-use Rattle.std.specs.Prelude.{IfOk, IfErr, OnOk}
+use Rattle.std.specs.Prelude.{IfOk}
 use Rattle.beas_core.specs.declared.errors.Fail.{Fail}
 use Rattle.beas_core.specs.declared.errors.Fail.TheVariants.{NoMemory, Refused}
 use Rattle.beas_core.specs.declared.refusal.Refusal.{Refusal}
 use Rattle.beas_core.specs.Results.{Gives, IsRefusedAs}
 use Rattle.binder.specs.Refusing.{first}
-use Rattle.csv_load.specs.Reading.{FailsAs}
 use Rattle.session.specs.Announced.{and_then, unless_refused}
 use Rattle.session.specs.Effects.{or_refusal}
 use Rattle.session.proofs.CarryFacts.{failed}
@@ -31,11 +30,11 @@ given (Err NoMemory) refusals answer told is = tt
 given (Err (Refused why)) refusals answer told is = first_refused refusals answer why told
 
 -- the fault, or the answer
-pub given_or_fault : {A : Type 0} (r : Result A Fail) (fault : Option Refusal) (answer : A) → OnOk r (fault ≡ None) → IfOk r (λ a. a ≡ answer)
-    → IfErr r (λ why. FailsAs fault why) → Gives r (or_refusal fault answer)
-given_or_fault (Ok a) fault answer good is refused = ap (λ f. or_refusal f answer) good ∙ ap (λ x. Ok x) (sym is)
-given_or_fault (Err NoMemory) fault answer good is refused = tt
-given_or_fault (Err (Refused why)) fault answer good is refused = ap (λ f. or_refusal f answer) refused
+pub given_or_fault : {A : Type 0} (r : Result A Fail) (fault : Option Refusal) (answer : A) → IsRefusedAs r fault → IfOk r (λ a. a ≡ answer)
+    → Gives r (or_refusal fault answer)
+given_or_fault (Ok a) fault answer refused is = ap (λ f. or_refusal f answer) refused ∙ ap (λ x. Ok x) (sym is)
+given_or_fault (Err NoMemory) fault answer refused is = tt
+given_or_fault (Err (Refused why)) fault answer refused is = ap (λ f. or_refusal f answer) refused
 
 pub given_fails : (A B : Type 0) (w : Result A Refusal) (next : A → Result B Refusal) (x : Fail) → Gives (failed A x) w → Gives (failed B x) (and_then w next)
 given_fails A B w next NoMemory h = tt
