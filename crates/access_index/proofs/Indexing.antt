@@ -110,7 +110,7 @@ module _ (access : Access) where
     group_in_order = IsInOrder-distinct row_cmp_total row_cmp_tells
         (map (project (member_columns access)) (filter (λ row. same_row (project access.key row) key) rows))
 
-    index_count : count_in (index_of access rows key) x ≡ cond (same_row (take (length access.key) x) key) (rows_with access rows x) 0
+    pub index_count : count_in (index_of access rows key) x ≡ cond (same_row (take (length access.key) x) key) (rows_with access rows x) 0
     index_count = by (same_row (take (length access.key) x) key) refl (rows_with access rows x) refl
       where
         by : (b : Bool) → same_row (take (length access.key) x) key ≡ b → (n : ℕ) → rows_with access rows x ≡ n
@@ -130,7 +130,7 @@ module _ (access : Access) where
   pub group_tuples : (rows : List (List Value)) (key : List Value) → tuples_in (index_of access rows key) ≡ group_of rows access key
   group_tuples rows key = tuples_of_map rows (group_of rows access key)
 
-  counted_map : (rows : List (List Value)) (key : List Value) (g : List (List Value)) → ((x : List Value) → Has g x → Has (group_of rows access key) x)
+  pub counted_map : (rows : List (List Value)) (key : List Value) (g : List (List Value)) → ((x : List Value) → Has g x → Has (group_of rows access key) x)
       → AllCounted (map (tally_of access rows) g)
   counted_map rows key [] f = tt
   counted_map rows key (y ∷ g) f = (let t = tuple_has rows key y (f y (inl refl)) in t.0, counted_map rows key g (λ x h. f x (inr h)))

@@ -1,11 +1,11 @@
 // A bucket: the tallies of all groups whose keys have one hash, in the order of their tuples.
 ghost use Rattle.std.specs.Prelude.{◌≡◌, ◌+◌, ◌<◌, ◌≤◌, ◌^◌, [], length, take, drop, filter, slice_index_or, MatchResult, OnOk, OnErr, IfOk};
-ghost use Rattle.beas_core.specs.declared.value.Value.{Value as Cell};
+ghost use Rattle.beas_core.specs.declared.value.Value.{Value};
 ghost use Rattle.beas_core.specs.Order.{row_cmp};
 ghost use Rattle.beas_core.specs.Sets.{IsInOrder};
 ghost use Rattle.beas_core.specs.Groups.{same_row, project};
 ghost use Rattle.std.specs.Ordering.{is_lt, is_le};
-ghost use Rattle.access_index.specs.declared.tally.Tally.{Tally as Counting};
+ghost use Rattle.access_index.specs.declared.tally.Tally.{Tally};
 ghost use Rattle.access_index.specs.Buckets.{tuples_in, count_in, counts_in, one_if, AllCounted, key_order, is_key, IsGap, IsOneMore};
 
 use crate::tally::Tally;
@@ -98,7 +98,7 @@ pub fn group_in<W: Values>(bucket: &Bucket, key: &W, width: usize) -> Stretch
 pub fn search<W: Values>(bucket: &Bucket, tuple: &W) -> Result<usize, usize>
     requires { IsInOrder row_cmp (tuples_in bucket.now) }
     ensures { MatchResult result
-        (λ at. (at < length bucket.now) × ((d : Counting) → (slice_index_or bucket.now at d).tuple ≡ W.list tuple.now))
+        (λ at. (at < length bucket.now) × ((d : Tally) → (slice_index_or bucket.now at d).tuple ≡ W.list tuple.now))
         (λ at. IsGap bucket.now (W.list tuple.now) at) }
 {
     let at = bucket.place_of(&TuplePlace { tuple });
@@ -162,7 +162,7 @@ pub fn count_down(bucket: &mut Bucket, at: usize)
     requires within { at < length bucket.old }
     requires ordered { IsInOrder row_cmp (tuples_in bucket.old) }
     requires counted { AllCounted bucket.old }
-    ensures { (d : Counting) → IsOneMore bucket.new bucket.old (slice_index_or bucket.old at d).tuple }
+    ensures { (d : Tally) → IsOneMore bucket.new bucket.old (slice_index_or bucket.old at d).tuple }
 {
     let count = bucket.get(at).count;
     if count > 1 {

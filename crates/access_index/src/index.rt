@@ -1,6 +1,6 @@
 // The index of one access constraint.
 ghost use Rattle.std.specs.Prelude.{◌≡◌, ◌+◌, ◌<◌, ◌≤◌, ◌^◌, ◌⊎◌, ◌↔◌, ◌++◌, ◌∷◌, [], ℕ, List, length, map, take, max, slice_index_or, if◌then◌else◌, IsTrue, IfOk, OnOk, OnErr};
-ghost use Rattle.beas_core.specs.declared.value.Value.{Value as Cell};
+ghost use Rattle.beas_core.specs.declared.value.Value.{Value};
 ghost use Rattle.beas_core.specs.Groups.{Holds, greatest, group_of, member_columns, has_column, value_in};
 ghost use Rattle.beas_core.specs.Order.{row_cmp};
 ghost use Rattle.beas_core.specs.Sets.{IsInOrder};
@@ -17,8 +17,9 @@ use std::alloc::Global;
 use std::marker::Model;
 use std::sync::ledger::Ledger;
 
-/// The index of one access constraint over some rows.
-#[derive(Debug, Drop)]
+/// The index of one access constraint over some rows. Its tuples are handed out after a probe alone, so it isn't
+/// `Debug`.
+#[derive(Drop)]
 pub struct AccessIndex {
     access: Access,
     columns: List<ColumnId>,
@@ -155,7 +156,7 @@ impl AccessIndex {
 
     /// The size of the greatest group, 0 where there is none: one pass over the index, and no memory.
     pub fn greatest(&self) -> u32
-        ensures { (rows : List (List Cell)) → IsIndexOf self.now rows
+        ensures { (rows : List (List Value)) → IsIndexOf self.now rows
             → result ≡ greatest rows self.now.access.key self.now.access.fetched }
     {
         // Read for what its type tells: there are fewer than 2^32 rows, and so fewer tuples in each bucket.
@@ -171,7 +172,7 @@ impl AccessIndex {
     /// constraint, where it holds, would hold with this row too. It takes no memory.
     pub fn would_hold(&self, row: &Row) -> bool
         ensures exactly { IsTrue result ↔ WouldHold self.now row.now }
-        ensures holds { (rows : List (List Cell)) → IsIndexOf self.now rows → Holds rows self.now.access
+        ensures holds { (rows : List (List Value)) → IsIndexOf self.now rows → Holds rows self.now.access
             → (IsTrue result ↔ Holds (rows ++ row.now ∷ []) self.now.access) }
     {
         let key = Picked {
@@ -199,7 +200,7 @@ impl AccessIndex {
         requires { self.old.total + 1 < 2 ^ 32 }
         ensures access { self.new.access ≡ self.old.access }
         ensures total { OnOk result (self.new.total ≡ self.old.total + 1) }
-        ensures ok { OnOk result ((front back : List (List Cell)) → IsIndexOf self.old (front ++ back)
+        ensures ok { OnOk result ((front back : List (List Value)) → IsIndexOf self.old (front ++ back)
             → IsIndexOf self.new (front ++ row.now ∷ back)) }
         ensures err { OnErr result (self.new ≡ self.old) }
     {
@@ -227,7 +228,7 @@ impl AccessIndex {
     /// no memory.
     pub fn remove(&mut self, row: &Row)
         ensures access { self.new.access ≡ self.old.access }
-        ensures rest { (front back : List (List Cell)) → IsIndexOf self.old (front ++ row.now ∷ back)
+        ensures rest { (front back : List (List Value)) → IsIndexOf self.old (front ++ row.now ∷ back)
             → IsIndexOf self.new (front ++ back) }
     {
         let key = Picked {
@@ -263,11 +264,11 @@ impl AccessIndex {
     pub fn add_rows(&mut self, alloc: Global, rows: &[Row]) -> Result<bool, NoMemory>
         requires { self.old.total + length rows.now < 2 ^ 32 }
         ensures access { self.new.access ≡ self.old.access }
-        ensures index { IfOk result (λ all. (front : List (List Cell)) → IsIndexOf self.old front
+        ensures index { IfOk result (λ all. (front : List (List Value)) → IsIndexOf self.old front
             → IsIndexOf self.new (if all then front ++ rows.now else front)) }
-        ensures holds { IfOk result (λ all. (front : List (List Cell)) → IsIndexOf self.old front
+        ensures holds { IfOk result (λ all. (front : List (List Value)) → IsIndexOf self.old front
             → Holds front self.old.access → (IsTrue all ↔ Holds (front ++ rows.now) self.old.access)) }
-        ensures err { OnErr result ((front : List (List Cell)) → IsIndexOf self.old front
+        ensures err { OnErr result ((front : List (List Value)) → IsIndexOf self.old front
             → IsIndexOf self.new front) }
     {
         let lent = lend_new_in_order(alloc, rows, self.columns.as_slice())?;
@@ -279,12 +280,12 @@ impl AccessIndex {
     fn add_in_turn(&mut self, alloc: Global, rows: &[Lent]) -> Result<bool, NoMemory>
         requires { self.old.total + length rows.now < 2 ^ 32 }
         ensures access { self.new.access ≡ self.old.access }
-        ensures index { IfOk result (λ all. (front : List (List Cell)) → IsIndexOf self.old front
+        ensures index { IfOk result (λ all. (front : List (List Value)) → IsIndexOf self.old front
             → IsIndexOf self.new (if all then front ++ map (λ lent. lent.row.now) rows.now else front)) }
-        ensures holds { IfOk result (λ all. (front : List (List Cell)) → IsIndexOf self.old front
+        ensures holds { IfOk result (λ all. (front : List (List Value)) → IsIndexOf self.old front
             → Holds front self.old.access
             → (IsTrue all ↔ Holds (front ++ map (λ lent. lent.row.now) rows.now) self.old.access)) }
-        ensures err { OnErr result ((front : List (List Cell)) → IsIndexOf self.old front
+        ensures err { OnErr result ((front : List (List Value)) → IsIndexOf self.old front
             → IsIndexOf self.new front) }
     {
         for (i, lent) in rows.iter().enumerate() {
@@ -303,7 +304,7 @@ impl AccessIndex {
     /// Counts rows fewer, which came after all others. It takes no memory.
     fn remove_lent(&mut self, rows: &[Lent])
         ensures access { self.new.access ≡ self.old.access }
-        ensures rest { (front : List (List Cell)) → IsIndexOf self.old (front ++ map (λ lent. lent.row.now) rows.now)
+        ensures rest { (front : List (List Value)) → IsIndexOf self.old (front ++ map (λ lent. lent.row.now) rows.now)
             → IsIndexOf self.new front }
     {
         for lent in rows {
@@ -314,7 +315,7 @@ impl AccessIndex {
     /// Counts rows fewer, which came after all others. It takes no memory.
     pub fn remove_rows(&mut self, rows: &[Row])
         ensures access { self.new.access ≡ self.old.access }
-        ensures rest { (front : List (List Cell)) → IsIndexOf self.old (front ++ rows.now)
+        ensures rest { (front : List (List Value)) → IsIndexOf self.old (front ++ rows.now)
             → IsIndexOf self.new front }
     {
         for row in rows {
@@ -326,7 +327,7 @@ impl AccessIndex {
     pub fn probe<L: Ledger>(&self, key: &[Value], steps: &mut Steps<L>) -> Hits
         requires { length key.now ≡ length self.now.access.key }
         ensures access { result.access ≡ self.now.access.id }
-        ensures members { (rows : List (List Cell)) → IsIndexOf self.now rows
+        ensures members { (rows : List (List Value)) → IsIndexOf self.now rows
             → members_at self.now result ≡ group_of rows self.now.access key.now }
         ensures len { result.len ≡ length (members_at self.now result) }
         ensures stands { stands_at self.now result }

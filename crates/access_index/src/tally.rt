@@ -3,7 +3,7 @@ use beas_core::Row;
 use blocked_list::Counted;
 
 /// A tuple over a constraint's columns and how many rows have it.
-#[derive(Debug, Drop)]
+#[derive(Drop)]
 pub struct Tally {
     pub tuple: Row,
     pub count: u32,

@@ -1,8 +1,7 @@
 // Lists of values that are read where they stand: a key that is handed in, and what columns pick from a row.
 ghost use Rattle.std.specs.Prelude.{◌≡◌, ◌<◌, List, pos, length, slice_index_or};
 ghost use Rattle.std.specs.Option.{option_copied};
-ghost use Rattle.beas_core.specs.declared.value.Value.{Value as Cell};
-ghost use Rattle.beas_core.specs.declared.value.Value.TheVariants.{Int as OfInt, Str as OfStr};
+ghost use Rattle.beas_core.specs.declared.value.Value.{Value};
 ghost use Rattle.beas_core.specs.Order.{row_cmp, value_cmp};
 ghost use Rattle.beas_core.specs.Groups.{project};
 ghost use Rattle.access_index.specs.Hashing.{or_zero, hash_of, mix, with_value};
@@ -12,7 +11,7 @@ use std::cmp::Ordering;
 
 /// A list of values that is read where it stands.
 pub trait Values: Drop {
-    ghost list: { Self → List Cell };
+    ghost list: { Self → List Value };
 
     fn len(&self) -> usize
         ensures { result ≡ length (list self.now) };
@@ -20,7 +19,7 @@ pub trait Values: Drop {
     /// The value at a place, or none where it stands for the integer 0.
     fn at(&self, place: usize) -> Option<&Value>
         requires { place < length (list self.now) }
-        ensures { or_zero (option_copied result) ≡ slice_index_or (list self.now) place (OfInt (pos 0)) };
+        ensures { or_zero (option_copied result) ≡ slice_index_or (list self.now) place (Value.Int (pos 0)) };
 }
 
 /// Values as they are.
@@ -98,7 +97,7 @@ fn mix(state: u64, word: u64) -> u64
 }
 
 fn mix_bytes(state: u64, bytes: &[u8]) -> u64
-    ensures { result ≡ with_value state (OfStr bytes.now) }
+    ensures { result ≡ with_value state (Value.Str bytes.now) }
 {
     let mut mixture = state;
     for byte in bytes {

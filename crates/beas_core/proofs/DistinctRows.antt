@@ -10,7 +10,7 @@ use Rattle.beas_core.specs.declared.value.Value.{Value}
 use Rattle.beas_core.specs.Order.{value_cmp, row_cmp, row_cmp_total}
 use Rattle.beas_core.specs.Sets.{distinct}
 use Rattle.beas_core.proofs.Sets.{distinct_by_sort}
-use Rattle.beas_core.proofs.ValueOrder.{row_cmp_tells}
+use Rattle.beas_core.specs.Telling.{row_cmp_tells}
 
 abbrev row_eq : List Value → List Value → Bool
 row_eq = pointwise (eq_by_cmp value_cmp)

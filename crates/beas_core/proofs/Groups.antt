@@ -15,7 +15,7 @@ use Rattle.beas_core.specs.declared.schema.Access.{Access}
 use Rattle.beas_core.specs.Order.{value_cmp, row_cmp, row_cmp_total}
 use Rattle.beas_core.specs.Sets.{distinct, add_in_order}
 use Rattle.beas_core.specs.Groups.{value_at, project, same_row, group, group_of, Holds, greatest}
-use Rattle.beas_core.proofs.ValueOrder.{row_cmp_tells}
+use Rattle.beas_core.specs.Telling.{row_cmp_tells}
 use Rattle.beas_core.proofs.Sets.{Has, Has-map, Has-from_map, distinct-filter, distinct_push}
 
 abbrev pub begins : List Value → List Value → Bool

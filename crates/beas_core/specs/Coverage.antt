@@ -1,4 +1,5 @@
 -- Which classes a block's constraints cover (Cao and Fan: An Effective Syntax for Bounded Relational Queries, SIGMOD 2016).
+-- What is said of a whole query stands in Guiding.
 --     uses normal accesses                 each atom with each constraint on its table, by atom and then in order of creation
 --     start_classes normal is_guided       the classes that are bound before the first step
 --     covered_set normal accesses start    the least set that holds the start and, of each use, the fetched classes where it holds those of the key
@@ -6,9 +7,7 @@
 --     serves normal set u                  the set holds the key's classes, and the atom's needed columns are all in key or fetched
 --     is_covered normal accesses set       the set holds each needed column's class, and each atom has a use that serves it
 --     reason normal accesses set           the first needed column whose class isn't in the set, else the first atom that nothing serves
---     query_is_covered normals accesses    each block of a query is covered by itself
---     first_uncovered normals accesses     the first block that isn't, with its reason
-use Rattle.std.specs.Prelude.{◌&&◌, ◌||◌, ◌==◌, ◌+◌, ◌<◌, if◌then◌else◌, Bool, true, false, not, ℕ, zero, suc, List, [], ◌∷◌, length, map, filter, flat_map, fold, find, replicate, slice_index_or, slice_set, IsTrue, All, Contains, Option, None, option_map}
+use Rattle.std.specs.Prelude.{◌&&◌, ◌||◌, ◌==◌, ◌+◌, ◌<◌, if◌then◌else◌, Bool, true, false, not, ℕ, zero, suc, List, [], ◌∷◌, length, map, filter, flat_map, fold, find, replicate, slice_index_or, slice_set, IsTrue, All, Contains, Option, option_map}
 use Rattle.std.specs.List.{list_any, list_all, enumerate_from, range_with_len}
 use Rattle.std.specs.Option.{option_or}
 use Rattle.beas_core.specs.declared.schema.ColumnId.{ColumnId}
@@ -124,7 +123,7 @@ reason normal accesses set =
     (option_map (λ p. ColumnOpen p.atom p.column) (find (is_open normal set) (needed_places normal)))
     (option_map (λ atom. AtomUnindexed atom) (find (λ atom. not (is_served normal accesses set atom)) (atoms_of normal)))
 
--- the covered set of a block by itself
+-- of a block by itself: what it covers from its constants
 abbrev pub own_cover : Normal → List Access → ClassSet
 own_cover normal accesses = covered_set normal accesses (constant_classes normal)
 
@@ -133,20 +132,3 @@ own_is_covered normal accesses = is_covered normal accesses (own_cover normal ac
 
 abbrev pub own_reason : Normal → List Access → Option NotCovered
 own_reason normal accesses = reason normal accesses (own_cover normal accesses)
-
--- over the blocks of a query
-abbrev pub query_is_covered : List Normal → List Access → Bool
-query_is_covered normals accesses = list_all (λ normal. own_is_covered normal accesses) normals
-
--- a block that isn't covered, by its number from 0 on
-pub record Uncovered : Type 0 where
-  pub block : ℕ
-  pub why : NotCovered
-
-abbrev pub first_uncovered_from : ℕ → List Normal → List Access → Option Uncovered
-first_uncovered_from block [] accesses = None
-first_uncovered_from block (normal ∷ normals) accesses =
-    option_or (option_map (λ why. record { block = block; why = why }) (own_reason normal accesses)) (first_uncovered_from (block + 1) normals accesses)
-
-abbrev pub first_uncovered : List Normal → List Access → Option Uncovered
-first_uncovered normals accesses = first_uncovered_from 0 normals accesses

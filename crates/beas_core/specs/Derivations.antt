@@ -1,10 +1,9 @@
 -- Derivations: the steps by which a block's rows are fetched. A step uses a constraint on an atom; `accesses` are the live constraints,
--- and `start` is the set of classes that are bound before the first step.
+-- and `start` is the set of classes that are bound before the first step. Which of the steps then go stands in Pruning.
 --     access_in accesses id                    the live constraint with this id
 --     bound_after normal accesses start steps  the classes bound after these steps
 --     IsSound normal accesses start steps      the steps fetch all that the block needs, and each says rightly whether it adds a class
 --     greedy_steps normal accesses start       the steps that are taken before any is dropped, nothing where the block isn't covered
---     derivation normal accesses start         the canonical derivation, nothing where the block isn't covered
 use Rattle.std.specs.Prelude.{◌&&◌, ◌==◌, Bool, true, not, if◌then◌else◌, nat_lt, ℕ, zero, suc, List, [], ◌∷◌, ◌++◌, length, map, filter, fold, find, slice_index_or, IsTrue, All, Option, Some, None, option_map, unwrap_or}
 use Rattle.std.specs.List.{list_any, list_all, best_of}
 use Rattle.beas_core.specs.declared.schema.AccessId.{AccessId}
@@ -14,7 +13,7 @@ use Rattle.beas_core.specs.declared.plan.DStep.{DStep}
 use Rattle.beas_core.specs.declared.plan.Normal.{Normal}
 use Rattle.beas_core.specs.Types.{ClassSet, Use}
 use Rattle.beas_core.specs.Groups.{member_columns}
-use Rattle.beas_core.specs.Coverage.{with_classes, class_at, uses, key_classes, fetched_classes, holds_classes, constant_classes, needed_places, holds_needed, serves, is_open, is_covered, atoms_of}
+use Rattle.beas_core.specs.Coverage.{with_classes, class_at, uses, key_classes, fetched_classes, holds_classes, needed_places, holds_needed, serves, is_open, is_covered, atoms_of}
 
 -- the constraint with this id, and one that fetches nothing where there is none
 unfoldable pub access_in : List Access → AccessId → Access
@@ -120,10 +119,3 @@ unfoldable pub greedy_steps : Normal → List Access → ClassSet → Option (Li
 greedy_steps normal accesses start =
     option_map (λ steps. steps ++ serving_steps normal accesses steps (bound_after normal accesses start steps) (atoms_of normal))
     (adding_steps normal.count normal accesses start)
-
-unfoldable pub derivation : Normal → List Access → ClassSet → Option (List DStep)
-derivation normal accesses start = greedy_steps normal accesses start
-
--- of a block by itself
-abbrev pub own_derivation : Normal → List Access → Option (List DStep)
-own_derivation normal accesses = derivation normal accesses (constant_classes normal)

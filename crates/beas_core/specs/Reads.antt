@@ -1,12 +1,11 @@
--- The reads that a derivation takes over some rows.
+-- The reads that a block's derivation takes over some rows. Those of a query stand in Queries.
 --     probes rows normal accesses guide steps      for each step and each distinct key that the valuations before it give to it, the step's
 --                                                  number from 0 on with this key
 --     reads_of rows normal accesses guide steps    for each probe the greater of 1 and the size of its group, summed
 --     step_reads rows normal accesses s set found  the part of one step, where `found` are the valuations before it
-use Rattle.std.specs.Prelude.{◌+◌, ℕ, List, [], ◌∷◌, ◌++◌, length, map, max, sum_by, slice_index_or, None, is_some}
+use Rattle.std.specs.Prelude.{◌+◌, ℕ, List, [], ◌∷◌, ◌++◌, length, map, max, sum_by, slice_index_or, is_some}
 use Rattle.beas_core.specs.declared.schema.Access.{Access}
 use Rattle.beas_core.specs.declared.plan.DStep.{DStep}
-use Rattle.beas_core.specs.declared.plan.Derivation.{Derivation}
 use Rattle.beas_core.specs.declared.plan.Normal.{Normal}
 use Rattle.beas_core.specs.Types.{Row, TableRows, ClassSet, Guide}
 use Rattle.beas_core.specs.Order.{row_cmp}
@@ -56,19 +55,3 @@ reads_of rows normal accesses guide steps =
 
 abbrev pub step_reads : TableRows → Normal → List Access → DStep → ClassSet → List Row → ℕ
 step_reads rows normal accesses s set found = sum_by (probe_reads rows (access_in accesses s.access)) (keys_for normal accesses s set found)
-
--- the reads of a block by itself
-abbrev pub own_reads : TableRows → Normal → List Access → List DStep → ℕ
-own_reads rows normal accesses steps = reads_of rows normal accesses None steps
-
--- the reads of a query, over its blocks and what guides each
-abbrev pub reads_of_all : TableRows → List Normal → List Access → List Guide → List Derivation → ℕ
-reads_of_all rows [] accesses guides derivations = 0
-reads_of_all rows (n ∷ normals) accesses [] derivations = 0
-reads_of_all rows (n ∷ normals) accesses (g ∷ guides) [] = 0
-reads_of_all rows (n ∷ normals) accesses (g ∷ guides) (d ∷ derivations) =
-    reads_of rows n accesses g d.steps + reads_of_all rows normals accesses guides derivations
-
--- where each block is by itself
-abbrev pub own_reads_of_all : TableRows → List Normal → List Access → List Derivation → ℕ
-own_reads_of_all rows normals accesses derivations = reads_of_all rows normals accesses (map (λ n. None) normals) derivations

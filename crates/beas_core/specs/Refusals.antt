@@ -1,7 +1,7 @@
 -- The number of a refusal, as reports print it.
 use Rattle.std.specs.Prelude.{ℕ}
 use Rattle.beas_core.specs.declared.refusal.Refusal.{Refusal}
-use Rattle.beas_core.specs.declared.refusal.Refusal.TheVariants.{Syntax, TooDeep, TableExists, UnknownTable, UnknownColumn, Ambiguous, DuplicateName, MixedTypes, WrongType, ShapeMismatch, BadLimit, AlreadyBroken, BreaksBound, WrongWidth, NumberRange, Unreadable, BadField, RecordWidth, HeaderMismatch, NotCovered, TooLarge, OverBudget, TooMany, NeedsDistinct, FileTooLong, UnknownAccess, TextTooLong}
+use Rattle.beas_core.specs.declared.refusal.Refusal.TheVariants.{Syntax, TooDeep, TableExists, UnknownTable, UnknownColumn, Ambiguous, DuplicateName, MixedTypes, WrongType, ShapeMismatch, BadLimit, AlreadyBroken, BreaksBound, WrongWidth, NumberRange, Unreadable, BadField, RecordWidth, HeaderMismatch, NotCovered, TooLarge, OverBudget, TooMany, NeedsDistinct, FileTooLong, UnknownAccess, TextTooLong, NotGrouped, SumOfText, TooManyCandidates, BadSession, SessionBusy, SessionIdle}
 
 abbrev pub number_of : Refusal → ℕ
 number_of Syntax = 1
@@ -31,3 +31,9 @@ number_of NeedsDistinct = 23
 number_of (FileTooLong _) = 24
 number_of (UnknownAccess _) = 25
 number_of (TextTooLong _) = 26
+number_of (NotGrouped _) = 27
+number_of (SumOfText _) = 28
+number_of (TooManyCandidates _) = 29
+number_of (BadSession _) = 30
+number_of (SessionBusy _) = 31
+number_of (SessionIdle _) = 32

@@ -1,7 +1,8 @@
--- What texts spell: identifiers, and the bound of a constraint.
+-- What texts spell: identifiers, and numbers within a range.
 --     is_name text       the text is an identifier in lower case: a word that isn't reserved
 --     name_of text       the text in lower case, where it is an identifier
---     limit_in digits    the value of decimal digits, where it is from 1 to 4294967295
+--     number_within least most digits    the value of decimal digits alone, where it is from least to most
+--     limit_in digits    the bound of a constraint: a number from 1 to 4294967295
 use Rattle.std.specs.Prelude.{◌&&◌, ◌||◌, ◌==◌, Bool, not, if◌then◌else◌, nat_le, ℕ, List, [], ◌∷◌, length, codes, Option, Some, None, slice_index}
 use Rattle.std.specs.List.{list_any, list_all}
 use Rattle.std.specs.Char.{is_ascii_digit, is_ascii_alphabetic, is_ascii_uppercase}
@@ -40,6 +41,11 @@ is_name text = is_word text && is_folded text && not (is_reserved text)
 abbrev pub name_of : List ℕ → Option (List ℕ)
 name_of text = if is_word text && not (is_reserved (str_to_ascii_lowercase text)) then Some (str_to_ascii_lowercase text) else None
 
+-- the value of decimal digits, at least one, where it lies within a range
+abbrev pub number_within : ℕ → ℕ → List ℕ → Option ℕ
+number_within least most digits =
+    if nat_le 1 (length digits) && list_all is_ascii_digit digits && nat_le least (digits_value 10 digits) && nat_le (digits_value 10 digits) most
+    then Some (digits_value 10 digits) else None
+
 abbrev pub limit_in : List ℕ → Option ℕ
-limit_in digits = if list_all is_ascii_digit digits && nat_le 1 (digits_value 10 digits) && nat_le (digits_value 10 digits) 4294967295 then Some
-    (digits_value 10 digits) else None
+limit_in digits = number_within 1 4294967295 digits

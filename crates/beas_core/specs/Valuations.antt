@@ -83,10 +83,3 @@ unfoldable pub answers_of : TableRows → Normal → List Access → Guide → L
 answers_of rows normal accesses guide steps =
     distinct row_cmp (map (output_row normal (bound_after normal accesses (start_classes normal (is_some guide)) steps))
     (valuations rows normal accesses guide steps))
-
--- of a block by itself
-abbrev pub own_valuations : TableRows → Normal → List Access → List DStep → List Row
-own_valuations rows normal accesses steps = valuations rows normal accesses None steps
-
-abbrev pub own_answers : TableRows → Normal → List Access → List DStep → List Row
-own_answers rows normal accesses steps = answers_of rows normal accesses None steps

@@ -45,8 +45,8 @@ pub struct Sizes {
     pub last: u128,
 }
 
-/// A query with all that is announced of it: the header, and for each block from left to right its normal form
-/// and its derivation. `bound` is the greatest number of reads.
+/// A query with all that is announced of it: the header, and for each block from left to right its normal form, its
+/// derivation and whether it starts from the answers of its guide. `bound` is the greatest number of reads.
 #[derive(Drop)]
 pub struct Prepared {
     pub query: Query,
@@ -54,6 +54,8 @@ pub struct Prepared {
     pub normals: List<Normal>,
     pub derivations: List<Derivation>,
     pub bound: u128,
+    /// Of each block whether it is guided: only one in the right side of an EXCEPT can be.
+    pub guided: List<bool>,
 }
 
 /// The rows of an answer in order, and the number of reads that it took.

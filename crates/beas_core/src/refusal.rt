@@ -107,12 +107,30 @@ pub enum Refusal {
     TextTooLong {
         limit: u32,
     },
+    NotGrouped {
+        column: Name,
+    },
+    SumOfText {
+        column: Name,
+    },
+    TooManyCandidates {
+        found: u32,
+    },
+    BadSession {
+        digits: Text,
+    },
+    SessionBusy {
+        session: u32,
+    },
+    SessionIdle {
+        session: u32,
+    },
 }
 
 impl Refusal {
     ghost use Rattle.beas_core.specs.Refusals.{number_of};
 
-    /// The number that reports print, from 1 to 26.
+    /// The number that reports print, from 1 to 32.
     pub fn number(&self) -> u32
         ensures { result ≡ number_of self.now }
     {
@@ -143,6 +161,12 @@ impl Refusal {
             Refusal::FileTooLong { .. } => 24,
             Refusal::UnknownAccess { .. } => 25,
             Refusal::TextTooLong { .. } => 26,
+            Refusal::NotGrouped { .. } => 27,
+            Refusal::SumOfText { .. } => 28,
+            Refusal::TooManyCandidates { .. } => 29,
+            Refusal::BadSession { .. } => 30,
+            Refusal::SessionBusy { .. } => 31,
+            Refusal::SessionIdle { .. } => 32,
         }
     }
 }

@@ -11,9 +11,9 @@ use Rattle.sql_tree.specs.declared.tree.Cond.{Cond}
 use Rattle.sql_tree.specs.declared.tree.FromItem.{FromItem}
 use Rattle.sql_tree.specs.declared.tree.BlockTree.{BlockTree}
 use Rattle.sql_tree.specs.Trees.{Tree, Block, Union, Except}
-use Rattle.sql_tree.specs.Canonical.{Lexeme, keyword, sign, comma_list, where_of, item_of, output_of, distinct_of, block_of as block_lexemes, operand_of, tree_lexemes}
+use Rattle.sql_tree.specs.Canonical.{Lexeme, keyword, sign, comma_list, where_of, item_of, output_of, distinct_of, head_of, body_of, block_of as block_lexemes, operand_of, tree_lexemes}
 use Rattle.sql_tree.specs.Symbols.{Symbol, word, mark}
-use Rattle.sql_tree.specs.Grammar.{Commas, last, comma, id, IsItem, alone, alias, as_alias, IsJoins, no_join, join, inner_join, cross_join, Source, IsSource, joined_source, IsDistinct, all_rows, distinct_rows, IsOutput, all_columns, columns, IsBlock, select_block, block_of, IsTerm, single, nested, IsQuery, term, union, except}
+use Rattle.sql_tree.specs.Grammar.{Commas, last, comma, id, IsItem, alone, alias, as_alias, IsJoins, no_join, join, inner_join, cross_join, Source, IsSource, joined_source, IsDistinct, all_rows, distinct_rows, IsOutput, all_columns, columns, Body, body_of as joined_body, IsBody, from_sources, IsHead, select_output, IsBlock, select_block, IsTerm, single, nested, IsQuery, term, union, except}
 use Rattle.sql_tree.specs.Words.{CLOSE, COMMA, EXCEPT, FROM, JOIN, ON, SELECT, UNION}
 use Rattle.beas_laws.proofs.Clean.{symbol, star_mark, none, name_then, sign_then, clean-append}
 use Rattle.beas_laws.proofs.Lexicals.{IsNameText, IsLexical, AreLexical, front, back}
@@ -129,41 +129,61 @@ output-again : (a : List Symbol) (star : Bool) (rs : List ColumnRef) → IsOutpu
 output-again a star rs all_columns l = record { spelled = all_columns; clean = sign_then star_mark none }
 output-again a star rs (columns h) l = let again = commas-again ref-again h l in record { spelled = columns again.spelled; clean = again.clean }
 
-block-shape : (d o f w : List Lexeme) → map symbol (((keyword (codes "SELECT") ∷ d ++ o) ++ keyword (codes "FROM") ∷ f) ++ w)
-    ≡ ((SELECT ∷ map symbol d ++ map symbol o) ++ FROM ∷ map symbol f) ++ map symbol w
-block-shape d o f w =
-    map-append symbol ((keyword (codes "SELECT") ∷ d ++ o) ++ keyword (codes "FROM") ∷ f) w
-    ∙ ap (λ a. a ++ map symbol w)
-    (map-append symbol (keyword (codes "SELECT") ∷ d ++ o) (keyword (codes "FROM") ∷ f)
-    ∙ ap (λ a. a ++ FROM ∷ map symbol f) (map-append symbol (keyword (codes "SELECT") ∷ d) o))
+head-shape : (d o : List Lexeme) → map symbol (keyword (codes "SELECT") ∷ d ++ o) ≡ SELECT ∷ map symbol d ++ map symbol o
+head-shape d o = map-append symbol (keyword (codes "SELECT") ∷ d) o
 
-block-again : (a : List Symbol) (b : BlockTree) → IsBlock a b → AreLexical a → Again IsBlock block_lexemes b
-block-again a b (select_block {a = x} {b = y} {c = z} {d = v} {distinct = distinct} {star = star} {rs = rs} {ss = ss} {cs = cs} d o s w) l =
-    let to_sources = front IsLexical ((SELECT ∷ x ++ y) ++ FROM ∷ z) v l in
-    let to_output = front IsLexical (SELECT ∷ x ++ y) (FROM ∷ z) to_sources in
+body-shape : (f w : List Lexeme) → map symbol (keyword (codes "FROM") ∷ f ++ w) ≡ FROM ∷ map symbol f ++ map symbol w
+body-shape f w = map-append symbol (keyword (codes "FROM") ∷ f) w
+
+head-again : (a : List Symbol) (distinct star : Bool) (rs : List ColumnRef) → IsHead a distinct star rs → AreLexical a
+    → Again (λ s refs. IsHead s distinct star refs) (head_of distinct star) rs
+head-again a distinct star rs (select_output {a = x} {b = y} d o) l =
     let d_again = distinct-again x distinct d in
-    let o_again = output-again y star rs o (back IsLexical (SELECT ∷ x) y to_output) in
-    let sources = sources-again s (back IsLexical (SELECT ∷ x ++ y) (FROM ∷ z) to_sources).1 in
+    let o_again = output-again y star rs o (back IsLexical (SELECT ∷ x) y l) in
+    record {
+      spelled = subst (λ t. IsHead t distinct star rs) (sym (head-shape (distinct_of distinct) (output_of star rs)))
+          (select_output d_again.spelled o_again.spelled);
+      clean = clean-append (clean-keyword (codes "SELECT") refl d_again.clean) o_again.clean;
+    }
+
+abbrev body_lexemes : Body → List Lexeme
+body_lexemes body = body_of body.0 body.1
+
+abbrev as_body : List FromItem → List Cond → Body
+as_body items conditions = (items, conditions)
+
+-- items without joins, and all conditions after WHERE
+plain-body : (items : List FromItem) (conditions : List Cond) → joined_body (map lone items) conditions ≡ as_body items conditions
+plain-body items conditions =
+    ap (λ is. as_body is (flat_map (λ s. s.1) (map lone items) ++ conditions)) (lone-items items)
+    ∙ ap (λ cs. as_body items (cs ++ conditions)) (lone-conditions items)
+
+pub body-again : (a : List Symbol) (body : Body) → IsBody a body → AreLexical a → Again IsBody body_lexemes body
+body-again a body (from_sources {a = z} {b = v} {ss = ss} {cs = cs} s w) l =
+    let sources = sources-again s (front IsLexical (FROM ∷ z) v l).1 in
     let f_again : Again (Commas (λ s i. IsSource s (lone i))) (comma_list item_of) (sources.first ∷ sources.others) =
     listed_again sources.first sources.others (item-lone sources.first sources.first_again) (items-lone sources.others sources.others_again) in
     let conditions : List Cond = flat_map (λ s. s.1) ss ++ cs in
     let w_again = where_again conditions (each-append ConditionAgain (flat_map (λ s. s.1) ss) cs sources.conditions
-    (where-again v cs w (back IsLexical ((SELECT ∷ x ++ y) ++ FROM ∷ z) v l))) in
+    (where-again v cs w (back IsLexical (FROM ∷ z) v l))) in
     let items = sources.first ∷ sources.others in
-    let made = select_block d_again.spelled o_again.spelled (commas-map f_again.spelled) w_again.spelled in
-    let as_block : List FromItem → List Cond → BlockTree = λ is cs. record { distinct = distinct; star = star; items = rs; from_items = is; conditions = cs } in
-    let same : block_of distinct star rs (map lone items) conditions ≡ as_block items conditions =
-    ap (λ is. as_block is (flat_map (λ s. s.1) (map lone items) ++ conditions)) (lone-items items)
-    ∙ ap (λ cs. as_block items (cs ++ conditions)) (lone-conditions items) in
-    let again : Again IsBlock block_lexemes (as_block items conditions) = record {
-      spelled = subst (λ t. IsBlock t (as_block items conditions))
-          (sym (block-shape (distinct_of distinct) (output_of star rs) (comma_list item_of items) (where_of conditions)))
-          (subst (λ t. IsBlock (((SELECT ∷ map symbol (distinct_of distinct) ++ map symbol (output_of star rs)) ++ FROM ∷ map symbol (comma_list item_of items))
-          ++ map symbol (where_of conditions)) t) same made);
-      clean = clean-append (clean-append (clean-append (clean-keyword (codes "SELECT") refl d_again.clean) o_again.clean)
-          (clean-keyword (codes "FROM") refl f_again.clean)) w_again.clean;
+    let again : Again IsBody body_lexemes (as_body items conditions) = record {
+      spelled = subst (λ t. IsBody t (as_body items conditions)) (sym (body-shape (comma_list item_of items) (where_of conditions)))
+          (subst (λ t. IsBody (FROM ∷ map symbol (comma_list item_of items) ++ map symbol (where_of conditions)) t) (plain-body items conditions)
+          (from_sources (commas-map f_again.spelled) w_again.spelled));
+      clean = clean-append (clean-keyword (codes "FROM") refl f_again.clean) w_again.clean;
     } in
-    subst (λ is. Again IsBlock block_lexemes (as_block is conditions)) (sym sources.items) again
+    subst (λ is. Again IsBody body_lexemes (as_body is conditions)) (sym sources.items) again
+
+block-again : (a : List Symbol) (b : BlockTree) → IsBlock a b → AreLexical a → Again IsBlock block_lexemes b
+block-again a b (select_block {a = x} {b = y} {distinct = distinct} {star = star} {rs = rs} {body = body} h k) l =
+    let h_again = head-again x distinct star rs h (front IsLexical x y l) in
+    let k_again = body-again y body k (back IsLexical x y l) in
+    record {
+      spelled = subst (λ t. IsBlock t b) (sym (map-append symbol (head_of distinct star rs) (body_lexemes body)))
+          (select_block h_again.spelled k_again.spelled);
+      clean = clean-append h_again.clean k_again.clean;
+    }
 
 -- ---- queries
 abbrev AreAgain : Tree → Type 0

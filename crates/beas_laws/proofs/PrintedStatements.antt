@@ -1,5 +1,5 @@
 -- The lexemes of a statement spell it again.
-use Rattle.std.proofs.Common.{◌≡◌, ℕ, List, [], ◌∷◌, ◌++◌, refl, sym, ap, subst, ◌∙◌, append_assoc}
+use Rattle.std.proofs.Common.{◌≡◌, ℕ, false, List, [], ◌∷◌, ◌++◌, refl, sym, ap, subst, ◌∙◌, append_assoc}
 use Rattle.std.specs.Prelude.{codes, map}
 use Rattle.std.proofs.lemmas.List.{map-append}
 use Rattle.beas_core.specs.declared.schema.AccessSpec.{AccessSpec}
@@ -9,7 +9,8 @@ use Rattle.sql_tree.specs.declared.tree.Statement.{Statement}
 use Rattle.sql_tree.specs.declared.tree.Statement.TheVariants.{CreateTable, CreateAccess, Insert, DiscoverGroup}
 use Rattle.sql_tree.specs.Canonical.{Lexeme, keyword, sign, names_of, comma_list, in_parentheses, column_of, tuple_of, limit_of, lexemes_of}
 use Rattle.sql_tree.specs.Symbols.{Symbol, word, number}
-use Rattle.sql_tree.specs.Grammar.{Commas, IsId, id, IsMaybeIds, IsColumn, IsTuple, Spells, create_table, create_access, drop_access, load, insert, delete, discover_group, discover_pairs, select, explain}
+use Rattle.sql_tree.specs.Trees.{Tree}
+use Rattle.sql_tree.specs.Grammar.{Commas, IsId, id, IsMaybeIds, IsColumn, IsTuple, Spells, create_table, create_access, drop_access, load, insert, delete, discover_group, discover_pairs, over_query, IsOverQuery, select, explain, IsQuery, wants_distinct}
 use Rattle.sql_tree.specs.Words.{ACCESS, CLOSE, CREATE, DISCOVER, FETCH, LIMIT, ON, OPEN, TABLE}
 use Rattle.beas_laws.proofs.Clean.{symbol, AreClean, none, name_then, digits_then, content_then, clean-append}
 use Rattle.beas_laws.proofs.Lexicals.{IsNameText, IsDigitText, IsLexical, AreLexical, front, back}
@@ -85,6 +86,12 @@ insert-again t b rows i h tuples l =
           (clean-keyword (codes "INTO") refl (name_then h (clean-keyword (codes "VALUES") refl again.clean)));
     }
 
+over-again : {words a : List Symbol} {t : Tree} {s : Statement} → IsOverQuery words t s → IsQuery a t → wants_distinct t ≡ false → AreLexical (words ++ a)
+    → SpellsAgain s
+over-again select h e l = let again = query-again h l in record { spelled = over_query select again.spelled e; clean = again.clean }
+over-again explain h e l = let again = query-again h l.1 in
+    record { spelled = over_query explain again.spelled e; clean = clean-keyword (codes "EXPLAIN") refl again.clean }
+
 -- The lexemes of a statement that lexical tokens spell.
 pub statement-again : (a : List Symbol) (s : Statement) → Spells a s → AreLexical a → Again Spells lexemes_of s
 statement-again a s (create_table {b = b} {n = n} {cs = cs} (id r) h) l = table-again n b cs (id r) l.1.1.0 h (front IsLexical b (CLOSE ∷ []) l.1.1.1.1)
@@ -115,6 +122,4 @@ statement-again a s (discover_group {b = b} {c = c} {t = t} {key = key} {fetched
     (ids-again k (back IsLexical b (CLOSE ∷ FETCH ∷ OPEN ∷ c) ahead).1.1.1)
 statement-again a s (discover_pairs {limit = limit} (id r)) l = record
     { spelled = discover_pairs (id r); clean = clean-keyword (codes "DISCOVER") refl (name_then l.1.0 (clean-limit limit l.1.1.1.0)) }
-statement-again a s (select h e) l = let again = query-again h l in record { spelled = select again.spelled e; clean = again.clean }
-statement-again a s (explain h e) l = let again = query-again h l.1 in
-    record { spelled = explain again.spelled e; clean = clean-keyword (codes "EXPLAIN") refl again.clean }
+statement-again a s (over_query o h e) l = over-again o h e l

@@ -1,13 +1,13 @@
 -- Which statuses are left where nothing stands in the way of a run.
-use Rattle.std.proofs.Common.{◌≡◌, ◌≤◌, ◌<◌, ◌⊎◌, ℕ, List, Option, Some, None, true, inl, inr, ⊎_elim, arith, length, sym, ◌∙◌, ap, subst}
+use Rattle.std.proofs.Common.{◌≡◌, ◌≤◌, ◌<◌, ◌⊎◌, ℕ, List, Option, Some, None, inl, inr, ⊎_elim, arith, length, sym, ◌∙◌, ap, subst}
 use Rattle.std.specs.Prelude.{IsSomeAnd, option_and_then}
 use Rattle.std.specs.Str.{IsUtf8}
 use Rattle.std.proofs.lemmas.Bool.{cases_lt}
 use Rattle.command_words.specs.declared.arguments.Args.{Args}
 use Rattle.command_words.specs.declared.arguments.Args.TheVariants.{Script, Demo}
 use Rattle.outside.specs.Counts.{Rose}
-use Rattle.session.specs.Ties.{Seen}
-use Rattle.beas_run.specs.Runs.{path_of, seed_of, IsScriptOf, IsContent, IsTooLong, IsNoText, IsWith, HasScript, Completes, CompletesWithout, longest_script}
+use Rattle.outside.specs.Seen.{Seen}
+use Rattle.beas_run.specs.Runs.{path_of, seed_of, IsScriptOf, IsContent, IsTooLong, IsNoText, IsReadable, IsWith, HasScript, Completes, CompletesWithout, longest_script}
 
 inside : {X : Type 0} (x y : X) → Some x ≡ Some y → x ≡ y
 inside x y e = cc
@@ -44,21 +44,20 @@ module _ (n : ℕ) (asked : Option Args) (before after : Seen) (most : n ≤ 7) 
     (unread : n ≡ 3 → IsSomeAnd (option_and_then path_of asked) (λ m. Rose (before.faults m) (after.faults m)))
     (too_long : n ≡ 6 → IsSomeAnd (option_and_then path_of asked) (IsTooLong before after))
     (not_text : n ≡ 7 → IsSomeAnd (option_and_then path_of asked) (IsNoText before))
-    (name script : List ℕ) (e : option_and_then path_of asked ≡ Some name) (told : before.told ≡ true) (is : before.content name ≡ Some script)
-    (quiet : Rose (before.faults name) (after.faults name) → ⊥) where
+    (name script : List ℕ) (e : option_and_then path_of asked ≡ Some name) (readable : IsReadable name script before after) where
   two : n ≡ 2 → ⊥
   two s = let none = ap (option_and_then path_of) (words s) in let both : None ≡ Some name = sym none ∙ e in cc
 
   three : n ≡ 3 → ⊥
-  three s = quiet (at_value (λ m. Rose (before.faults m) (after.faults m)) (option_and_then path_of asked) name e (unread s))
+  three s = readable.no_fault (at_value (λ m. Rose (before.faults m) (after.faults m)) (option_and_then path_of asked) name e (unread s))
 
   long : n ≡ 6 → longest_script < length script
   long s =
-      at_value (λ b. longest_script < length b) (before.content name) script is
-      ((at_value (IsTooLong before after) (option_and_then path_of asked) name e (too_long s)).longer told)
+      at_value (λ b. longest_script < length b) (before.content name) script readable.content
+      ((at_value (IsTooLong before after) (option_and_then path_of asked) name e (too_long s)).longer readable.told)
 
   bytes_are : (cause : IsNoText before name) → cause.bytes ≡ script
-  bytes_are cause = inside _ _ (sym (cause.content_is told) ∙ is)
+  bytes_are cause = inside _ _ (sym (cause.content_is readable.told) ∙ readable.content)
 
   not_long : n ≡ 7 → longest_script < length script → ⊥
   not_long s longer =
@@ -75,7 +74,7 @@ module _ (n : ℕ) (asked : Option Args) (before after : Seen) (most : n ≤ 7) 
       below_two n most two three four (λ s. let l = long s in absurd (omega arith)) (λ s. no_text_at s text)
 
   run_is : (run : List ℕ) → HasScript run n asked before → IsWith n → run ≡ script
-  run_is run has with = inside run script (sym (content_at before run name asked e (has.read with) told) ∙ is)
+  run_is run has with = inside run script (sym (content_at before run name asked e (has.read with) readable.told) ∙ readable.content)
 
   never_longer : (run : List ℕ) → HasScript run n asked before → IsWith n → longest_script < length script → ⊥
   never_longer run has with longer = let same = ap length (run_is run has with) in let fits = has.fits in omega arith

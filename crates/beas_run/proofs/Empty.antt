@@ -13,15 +13,14 @@ use Rattle.demo_gen.proofs.Lengths.{length-demo}
 use Rattle.outside.specs.Parts.{SentPart}
 use Rattle.sql_text.specs.Tokens.{tokens_from}
 use Rattle.session.specs.Effects.{Settings}
-use Rattle.session.specs.Ties.{Seen, IsLater}
-use Rattle.sql_parser.specs.Outcome.{Reading}
+use Rattle.outside.specs.Seen.{Seen, IsLater}
+use Rattle.beas_run.specs.Readings.{Reading, Readings, readings_of}
 use Rattle.beas_run.specs.declared.no_script.NoScript.{NoScript}
 use Rattle.beas_run.specs.declared.no_script.NoScript.TheVariants.{Words, Unread, TooLong, NotText, NoMemory}
 use Rattle.beas_run.specs.NoScripts.{status_of}
-use Rattle.beas_run.specs.Scripts.{Readings, readings_of}
 use Rattle.beas_run.specs.Runs.{seed_of, demo_seed, settings_for, settings_of_words, HasScript, HasRun, IsContent, IsScriptOf, IsWith, IsWithout, WalkedFor, longest_script}
 use Rattle.beas_run.specs.Demonstrations.{Demonstrated, summary_of, without_output}
-use Rattle.beas_run.specs.Walks.{Scene, Walked}
+use Rattle.beas_run.specs.Walks.{Moment, Walked}
 use Rattle.beas_run.proofs.Reached.{unstarted, walked_from}
 use Rattle.beas_run.proofs.Reading.{found}
 
@@ -69,8 +68,8 @@ has_none status asked files early fault = record {
 }
 
 -- nothing is done, whatever is asked for; where that is a demonstration, out of memory
-idle : (asked : Option Args) (s : Settings) (before after : Scene) (status : ℕ)
-    → (before.told ≡ true → after.sent ≡ before.sent) → after.steps ≡ before.steps → after.db ≡ before.db → IsLater before.files after.files
+idle : (asked : Option Args) (s : Settings) (before after : Moment) (status : ℕ)
+    → (before.out.told ≡ true → after.out.bytes ≡ before.out.bytes) → after.steps ≡ before.steps → after.state ≡ before.state → IsLater before.files after.files
     → 2 ≤ status → status ≢ 4 → (option_and_then seed_of asked ≡ None) ⊎ (status ≡ 5) → WalkedFor asked s [] status before after
 idle None s before after status sent steps db later early fault why = unstarted s [] before after status sent steps db later early fault
 idle (Some (Script path budget explain)) s before after status sent steps db later early fault why =
@@ -80,15 +79,15 @@ idle (Some (Demo seed budget explain)) s before after status sent steps db later
   ended = 5;
   walked = unstarted s [] (without_output before) (without_output after) 5 (λ _. refl) steps db later (omega arith) (omega arith);
   whole = λ below. absurd (omega arith);
-  part = λ on. rw (sent on) (none_of before.sent (summary_of []));
+  part = λ on. rw (sent on) (none_of before.out.bytes (summary_of []));
   unsent = λ _ _. sent;
   early = λ _. (refl, five);
 }
 
 -- a run without a script
-pub ran_nothing : (limits : Limits) (words : List (List ℕ)) (why : NoScript) (status : ℕ) (before after : Scene) → (status ≡ status_of why) ⊎ (status ≡ 5)
+pub ran_nothing : (limits : Limits) (words : List (List ℕ)) (why : NoScript) (status : ℕ) (before after : Moment) → (status ≡ status_of why) ⊎ (status ≡ 5)
     → (demo_seed words ≡ None) ⊎ (status ≡ 5)
-    → (before.told ≡ true → after.sent ≡ before.sent) → after.steps ≡ before.steps → after.db ≡ before.db → IsLater before.files after.files
+    → (before.out.told ≡ true → after.out.bytes ≡ before.out.bytes) → after.steps ≡ before.steps → after.state ≡ before.state → IsLater before.files after.files
     → HasRun limits words status before after
 ran_nothing limits words why status before after said none sent steps db later =
     let early = early_said why status said in
@@ -123,19 +122,19 @@ none_before : (part left : List ℕ) → part ++ left ≡ [] → part ≡ []
 none_before [] left e = refl
 none_before (x ∷ part) left e = cc
 
-silent_with : (s : Settings) (readings : List Reading) (status : ℕ) (before after : Scene) → readings ≡ [] → Walked s readings status before after
-    → before.told ≡ true → after.sent ≡ before.sent
+silent_with : (s : Settings) (readings : List Reading) (status : ℕ) (before after : Moment) → readings ≡ [] → Walked s readings status before after
+    → before.out.told ≡ true → after.out.bytes ≡ before.out.bytes
 silent_with s [] status before after e walked on =
     let p = walked.follows.part on in
-    p.sent ∙ ap (λ xs. before.sent ++ xs) (none_before p.part p.left p.cut) ∙ append-nil before.sent
+    p.sent ∙ ap (λ xs. before.out.bytes ++ xs) (none_before p.part p.left p.cut) ∙ append-nil before.out.bytes
 silent_with s (reading ∷ readings) status before after e walked on = cc
 
 none_read : readings_of [] ≡ []
 unfolding tokens_from
 none_read = refl
 
-silent_file : (s : Settings) (script : List ℕ) (status : ℕ) (before after : Scene) → Walked s (readings_of script) status before after
-    → script ≡ [] → before.told ≡ true → after.sent ≡ before.sent
+silent_file : (s : Settings) (script : List ℕ) (status : ℕ) (before after : Moment) → Walked s (readings_of script) status before after
+    → script ≡ [] → before.out.told ≡ true → after.out.bytes ≡ before.out.bytes
 silent_file s script status before after walked none =
     silent_with s (readings_of script) status before after (ap readings_of none ∙ none_read) walked
 
@@ -144,8 +143,8 @@ some_demo : (seed : ℕ) → demo_text seed ≡ [] → ⊥
 unfolding demo_text
 some_demo seed e = cc
 
-ran : (limits : Limits) (words : List (List ℕ)) (asked : Args) (script : List ℕ) (status : ℕ) (before after : Scene) → args_of words ≡ Some asked
-    → (script ≡ [] → before.told ≡ true → after.sent ≡ before.sent)
+ran : (limits : Limits) (words : List (List ℕ)) (asked : Args) (script : List ℕ) (status : ℕ) (before after : Moment) → args_of words ≡ Some asked
+    → (script ≡ [] → before.out.told ≡ true → after.out.bytes ≡ before.out.bytes)
     → HasScript script status (Some asked) before.files → WalkedFor (Some asked) (settings_for limits asked) (readings_of script) status before after
     → HasRun limits words status before after
 ran limits words asked script status before after e silent has walked =
@@ -160,9 +159,9 @@ ran limits words asked script status before after e silent has walked =
       walked = subst P (sym e) walked;
     }
 
--- a run over the script in the file that its words name, after the read of the file
+-- a run over the script in the file that its words name, after the load of the file
 pub ran_file : (limits : Limits) (words : List (List ℕ)) (path : List ℕ) (budget : Option ℕ) (explain : Bool) (script : List ℕ) (status : ℕ)
-    (before after : Scene) (files : Seen)
+    (before after : Moment) (files : Seen)
     → args_of words ≡ Some (Script path budget explain)
     → length script ≤ longest_script → IsUtf8 script → IsContent before.files script path → (status < 2) ⊎ (status ≡ 4) ⊎ (status ≡ 5)
     → IsLater before.files files
@@ -177,7 +176,7 @@ ran_file limits words path budget explain script status before after files asked
     whole
 
 -- a run over the text of the demonstration that its words ask for
-pub ran_demo : (limits : Limits) (words : List (List ℕ)) (seed : ℕ) (budget : Option ℕ) (explain : Bool) (script : List ℕ) (status : ℕ) (before after : Scene)
+pub ran_demo : (limits : Limits) (words : List (List ℕ)) (seed : ℕ) (budget : Option ℕ) (explain : Bool) (script : List ℕ) (status : ℕ) (before after : Moment)
     → args_of words ≡ Some (Demo seed budget explain) → script ≡ demo_text seed → IsUtf8 script → (status < 2) ⊎ (status ≡ 4) ⊎ (status ≡ 5)
     → Demonstrated (record { limits = limits; budget = budget; explain = explain }) (readings_of script) status before after
     → HasRun limits words status before after

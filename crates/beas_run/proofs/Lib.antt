@@ -1,5 +1,4 @@
 mod Complete
-mod Counted
 mod Counting
 mod Empty
 mod Pieces
@@ -8,4 +7,5 @@ mod Reading
 mod Sources
 mod Ties
 mod Turns
+mod Walking
 pub mod WellFormed

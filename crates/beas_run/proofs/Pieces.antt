@@ -1,5 +1,5 @@
 -- What is done for one piece, by what its parts say.
-use Rattle.std.proofs.Common.{◌≡◌, ◌++◌, ap, subst, sym, refl, ℕ, Bool, true, List, [], Result, Ok, Err, arith, append-nil}
+use Rattle.std.proofs.Common.{◌≡◌, ◌++◌, ap, subst, sym, refl, ℕ, Bool, true, List, [], ◌∷◌, Result, Ok, Err, arith, append-nil}
 use Rattle.std.specs.Prelude.{IfErr, IfOk}
 use Rattle.beas_core.specs.declared.errors.NoMemory.{NoMemory}
 use Rattle.outside.specs.Parts.{SentPart}
@@ -8,75 +8,82 @@ use Rattle.catalogue.specs.Database.{Database}
 use Rattle.report.specs.declared.reports.Report.{Report}
 use Rattle.report.specs.declared.reports.Report.TheVariants.{Refused}
 use Rattle.report.specs.Reports.{report_text}
-use Rattle.sql_parser.specs.Outcome.{Reading}
+use Rattle.beas_run.specs.Readings.{Reading}
 use Rattle.sql_tree.specs.declared.tree.Statement.{Statement}
-use Rattle.session.specs.declared.outcome.Outcome.TheVariants.{Failed}
-use Rattle.session.specs.Applied.{Applied, MayCost}
-use Rattle.session.specs.Effects.{Settings, Act, Does, act_of, refusal_effect}
-use Rattle.session.specs.Ties.{Seen, IsLater}
+use Rattle.session.specs.declared.loading.LoadOutcome.TheVariants.{Failed}
+use Rattle.session.specs.Applying.{IsApplied, MayCost}
+use Rattle.session.specs.Effects.{Settings, Action, Does, action_of, refusal_effect}
+use Rattle.outside.specs.Seen.{Seen, IsLater}
 use Rattle.session.specs.Turns.{is_refusal, IsWithin}
-use Rattle.beas_run.specs.declared.script.Ending.{Ending}
-use Rattle.beas_run.specs.declared.script.Ending.TheVariants.{NoMemory as Want}
+use Rattle.beas_run.specs.declared.ending.Ending.{Ending}
+use Rattle.beas_run.specs.declared.ending.Ending.TheVariants.{NoMemory as Want}
 use Rattle.beas_run.specs.Pieces.{IsTurn, IsReported, IsUnreported}
-use Rattle.beas_run.specs.Scripts.{act_for}
-use Rattle.beas_run.specs.Walks.{Scene}
+use Rattle.beas_run.specs.Scripts.{action_for}
+use Rattle.beas_run.specs.Walks.{Moment}
 use Rattle.beas_run.proofs.Ties.{tied_none}
 
 -- ---- a piece that is a statement, and one that is none
 
-act_is : (s : Settings) (db : Database) (reading : Reading) (statement : Statement) → reading ≡ Ok statement → act_of s db statement ≡ act_for s db reading
-unfolding act_for
-act_is s db reading statement e = ap (act_for s db) (sym e)
+action_is : (s : Settings) (db : Database) (reading : Reading) (statement : Statement) → reading ≡ Ok statement
+    → action_of s db statement ≡ action_for s db reading
+unfolding action_for
+action_is s db reading statement e = ap (action_for s db) (sym e)
 
 pub applied : (s : Settings) (db : Database) (reading : Reading) (statement : Statement) (limit : ℕ) (result : Result Report NoMemory) (after : Database)
     (m n : ℕ) (x y : Seen)
-    → reading ≡ Ok statement → IfOk result (λ report. Applied limit (act_of s db statement) report after m n x y)
-    → IfOk result (λ report. Applied limit (act_for s db reading) report after m n x y)
+    → reading ≡ Ok statement → IfOk result (λ report. IsApplied limit (action_of s db statement) report after m n x y)
+    → IfOk result (λ report. IsApplied limit (action_for s db reading) report after m n x y)
 applied s db reading statement limit result after m n x y e h =
-    let P : Act → Type 0 = λ act. IfOk result (λ report. Applied limit act report after m n x y) in subst P (act_is s db reading statement e) h
+    let P : Action → Type 0 = λ action. IfOk result (λ report. IsApplied limit action report after m n x y) in subst P (action_is s db reading statement e) h
 
 pub may_cost : (s : Settings) (db : Database) (reading : Reading) (statement : Statement) (m n : ℕ)
-    → reading ≡ Ok statement → MayCost (act_of s db statement) m n → MayCost (act_for s db reading) m n
-may_cost s db reading statement m n e h = let P : Act → Type 0 = λ act. MayCost act m n in subst P (act_is s db reading statement e) h
+    → reading ≡ Ok statement → MayCost (action_of s db statement) m n → MayCost (action_for s db reading) m n
+may_cost s db reading statement m n e h = let P : Action → Type 0 = λ action. MayCost action m n in subst P (action_is s db reading statement e) h
 
-act_refused : (s : Settings) (db : Database) (reading : Reading) (why : Refusal) → reading ≡ Err why → Does (refusal_effect db why) ≡ act_for s db reading
-unfolding act_for
-act_refused s db reading why e = ap (act_for s db) (sym e)
+action_refused : (s : Settings) (db : Database) (reading : Reading) (why : Refusal) → reading ≡ Err why
+    → Does (refusal_effect db why) ≡ action_for s db reading
+unfolding action_for
+action_refused s db reading why e = ap (action_for s db) (sym e)
 
-applied_refusal : (db : Database) (why : Refusal) (limit m : ℕ) (x : Seen) → IsLater x x → Applied limit (Does (refusal_effect db why)) (Refused why) db m m x x
+applied_refusal : (db : Database) (why : Refusal) (limit m : ℕ) (x : Seen) → IsLater x x
+    → IsApplied limit (Does (refusal_effect db why)) (Refused why) db m m x x
 applied_refusal db why limit m x later = record { outcome = Failed; report_is = refl; db_is = refl; cost_is = omega arith; tied = tied_none limit x x later }
 
 pub refused : (s : Settings) (db : Database) (reading : Reading) (why : Refusal) (limit m : ℕ) (x : Seen)
-    → reading ≡ Err why → Applied limit (act_for s db reading) (Refused why) db m m x x
+    → reading ≡ Err why → IsApplied limit (action_for s db reading) (Refused why) db m m x x
 refused s db reading why limit m x e =
     let later : IsLater x x = record { told = refl; content = refl; faults = λ name. omega arith; taken = omega arith } in
-    let P : Act → Type 0 = λ act. Applied limit act (Refused why) db m m x x in
-    subst P (act_refused s db reading why e) (applied_refusal db why limit m x later)
+    let P : Action → Type 0 = λ action. IsApplied limit action (Refused why) db m m x x in
+    subst P (action_refused s db reading why e) (applied_refusal db why limit m x later)
 
 -- ---- its report
 
-pub turn_from : (limit : ℕ) (act : Act) (report : Report) (before after : Scene) → IsWithin report
-    → (a : Applied limit act report after.db before.steps after.steps before.files after.files) → IsTurn limit act a.outcome before after
-turn_from limit act report before after within a = record { steps = a.cost_is; db = a.db_is; within = subst IsWithin a.report_is within; tied = a.tied }
+pub turn_from : (limit : ℕ) (action : Action) (report : Report) (before after : Moment) → IsWithin report
+    → (a : IsApplied limit action report after.state before.steps after.steps before.files after.files) → IsTurn limit action a.outcome before after
+turn_from limit action report before after within a = record { steps = a.cost_is; db = a.db_is; within = subst IsWithin a.report_is within; tied = a.tied }
 
-pub reported : (limit : ℕ) (act : Act) (number : ℕ) (report : Report) (is : Bool) (before after : Scene) → IsWithin report
-    → Applied limit act report after.db before.steps after.steps before.files after.files → is ≡ is_refusal report
-    → (before.told ≡ true → after.sent ≡ before.sent ++ report_text number report) → IsReported limit act number is before after
-reported limit act number report is before after within a told sent = record {
+pub reported : (limit : ℕ) (action : Action) (number : ℕ) (report : Report) (is : Bool) (took took_after : List Report → Type 0) (before after : Moment)
+    → IsWithin report
+    → IsApplied limit action report after.state before.steps after.steps before.files after.files → is ≡ is_refusal report
+    → (before.out.told ≡ true → after.out.bytes ≡ before.out.bytes ++ report_text number report)
+    → ((reports : List Report) → took reports → took_after (reports ++ report ∷ [])) → IsReported limit action number is took took_after before after
+reported limit action number report is took took_after before after within a told sent takes = record {
   outcome = a.outcome;
-  turn = turn_from limit act report before after within a;
-  sent = let P : Report → Type 0 = λ r. before.told ≡ true → after.sent ≡ before.sent ++ report_text number r in subst P a.report_is sent;
+  turn = turn_from limit action report before after within a;
+  sent = let P : Report → Type 0 = λ r. before.out.told ≡ true → after.out.bytes ≡ before.out.bytes ++ report_text number r in subst P a.report_is sent;
   refused_is = let P : Report → Type 0 = λ r. is ≡ is_refusal r in subst P a.report_is told;
+  took = let P : Report → Type 0 = λ r. (reports : List Report) → took reports → took_after (reports ++ r ∷ []) in subst P a.report_is takes;
 }
 
-pub unreported : (limit : ℕ) (act : Act) (number : ℕ) (report : Report) (why : Ending) (before after : Scene) → IsWithin report
-    → Applied limit act report after.db before.steps after.steps before.files after.files
-    → (before.told ≡ true → SentPart before.sent after.sent (report_text number report)) → (why ≡ Want → before.told ≡ true → after.sent ≡ before.sent)
-    → IsUnreported limit act number why before after
-unreported limit act number report why before after within a sent unsent = record {
+pub unreported : (limit : ℕ) (action : Action) (number : ℕ) (report : Report) (why : Ending) (before after : Moment) → IsWithin report
+    → IsApplied limit action report after.state before.steps after.steps before.files after.files
+    → (before.out.told ≡ true → SentPart before.out.bytes after.out.bytes (report_text number report))
+    → (why ≡ Want → before.out.told ≡ true → after.out.bytes ≡ before.out.bytes)
+    → IsUnreported limit action number why before after
+unreported limit action number report why before after within a sent unsent = record {
   outcome = a.outcome;
-  turn = turn_from limit act report before after within a;
-  sent = let P : Report → Type 0 = λ r. before.told ≡ true → SentPart before.sent after.sent (report_text number r) in subst P a.report_is sent;
+  turn = turn_from limit action report before after within a;
+  sent = let P : Report → Type 0 = λ r. before.out.told ≡ true → SentPart before.out.bytes after.out.bytes (report_text number r) in subst P a.report_is sent;
   unsent = unsent;
 }
 

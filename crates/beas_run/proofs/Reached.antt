@@ -9,56 +9,58 @@ use Rattle.beas_core.specs.declared.refusal.Refusal.{Refusal}
 use Rattle.beas_core.specs.declared.schema.TableId.{TableId}
 use Rattle.beas_core.specs.declared.limits.Limits.{Limits}
 use Rattle.catalogue.specs.Database.{Database, schema_of}
+use Rattle.report.specs.declared.reports.Report.{Report}
 use Rattle.report.specs.Reports.{report_text}
-use Rattle.sql_parser.specs.Outcome.{Reading}
+use Rattle.beas_run.specs.Readings.{Reading}
 use Rattle.sql_tree.specs.declared.tree.Statement.{Statement}
 use Rattle.sql_tree.specs.declared.tree.Statement.TheVariants.{CreateTable, CreateAccess, DropAccess, Load, Insert, Delete, DiscoverGroup, DiscoverPairs, Select, Explain}
-use Rattle.session.specs.declared.outcome.Outcome.{Outcome}
-use Rattle.session.specs.declared.outcome.Outcome.TheVariants.{Failed}
-use Rattle.session.specs.Applied.{MayCost}
-use Rattle.session.specs.Effects.{Settings, Act, Does, Reads, table_or_refusal, load_act, act_of}
-use Rattle.session.specs.Ties.{Seen, AreTied, IsLater}
-use Rattle.session.specs.Turns.{Turn, turn_of, is_refusal, out_of, cost_of, any_refused, reads_of, IsWithin}
-use Rattle.beas_run.specs.declared.script.Ending.{Ending}
-use Rattle.beas_run.specs.declared.script.Ending.TheVariants.{Fault, NoMemory}
+use Rattle.session.specs.declared.loading.LoadOutcome.{LoadOutcome}
+use Rattle.session.specs.declared.loading.LoadOutcome.TheVariants.{Failed}
+use Rattle.session.specs.Applying.{MayCost}
+use Rattle.session.specs.Effects.{Settings, Action, Does, Loads, table_or_refusal, load_action, action_of}
+use Rattle.session.specs.Ties.{AreTied}
+use Rattle.outside.specs.Seen.{Seen, IsLater}
+use Rattle.session.specs.Turns.{Turn, turn_of, is_refusal, out_of, cost_of, any_refused, loads_of, IsWithin}
+use Rattle.beas_run.specs.declared.ending.Ending.{Ending}
+use Rattle.beas_run.specs.declared.ending.Ending.TheVariants.{Fault, NoMemory}
 use Rattle.beas_run.specs.Endings.{status_of}
 use Rattle.beas_run.specs.Pieces.{IsTurn, IsReported, IsUnreported, IsUndone}
-use Rattle.beas_run.specs.Scripts.{next, act_for, turns}
-use Rattle.beas_run.specs.Walks.{Scene, AreWithin, Did, Stopped, whole_status, Follows, Walked}
+use Rattle.beas_run.specs.Scripts.{next, action_for, turns}
+use Rattle.beas_run.specs.Walks.{Moment, AreWithin, Did, Stopped, whole_status, Follows, Walked}
 use Rattle.beas_run.proofs.Ties.{later_twice, tied_none, tied_twice, tied_later, tied_earlier}
-use Rattle.beas_run.proofs.Turns.{out_from, out-append, out-more, cost-append, refused-append, database-append, reads-append, taken_by, turns_taken, no_reads}
+use Rattle.beas_run.proofs.Turns.{out_from, out-append, out-more, cost-append, refused-append, database-append, loads-append, taken_by, turns_taken, no_loads}
 
 -- These turns are done. Whatever the reads to come give, the turns of the script are these and then those of the rest.
-pub record Reached (s : Settings) (all rest : List Reading) (place : ℕ) (refused : Bool) (before now : Scene) : Type 0 where
-  pub outcomes : List Outcome
+pub record Reached (s : Settings) (all rest : List Reading) (place : ℕ) (refused : Bool) (before now : Moment) : Type 0 where
+  pub outcomes : List LoadOutcome
   pub done : List Turn
-  pub joined : (later : List Outcome) → turns s before.db all (outcomes ++ later) ≡ done ++ turns s now.db rest later
+  pub joined : (later : List LoadOutcome) → turns s before.state all (outcomes ++ later) ≡ done ++ turns s now.state rest later
   pub count : length done ≡ place
   pub places : place + length rest ≡ length all
   pub did : Did done before now
   pub refused_is : refused ≡ any_refused done
-  pub tied : AreTied s.limits.file (reads_of done) before.files now.files
+  pub tied : AreTied s.limits.file (loads_of done) before.files now.files
   pub later : IsLater before.files now.files
-  pub told : now.told ≡ before.told
+  pub told : now.out.told ≡ before.out.told
 
 pub same_later : (a : Seen) → IsLater a a
 same_later a = record { told = refl; content = refl; faults = λ name. omega arith; taken = omega arith }
 
-pub begun : (s : Settings) (readings : List Reading) (before : Scene) → Reached s readings readings 0 false before before
+pub begun : (s : Settings) (readings : List Reading) (before : Moment) → Reached s readings readings 0 false before before
 begun s readings before = record {
   outcomes = [];
   done = [];
   joined = λ later. refl;
   count = refl;
   places = omega arith;
-  did = record { sent = λ _. sym (append-nil before.sent); steps = omega arith; db = refl; within = All-nil (λ t. IsWithin t.effect.report) };
+  did = record { sent = λ _. sym (append-nil before.out.bytes); steps = omega arith; db = refl; within = All-nil (λ t. IsWithin t.effect.report) };
   refused_is = refl;
   tied = tied_none s.limits.file before.files before.files (same_later before.files);
   later = same_later before.files;
   told = refl;
 }
 
-pub begun_done : (s : Settings) (readings : List Reading) (before : Scene) → (begun s readings before).done ≡ []
+pub begun_done : (s : Settings) (readings : List Reading) (before : Moment) → (begun s readings before).done ≡ []
 unfolding begun
 begun_done s readings before = refl
 
@@ -67,23 +69,24 @@ within_one t h = All-cons (λ t. IsWithin t.effect.report) t [] h (All-nil (λ t
 
 -- ---- one piece more
 
-did_more : (done : List Turn) (act : Act) (limit place : ℕ) (outcome : Outcome) (before now after : Scene) → Did done before now → length done ≡ place
-    → now.told ≡ before.told
-    → IsTurn limit act outcome now after
-    → (now.told ≡ true → after.sent ≡ now.sent ++ report_text (place + 1) (turn_of act outcome).effect.report)
-    → Did (done ++ turn_of act outcome ∷ []) before after
-did_more done act limit place outcome before now after did count told turn sent =
-    let t = turn_of act outcome in
+did_more : (done : List Turn) (action : Action) (limit place : ℕ) (outcome : LoadOutcome) (before now after : Moment) → Did done before now
+    → length done ≡ place
+    → now.out.told ≡ before.out.told
+    → IsTurn limit action outcome now after
+    → (now.out.told ≡ true → after.out.bytes ≡ now.out.bytes ++ report_text (place + 1) (turn_of action outcome).effect.report)
+    → Did (done ++ turn_of action outcome ∷ []) before after
+did_more done action limit place outcome before now after did count told turn sent =
+    let t = turn_of action outcome in
     record {
       sent = λ on.
           sent (told ∙ on) ∙ ap (λ xs. xs ++ report_text (place + 1) t.effect.report) (did.sent on)
-          ∙ append_assoc before.sent (out_of done) (report_text (place + 1) t.effect.report)
-          ∙ ap (λ k. before.sent ++ (out_of done ++ report_text (k + 1) t.effect.report)) (sym count)
-          ∙ ap (λ xs. before.sent ++ xs) (sym (out-more done t));
+          ∙ append_assoc before.out.bytes (out_of done) (report_text (place + 1) t.effect.report)
+          ∙ ap (λ k. before.out.bytes ++ (out_of done ++ report_text (k + 1) t.effect.report)) (sym count)
+          ∙ ap (λ xs. before.out.bytes ++ xs) (sym (out-more done t));
       steps =
           let c = cost-append done (t ∷ []) in let d = did.steps in let e = turn.steps in
           let one : cost_of (t ∷ []) ≡ t.effect.cost = omega arith in omega arith;
-      db = turn.db ∙ sym (database-append before.db done (t ∷ []));
+      db = turn.db ∙ sym (database-append before.state done (t ∷ []));
       within = All-append (λ t. IsWithin t.effect.report) done (t ∷ []) did.within (within_one t turn.within);
     }
 
@@ -91,51 +94,48 @@ or_false : (b : Bool) → (b || false) ≡ b
 or_false true = refl
 or_false false = refl
 
-pub more : (s : Settings) (all rest : List Reading) (reading : Reading) (place : ℕ) (refused is : Bool) (before now after : Scene)
-    → Reached s all (reading ∷ rest) place refused before now → IsReported s.limits.file (act_for s now.db reading) (place + 1) is now after
-    → IsLater now.files after.files → after.told ≡ now.told → Reached s all rest (place + 1) (refused || is) before after
-more s all rest reading place refused is before now after r p later told =
-    let act = act_for s now.db reading in
-    let t = turn_of act p.outcome in
-    let Q : Database → (List Outcome) → Type 0 = λ db later. turns s before.db all (r.outcomes ++ (taken_by act p.outcome ++ later))
+pub more : (s : Settings) (all rest : List Reading) (reading : Reading) (place : ℕ) (refused is : Bool) (took took_after : List Report → Type 0)
+    (before now after : Moment)
+    → Reached s all (reading ∷ rest) place refused before now
+    → IsReported s.limits.file (action_for s now.state reading) (place + 1) is took took_after now after
+    → IsLater now.files after.files → after.out.told ≡ now.out.told → Reached s all rest (place + 1) (refused || is) before after
+more s all rest reading place refused is took took_after before now after r p later told =
+    let action = action_for s now.state reading in
+    let t = turn_of action p.outcome in
+    let Q : Database → (List LoadOutcome) → Type 0 = λ db later. turns s before.state all (r.outcomes ++ (taken_by action p.outcome ++ later))
     ≡ r.done ++ (t ∷ turns s db rest later) in
     record {
-      outcomes = r.outcomes ++ taken_by act p.outcome;
+      outcomes = r.outcomes ++ taken_by action p.outcome;
       done = r.done ++ t ∷ [];
       joined = λ os.
-          ap (turns s before.db all) (append_assoc r.outcomes (taken_by act p.outcome) os)
-          ∙ subst (λ db. Q db os) (sym p.turn.db) (r.joined (taken_by act p.outcome ++ os)
-          ∙ ap (λ ts. r.done ++ ts) (turns_taken s now.db reading rest p.outcome os))
-          ∙ sym (append_assoc r.done (t ∷ []) (turns s after.db rest os));
+          ap (turns s before.state all) (append_assoc r.outcomes (taken_by action p.outcome) os)
+          ∙ subst (λ db. Q db os) (sym p.turn.db) (r.joined (taken_by action p.outcome ++ os)
+          ∙ ap (λ ts. r.done ++ ts) (turns_taken s now.state reading rest p.outcome os))
+          ∙ sym (append_assoc r.done (t ∷ []) (turns s after.state rest os));
       count = let c = r.count in let l = length-append r.done (t ∷ []) in omega arith;
       places = let c = r.places in omega arith;
-      did = did_more r.done act s.limits.file place p.outcome before now after r.did r.count r.told p.turn p.sent;
+      did = did_more r.done action s.limits.file place p.outcome before now after r.did r.count r.told p.turn p.sent;
       refused_is = ap (λ b. b || is) r.refused_is ∙ ap (λ b. any_refused r.done || b) (p.refused_is ∙ sym (or_false (is_refusal t.effect.report)))
           ∙ sym (refused-append r.done (t ∷ []));
-      tied = subst (λ reads. AreTied s.limits.file reads before.files after.files) (sym (reads-append r.done (t ∷ [])))
-          (tied_twice s.limits.file (reads_of r.done) (reads_of (t ∷ [])) before.files now.files after.files r.later r.tied p.turn.tied);
+      tied = subst (λ reads. AreTied s.limits.file reads before.files after.files) (sym (loads-append r.done (t ∷ [])))
+          (tied_twice s.limits.file (loads_of r.done) (loads_of (t ∷ [])) before.files now.files after.files r.later r.tied p.turn.tied);
       later = later_twice before.files now.files after.files r.later later;
       told = told ∙ r.told;
     }
 
-pub more_done : (s : Settings) (all rest : List Reading) (reading : Reading) (place : ℕ) (refused is : Bool) (before now after : Scene)
-    → (r : Reached s all (reading ∷ rest) place refused before now) (p : IsReported s.limits.file (act_for s now.db reading) (place + 1) is now after)
-    → (later : IsLater now.files after.files) (told : after.told ≡ now.told)
-    → (more s all rest reading place refused is before now after r p later told).done ≡ r.done ++ turn_of (act_for s now.db reading) p.outcome ∷ []
+pub more_done : (s : Settings) (all rest : List Reading) (reading : Reading) (place : ℕ) (refused is : Bool) (took took_after : List Report → Type 0)
+    (before now after : Moment)
+    → (r : Reached s all (reading ∷ rest) place refused before now)
+    → (p : IsReported s.limits.file (action_for s now.state reading) (place + 1) is took took_after now after)
+    → (later : IsLater now.files after.files) (told : after.out.told ≡ now.out.told)
+    → (more s all rest reading place refused is took took_after before now after r p later told).done
+    ≡ r.done ++ turn_of (action_for s now.state reading) p.outcome ∷ []
 unfolding more
-more_done s all rest reading place refused is before now after r p later told = refl
-
-pub one_more : (s here : Settings) (all rest : List Reading) (reading : Reading) (place : ℕ) (refused is : Bool) (before now after : Scene)
-    → Reached s all (reading ∷ rest) place refused before now → here ≡ s
-    → IsReported here.limits.file (act_for here now.db reading) (place + 1) is now after → IsLater now.files after.files → after.told ≡ now.told
-    → Reached s all rest (place + 1) (refused || is) before after
-one_more s here all rest reading place refused is before now after r same did later told =
-    let P : Settings → Type 0 = λ h. IsReported h.limits.file (act_for h now.db reading) (place + 1) is now after in
-    more s all rest reading place refused is before now after r (subst P same did) later told
+more_done s all rest reading place refused is took took_after before now after r p later told = refl
 
 -- ---- the end
 
-follows_all : (limit : ℕ) (done : List Turn) (status : ℕ) (before now : Scene) → Did done before now → AreTied limit (reads_of done) before.files now.files
+follows_all : (limit : ℕ) (done : List Turn) (status : ℕ) (before now : Moment) → Did done before now → AreTied limit (loads_of done) before.files now.files
     → status ≡ whole_status done → status < 2 → Follows limit done status before now
 follows_all limit done status before now did tied status_is below = record {
   whole = λ _. did;
@@ -155,10 +155,10 @@ below_two : (refused : Bool) → status_for refused < 2
 below_two true = omega arith
 below_two false = omega arith
 
-pub ended : (s : Settings) (all : List Reading) (place : ℕ) (refused : Bool) (before now : Scene) (status : ℕ) → Reached s all [] place refused before now
+pub ended : (s : Settings) (all : List Reading) (place : ℕ) (refused : Bool) (before now : Moment) (status : ℕ) → Reached s all [] place refused before now
     → status ≡ status_for refused → Walked s all status before now
 ended s all place refused before now status r status_is =
-    let e : turns s before.db all (r.outcomes ++ []) ≡ r.done = r.joined [] ∙ append-nil r.done in
+    let e : turns s before.state all (r.outcomes ++ []) ≡ r.done = r.joined [] ∙ append-nil r.done in
     let P : ℕ → Type 0 = λ n. n < 2 in
     record {
       outcomes = r.outcomes ++ [];
@@ -169,9 +169,9 @@ ended s all place refused before now status r status_is =
           (subst P (sym status_is) (below_two refused)));
     }
 
-pub ended_turns : (s : Settings) (all : List Reading) (place : ℕ) (refused : Bool) (before now : Scene) (status : ℕ)
+pub ended_turns : (s : Settings) (all : List Reading) (place : ℕ) (refused : Bool) (before now : Moment) (status : ℕ)
     → (r : Reached s all [] place refused before now)
-    → (status_is : status ≡ status_for refused) → turns s before.db all (ended s all place refused before now status r status_is).outcomes ≡ r.done
+    → (status_is : status ≡ status_for refused) → turns s before.state all (ended s all place refused before now status r status_is).outcomes ≡ r.done
 unfolding ended
 ended_turns s all place refused before now status r status_is = r.joined [] ∙ append-nil r.done
 
@@ -180,9 +180,10 @@ ended_turns s all place refused before now status r status_is = r.joined [] ∙ 
 front_le : (before cost rest after : ℕ) → after ≤ before + cost → after ≤ before + (cost + rest)
 front_le before cost rest after h = omega arith
 
-follows_paused : (limit : ℕ) (done left : List Turn) (status : ℕ) (before now after : Scene) → Did done before now → now.told ≡ before.told
-    → AreTied limit (reads_of done) before.files after.files → reads_of left ≡ []
-    → (now.told ≡ true → after.sent ≡ now.sent) → now.steps ≤ after.steps → after.steps ≤ now.steps + cost_of (take 1 left) → after.db ≡ now.db
+follows_paused : (limit : ℕ) (done left : List Turn) (status : ℕ) (before now after : Moment) → Did done before now → now.out.told ≡ before.out.told
+    → AreTied limit (loads_of done) before.files after.files → loads_of left ≡ []
+    → (now.out.told ≡ true → after.out.bytes ≡ now.out.bytes) → now.steps ≤ after.steps → after.steps ≤ now.steps + cost_of (take 1 left)
+    → after.state ≡ now.state
     → 2 ≤ status → status ≢ 4 → Follows limit (done ++ left) status before after
 follows_paused limit done left status before now after did told tied none sent no_fewer at_most db early fault =
     let front = sum_by-take-le (λ (t : Turn). t.effect.cost) left 1 in
@@ -212,13 +213,13 @@ follows_paused limit done left status before now after did told tied none sent n
       no_fewer = omega arith;
       at_most = omega arith;
       tied = subst (λ reads. AreTied limit reads before.files after.files)
-          (sym (reads-append done left ∙ ap (λ reads. reads_of done ++ reads) none ∙ append-nil (reads_of done))) tied;
+          (sym (loads-append done left ∙ ap (λ reads. loads_of done ++ reads) none ∙ append-nil (loads_of done))) tied;
     }
 
-pub paused : (s : Settings) (all rest : List Reading) (place : ℕ) (refused : Bool) (before now after : Scene) (status : ℕ)
+pub paused : (s : Settings) (all rest : List Reading) (place : ℕ) (refused : Bool) (before now after : Moment) (status : ℕ)
     → Reached s all rest place refused before now
-    → (now.told ≡ true → after.sent ≡ now.sent) → now.steps ≤ after.steps → after.steps ≤ now.steps + cost_of (take 1 (turns s now.db rest []))
-    → after.db ≡ now.db
+    → (now.out.told ≡ true → after.out.bytes ≡ now.out.bytes) → now.steps ≤ after.steps → after.steps ≤ now.steps + cost_of (take 1 (turns s now.state rest []))
+    → after.state ≡ now.state
     → IsLater now.files after.files → 2 ≤ status → status ≢ 4 → Walked s all status before after
 paused s all rest place refused before now after status r sent no_fewer at_most db later early fault =
     record {
@@ -226,54 +227,55 @@ paused s all rest place refused before now after status r sent no_fewer at_most 
       whole = λ below. absurd (omega arith);
       follows =
           subst (λ ts. Follows s.limits.file ts status before after) (sym (r.joined []))
-          (follows_paused s.limits.file r.done (turns s now.db rest []) status before now after r.did r.told
-          (tied_later s.limits.file (reads_of r.done) before.files now.files after.files r.tied later) (no_reads s now.db rest) sent no_fewer at_most db early
+          (follows_paused s.limits.file r.done (turns s now.state rest []) status before now after r.did r.told
+          (tied_later s.limits.file (loads_of r.done) before.files now.files after.files r.tied later) (no_loads s now.state rest)
+          sent no_fewer at_most db early
           fault);
     }
 
 -- a read that failed costs nothing
-abbrev FreeReads : Act → Type 0
-FreeReads (Does effect) = Unit {0}
-FreeReads (Reads name effect) = (effect Failed).cost ≡ 0
+abbrev FreeLoads : Action → Type 0
+FreeLoads (Does effect) = Unit {0}
+FreeLoads (Loads name effect) = (effect Failed).cost ≡ 0
 
-free_load : (limits : Limits) (db : Database) (table : Result TableId Refusal) (file : List ℕ) → FreeReads (load_act limits db table file)
+free_load : (limits : Limits) (db : Database) (table : Result TableId Refusal) (file : List ℕ) → FreeLoads (load_action limits db table file)
 free_load limits db (Err why) file = tt
 free_load limits db (Ok id) file = refl
 
-free_act : (s : Settings) (db : Database) (statement : Statement) → FreeReads (act_of s db statement)
-free_act s db (CreateTable name columns) = tt
-free_act s db (CreateAccess spec) = tt
-free_act s db (DropAccess name) = tt
-free_act s db (Load table file) = free_load s.limits db (table_or_refusal (schema_of db) table) file
-free_act s db (Insert table tuples) = tt
-free_act s db (Delete table conditions) = tt
-free_act s db (DiscoverGroup table key fetched) = tt
-free_act s db (DiscoverPairs table limit) = tt
-free_act s db (Select tree) = tt
-free_act s db (Explain tree) = tt
+free_action : (s : Settings) (db : Database) (statement : Statement) → FreeLoads (action_of s db statement)
+free_action s db (CreateTable name columns) = tt
+free_action s db (CreateAccess spec) = tt
+free_action s db (DropAccess name) = tt
+free_action s db (Load table file) = free_load s.limits db (table_or_refusal (schema_of db) table) file
+free_action s db (Insert table tuples) = tt
+free_action s db (Delete table conditions) = tt
+free_action s db (DiscoverGroup table key fetched) = tt
+free_action s db (DiscoverPairs table limit) = tt
+free_action s db (Select tree) = tt
+free_action s db (Explain tree) = tt
 
-free_for : (s : Settings) (db : Database) (reading : Reading) → FreeReads (act_for s db reading)
-unfolding act_for
-free_for s db (Ok statement) = free_act s db statement
+free_for : (s : Settings) (db : Database) (reading : Reading) → FreeLoads (action_for s db reading)
+unfolding action_for
+free_for s db (Ok statement) = free_action s db statement
 free_for s db (Err why) = tt
 
-cost_within : (s : Settings) (rest : List Reading) (act : Act) (before after : ℕ) → FreeReads act → MayCost act before after
-    → after ≤ before + cost_of (take 1 (option_map_or (λ n. n.turn ∷ turns s n.turn.effect.db rest n.left) (next act []) []))
+cost_within : (s : Settings) (rest : List Reading) (action : Action) (before after : ℕ) → FreeLoads action → MayCost action before after
+    → after ≤ before + cost_of (take 1 (option_map_or (λ n. n.turn ∷ turns s n.turn.effect.db rest n.left) (next action []) []))
 cost_within s rest (Does effect) before after free may = let h = may Failed in omega arith
-cost_within s rest (Reads name effect) before after free may = let h = may Failed in omega arith
+cost_within s rest (Loads name effect) before after free may = let h = may Failed in omega arith
 
-pub stopped_in_statement : (s here : Settings) (all rest : List Reading) (reading : Reading) (place : ℕ) (refused : Bool) (before now after : Scene)
+pub stopped_in_statement : (s here : Settings) (all rest : List Reading) (reading : Reading) (place : ℕ) (refused : Bool) (before now after : Moment)
     (status : ℕ)
     → Reached s all (reading ∷ rest) place refused before now → here ≡ s
-    → IsUndone (act_for here now.db reading) now after → IsLater now.files after.files → 2 ≤ status → status ≢ 4 → Walked s all status before after
+    → IsUndone (action_for here now.state reading) now after → IsLater now.files after.files → 2 ≤ status → status ≢ 4 → Walked s all status before after
 stopped_in_statement s here all rest reading place refused before now after status r same undone later early fault =
-    let P : Settings → Type 0 = λ h. MayCost (act_for h now.db reading) now.steps after.steps in
-    let may : MayCost (act_for s now.db reading) now.steps after.steps = subst P same undone.at_most in
+    let P : Settings → Type 0 = λ h. MayCost (action_for h now.state reading) now.steps after.steps in
+    let may : MayCost (action_for s now.state reading) now.steps after.steps = subst P same undone.at_most in
     paused s all (reading ∷ rest) place refused before now after status r undone.sent undone.no_fewer
-    (cost_within s rest (act_for s now.db reading) now.steps after.steps (free_for s now.db reading) may) undone.db later early fault
+    (cost_within s rest (action_for s now.state reading) now.steps after.steps (free_for s now.state reading) may) undone.db later early fault
 
-pub unstarted : (s : Settings) (readings : List Reading) (before after : Scene) (status : ℕ)
-    → (before.told ≡ true → after.sent ≡ before.sent) → after.steps ≡ before.steps → after.db ≡ before.db → IsLater before.files after.files
+pub unstarted : (s : Settings) (readings : List Reading) (before after : Moment) (status : ℕ)
+    → (before.out.told ≡ true → after.out.bytes ≡ before.out.bytes) → after.steps ≡ before.steps → after.state ≡ before.state → IsLater before.files after.files
     → 2 ≤ status → status ≢ 4 → Walked s readings status before after
 unstarted s readings before after status sent steps db later early fault =
     paused s readings readings 0 false before before after status (begun s readings before) sent (omega arith) (omega arith) db later early fault
@@ -283,29 +285,30 @@ unstarted s readings before after status sent steps db later early fault =
 part_after : (before now after first next : List ℕ) → now ≡ before ++ first → SentPart now after next → SentPart (before ++ first) after next
 part_after before now after first next e part = subst (λ xs. SentPart xs after next) e part
 
-follows_unreported : (limit : ℕ) (done left : List Turn) (act : Act) (outcome : Outcome) (place status : ℕ) (before now after : Scene) → Did done before now
-    → length done ≡ place → now.told ≡ before.told → IsLater before.files now.files → AreTied limit (reads_of done) before.files now.files
-    → IsTurn limit act outcome now after
-    → (now.told ≡ true → SentPart now.sent after.sent (report_text (place + 1) (turn_of act outcome).effect.report))
-    → (status ≢ 4 → now.told ≡ true → after.sent ≡ now.sent)
-    → reads_of left ≡ [] → 2 ≤ status → Follows limit (done ++ turn_of act outcome ∷ left) status before after
-follows_unreported limit done left act outcome place status before now after did count told later tied turn sent unsent none early =
-    let t = turn_of act outcome in
+follows_unreported : (limit : ℕ) (done left : List Turn) (action : Action) (outcome : LoadOutcome) (place status : ℕ) (before now after : Moment)
+    → Did done before now
+    → length done ≡ place → now.out.told ≡ before.out.told → IsLater before.files now.files → AreTied limit (loads_of done) before.files now.files
+    → IsTurn limit action outcome now after
+    → (now.out.told ≡ true → SentPart now.out.bytes after.out.bytes (report_text (place + 1) (turn_of action outcome).effect.report))
+    → (status ≢ 4 → now.out.told ≡ true → after.out.bytes ≡ now.out.bytes)
+    → loads_of left ≡ [] → 2 ≤ status → Follows limit (done ++ turn_of action outcome ∷ left) status before after
+follows_unreported limit done left action outcome place status before now after did count told later tied turn sent unsent none early =
+    let t = turn_of action outcome in
     let steps = did.steps in
     let more = turn.steps in
     let costs = cost-append done (t ∷ left) in
     let costs_one = cost-append done (t ∷ []) in
     let split : cost_of (t ∷ left) ≡ cost_of (t ∷ []) + cost_of left = cost-append (t ∷ []) left in
     let one : cost_of (t ∷ []) ≡ t.effect.cost = omega arith in
-    let both : AreTied limit (reads_of done ++ reads_of (t ∷ [])) before.files after.files =
-    tied_twice limit (reads_of done) (reads_of (t ∷ [])) before.files now.files after.files later tied turn.tied in
-    let reads : reads_of done ++ reads_of (t ∷ []) ≡ reads_of (done ++ t ∷ left) =
-    ap (λ rs. reads_of done ++ rs) (sym (reads-append (t ∷ []) left ∙ ap (λ rs. reads_of (t ∷ []) ++ rs) none ∙ append-nil (reads_of (t ∷ []))))
-    ∙ sym (reads-append done (t ∷ left)) in
+    let both : AreTied limit (loads_of done ++ loads_of (t ∷ [])) before.files after.files =
+    tied_twice limit (loads_of done) (loads_of (t ∷ [])) before.files now.files after.files later tied turn.tied in
+    let reads : loads_of done ++ loads_of (t ∷ []) ≡ loads_of (done ++ t ∷ left) =
+    ap (λ rs. loads_of done ++ rs) (sym (loads-append (t ∷ []) left ∙ ap (λ rs. loads_of (t ∷ []) ++ rs) none ∙ append-nil (loads_of (t ∷ []))))
+    ∙ sym (loads-append done (t ∷ left)) in
     let text = report_text (length done + 1) t.effect.report in
-    let sent_at : before.told ≡ true → SentPart (before.sent ++ out_of done) after.sent text =
-    λ on. subst (λ k. SentPart (before.sent ++ out_of done) after.sent (report_text (k + 1) t.effect.report)) (sym count)
-    (part_after before.sent now.sent after.sent (out_of done) _ (did.sent on) (sent (told ∙ on))) in
+    let sent_at : before.out.told ≡ true → SentPart (before.out.bytes ++ out_of done) after.out.bytes text =
+    λ on. subst (λ k. SentPart (before.out.bytes ++ out_of done) after.out.bytes (report_text (k + 1) t.effect.report)) (sym count)
+    (part_after before.out.bytes now.out.bytes after.out.bytes (out_of done) _ (did.sent on) (sent (told ∙ on))) in
     record {
       whole = λ below. absurd (omega arith);
       refusals = λ below. absurd (omega arith);
@@ -325,7 +328,7 @@ follows_unreported limit done left act outcome place status before now after did
           record {
             part = out_of done ++ p.part;
             left = p.left ++ out_from (length done + 1 + 1) left;
-            sent = p.sent ∙ append_assoc before.sent (out_of done) p.part;
+            sent = p.sent ∙ append_assoc before.out.bytes (out_of done) p.part;
             cut =
                 append_assoc (out_of done) p.part (p.left ++ out_from (length done + 1 + 1) left)
                 ∙ ap (λ xs. out_of done ++ xs) (sym (append_assoc p.part p.left (out_from (length done + 1 + 1) left))
@@ -345,34 +348,35 @@ no_memory : (why : Ending) (status : ℕ) → status ≡ status_of (Err why) →
 no_memory Fault status is fault = absurd (fault is)
 no_memory NoMemory status is fault = refl
 
-pub stopped_in_report : (s here : Settings) (all rest : List Reading) (reading : Reading) (place : ℕ) (refused : Bool) (before now after : Scene) (status : ℕ)
+pub stopped_in_report : (s here : Settings) (all rest : List Reading) (reading : Reading) (place : ℕ) (refused : Bool) (before now after : Moment) (status : ℕ)
     (why : Ending)
     → Reached s all (reading ∷ rest) place refused before now → here ≡ s
-    → IsUnreported here.limits.file (act_for here now.db reading) (place + 1) why now after → status ≡ status_of (Err why) → Walked s all status before after
+    → IsUnreported here.limits.file (action_for here now.state reading) (place + 1) why now after → status ≡ status_of (Err why)
+    → Walked s all status before after
 stopped_in_report s here all rest reading place refused before now after status why r same halted status_is =
-    let P : Settings → Type 0 = λ h. IsUnreported h.limits.file (act_for h now.db reading) (place + 1) why now after in
-    let p : IsUnreported s.limits.file (act_for s now.db reading) (place + 1) why now after = subst P same halted in
+    let P : Settings → Type 0 = λ h. IsUnreported h.limits.file (action_for h now.state reading) (place + 1) why now after in
+    let p : IsUnreported s.limits.file (action_for s now.state reading) (place + 1) why now after = subst P same halted in
     let least : 2 ≤ status_of (Err why) = early why in
-    let act = act_for s now.db reading in
-    let t = turn_of act p.outcome in
+    let action = action_for s now.state reading in
+    let t = turn_of action p.outcome in
     let left = turns s t.effect.db rest [] in
-    let e : turns s before.db all (r.outcomes ++ (taken_by act p.outcome ++ [])) ≡ r.done ++ (t ∷ left) =
-    r.joined (taken_by act p.outcome ++ []) ∙ ap (λ ts. r.done ++ ts) (turns_taken s now.db reading rest p.outcome []) in
+    let e : turns s before.state all (r.outcomes ++ (taken_by action p.outcome ++ [])) ≡ r.done ++ (t ∷ left) =
+    r.joined (taken_by action p.outcome ++ []) ∙ ap (λ ts. r.done ++ ts) (turns_taken s now.state reading rest p.outcome []) in
     record {
-      outcomes = r.outcomes ++ (taken_by act p.outcome ++ []);
+      outcomes = r.outcomes ++ (taken_by action p.outcome ++ []);
       whole = λ below. absurd (omega (arith, least));
       follows =
           subst (λ ts. Follows s.limits.file ts status before after) (sym e)
-          (follows_unreported s.limits.file r.done left act p.outcome place status before now after r.did r.count r.told r.later r.tied p.turn p.sent
-          (λ fault. p.unsent (no_memory why status status_is fault)) (no_reads s t.effect.db rest) (omega (arith, least)));
+          (follows_unreported s.limits.file r.done left action p.outcome place status before now after r.did r.count r.told r.later r.tied p.turn p.sent
+          (λ fault. p.unsent (no_memory why status status_is fault)) (no_loads s t.effect.db rest) (omega (arith, least)));
     }
 
 -- ---- a run that began a little earlier, when files had been read less
 
-did_from : (ts : List Turn) (before after : Scene) (files : Seen) → Did ts (record before { files = files }) after → Did ts before after
+did_from : (ts : List Turn) (before after : Moment) (files : Seen) → Did ts (record before { files = files }) after → Did ts before after
 did_from ts before after files h = record { sent = h.sent; steps = h.steps; db = h.db; within = h.within }
 
-stopped_from : (ts : List Turn) (status : ℕ) (before after : Scene) (files : Seen) → Stopped ts status (record before { files = files }) after
+stopped_from : (ts : List Turn) (status : ℕ) (before after : Moment) (files : Seen) → Stopped ts status (record before { files = files }) after
     → Stopped ts status before after
 stopped_from ts status before after files (inl h) = inl (record {
   done = h.done;
@@ -397,7 +401,7 @@ stopped_from ts status before after files (inr h) = inr (record {
   within = h.within;
 })
 
-pub walked_from : (s : Settings) (readings : List Reading) (status : ℕ) (before after : Scene) (files : Seen) → IsLater before.files files
+pub walked_from : (s : Settings) (readings : List Reading) (status : ℕ) (before after : Moment) (files : Seen) → IsLater before.files files
     → Walked s readings status (record before { files = files }) after → Walked s readings status before after
 walked_from s readings status before after files later w = record {
   outcomes = w.outcomes;

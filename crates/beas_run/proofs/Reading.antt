@@ -9,7 +9,7 @@ use Rattle.sql_text.specs.Pieces.{statements_of}
 use Rattle.sql_tree.specs.Symbols.{symbols}
 use Rattle.sql_parser.specs.Outcome.{Parses}
 use Rattle.sql_parser.proofs.Parsing.{parsed-parses}
-use Rattle.beas_run.specs.Scripts.{Readings, pieces, reading_of, readings_of, readings_at}
+use Rattle.beas_run.specs.Readings.{Readings, pieces, reading_of, readings_of, readings_at}
 
 each_read : (parts : List (List Token)) → AllZip (λ tokens reading. Parses (symbols tokens) reading) parts (map reading_of parts)
 each_read [] = tt

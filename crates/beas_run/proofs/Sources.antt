@@ -1,5 +1,5 @@
 -- What a run does with what the words ask for, and what it says where there is no text.
-use Rattle.std.proofs.Common.{◌≡◌, ◌≢◌, ◌≤◌, ◌<◌, ◌⊎◌, ◌∙◌, ap, sym, subst, refl, inl, inr, ℕ, Bool, List, Option, Some, None, false, length, arith}
+use Rattle.std.proofs.Common.{◌≡◌, ◌≤◌, ◌<◌, ◌⊎◌, ◌∙◌, ap, sym, subst, refl, inl, inr, ℕ, Bool, List, Option, Some, None, false, length, arith}
 use Rattle.std.specs.Prelude.{option_and_then}
 use Rattle.std.specs.Option.{option_map_or}
 use Rattle.std.specs.Str.{IsUtf8}
@@ -10,16 +10,16 @@ use Rattle.command_words.specs.declared.arguments.Args.TheVariants.{Script, Demo
 use Rattle.command_words.specs.Words.{args_of}
 use Rattle.outside.specs.Counts.{Rose}
 use Rattle.session.specs.Effects.{Settings}
-use Rattle.session.specs.Ties.{Seen, IsLater}
+use Rattle.outside.specs.Seen.{Seen, Sent, IsLater}
 use Rattle.beas_run.specs.declared.no_script.NoScript.{NoScript}
 use Rattle.beas_run.specs.declared.no_script.NoScript.TheVariants.{Words, Unread, TooLong, NotText, NoMemory}
 use Rattle.beas_run.specs.declared.script_source.Source.{Source}
 use Rattle.beas_run.specs.Demonstrations.{Demonstrated}
 use Rattle.beas_run.specs.NoScripts.{status_of}
-use Rattle.beas_run.specs.Runs.{seed_of, demo_seed, settings_for, settings_of_words, longest_script, HasRun, IsNoText, IsScriptOf, IsTooLong, IsWith, IsWithout, WalkedFor}
-use Rattle.beas_run.specs.Scripts.{readings_of}
+use Rattle.beas_run.specs.Runs.{seed_of, demo_seed, settings_for, settings_of_words, longest_script, HasRun, IsNoText, IsScriptOf, IsTooLong, IsWith, WalkedFor}
+use Rattle.beas_run.specs.Readings.{readings_of}
 use Rattle.beas_run.specs.Sources.{HasNoScript, IsSource, DemoReadsNothing, RanOver}
-use Rattle.beas_run.specs.Walks.{Scene}
+use Rattle.beas_run.specs.Walks.{Moment}
 use Rattle.beas_run.proofs.Empty.{early_said, ran_demo, ran_file}
 use Rattle.beas_run.proofs.Reached.{same_later}
 
@@ -65,7 +65,7 @@ file_unread path budget explain why before after named unread too_long not_text 
 
 -- ---- the way and the settings that are asked for
 
-pub way_for : (args asked : Args) (limits : Limits) (text : List ℕ) (status : ℕ) (before after : Scene) → args ≡ asked
+pub way_for : (args asked : Args) (limits : Limits) (text : List ℕ) (status : ℕ) (before after : Moment) → args ≡ asked
     → WalkedFor (Some asked) (settings_for limits asked) (readings_of text) status before after
     → WalkedFor (Some args) (settings_for limits args) (readings_of text) status before after
 way_for args asked limits text status before after e walked =
@@ -78,29 +78,29 @@ settings_for_same args asked limits settings e same = same ∙ ap (settings_for 
 
 -- ---- the statements of a text were carried out
 
-ran_source : (limits : Limits) (words : List (List ℕ)) (asked : Args) (script : List ℕ) (status : ℕ) (db : Database) (steps : ℕ) (told : Bool) (sent : List ℕ)
-    (files now : Seen) (after : Scene)
+ran_source : (limits : Limits) (words : List (List ℕ)) (asked : Args) (script : List ℕ) (status : ℕ) (db : Database) (steps : ℕ) (out : Sent)
+    (files now : Seen) (after : Moment)
     → args_of words ≡ Some asked → length script ≤ longest_script → IsUtf8 script → IsScriptOf (Some asked) files script
     → (status < 2) ⊎ (status ≡ 4) ⊎ (status ≡ 5) → DemoReadsNothing asked files now → IsLater files now
     → WalkedFor (Some asked) (settings_for limits asked) (readings_of script) status
-    (record { db = db; steps = steps; told = told; sent = sent; files = now }) after
-    → HasRun limits words status (record { db = db; steps = steps; told = told; sent = sent; files = files }) after
-ran_source limits words (Script path budget explain) script status db steps told sent files now after asked fits text is ended unread later walked =
-    ran_file limits words path budget explain script status (record { db = db; steps = steps; told = told; sent = sent; files = files }) after now
+    (record { state = db; steps = steps; out = out; files = now }) after
+    → HasRun limits words status (record { state = db; steps = steps; out = out; files = files }) after
+ran_source limits words (Script path budget explain) script status db steps out files now after asked fits text is ended unread later walked =
+    ran_file limits words path budget explain script status (record { state = db; steps = steps; out = out; files = files }) after now
     asked fits text is ended later walked
-ran_source limits words (Demo seed budget explain) script status db steps told sent files now after asked fits text is ended unread later walked =
+ran_source limits words (Demo seed budget explain) script status db steps out files now after asked fits text is ended unread later walked =
     let P : Seen → Type 0 = λ f. Demonstrated (record { limits = limits; budget = budget; explain = explain }) (readings_of script) status
-    (record { db = db; steps = steps; told = told; sent = sent; files = f }) after in
-    ran_demo limits words seed budget explain script status (record { db = db; steps = steps; told = told; sent = sent; files = files }) after
+    (record { state = db; steps = steps; out = out; files = f }) after in
+    ran_demo limits words seed budget explain script status (record { state = db; steps = steps; out = out; files = files }) after
     asked is text ended (subst P unread walked)
 
-pub ran_over : (limits : Limits) (words : List (List ℕ)) (source : Source) (text : List ℕ) (status : ℕ) (settings : Settings) (f g : ℕ) (db : Database)
-    (steps : ℕ) (told : Bool) (sent : List ℕ) (files now : Seen) (after : Scene)
+pub ran_over : (limits : Limits) (words : List (List ℕ)) (source : Source) (text : List ℕ) (status : ℕ) (settings : Settings) (db : Database)
+    (steps : ℕ) (out : Sent) (files now : Seen) (after : Moment)
     → IsSource (args_of words) files now source → text ≡ source.text → IsUtf8 text
-    → RanOver source.args text limits status settings f g (record { db = db; steps = steps; told = told; sent = sent; files = now }) after
-    → HasRun limits words status (record { db = db; steps = steps; told = told; sent = sent; files = files }) after
-ran_over limits words source text status settings f g db steps told sent files now after is same utf8 ran =
-    ran_source limits words source.args text status db steps told sent files now after is.asked_is
+    → RanOver source.args text limits status settings (record { state = db; steps = steps; out = out; files = now }) after
+    → HasRun limits words status (record { state = db; steps = steps; out = out; files = files }) after
+ran_over limits words source text status settings db steps out files now after is same utf8 ran =
+    ran_source limits words source.args text status db steps out files now after is.asked_is
     (subst (λ t. length t ≤ longest_script) (sym same) is.fits) utf8 (subst (λ t. IsScriptOf (Some source.args) files t) (sym same) is.is)
     ran.statuses is.unread is.later ran.walked
 

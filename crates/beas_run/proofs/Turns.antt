@@ -8,11 +8,11 @@ use Rattle.std.proofs.lemmas.List.Folds.{list_any-append}
 use Rattle.std.proofs.lemmas.List.Sums.{sum_by-append, fold-append}
 use Rattle.catalogue.specs.Database.{Database}
 use Rattle.report.specs.Reports.{report_text}
-use Rattle.sql_parser.specs.Outcome.{Reading}
-use Rattle.session.specs.declared.outcome.Outcome.{Outcome}
-use Rattle.session.specs.Effects.{Settings, Act, Does, Reads}
-use Rattle.session.specs.Turns.{Turn, turn_of, is_refusal, out_of, cost_of, any_refused, database_after, reads_of}
-use Rattle.beas_run.specs.Scripts.{next, act_for, turns}
+use Rattle.beas_run.specs.Readings.{Reading}
+use Rattle.session.specs.declared.loading.LoadOutcome.{LoadOutcome}
+use Rattle.session.specs.Effects.{Settings, Action, Does, Loads}
+use Rattle.session.specs.Turns.{Turn, turn_of, is_refusal, out_of, cost_of, any_refused, database_after, loads_of}
+use Rattle.beas_run.specs.Scripts.{next, action_for, turns}
 
 -- ---- what is read off a list of turns, and one more
 
@@ -46,35 +46,35 @@ refused-append done left = list_any-append (λ t. is_refusal t.effect.report) do
 pub database-append : (db : Database) (done left : List Turn) → database_after db (done ++ left) ≡ database_after (database_after db done) left
 database-append db done left = fold-append (λ before t. t.effect.db) db done left
 
-pub reads-append : (done left : List Turn) → reads_of (done ++ left) ≡ reads_of done ++ reads_of left
-reads-append done left = filter_map-append (λ t. t.read) done left
+pub loads-append : (done left : List Turn) → loads_of (done ++ left) ≡ loads_of done ++ loads_of left
+loads-append done left = filter_map-append (λ t. t.load) done left
 
--- ---- an act, with what its read gave
+-- ---- an action, with what its load gave
 
--- the outcome that an act takes
-abbrev pub taken_by : Act → Outcome → List Outcome
+-- the outcome that an action takes
+abbrev pub taken_by : Action → LoadOutcome → List LoadOutcome
 taken_by (Does effect) outcome = []
-taken_by (Reads name effect) outcome = outcome ∷ []
+taken_by (Loads name effect) outcome = outcome ∷ []
 
-next_taken : (act : Act) (outcome : Outcome) (later : List Outcome)
-    → next act (taken_by act outcome ++ later) ≡ Some (record { turn = turn_of act outcome; left = later })
+next_taken : (action : Action) (outcome : LoadOutcome) (later : List LoadOutcome)
+    → next action (taken_by action outcome ++ later) ≡ Some (record { turn = turn_of action outcome; left = later })
 next_taken (Does effect) outcome later = refl
-next_taken (Reads name effect) outcome later = refl
+next_taken (Loads name effect) outcome later = refl
 
-pub turns_taken : (s : Settings) (db : Database) (reading : Reading) (rest : List Reading) (outcome : Outcome) (later : List Outcome)
-    → turns s db (reading ∷ rest) (taken_by (act_for s db reading) outcome ++ later)
-    ≡ turn_of (act_for s db reading) outcome ∷ turns s (turn_of (act_for s db reading) outcome).effect.db rest later
+pub turns_taken : (s : Settings) (db : Database) (reading : Reading) (rest : List Reading) (outcome : LoadOutcome) (later : List LoadOutcome)
+    → turns s db (reading ∷ rest) (taken_by (action_for s db reading) outcome ++ later)
+    ≡ turn_of (action_for s db reading) outcome ∷ turns s (turn_of (action_for s db reading) outcome).effect.db rest later
 turns_taken s db reading rest outcome later =
-    ap (λ n. option_map_or (λ n. n.turn ∷ turns s n.turn.effect.db rest n.left) n []) (next_taken (act_for s db reading) outcome later)
+    ap (λ n. option_map_or (λ n. n.turn ∷ turns s n.turn.effect.db rest n.left) n []) (next_taken (action_for s db reading) outcome later)
 
 -- ---- no outcome is left
 
-no_reads_in : (s : Settings) (rest : List Reading) (none : (db : Database) → reads_of (turns s db rest []) ≡ []) (act : Act)
-    → reads_of (option_map_or (λ n. n.turn ∷ turns s n.turn.effect.db rest n.left) (next act []) []) ≡ []
-no_reads_in s rest none (Does effect) = none effect.db
-no_reads_in s rest none (Reads name effect) = refl
+no_loads_in : (s : Settings) (rest : List Reading) (none : (db : Database) → loads_of (turns s db rest []) ≡ []) (action : Action)
+    → loads_of (option_map_or (λ n. n.turn ∷ turns s n.turn.effect.db rest n.left) (next action []) []) ≡ []
+no_loads_in s rest none (Does effect) = none effect.db
+no_loads_in s rest none (Loads name effect) = refl
 
 -- then no turn has a read
-pub no_reads : (s : Settings) (db : Database) (readings : List Reading) → reads_of (turns s db readings []) ≡ []
-no_reads s db [] = refl
-no_reads s db (reading ∷ rest) = no_reads_in s rest (λ after. no_reads s after rest) (act_for s db reading)
+pub no_loads : (s : Settings) (db : Database) (readings : List Reading) → loads_of (turns s db readings []) ≡ []
+no_loads s db [] = refl
+no_loads s db (reading ∷ rest) = no_loads_in s rest (λ after. no_loads s after rest) (action_for s db reading)

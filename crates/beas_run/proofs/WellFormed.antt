@@ -7,7 +7,7 @@ use Rattle.sql_text.specs.declared.token.Token.{Token}
 use Rattle.sql_tree.specs.declared.tree.Cond.{Cond}
 use Rattle.sql_tree.specs.declared.tree.Literal.{Literal}
 use Rattle.sql_tree.specs.declared.tree.Statement.{Statement}
-use Rattle.sql_tree.specs.Grammar.{Commas, last, comma, IsId, IsTuple, tuple, IsWhere, alone, no_join, joined_source, all_rows, all_columns, select_block, single, term, IsQuery, Spells, create_table, create_access, drop_access, load, insert, delete, discover_group, discover_pairs, select, explain, block_of}
+use Rattle.sql_tree.specs.Grammar.{Commas, last, comma, IsId, IsTuple, tuple, IsWhere, alone, no_join, joined_source, all_rows, all_columns, select_output, from_sources, select_block, single, term, IsQuery, Spells, create_table, create_access, drop_access, load, insert, delete, discover_group, discover_pairs, over_query, IsOverQuery, select, explain, block_of, body_of}
 use Rattle.sql_tree.specs.Symbols.{Symbol, symbol_of, symbols}
 use Rattle.sql_tree.specs.Trees.{Tree, Block}
 use Rattle.sql_tree.specs.Words.{OPEN, CLOSE, COMMA, INSERT, INTO, VALUES, DELETE, FROM, SELECT, STAR}
@@ -40,14 +40,15 @@ tuple_few n a literals (tuple {a = inner} h) le = omega (arith, commas_few _ inn
 -- ---- a DELETE has the conditions of a query over its table
 
 query_where : (a d : List Symbol) (t : List ℕ) (cs : List Cond) → IsId a t → IsWhere d cs
-    → IsQuery (((SELECT ∷ STAR ∷ []) ++ (FROM ∷ (a ++ []))) ++ d) (Block (block_of false true [] (((record { table = t; alias = t } ∷ []), []) ∷ []) cs))
-query_where a d t cs h w = term (single (select_block all_rows all_columns (last (joined_source (alone h) no_join)) w))
+    → IsQuery ((SELECT ∷ STAR ∷ []) ++ ((FROM ∷ (a ++ [])) ++ d))
+    (Block (block_of false true [] (body_of (((record { table = t; alias = t } ∷ []), []) ∷ []) cs)))
+query_where a d t cs h w = term (single (select_block (select_output all_rows all_columns) (from_sources (last (joined_source (alone h) no_join)) w)))
 
 where_few : (a d : List Symbol) (t : List ℕ) (cs : List Cond) → IsId a t → IsWhere d cs → length cs ≤ 3 + length a + length d
 where_few a d t cs h w =
     let few = query_few _ _ (query_where a d t cs h w) in
-    let one : length cs ≤ length (((SELECT ∷ STAR ∷ []) ++ (FROM ∷ (a ++ []))) ++ d) = few.conditions.0 in
-    omega (arith, one, length-append ((SELECT ∷ STAR ∷ []) ++ (FROM ∷ (a ++ []))) d, length-append a [])
+    let one : length cs ≤ length ((SELECT ∷ STAR ∷ []) ++ ((FROM ∷ (a ++ [])) ++ d)) = few.conditions.0 in
+    omega (arith, one, length-append (FROM ∷ (a ++ [])) d, length-append a [])
 
 -- ---- queries
 
@@ -58,6 +59,11 @@ tree_is n t few below = record {
       (all_of (λ b. length b.conditions ≤ n) (blocks_of t) few.conditions);
   some_table = all_of (λ b. 1 ≤ length b.from_items) (blocks_of t) few.atoms;
 }
+
+over_well_formed : {words a : List Symbol} {t : Tree} {s : Statement} → IsOverQuery words t s → IsQuery a t → length (words ++ a) < 2 ^ 32 - 1
+    → StatementIsWellFormed s
+over_well_formed {a = a} {t = t} select q le = tree_is (length a) t (query_few a t q) (omega arith)
+over_well_formed {a = a} {t = t} explain q le = tree_is (length a) t (query_few a t q) (omega arith)
 
 pub well_formed : (a : List Symbol) (s : Statement) → Spells a s → length a < 2 ^ 32 - 1 → StatementIsWellFormed s
 well_formed a s (create_table {b = y} {cs = columns} n h) le = commas_some _ y columns h
@@ -75,8 +81,7 @@ well_formed a s (delete {a = x} {b = y} {t = t} {cs = cs} n w) le =
     omega (arith, where_few x y t cs n w, length-append (DELETE ∷ FROM ∷ x) y)
 well_formed a s (discover_group t key fetched) le = tt
 well_formed a s (discover_pairs t) le = tt
-well_formed a s (select {t = t} q d) le = tree_is (length a) t (query_few a t q) (omega arith)
-well_formed a s (explain {a = x} {t = t} q d) le = tree_is (length x) t (query_few x t q) (omega arith)
+well_formed a s (over_query o q d) le = over_well_formed o q le
 
 -- the same of what the tokens of a piece are read as
 pub parsed_well : (tokens : List Token) (s : Statement) → Parses (symbols tokens) (Ok s) → length tokens < 2 ^ 32 - 1 → StatementIsWellFormed s

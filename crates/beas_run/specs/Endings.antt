@@ -2,8 +2,8 @@
 use Rattle.std.specs.Prelude.{ℕ, Bool, true, false, Result, Ok, Err}
 use Rattle.outside.specs.declared.sink.SinkError.{SinkError}
 use Rattle.outside.specs.declared.sink.SinkError.TheVariants.{Failed, NoMemory}
-use Rattle.beas_run.specs.declared.script.Ending.{Ending}
-use Rattle.beas_run.specs.declared.script.Ending.TheVariants.{Fault, NoMemory as Want}
+use Rattle.beas_run.specs.declared.ending.Ending.{Ending}
+use Rattle.beas_run.specs.declared.ending.Ending.TheVariants.{Fault, NoMemory as Want}
 
 abbrev pub ending_of : SinkError → Ending
 ending_of Failed = Fault

@@ -8,14 +8,14 @@ use Rattle.beas_core.specs.declared.limits.Limits.{Limits}
 use Rattle.command_words.specs.declared.arguments.Args.{Args}
 use Rattle.command_words.specs.declared.arguments.Args.TheVariants.{Script, Demo}
 use Rattle.outside.specs.Counts.{Rose}
+use Rattle.outside.specs.Seen.{IsLater, IsLaterSink, Seen}
 use Rattle.session.specs.Effects.{Settings}
-use Rattle.session.specs.Ties.{Seen, IsLater}
 use Rattle.beas_run.specs.declared.no_script.NoScript.{NoScript}
 use Rattle.beas_run.specs.declared.no_script.NoScript.TheVariants.{Words, Unread, TooLong, NotText, NoMemory}
 use Rattle.beas_run.specs.declared.script_source.Source.{Source}
 use Rattle.beas_run.specs.Runs.{path_of, seed_of, settings_for, longest_script, IsNoText, IsScriptOf, IsTooLong, WalkedFor}
-use Rattle.beas_run.specs.Scripts.{readings_of}
-use Rattle.beas_run.specs.Walks.{Scene}
+use Rattle.beas_run.specs.Readings.{readings_of}
+use Rattle.beas_run.specs.Walks.{Moment}
 
 abbrev pub DemoReadsNothing : Args → Seen → Seen → Type 0
 DemoReadsNothing (Script path budget explain) before after = Unit {0}
@@ -40,12 +40,11 @@ pub record HasNoScript (asked : Option Args) (why : NoScript) (before after : Se
   pub later : IsLater before after
 
 pub record RanOver (args : Args) (text : List ℕ) (limits : Limits) (status : ℕ) (settings : Settings)
-    (faults_before faults_after : ℕ) (before after : Scene) : Type 0 where
+    (before after : Moment) : Type 0 where
   pub statuses : (status < 2) ⊎ (status ≡ 4) ⊎ (status ≡ 5)
   pub walked : WalkedFor (Some args) (settings_for limits args) (readings_of text) status before after
   pub settings_are : settings ≡ settings_for limits args
-  pub no_fault : status ≢ 4 → faults_after ≡ faults_before
-  pub fault : status ≡ 4 → Rose faults_before faults_after
-  pub told : after.told ≡ before.told
-  pub rise : faults_before ≤ faults_after
-  pub later : IsLater before.files after.files
+  pub no_fault : status ≢ 4 → after.out.faults ≡ before.out.faults
+  pub fault : status ≡ 4 → Rose before.out.faults after.out.faults
+  pub out : IsLaterSink before.out after.out
+  pub files : IsLater before.files after.files

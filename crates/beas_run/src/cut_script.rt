@@ -1,6 +1,6 @@
 // A script's tokens, and the places of its statements.
 ghost use Rattle.std.specs.Prelude.{◌≡◌, ◌<◌, ◌≤◌, ◌-◌, ◌^◌, length, All, IfOk};
-ghost use Rattle.beas_run.specs.Scripts.{readings_at, readings_of};
+ghost use Rattle.beas_run.specs.Readings.{readings_at, readings_of};
 
 use beas_core::{List, NoMemory};
 use sql_text::{Piece, Token, lex, split};

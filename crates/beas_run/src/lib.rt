@@ -2,8 +2,10 @@
 //! is written, or the totals of all.
 #![tactic(auto)]
 
+mod audience;
 mod cut_script;
 mod demonstration;
+mod ending;
 mod no_script;
 mod script;
 mod script_source;

@@ -1,9 +1,7 @@
 // Why a run has no script, and what is said then.
-ghost use Rattle.std.specs.Prelude.{◌≡◌, ◌≤◌, ◌++◌, ◌⊎◌, true};
-ghost use Rattle.outside.specs.Counts.{Rose};
-ghost use Rattle.outside.specs.Parts.{SentPart};
+ghost use Rattle.std.specs.Prelude.{◌≡◌, ◌⊎◌};
 ghost use Rattle.beas_run.specs.NoScripts.{status_of};
-ghost use Rattle.beas_run.specs.Runs.{line, IsWithout};
+ghost use Rattle.beas_run.specs.Runs.{line, Says};
 
 use command_words::usage_line;
 use outside::{Sink, SinkError};
@@ -53,13 +51,7 @@ fn line_of(why: NoScript) -> &'static str
 /// Says on `err` why there is no script, and gives the status. Out of memory, nothing is said.
 pub fn say<E: Sink>(why: NoScript, err: &mut E) -> u8
     ensures status { (result ≡ status_of why) ⊎ (result ≡ 5) }
-    ensures part { E.told err.old ≡ true → SentPart (E.sent err.old) (E.sent err.new) (line result) }
-    ensures whole { IsWithout result → E.told err.old ≡ true
-        → (E.sent err.new ≡ E.sent err.old ++ line result) ⊎ Rose (E.faults err.old) (E.faults err.new) }
-    ensures unsaid { result ≡ 5 → E.told err.old ≡ true → E.sent err.new ≡ E.sent err.old }
-    ensures no_fault { result ≡ 5 → E.faults err.new ≡ E.faults err.old }
-    ensures told { E.told err.new ≡ E.told err.old }
-    ensures rise { E.faults err.old ≤ E.faults err.new }
+    ensures says { Says result (E.seen err.old) (E.seen err.new) }
 {
     if why == NoScript::NoMemory {
         return 5;

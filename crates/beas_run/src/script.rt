@@ -1,69 +1,37 @@
-// A script, statement by statement.
-ghost use Rattle.std.specs.Prelude.{◌≡◌, ◌≢◌, ◌<◌, ◌≤◌, ◌+◌, ◌-◌, ◌^◌, ◌++◌, ◌⊎◌, ℕ, true, length, All, IfOk, IfErr, OnOk, OnErr, IsErrOf};
+// A script, statement by statement, before one that takes the reports.
+ghost use Rattle.std.specs.Prelude.{◌≡◌, ◌≢◌, ◌<◌, ◌≤◌, ◌+◌, ◌-◌, ◌^◌, ◌⊎◌, [], length, All, IfOk, IfErr, OnOk, OnErr, IsErrOf};
 ghost use Rattle.outside.specs.Counts.{Rose};
-ghost use Rattle.outside.specs.Parts.{SentPart};
-ghost use Rattle.report.specs.Reports.{report_text};
-ghost use Rattle.update_guard.specs.Stored.{database_in};
-ghost use Rattle.session.specs.Applied.{Applied, MayCost, settings_of};
-ghost use Rattle.session.specs.Ties.{IsLater, view};
+ghost use Rattle.outside.specs.Seen.{IsLater, IsLaterSink, Sent};
+ghost use Rattle.session.specs.Applying.{IsApplied, MayCost, settings_of};
 ghost use Rattle.session.specs.Turns.{is_refusal, IsWithin};
+ghost use Rattle.beas_run.specs.Audiences.{HasTaken, unshown};
 ghost use Rattle.beas_run.specs.Endings.{status_of};
 ghost use Rattle.beas_run.specs.Pieces.{IsReported, IsUnreported, IsUndone};
-ghost use Rattle.beas_run.specs.Scripts.{act_for, reading_of, readings_of, readings_at};
-ghost use Rattle.beas_run.specs.Walks.{scene, Walked};
+ghost use Rattle.beas_run.specs.Readings.{reading_of, readings_of, readings_at};
+ghost use Rattle.beas_run.specs.Scripts.{action_for};
+ghost use Rattle.beas_run.specs.States.{state_of};
+ghost use Rattle.beas_run.specs.Walks.{moment, Walked, WalkedBefore};
 
+use crate::audience::{Audience, Writer};
 use crate::cut_script::cut_script;
+use crate::ending::Ending;
 use beas_core::{Fail, NoMemory, Steps};
-use outside::{Files, Sink, SinkError};
-use report::{Report, text};
+use outside::{Files, Sink};
+use report::Report;
 use session::Session;
 use sql_parser::parse;
 use sql_text::{Piece, Token};
 use std::alloc::Global;
 use std::sync::ledger::Ledger;
 
-/// Why a run ended before the end of its script.
-#[derive(Clone, Copy, Debug, PartialEq, Eq)]
-pub enum Ending {
-    /// The output failed.
-    Fault,
-    /// Out of memory.
-    NoMemory,
-}
-
-impl From<NoMemory> for Ending {
-    ghost use Rattle.std.specs.Prelude.{◌≡◌};
-    ghost use Rattle.beas_run.specs.declared.script.Ending.TheVariants.{NoMemory as Want};
-
-    ghost from_gives = { λ _ e. e ≡ Want };
-
-    fn from(_: NoMemory) -> Ending {
-        Ending::NoMemory
-    }
-}
-
-impl From<SinkError> for Ending {
-    ghost use Rattle.beas_run.specs.Endings.{ending_of};
-    ghost use Rattle.std.specs.Prelude.{◌≡◌};
-
-    ghost from_gives = { λ why e. e ≡ ending_of why };
-
-    fn from(why: SinkError) -> Ending {
-        match why {
-            SinkError::Failed => Ending::Fault,
-            SinkError::NoMemory => Ending::NoMemory,
-        }
-    }
-}
-
-pub fn is_refusal(report: &Report) -> bool
+fn is_refusal(report: &Report) -> bool
     ensures { result ≡ is_refusal report.now }
 {
     matches!(report, Report::Refused { .. })
 }
 
 /// Reads a piece and carries out its statement, and says what is reported of it.
-pub fn report_on<F: Files, L: Ledger>(
+fn report_on<F: Files, L: Ledger>(
     alloc: Global,
     session: &mut Session,
     tokens: &[Token],
@@ -71,19 +39,16 @@ pub fn report_on<F: Files, L: Ledger>(
     steps: &mut Steps<L>,
 ) -> Result<Report, NoMemory>
     requires { length tokens.now < 2 ^ 32 - 1 }
-    ensures applied { IfOk result (λ report. Applied session.old.limits.file
-        (act_for (settings_of session.old) (database_in session.old.guarded) (reading_of tokens.now))
-        report (database_in session.new.guarded) steps.old steps.new
-        (view F.told F.content F.faults F.taken files.old) (view F.told F.content F.faults F.taken files.new)) }
+    ensures applied { IfOk result (λ report. IsApplied session.old.limits.file
+        (action_for (settings_of session.old) (state_of session.old) (reading_of tokens.now))
+        report (state_of session.new) steps.old steps.new (F.seen files.old) (F.seen files.new)) }
     ensures within { IfOk result IsWithin }
     ensures settings { settings_of session.new ≡ settings_of session.old }
-    ensures unchanged { OnErr result (database_in session.new.guarded ≡ database_in session.old.guarded) }
+    ensures unchanged { OnErr result (state_of session.new ≡ state_of session.old) }
     ensures no_fewer { steps.old ≤ steps.new }
-    ensures at_most { MayCost (act_for (settings_of session.old) (database_in session.old.guarded)
-        (reading_of tokens.now))
+    ensures at_most { MayCost (action_for (settings_of session.old) (state_of session.old) (reading_of tokens.now))
         steps.old steps.new }
-    ensures later { IsLater
-        (view F.told F.content F.faults F.taken files.old) (view F.told F.content F.faults F.taken files.new) }
+    ensures later { IsLater (F.seen files.old) (F.seen files.new) }
 {
     match parse(alloc, tokens) {
         Ok(statement) => session.apply(alloc, files, &statement, steps),
@@ -92,76 +57,54 @@ pub fn report_on<F: Files, L: Ledger>(
     }
 }
 
-/// Writes the report of the statement with this number.
-fn write_report<O: Sink>(
-    alloc: Global,
-    number: u32,
-    report: &Report,
-    out: &mut O,
-) -> Result<(), Ending>
-    ensures whole { OnOk result (O.told out.old ≡ true
-        → O.sent out.new ≡ O.sent out.old ++ report_text number report.now) }
-    ensures part { O.told out.old ≡ true
-        → SentPart (O.sent out.old) (O.sent out.new) (report_text number report.now) }
-    ensures unsent { IsErrOf result Ending.NoMemory → O.told out.old ≡ true → O.sent out.new ≡ O.sent out.old }
-    ensures told { O.told out.new ≡ O.told out.old }
-    ensures no_fault { OnOk result (O.faults out.new ≡ O.faults out.old) }
-    ensures no_memory { IsErrOf result Ending.NoMemory → O.faults out.new ≡ O.faults out.old }
-    ensures fault { IsErrOf result Ending.Fault → Rose (O.faults out.old) (O.faults out.new) }
-    ensures rise { O.faults out.old ≤ O.faults out.new }
-{
-    let lines = text(alloc, number, report)?;
-    out.put(lines.as_str().as_bytes())?;
-    Ok(())
-}
-
-/// Carries out a piece and writes its report. It tells whether the report is a refusal.
-fn carry_out<F: Files, O: Sink, L: Ledger>(
+/// Carries out a piece, and hands its report on. It tells whether the report is a refusal.
+fn carry_out<A: Audience, F: Files, O: Sink, L: Ledger>(
     alloc: Global,
     session: &mut Session,
     tokens: &[Token],
     number: u32,
+    audience: &mut A,
     files: &mut F,
     out: &mut O,
     steps: &mut Steps<L>,
 ) -> Result<bool, Ending>
-    requires { length tokens.now < 2 ^ 32 - 1 }
+    requires short { length tokens.now < 2 ^ 32 - 1 }
+    requires taken { HasTaken (A.took audience.old) number }
     ensures reported { IfOk result (λ refused. IsReported session.old.limits.file
-        (act_for (settings_of session.old) (database_in session.old.guarded) (reading_of tokens.now)) number refused
-        (scene session.old steps.old (O.told out.old) (O.sent out.old)
-        (view F.told F.content F.faults F.taken files.old))
-        (scene session.new steps.new (O.told out.new) (O.sent out.new)
-        (view F.told F.content F.faults F.taken files.new))) }
+        (action_for (settings_of session.old) (state_of session.old) (reading_of tokens.now)) number refused
+        (A.took audience.old) (A.took audience.new)
+        (moment session.old steps.old (A.shown (O.seen out.old)) (F.seen files.old))
+        (moment session.new steps.new (A.shown (O.seen out.new)) (F.seen files.new))) }
     ensures stopped { IfErr result (λ why.
-        let before = scene session.old steps.old (O.told out.old) (O.sent out.old)
-        (view F.told F.content F.faults F.taken files.old) in
-        let after = scene session.new steps.new (O.told out.new) (O.sent out.new)
-        (view F.told F.content F.faults F.taken files.new) in
-        let act = act_for (settings_of session.old) (database_in session.old.guarded) (reading_of tokens.now) in
-        ((why ≡ Ending.NoMemory) × IsUndone act before after)
-        ⊎ IsUnreported session.old.limits.file act number why before after) }
+        let before = moment session.old steps.old (A.shown (O.seen out.old)) (F.seen files.old) in
+        let after = moment session.new steps.new (A.shown (O.seen out.new)) (F.seen files.new) in
+        let action = action_for (settings_of session.old) (state_of session.old) (reading_of tokens.now) in
+        ((why ≡ Ending.NoMemory) × IsUndone action before after)
+        ⊎ IsUnreported session.old.limits.file action number why before after) }
     ensures settings { settings_of session.new ≡ settings_of session.old }
-    ensures later { IsLater
-        (view F.told F.content F.faults F.taken files.old) (view F.told F.content F.faults F.taken files.new) }
-    ensures told { O.told out.new ≡ O.told out.old }
-    ensures no_fault { OnOk result (O.faults out.new ≡ O.faults out.old) }
-    ensures no_memory { IsErrOf result Ending.NoMemory → O.faults out.new ≡ O.faults out.old }
-    ensures fault { IsErrOf result Ending.Fault → Rose (O.faults out.old) (O.faults out.new) }
-    ensures rise { O.faults out.old ≤ O.faults out.new }
+    ensures files { IsLater (F.seen files.old) (F.seen files.new) }
+    ensures out { IsLaterSink (A.shown (O.seen out.old)) (A.shown (O.seen out.new)) }
+    ensures no_fault { OnOk result ((A.shown (O.seen out.new)).faults ≡ (A.shown (O.seen out.old)).faults) }
+    ensures no_memory { IsErrOf result Ending.NoMemory
+        → (A.shown (O.seen out.new)).faults ≡ (A.shown (O.seen out.old)).faults }
+    ensures fault { IsErrOf result Ending.Fault
+        → Rose (A.shown (O.seen out.old)).faults (A.shown (O.seen out.new)).faults }
+    ensures unused { ((sent : Sent) → A.shown sent ≡ unshown) → out.new ≡ out.old }
 {
     let report = report_on(alloc, session, tokens, files, steps)?;
-    match write_report(alloc, number, &report, out) {
+    match audience.take(alloc, number, &report, out) {
         Ok(()) => Ok(is_refusal(&report)),
         Err(why) => Err(why),
     }
 }
 
-/// Carries out the statements at these places, and writes each report before the next statement.
-fn carry_out_all<F: Files, O: Sink, L: Ledger>(
+/// Carries out the statements at these places, and hands on each report before the next statement.
+fn carry_out_all<A: Audience, F: Files, O: Sink, L: Ledger>(
     alloc: Global,
     session: &mut Session,
     tokens: &[Token],
     pieces: &[Piece],
+    audience: &mut A,
     files: &mut F,
     out: &mut O,
     steps: &mut Steps<L>,
@@ -169,27 +112,64 @@ fn carry_out_all<F: Files, O: Sink, L: Ledger>(
     requires few { length pieces.now < 2 ^ 32 - 1 }
     requires short { length tokens.now < 2 ^ 32 - 1 }
     requires within { All (λ p. (p.from < p.to) × (p.to ≤ length tokens.now)) pieces.now }
-    ensures walked { Walked (settings_of session.old) (readings_at tokens.now pieces.now) (status_of result)
-        (scene session.old steps.old (O.told out.old) (O.sent out.old)
-        (view F.told F.content F.faults F.taken files.old))
-        (scene session.new steps.new (O.told out.new) (O.sent out.new)
-        (view F.told F.content F.faults F.taken files.new)) }
+    requires none { A.took audience.old [] }
+    ensures walked { WalkedBefore (A.took audience.new)
+        (settings_of session.old) (readings_at tokens.now pieces.now) (status_of result)
+        (moment session.old steps.old (A.shown (O.seen out.old)) (F.seen files.old))
+        (moment session.new steps.new (A.shown (O.seen out.new)) (F.seen files.new)) }
     ensures settings { settings_of session.new ≡ settings_of session.old }
-    ensures later { IsLater
-        (view F.told F.content F.faults F.taken files.old) (view F.told F.content F.faults F.taken files.new) }
-    ensures told { O.told out.new ≡ O.told out.old }
-    ensures no_fault { OnOk result (O.faults out.new ≡ O.faults out.old) }
-    ensures no_memory { IsErrOf result Ending.NoMemory → O.faults out.new ≡ O.faults out.old }
-    ensures fault { IsErrOf result Ending.Fault → Rose (O.faults out.old) (O.faults out.new) }
-    ensures rise { O.faults out.old ≤ O.faults out.new }
+    ensures files { IsLater (F.seen files.old) (F.seen files.new) }
+    ensures out { IsLaterSink (A.shown (O.seen out.old)) (A.shown (O.seen out.new)) }
+    ensures no_fault { OnOk result ((A.shown (O.seen out.new)).faults ≡ (A.shown (O.seen out.old)).faults) }
+    ensures no_memory { IsErrOf result Ending.NoMemory
+        → (A.shown (O.seen out.new)).faults ≡ (A.shown (O.seen out.old)).faults }
+    ensures fault { IsErrOf result Ending.Fault
+        → Rose (A.shown (O.seen out.old)).faults (A.shown (O.seen out.new)).faults }
+    ensures unused { ((sent : Sent) → A.shown sent ≡ unshown) → out.new ≡ out.old }
 {
     let mut refused = false;
     for (place, piece) in pieces.iter().enumerate() {
         let statement = &tokens[piece.from as usize..piece.to as usize];
         let number = place as u32 + 1;
-        refused |= carry_out(alloc, session, statement, number, files, out, steps)?;
+        refused |= carry_out(alloc, session, statement, number, audience, files, out, steps)?;
     }
     Ok(refused)
+}
+
+/// Carries out the statements of a text, and hands on each report before the next statement. It tells whether a report
+/// is a refusal.
+pub fn walk<A: Audience, F: Files, O: Sink, L: Ledger>(
+    alloc: Global,
+    session: &mut Session,
+    script: &str,
+    audience: &mut A,
+    files: &mut F,
+    out: &mut O,
+    steps: &mut Steps<L>,
+) -> Result<bool, Ending>
+    requires few { length script.now ≤ 16777216 }
+    requires none { A.took audience.old [] }
+    ensures walked { WalkedBefore (A.took audience.new)
+        (settings_of session.old) (readings_of script.now) (status_of result)
+        (moment session.old steps.old (A.shown (O.seen out.old)) (F.seen files.old))
+        (moment session.new steps.new (A.shown (O.seen out.new)) (F.seen files.new)) }
+    ensures settings { settings_of session.new ≡ settings_of session.old }
+    ensures files { IsLater (F.seen files.old) (F.seen files.new) }
+    ensures out { IsLaterSink (A.shown (O.seen out.old)) (A.shown (O.seen out.new)) }
+    ensures no_fault { OnOk result ((A.shown (O.seen out.new)).faults ≡ (A.shown (O.seen out.old)).faults) }
+    ensures no_memory { IsErrOf result Ending.NoMemory
+        → (A.shown (O.seen out.new)).faults ≡ (A.shown (O.seen out.old)).faults }
+    ensures fault { IsErrOf result Ending.Fault
+        → Rose (A.shown (O.seen out.old)).faults (A.shown (O.seen out.new)).faults }
+    ensures unused { ((sent : Sent) → A.shown sent ≡ unshown) → out.new ≡ out.old }
+{
+    match cut_script(alloc, script) {
+        Ok(cut) => {
+            let (tokens, pieces) = (cut.tokens.as_slice(), cut.pieces.as_slice());
+            carry_out_all(alloc, session, tokens, pieces, audience, files, out, steps)
+        }
+        Err(NoMemory) => Err(Ending::NoMemory),
+    }
 }
 
 /// How a run over a script ends, as the status of the program.
@@ -204,42 +184,9 @@ fn status_of(ended: Result<bool, Ending>) -> u8
     }
 }
 
-/// Carries out the statements of a text.
-fn carry_out_text<F: Files, O: Sink, L: Ledger>(
-    alloc: Global,
-    session: &mut Session,
-    script: &str,
-    files: &mut F,
-    out: &mut O,
-    steps: &mut Steps<L>,
-) -> Result<bool, Ending>
-    requires { length script.now ≤ 16777216 }
-    ensures walked { Walked (settings_of session.old) (readings_of script.now) (status_of result)
-        (scene session.old steps.old (O.told out.old) (O.sent out.old)
-        (view F.told F.content F.faults F.taken files.old))
-        (scene session.new steps.new (O.told out.new) (O.sent out.new)
-        (view F.told F.content F.faults F.taken files.new)) }
-    ensures settings { settings_of session.new ≡ settings_of session.old }
-    ensures later { IsLater
-        (view F.told F.content F.faults F.taken files.old) (view F.told F.content F.faults F.taken files.new) }
-    ensures told { O.told out.new ≡ O.told out.old }
-    ensures no_fault { OnOk result (O.faults out.new ≡ O.faults out.old) }
-    ensures no_memory { IsErrOf result Ending.NoMemory → O.faults out.new ≡ O.faults out.old }
-    ensures fault { IsErrOf result Ending.Fault → Rose (O.faults out.old) (O.faults out.new) }
-    ensures rise { O.faults out.old ≤ O.faults out.new }
-{
-    match cut_script(alloc, script) {
-        Ok(cut) => {
-            let (tokens, pieces) = (cut.tokens.as_slice(), cut.pieces.as_slice());
-            carry_out_all(alloc, session, tokens, pieces, files, out, steps)
-        }
-        Err(NoMemory) => Err(Ending::NoMemory),
-    }
-}
-
-/// Runs a script over a session: 0 where no report is a refusal, 1 where one is, 4 where the output failed, 5 where
-/// memory ran out.
-pub fn run_script<F: Files, O: Sink, L: Ledger>(
+/// Runs a script over a session, and writes its reports: 0 where no report is a refusal, 1 where one is, 4 where the
+/// output failed, 5 where memory ran out.
+pub fn write_reports<F: Files, O: Sink, L: Ledger>(
     alloc: Global,
     session: &mut Session,
     script: &str,
@@ -249,18 +196,14 @@ pub fn run_script<F: Files, O: Sink, L: Ledger>(
 ) -> u8
     requires { length script.now ≤ 16777216 }
     ensures walked { Walked (settings_of session.old) (readings_of script.now) result
-        (scene session.old steps.old (O.told out.old) (O.sent out.old)
-        (view F.told F.content F.faults F.taken files.old))
-        (scene session.new steps.new (O.told out.new) (O.sent out.new)
-        (view F.told F.content F.faults F.taken files.new)) }
+        (moment session.old steps.old (O.seen out.old) (F.seen files.old))
+        (moment session.new steps.new (O.seen out.new) (F.seen files.new)) }
     ensures statuses { (result < 2) ⊎ (result ≡ 4) ⊎ (result ≡ 5) }
     ensures settings { settings_of session.new ≡ settings_of session.old }
-    ensures later { IsLater
-        (view F.told F.content F.faults F.taken files.old) (view F.told F.content F.faults F.taken files.new) }
-    ensures told { O.told out.new ≡ O.told out.old }
-    ensures no_fault { result ≢ 4 → O.faults out.new ≡ O.faults out.old }
-    ensures fault { result ≡ 4 → Rose (O.faults out.old) (O.faults out.new) }
-    ensures rise { O.faults out.old ≤ O.faults out.new }
+    ensures files { IsLater (F.seen files.old) (F.seen files.new) }
+    ensures out { IsLaterSink (O.seen out.old) (O.seen out.new) }
+    ensures no_fault { result ≢ 4 → (O.seen out.new).faults ≡ (O.seen out.old).faults }
+    ensures fault { result ≡ 4 → Rose (O.seen out.old).faults (O.seen out.new).faults }
 {
-    status_of(carry_out_text(alloc, session, script, files, out, steps))
+    status_of(walk(alloc, session, script, &mut Writer, files, out, steps))
 }

@@ -4,7 +4,7 @@ ghost use Rattle.std.specs.Str.{IsUtf8};
 ghost use Rattle.std.specs.String.{string_bytes};
 ghost use Rattle.command_words.specs.Words.{args_of};
 ghost use Rattle.outside.specs.Counts.{Rose};
-ghost use Rattle.session.specs.Ties.{IsLater, view};
+ghost use Rattle.outside.specs.Seen.{IsLater};
 ghost use Rattle.beas_run.specs.Runs.{longest_script, IsContent, IsNoText, IsScriptOf, IsTooLong};
 ghost use Rattle.beas_run.specs.Sources.{HasNoScript, IsSource, DemoReadsNothing};
 
@@ -26,20 +26,20 @@ pub struct Source {
 }
 
 /// The text of a script that can be read and is one.
-fn read_named<F: Files>(alloc: Global, name: &str, files: &mut F) -> Result<Text, NoScript>
+fn load_named<F: Files>(alloc: Global, name: &str, files: &mut F) -> Result<Text, NoScript>
     ensures fits { IfOk result (λ text. length text ≤ longest_script) }
     ensures content { IfOk result (λ text. IsContent
-        (view F.told F.content F.faults F.taken files.old) text name.now) }
+        (F.seen files.old) text name.now) }
     ensures named { IsErrOf result NoScript.Words → ⊥ }
-    ensures unread { IsErrOf result NoScript.Unread → Rose (F.faults files.old name.now) (F.faults files.new name.now) }
+    ensures unread { IsErrOf result NoScript.Unread → Rose
+        ((F.seen files.old).faults name.now) ((F.seen files.new).faults name.now) }
     ensures too_long { IsErrOf result NoScript.TooLong → IsTooLong
-        (view F.told F.content F.faults F.taken files.old) (view F.told F.content F.faults F.taken files.new) name.now }
+        (F.seen files.old) (F.seen files.new) name.now }
     ensures not_text { IsErrOf result NoScript.NotText
-        → IsNoText (view F.told F.content F.faults F.taken files.old) name.now }
-    ensures later { IsLater
-        (view F.told F.content F.faults F.taken files.old) (view F.told F.content F.faults F.taken files.new) }
+        → IsNoText (F.seen files.old) name.now }
+    ensures later { IsLater (F.seen files.old) (F.seen files.new) }
 {
-    match files.read(alloc, name, LONGEST_SCRIPT) {
+    match files.load(alloc, name, LONGEST_SCRIPT) {
         Ok(bytes) => require_text(bytes),
         Err(FilesError::Failed) => Err(NoScript::Unread),
         Err(FilesError::TooLong { .. }) => Err(NoScript::TooLong),
@@ -61,16 +61,15 @@ fn require_text(bytes: Bytes) -> Result<Text, NoScript>
 /// The text that is asked for.
 fn text_for<F: Files>(alloc: Global, args: &Args, files: &mut F) -> Result<Text, NoScript>
     ensures fits { IfOk result (λ text. length text ≤ longest_script) }
-    ensures asked { IfOk result (IsScriptOf (Some args.now) (view F.told F.content F.faults F.taken files.old)) }
+    ensures asked { IfOk result (IsScriptOf (Some args.now) (F.seen files.old)) }
     ensures none { IfErr result (λ why. HasNoScript (Some args.now) why
-        (view F.told F.content F.faults F.taken files.old) (view F.told F.content F.faults F.taken files.new)) }
+        (F.seen files.old) (F.seen files.new)) }
     ensures unread { DemoReadsNothing args.now
-        (view F.told F.content F.faults F.taken files.old) (view F.told F.content F.faults F.taken files.new) }
-    ensures later { IsLater
-        (view F.told F.content F.faults F.taken files.old) (view F.told F.content F.faults F.taken files.new) }
+        (F.seen files.old) (F.seen files.new) }
+    ensures later { IsLater (F.seen files.old) (F.seen files.new) }
 {
     match args {
-        Args::Script { path, .. } => read_named(alloc, path.as_str(), files),
+        Args::Script { path, .. } => load_named(alloc, path.as_str(), files),
         Args::Demo { seed, .. } => match demo(alloc, *seed) {
             Ok(text) => Ok(text),
             Err(NoMemory) => Err(NoScript::NoMemory),
@@ -81,9 +80,9 @@ fn text_for<F: Files>(alloc: Global, args: &Args, files: &mut F) -> Result<Text,
 /// What is asked for, with its text.
 fn source_for<F: Files>(alloc: Global, args: Args, files: &mut F) -> Result<Source, NoScript>
     ensures source { IfOk result (IsSource (Some args)
-        (view F.told F.content F.faults F.taken files.old) (view F.told F.content F.faults F.taken files.new)) }
+        (F.seen files.old) (F.seen files.new)) }
     ensures none { IfErr result (λ why. HasNoScript (Some args) why
-        (view F.told F.content F.faults F.taken files.old) (view F.told F.content F.faults F.taken files.new)) }
+        (F.seen files.old) (F.seen files.new)) }
 {
     match text_for(alloc, &args, files) {
         Ok(text) => Ok(Source { args, text }),
@@ -98,9 +97,9 @@ pub fn source_of<F: Files>(
     files: &mut F,
 ) -> Result<Source, NoScript>
     ensures source { IfOk result (IsSource (args_of (map string_bytes words.now))
-        (view F.told F.content F.faults F.taken files.old) (view F.told F.content F.faults F.taken files.new)) }
+        (F.seen files.old) (F.seen files.new)) }
     ensures none { IfErr result (λ why. HasNoScript (args_of (map string_bytes words.now)) why
-        (view F.told F.content F.faults F.taken files.old) (view F.told F.content F.faults F.taken files.new)) }
+        (F.seen files.old) (F.seen files.new)) }
 {
     match args(alloc, words) {
         Ok(args) => source_for(alloc, args, files),

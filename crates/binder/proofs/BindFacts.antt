@@ -20,7 +20,7 @@ use Rattle.binder.specs.declared.meaning.Meaning.TheVariants.{At, Fixed, Unknown
 use Rattle.binder.specs.Binding.{kinds, places_in_all, shape_of, looked_refusals}
 use Rattle.binder.specs.LookedUp.{atom_of, looked_up, bound_block, IsSmall, ConditionIsSmall, BlockIsSmall}
 use Rattle.binder.specs.Meanings.{sources, meaning, condition}
-use Rattle.binder.specs.Refusing.{first, refused_if, places}
+use Rattle.binder.specs.Refusing.{first, refusals_if, places}
 use Rattle.binder.proofs.Ranges.{Each, each_by_index, all_of_each, each_weaker, each_mapped, MeaningFits, ConditionFits, ref_fits, condition_fits, widths_few}
 
 -- ---- no refusals
@@ -48,9 +48,9 @@ all_of P xs each = λ k d below. all_of_each P xs each k d below
 pub each_of_all : {X : Type 0} (P : X → Type 0) (xs : List X) → All P xs → Each P xs
 each_of_all P xs all = each_by_index P xs (λ i d below. all i d below)
 
-pub not_over : (limit n : ℕ) (why : Refusal) → first (refused_if (ltb limit n) why) ≡ None → n ≤ limit
+pub not_over : (limit n : ℕ) (why : Refusal) → first (refusals_if (ltb limit n) why) ≡ None → n ≤ limit
 not_over limit n why none = by_test (ltb limit n) refl none where
-  by_test : (b : Bool) → ltb limit n ≡ b → first (refused_if b why) ≡ None → n ≤ limit
+  by_test : (b : Bool) → ltb limit n ≡ b → first (refusals_if b why) ≡ None → n ≤ limit
   by_test true is never = cc
   by_test false is never = grind (arith, nat_tests)
 

@@ -2,7 +2,7 @@ mod Digits
 pub mod Numbered
 pub mod ScopeFacts
 pub mod Repeats
-pub mod TellsFacts
+pub mod FirstFacts
 pub mod LookedUpFacts
 pub mod PartFacts
 pub mod JoinedFacts

@@ -1,14 +1,15 @@
 -- What tokens spell meets what binding asks: no more blocks and conditions than tokens, and an atom in each block.
-use Rattle.std.proofs.Common.{ℕ, ◌≤◌, List, [], ◌∷◌, ◌++◌, length, arith}
+use Rattle.std.proofs.Common.{ℕ, ◌≤◌, Bool, List, [], ◌∷◌, ◌++◌, length, arith}
 use Rattle.std.specs.List.{flat_map}
 use Rattle.std.proofs.lemmas.List.{length-append}
 use Rattle.beas_core.specs.declared.query.Sign.{Sign}
 use Rattle.sql_tree.specs.declared.tree.BlockTree.{BlockTree}
+use Rattle.sql_tree.specs.declared.tree.ColumnRef.{ColumnRef}
 use Rattle.sql_tree.specs.declared.tree.Cond.{Cond}
 use Rattle.sql_tree.specs.declared.tree.FromItem.{FromItem}
 use Rattle.sql_tree.specs.Grammar.{Commas, last, comma, IsSign, equal, differs, not_equal, less, at_most, more, at_least}
 use Rattle.sql_tree.specs.Grammar.{IsCondition, comparison, range, parentheses, IsConditions, last_condition, conjunction, IsWhere, no_where, where_}
-use Rattle.sql_tree.specs.Grammar.{IsJoins, no_join, join, inner_join, cross_join, Source, IsSource, joined_source, IsBlock, select_block}
+use Rattle.sql_tree.specs.Grammar.{IsJoins, no_join, join, inner_join, cross_join, Source, IsSource, joined_source, Body, IsBody, from_sources, IsHead, select_output, IsBlock, select_block}
 use Rattle.sql_tree.specs.Grammar.{IsTerm, single, nested, IsQuery, term, union, except}
 use Rattle.sql_tree.specs.Symbols.{Symbol}
 use Rattle.sql_tree.specs.Trees.{Tree}
@@ -80,27 +81,24 @@ sources_few a ss (comma {a = x} {b = y} {x = s} {xs = rest} one later) =
       omega (arith, few.1, length-append s.0 (flat_map (λ (s : Source). s.0) rest)),
     )
 
-block_few : (a : List Symbol) (b : BlockTree) → IsBlock a b → (length b.conditions ≤ length a) × (1 ≤ length b.from_items)
-block_few a b (select_block {a = w} {b = x} {c = y} {d = z} {distinct} {star} {rs} {ss} {cs} d o sources c) =
-    let few = sources_few y ss sources in (
-      omega (
-        arith,
-        few.0,
-        where_few z cs c,
-        length-append (flat_map (λ (s : Source). s.1) ss) cs,
-        length-append (((SELECT ∷ w) ++ x) ++ (FROM ∷ y)) z,
-        length-append ((SELECT ∷ w) ++ x) (FROM ∷ y),
-      ),
+body_few : (a : List Symbol) (b : Body) → IsBody a b → (length b.1 ≤ length a) × (1 ≤ length b.0)
+body_few a b (from_sources {a = x} {b = y} {ss} {cs} sources c) =
+    let few = sources_few x ss sources in (
+      omega (arith, few.0, where_few y cs c, length-append (flat_map (λ (s : Source). s.1) ss) cs, length-append (FROM ∷ x) y),
       few.1,
     )
 
+block_few : (a : List Symbol) (b : BlockTree) → IsBlock a b → (length b.conditions ≤ length a) × (1 ≤ length b.from_items)
+block_few a b (select_block {a = x} {b = y} {body = body} h k) =
+    let few = body_few y body k in
+    (omega (arith, few.0, length-append x y), few.1)
+
+head_some : (a : List Symbol) (distinct star : Bool) (rs : List ColumnRef) → IsHead a distinct star rs → 1 ≤ length a
+head_some a distinct star rs (select_output {a = x} {b = y} d o) = omega (arith, length-append (SELECT ∷ x) y)
+
 block_some : (a : List Symbol) (b : BlockTree) → IsBlock a b → 1 ≤ length a
-block_some a b (select_block {a = w} {b = x} {c = y} {d = z} d o sources c) = omega (
-  arith,
-  length-append (((SELECT ∷ w) ++ x) ++
-      (FROM ∷ y)) z,
-  length-append ((SELECT ∷ w) ++ x) (FROM ∷ y),
-)
+block_some a b (select_block {a = x} {b = y} {distinct = distinct} {star = star} {rs = rs} h k) = omega
+    (arith, head_some x distinct star rs h, length-append x y)
 
 -- at most so many blocks, with at most so many conditions each and at least one atom
 pub record IsFew (n : ℕ) (t : Tree) : Type 0 where

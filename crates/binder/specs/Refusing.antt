@@ -4,12 +4,10 @@
 --     places kind limits shape block    the places of a kind in a block with its names looked up, which has a number;
 --                                       shape is the types of the outputs of the first block
 --     first refusals                    the first, if there is one
---     Tells result refusals             a call is refused by the first, where there is one, unless it is out of memory
-use Rattle.std.specs.Prelude.{ℕ, if◌then◌else◌, Bool, true, false, not, nat_lt, List, [], ◌∷◌, ◌++◌, length, map, filter, take, Option, Some, None, Result}
+use Rattle.std.specs.Prelude.{ℕ, if◌then◌else◌, Bool, true, false, not, nat_lt, List, [], ◌∷◌, ◌++◌, length, map, filter, take, Option, Some, None}
 use Rattle.std.specs.Option.{is_none}
 use Rattle.std.specs.List.{enumerate_from, flat_map, list_any}
 use Rattle.std.specs.Str.{bytes_eq}
-use Rattle.beas_core.specs.declared.errors.Fail.{Fail}
 use Rattle.beas_core.specs.declared.limits.Limits.{Limits}
 use Rattle.beas_core.specs.declared.refusal.Counted.TheVariants.{Blocks, Atoms, Outputs}
 use Rattle.beas_core.specs.declared.refusal.Refusal.{Refusal}
@@ -18,7 +16,6 @@ use Rattle.beas_core.specs.declared.schema.ColType.{ColType}
 use Rattle.beas_core.specs.declared.schema.ColType.TheVariants as type
 use Rattle.beas_core.specs.declared.value.Value.TheVariants.{Int, Str}
 use Rattle.catalogue.specs.Schema.{Schema, table_named}
-use Rattle.catalogue.specs.Refusing.{IsRefusedAs}
 use Rattle.sql_tree.specs.declared.tree.BlockTree.{BlockTree}
 use Rattle.sql_tree.specs.declared.tree.FromItem.{FromItem}
 use Rattle.binder.specs.declared.kinds.Flaw.{Flaw}
@@ -31,16 +28,16 @@ use Rattle.binder.specs.declared.meaning.Meaning.{Meaning}
 use Rattle.binder.specs.declared.meaning.Meaning.TheVariants.{At, Fixed, Unknown, Ambiguous, OutOfRange}
 use Rattle.binder.specs.declared.meaning.LookedUp.{LookedUp}
 
-abbrev pub refused_if : Bool → Refusal → List Refusal
-refused_if failing why = if failing then why ∷ [] else []
+abbrev pub refusals_if : Bool → Refusal → List Refusal
+refusals_if failing why = if failing then why ∷ [] else []
 
 -- ---- tables and aliases
 
-unfoldable pub unknown_table : Schema → List ℕ → List Refusal
-unknown_table schema name = refused_if (is_none (table_named schema name)) (refusal.UnknownTable name)
+unfoldable pub no_such_table : Schema → List ℕ → List Refusal
+no_such_table schema name = refusals_if (is_none (table_named schema name)) (refusal.UnknownTable name)
 
 abbrev pub unknown_tables : Schema → BlockTree → List Refusal
-unknown_tables schema block = flat_map (λ item. unknown_table schema item.table) block.from_items
+unknown_tables schema block = flat_map (λ item. no_such_table schema item.table) block.from_items
 
 -- the names that stand among those before them
 unfoldable pub repeated_names : List (List ℕ) → List (List ℕ)
@@ -68,7 +65,7 @@ number_range (OutOfRange negative digits) = refusal.NumberRange negative digits 
 number_range _ = []
 
 abbrev pub text_too_long : ℕ → Meaning → List Refusal
-text_too_long limit (Fixed (Str text)) = refused_if (nat_lt limit (length text)) (refusal.TextTooLong limit)
+text_too_long limit (Fixed (Str text)) = refusals_if (nat_lt limit (length text)) (refusal.TextTooLong limit)
 text_too_long limit _ = []
 
 -- what is wrong with what a ref or a literal stands for, as a flaw of this kind
@@ -121,25 +118,22 @@ same_kinds (j ∷ js) (k ∷ ks) = if same_kind j k then same_kinds js ks else f
 
 abbrev pub mixed_types : ℕ → List Condition → List Refusal
 mixed_types number conditions =
-    flat_map (λ c. refused_if (is_mixed c.1) (refusal.MixedTypes number c.0)) (enumerate_from 1 conditions)
+    flat_map (λ c. refusals_if (is_mixed c.1) (refusal.MixedTypes number c.0)) (enumerate_from 1 conditions)
 
 -- outputs are counted as they are written, so `*` is none
 unfoldable pub places : Kind → Limits → List ColType → ℕ × LookedUp → List Refusal
 places (kind.OfMeaning flaw) limits shape block = flat_map (flaws flaw limits.text) (meanings block.1)
 places kind.Types limits shape block = mixed_types block.0 block.1.conditions
 places kind.Shapes limits shape block =
-    refused_if (not (same_kinds shape block.1.kinds)) (refusal.ShapeMismatch block.0)
-places kind.Blocks limits shape block = refused_if (nat_lt limits.blocks block.0) (refusal.TooMany Blocks limits.blocks)
+    refusals_if (not (same_kinds shape block.1.kinds)) (refusal.ShapeMismatch block.0)
+places kind.Blocks limits shape block = refusals_if (nat_lt limits.blocks block.0) (refusal.TooMany Blocks limits.blocks)
 places kind.Atoms limits shape block =
-    refused_if (nat_lt limits.atoms (length block.1.atoms)) (refusal.TooMany Atoms limits.atoms)
+    refusals_if (nat_lt limits.atoms (length block.1.atoms)) (refusal.TooMany Atoms limits.atoms)
 places kind.Outputs limits shape block =
-    refused_if (nat_lt limits.outputs (length block.1.items)) (refusal.TooMany Outputs limits.outputs)
+    refusals_if (nat_lt limits.outputs (length block.1.items)) (refusal.TooMany Outputs limits.outputs)
 
 -- ---- the first
 
 abbrev pub first : List Refusal → Option Refusal
 first [] = None
 first (why ∷ more) = Some why
-
-abbrev pub Tells : {T : Type 0} → Result T Fail → List Refusal → Type 0
-Tells result refusals = IsRefusedAs result (first refusals)

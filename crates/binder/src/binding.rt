@@ -1,15 +1,16 @@
 // Binds queries.
 ghost use Rattle.std.specs.Prelude.{◌≡◌, ◌++◌, ◌∷◌, [], ◌<◌, ◌≤◌, ◌+◌, ◌^◌, List, All, IfOk, OnOk, length, map, vec_len};
 ghost use Rattle.std.specs.List.{flat_map, enumerate_from};
-ghost use Rattle.beas_core.specs.declared.query.Block.{Block as Bound};
-ghost use Rattle.sql_tree.specs.declared.tree.BlockTree.{BlockTree as Source};
+ghost use Rattle.beas_core.specs.declared.query.Block.{Block};
+ghost use Rattle.sql_tree.specs.declared.tree.BlockTree.{BlockTree};
 ghost use Rattle.catalogue.specs.Queries.{QueryIsOver};
 ghost use Rattle.catalogue.specs.Schema.{SchemaIsSound};
 ghost use Rattle.beas_core.specs.Shapes.{QueryIsWellFormed};
 ghost use Rattle.beas_core.specs.Trees.{blocks_of as blocks_in};
 ghost use Rattle.binder.specs.Binding.{blocks_of, kinds, places_in_all, shape_of, looked_refusals, refusals, with_blocks, bound_query};
 ghost use Rattle.binder.specs.LookedUp.{looked_up, bound_block, BlockIsSmall};
-ghost use Rattle.binder.specs.Refusing.{Tells, unknown_tables, repeated_aliases, places};
+ghost use Rattle.beas_core.specs.Results.{IsRefusedAs};
+ghost use Rattle.binder.specs.Refusing.{first, unknown_tables, repeated_aliases, places};
 
 use crate::building::bound_block;
 use crate::kinds::{Flaw, Kind};
@@ -52,7 +53,7 @@ fn push_blocks<'a>(tree: &'a SelectTree, blocks: &mut Vec<&'a BlockTree>) -> Res
 }
 
 fn want_all_tables(alloc: Global, catalogue: &Catalogue, blocks: &[&BlockTree]) -> Result<(), Fail>
-    ensures { Tells result (flat_map (λ b. unknown_tables catalogue.now b.now) blocks.now) }
+    ensures { IsRefusedAs result (first (flat_map (λ b. unknown_tables catalogue.now b.now) blocks.now)) }
 {
     for block in blocks {
         want_tables(alloc, catalogue, block.from_items.as_slice())?;
@@ -67,7 +68,7 @@ fn look_up_all(
     blocks: &[&BlockTree],
 ) -> Result<Vec<LookedUp>, Fail>
     ensures blocks { IfOk result (λ found. found.items ≡ map (λ b. looked_up catalogue.now b.now) blocks.now) }
-    ensures repeated { Tells result (flat_map (λ b. repeated_aliases b.now) blocks.now) }
+    ensures repeated { IsRefusedAs result (first (flat_map (λ b. repeated_aliases b.now) blocks.now)) }
 {
     let mut all = Vec::new(alloc);
     for block in blocks {
@@ -86,7 +87,7 @@ fn refuse_kind(
 ) -> Result<(), Fail>
     requires blocks { length blocks.now < 2 ^ 32 }
     requires conditions { All (λ b. length b.conditions < 2 ^ 32) blocks.now }
-    ensures { Tells result (places_in_all limits.now shape.now blocks.now kind) }
+    ensures { IsRefusedAs result (first (places_in_all limits.now shape.now blocks.now kind)) }
 {
     for (place, block) in blocks.iter().enumerate() {
         refuse_block(alloc, kind, limits, shape, place as u32 + 1, block)?;
@@ -105,7 +106,7 @@ fn refuse_kinds(
 ) -> Result<(), Fail>
     requires blocks { length blocks.now < 2 ^ 32 }
     requires conditions { All (λ b. length b.conditions < 2 ^ 32) blocks.now }
-    ensures { Tells result (flat_map (places_in_all limits.now shape.now blocks.now) kinds.now) }
+    ensures { IsRefusedAs result (first (flat_map (places_in_all limits.now shape.now blocks.now) kinds.now)) }
 {
     for kind in kinds {
         refuse_kind(alloc, *kind, limits, shape, blocks)?;
@@ -129,7 +130,7 @@ fn shape_of(blocks: &[LookedUp]) -> &[ColType]
 fn refuse_all(alloc: Global, limits: &Limits, blocks: &[LookedUp]) -> Result<(), Fail>
     requires blocks { length blocks.now < 2 ^ 32 }
     requires conditions { All (λ b. length b.conditions < 2 ^ 32) blocks.now }
-    ensures { Tells result (looked_refusals limits.now blocks.now) }
+    ensures { IsRefusedAs result (first (looked_refusals limits.now blocks.now)) }
 {
     refuse_kinds(alloc, &KINDS, limits, shape_of(blocks), blocks)
 }
@@ -156,7 +157,7 @@ fn join_sides(
     requires { length (blocks_of left.now ++ blocks_of right.now) ≤ vec_len blocks.old }
     ensures rest { OnOk result (vec_len blocks.new + length (blocks_of left.now ++ blocks_of right.now)
         ≡ vec_len blocks.old) }
-    ensures sides { IfOk result (λ sides. (front : List Bound) (bind : Source → Bound)
+    ensures sides { IfOk result (λ sides. (front : List Block) (bind : BlockTree → Block)
         → blocks.old.items ≡ front ++ map bind (blocks_of left.now ++ blocks_of right.now)
         → (blocks.new.items ≡ front) × (sides.0.value ≡ with_blocks bind left.now)
         × (sides.1.value ≡ with_blocks bind right.now)) }
@@ -171,7 +172,7 @@ fn join_sides(
 fn join_blocks(alloc: Global, tree: &SelectTree, blocks: &mut Vec<Block>) -> Result<Query, NoMemory>
     requires { length (blocks_of tree.now) ≤ vec_len blocks.old }
     ensures left { OnOk result (vec_len blocks.new + length (blocks_of tree.now) ≡ vec_len blocks.old) }
-    ensures query { IfOk result (λ query. (front : List Bound) (bind : Source → Bound)
+    ensures query { IfOk result (λ query. (front : List Block) (bind : BlockTree → Block)
         → blocks.old.items ≡ front ++ map bind (blocks_of tree.now)
         → (blocks.new.items ≡ front) × (query ≡ with_blocks bind tree.now)) }
 {
@@ -206,8 +207,8 @@ fn looked_up_blocks(
     tree: &SelectTree,
 ) -> Result<Vec<LookedUp>, Fail>
     ensures blocks { IfOk result (λ found. found.items ≡ map (looked_up catalogue.now) (blocks_of tree.now)) }
-    ensures refused { Tells result (flat_map (unknown_tables catalogue.now) (blocks_of tree.now)
-        ++ flat_map repeated_aliases (blocks_of tree.now)) }
+    ensures refused { IsRefusedAs result (first (flat_map (unknown_tables catalogue.now) (blocks_of tree.now)
+        ++ flat_map repeated_aliases (blocks_of tree.now))) }
 {
     let mut blocks = Vec::new(alloc);
     push_blocks(tree, &mut blocks)?;
@@ -233,7 +234,7 @@ pub fn bind(
 ) -> Result<Query, Fail>
     requires blocks { length (blocks_of tree.now) < 2 ^ 32 }
     requires conditions { All (λ b. length b.conditions < 2 ^ 32) (blocks_of tree.now) }
-    ensures refused { Tells result (refusals limits.now catalogue.now tree.now) }
+    ensures refused { IsRefusedAs result (first (refusals limits.now catalogue.now tree.now)) }
     ensures query { IfOk result (λ query. query ≡ bound_query catalogue.now tree.now) }
     ensures well_formed { IfOk result (λ query.
         All (λ b. 1 ≤ length b.from_items) (blocks_of tree.now) → QueryIsWellFormed query) }

@@ -4,7 +4,8 @@ ghost use Rattle.beas_core.specs.Shapes.{BlockIsWellFormed};
 ghost use Rattle.catalogue.specs.Queries.{BlockIsOver};
 ghost use Rattle.binder.specs.Binding.{delete_block, delete_refusals, bound_delete, places_of_kinds};
 ghost use Rattle.binder.specs.LookedUp.{looked_up};
-ghost use Rattle.binder.specs.Refusing.{Tells};
+ghost use Rattle.beas_core.specs.Results.{IsRefusedAs};
+ghost use Rattle.binder.specs.Refusing.{first};
 
 use crate::binding::recall_soundness;
 use crate::building::bound_block;
@@ -34,7 +35,7 @@ fn look_up(
     conditions: &[Cond],
 ) -> Result<LookedUp, Fail>
     ensures block { IfOk result (λ found. found ≡ looked_up catalogue.now (delete_block table.now conditions.now)) }
-    ensures never_refused { Tells result [] }
+    ensures never_refused { IsRefusedAs result (first []) }
 {
     let mut items = List::new(alloc);
     items.push(FromItem {
@@ -62,7 +63,7 @@ fn refuse_kinds(
     block: &LookedUp,
 ) -> Result<(), Fail>
     requires { length block.now.conditions < 2 ^ 32 }
-    ensures { Tells result (places_of_kinds limits.now block.now kinds.now) }
+    ensures { IsRefusedAs result (first (places_of_kinds limits.now block.now kinds.now)) }
 {
     for kind in kinds {
         refuse_block(alloc, *kind, limits, &[], 1, block)?;
@@ -79,7 +80,7 @@ pub fn bind_delete(
     conditions: &List<Cond>,
 ) -> Result<Block, Fail>
     requires { length conditions.now < 2 ^ 32 }
-    ensures refused { Tells result (delete_refusals limits.now catalogue.now table.now conditions.now) }
+    ensures refused { IsRefusedAs result (first (delete_refusals limits.now catalogue.now table.now conditions.now)) }
     ensures block { IfOk result (λ block. block ≡ bound_delete catalogue.now table.now conditions.now) }
     ensures well_formed { IfOk result BlockIsWellFormed }
     ensures over { IfOk result (BlockIsOver catalogue.now) }

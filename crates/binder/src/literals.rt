@@ -4,7 +4,8 @@ ghost use Rattle.std.specs.Str.{all_ascii_digits};
 ghost use Rattle.binder.specs.Literals.{in_range, signed_number, number_value};
 ghost use Rattle.binder.specs.Binding.{number_refusals, value_of};
 ghost use Rattle.binder.specs.Meanings.{literal_meaning};
-ghost use Rattle.binder.specs.Refusing.{Tells};
+ghost use Rattle.beas_core.specs.Results.{IsRefusedAs};
+ghost use Rattle.binder.specs.Refusing.{first};
 
 use crate::meaning::Meaning;
 use beas_core::{Duplicate, Fail, NoMemory, Refusal, Value};
@@ -30,7 +31,7 @@ pub fn literal_meaning(alloc: Global, literal: &Literal) -> Result<Meaning, NoMe
 /// The value of a literal. A number that no i64 has is refused.
 pub fn literal_value(alloc: Global, literal: &Literal) -> Result<Value, Fail>
     ensures value { IfOk result (λ value. value_of (literal_meaning literal.now) ≡ Some value) }
-    ensures refused { Tells result (number_refusals literal.now) }
+    ensures refused { IsRefusedAs result (first (number_refusals literal.now)) }
 {
     match literal_meaning(alloc, literal)? {
         Meaning::Fixed(value) => Ok(value),

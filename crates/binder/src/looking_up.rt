@@ -4,7 +4,8 @@ ghost use Rattle.std.specs.List.{flat_map};
 ghost use Rattle.binder.specs.Binding.{blocks_of};
 ghost use Rattle.binder.specs.LookedUp.{atom_of, looked_up, output_kinds, column_of};
 ghost use Rattle.binder.specs.Meanings.{columns_named, condition, meaning, sources};
-ghost use Rattle.binder.specs.Refusing.{Tells, unknown_table, unknown_tables, repeated_aliases};
+ghost use Rattle.beas_core.specs.Results.{IsRefusedAs};
+ghost use Rattle.binder.specs.Refusing.{first, no_such_table, unknown_tables, repeated_aliases};
 ghost use Rattle.binder.specs.Scopes.{names_of};
 
 use crate::meaning::{BoundColumn, Condition, LookedUp, Meaning};
@@ -15,9 +16,9 @@ use sql_tree::{BlockTree, ColumnRef, Cond, FromItem};
 use std::alloc::Global;
 
 /// Refuses a name that no table has.
-#[tactic(auto, unfolding(crate::specs::Refusing::unknown_table))]
+#[tactic(auto, unfolding(crate::specs::Refusing::no_such_table))]
 pub fn want_table(alloc: Global, catalogue: &Catalogue, name: &Name) -> Result<(), Fail>
-    ensures { Tells result (unknown_table catalogue.now name.now) }
+    ensures { IsRefusedAs result (first (no_such_table catalogue.now name.now)) }
 {
     match catalogue.table(name) {
         Some(_) => Ok(()),
@@ -29,7 +30,7 @@ pub fn want_table(alloc: Global, catalogue: &Catalogue, name: &Name) -> Result<(
 
 /// Refuses the first of a block's table names that no table has.
 pub fn want_tables(alloc: Global, catalogue: &Catalogue, items: &[FromItem]) -> Result<(), Fail>
-    ensures { Tells result (flat_map (λ item. unknown_table catalogue.now item.table) items.now) }
+    ensures { IsRefusedAs result (first (flat_map (λ item. no_such_table catalogue.now item.table) items.now)) }
 {
     for item in items {
         want_table(alloc, catalogue, &item.table)?;
@@ -162,7 +163,7 @@ fn output_kinds(
 /// The block with its names looked up. It is refused where an alias stands twice.
 pub fn look_up(alloc: Global, catalogue: &Catalogue, block: &BlockTree) -> Result<LookedUp, Fail>
     ensures block { IfOk result (λ found. found ≡ looked_up catalogue.now block.now) }
-    ensures repeated { Tells result (repeated_aliases block.now) }
+    ensures repeated { IsRefusedAs result (first (repeated_aliases block.now)) }
 {
     let items = block.from_items.as_slice();
     let scope = scope_of(alloc, catalogue, items)?;

@@ -2,7 +2,8 @@
 ghost use Rattle.std.specs.Prelude.{◌≡◌, ◌++◌, ◌<◌, ◌+◌, ◌^◌, ℕ, List, IsTrue, length, not, nat_lt};
 ghost use Rattle.std.specs.List.{flat_map, enumerate_from};
 ghost use Rattle.binder.specs.Binding.{places_in_all};
-ghost use Rattle.binder.specs.Refusing.{Tells, refused_if, unknown_column, ambiguous_column, number_range, text_too_long, flaws, sides, kind_of, kinds_differ, is_mixed, same_kind, same_kinds, mixed_types, places};
+ghost use Rattle.beas_core.specs.Results.{IsRefusedAs};
+ghost use Rattle.binder.specs.Refusing.{first, refusals_if, unknown_column, ambiguous_column, number_range, text_too_long, flaws, sides, kind_of, kinds_differ, is_mixed, same_kind, same_kinds, mixed_types, places};
 
 use crate::kinds::{Flaw, Kind};
 use crate::meaning::{Condition, LookedUp, Meaning};
@@ -12,7 +13,7 @@ use std::alloc::Global;
 
 /// Refuses for this reason where the flag is set.
 fn refuse_if(failing: bool, why: Refusal) -> Result<(), Fail>
-    ensures { Tells result (refused_if failing why) }
+    ensures { IsRefusedAs result (first (refusals_if failing why)) }
 {
     if failing {
         return Err(Fail::Refused(why));
@@ -21,7 +22,7 @@ fn refuse_if(failing: bool, why: Refusal) -> Result<(), Fail>
 }
 
 fn refuse_unknown(alloc: Global, meaning: &Meaning) -> Result<(), Fail>
-    ensures { Tells result (unknown_column meaning.now) }
+    ensures { IsRefusedAs result (first (unknown_column meaning.now)) }
 {
     match meaning {
         Meaning::Unknown { table, column } => Err(Fail::Refused(Refusal::UnknownColumn {
@@ -33,7 +34,7 @@ fn refuse_unknown(alloc: Global, meaning: &Meaning) -> Result<(), Fail>
 }
 
 fn refuse_ambiguous(alloc: Global, meaning: &Meaning) -> Result<(), Fail>
-    ensures { Tells result (ambiguous_column meaning.now) }
+    ensures { IsRefusedAs result (first (ambiguous_column meaning.now)) }
 {
     match meaning {
         Meaning::Ambiguous { column } => Err(Fail::Refused(Refusal::Ambiguous {
@@ -44,7 +45,7 @@ fn refuse_ambiguous(alloc: Global, meaning: &Meaning) -> Result<(), Fail>
 }
 
 fn refuse_number(alloc: Global, meaning: &Meaning) -> Result<(), Fail>
-    ensures { Tells result (number_range meaning.now) }
+    ensures { IsRefusedAs result (first (number_range meaning.now)) }
 {
     match meaning {
         Meaning::OutOfRange { negative, digits } => Err(Fail::Refused(Refusal::NumberRange {
@@ -57,14 +58,14 @@ fn refuse_number(alloc: Global, meaning: &Meaning) -> Result<(), Fail>
 
 /// Refuses a text of more than `limit` bytes.
 pub fn refuse_text(limit: u32, text: &Text) -> Result<(), Fail>
-    ensures { Tells result (refused_if (nat_lt limit (length text.now)) (Refusal.TextTooLong limit)) }
+    ensures { IsRefusedAs result (first (refusals_if (nat_lt limit (length text.now)) (Refusal.TextTooLong limit))) }
 {
     let long = text.as_str().len() > limit as usize;
     refuse_if(long, Refusal::TextTooLong { limit })
 }
 
 fn refuse_long(limit: u32, meaning: &Meaning) -> Result<(), Fail>
-    ensures { Tells result (text_too_long limit meaning.now) }
+    ensures { IsRefusedAs result (first (text_too_long limit meaning.now)) }
 {
     match meaning {
         Meaning::Fixed(Value::Str(text)) => refuse_text(limit, text),
@@ -75,7 +76,7 @@ fn refuse_long(limit: u32, meaning: &Meaning) -> Result<(), Fail>
 /// Refuses what a ref or a literal stands for where it has this flaw.
 #[tactic(auto, unfolding(crate::specs::Refusing::flaws))]
 pub fn refuse_meaning(alloc: Global, flaw: Flaw, limit: u32, meaning: &Meaning) -> Result<(), Fail>
-    ensures { Tells result (flaws flaw limit meaning.now) }
+    ensures { IsRefusedAs result (first (flaws flaw limit meaning.now)) }
 {
     match flaw {
         Flaw::UnknownColumn => refuse_unknown(alloc, meaning),
@@ -86,7 +87,7 @@ pub fn refuse_meaning(alloc: Global, flaw: Flaw, limit: u32, meaning: &Meaning) 
 }
 
 fn refuse_items(alloc: Global, flaw: Flaw, limit: u32, items: &[Meaning]) -> Result<(), Fail>
-    ensures { Tells result (flat_map (flaws flaw limit) items.now) }
+    ensures { IsRefusedAs result (first (flat_map (flaws flaw limit) items.now)) }
 {
     for item in items {
         refuse_meaning(alloc, flaw, limit, item)?;
@@ -95,7 +96,7 @@ fn refuse_items(alloc: Global, flaw: Flaw, limit: u32, items: &[Meaning]) -> Res
 }
 
 fn refuse_sides(alloc: Global, flaw: Flaw, limit: u32, condition: &Condition) -> Result<(), Fail>
-    ensures { Tells result (flat_map (flaws flaw limit) (sides condition.now)) }
+    ensures { IsRefusedAs result (first (flat_map (flaws flaw limit) (sides condition.now))) }
 {
     match condition {
         Condition::Compare { left, right, .. } => {
@@ -116,7 +117,7 @@ fn refuse_conditions(
     limit: u32,
     conditions: &[Condition],
 ) -> Result<(), Fail>
-    ensures { Tells result (flat_map (flaws flaw limit) (flat_map sides conditions.now)) }
+    ensures { IsRefusedAs result (first (flat_map (flaws flaw limit) (flat_map sides conditions.now))) }
 {
     for condition in conditions {
         refuse_sides(alloc, flaw, limit, condition)?;
@@ -168,7 +169,7 @@ fn is_mixed(condition: &Condition) -> bool
 
 fn refuse_mixed(number: u32, conditions: &[Condition]) -> Result<(), Fail>
     requires { length conditions.now < 2 ^ 32 }
-    ensures { Tells result (mixed_types number conditions.now) }
+    ensures { IsRefusedAs result (first (mixed_types number conditions.now)) }
 {
     for (place, condition) in conditions.iter().enumerate() {
         let why = Refusal::MixedTypes {
@@ -219,7 +220,7 @@ pub fn refuse_block(
     block: &LookedUp,
 ) -> Result<(), Fail>
     requires { length block.now.conditions < 2 ^ 32 }
-    ensures { Tells result (places kind limits.now shape.now (number, block.now)) }
+    ensures { IsRefusedAs result (first (places kind limits.now shape.now (number, block.now))) }
 {
     match kind {
         Kind::OfMeaning(flaw) => {

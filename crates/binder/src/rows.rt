@@ -2,7 +2,8 @@
 ghost use Rattle.std.specs.Prelude.{◌≡◌, IfOk};
 ghost use Rattle.std.specs.List.{flat_map};
 ghost use Rattle.binder.specs.Binding.{number_refusals, text_refusals, row_refusals, bound_row, bound_rows};
-ghost use Rattle.binder.specs.Refusing.{Tells};
+ghost use Rattle.beas_core.specs.Results.{IsRefusedAs};
+ghost use Rattle.binder.specs.Refusing.{first};
 
 use crate::literals::literal_value;
 use crate::refusing::refuse_text;
@@ -13,7 +14,7 @@ use std::alloc::Global;
 /// The values of a row's literals.
 fn bound_row(alloc: Global, literals: &[Literal]) -> Result<Row, Fail>
     ensures row { IfOk result (λ row. row ≡ bound_row literals.now) }
-    ensures refused { Tells result (flat_map number_refusals literals.now) }
+    ensures refused { IsRefusedAs result (first (flat_map number_refusals literals.now)) }
 {
     let mut row = List::new(alloc);
     for literal in literals {
@@ -24,7 +25,7 @@ fn bound_row(alloc: Global, literals: &[Literal]) -> Result<Row, Fail>
 
 fn bound_rows(alloc: Global, rows: &[List<Literal>]) -> Result<List<Row>, Fail>
     ensures rows { IfOk result (λ bound. bound ≡ bound_rows rows.now) }
-    ensures refused { Tells result (flat_map (flat_map number_refusals) rows.now) }
+    ensures refused { IsRefusedAs result (first (flat_map (flat_map number_refusals) rows.now)) }
 {
     let mut all = List::new(alloc);
     for row in rows {
@@ -34,7 +35,7 @@ fn bound_rows(alloc: Global, rows: &[List<Literal>]) -> Result<List<Row>, Fail>
 }
 
 fn refuse_long_literal(limit: u32, literal: &Literal) -> Result<(), Fail>
-    ensures { Tells result (text_refusals limit literal.now) }
+    ensures { IsRefusedAs result (first (text_refusals limit literal.now)) }
 {
     match literal {
         Literal::Number { .. } => Ok(()),
@@ -43,7 +44,7 @@ fn refuse_long_literal(limit: u32, literal: &Literal) -> Result<(), Fail>
 }
 
 fn refuse_long_literals(limit: u32, literals: &[Literal]) -> Result<(), Fail>
-    ensures { Tells result (flat_map (text_refusals limit) literals.now) }
+    ensures { IsRefusedAs result (first (flat_map (text_refusals limit) literals.now)) }
 {
     for literal in literals {
         refuse_long_literal(limit, literal)?;
@@ -52,7 +53,7 @@ fn refuse_long_literals(limit: u32, literals: &[Literal]) -> Result<(), Fail>
 }
 
 fn refuse_long_rows(limit: u32, rows: &[List<Literal>]) -> Result<(), Fail>
-    ensures { Tells result (flat_map (flat_map (text_refusals limit)) rows.now) }
+    ensures { IsRefusedAs result (first (flat_map (flat_map (text_refusals limit)) rows.now)) }
 {
     for row in rows {
         refuse_long_literals(limit, row.as_slice())?;
@@ -67,7 +68,7 @@ pub fn bind_rows(
     limits: &Limits,
     rows: &List<List<Literal>>,
 ) -> Result<List<Row>, Fail>
-    ensures refused { Tells result (row_refusals limits.now rows.now) }
+    ensures refused { IsRefusedAs result (first (row_refusals limits.now rows.now)) }
     ensures rows { IfOk result (λ bound. bound ≡ bound_rows rows.now) }
 {
     let bound = bound_rows(alloc, rows.as_slice())?;

@@ -3,10 +3,11 @@ ghost use Rattle.std.specs.List.{list_any};
 ghost use Rattle.std.specs.Prelude.{false, Some, ◌≡◌, ◌++◌, ◌∷◌, ◌≤◌, [], ℕ, List, Option, IfOk, OnOk, if◌then◌else◌, bytes_eq, take, length};
 ghost use Rattle.std.specs.HashMap.{get_by, HashMap};
 ghost use Rattle.catalogue.specs.Schema.{table_named};
-ghost use Rattle.sql_tree.specs.declared.tree.ColumnRef.{ColumnRef as Ref};
-ghost use Rattle.binder.specs.declared.meaning.BoundColumn.{BoundColumn as Bound};
+ghost use Rattle.sql_tree.specs.declared.tree.ColumnRef.{ColumnRef};
+ghost use Rattle.binder.specs.declared.meaning.BoundColumn.{BoundColumn};
 ghost use Rattle.binder.specs.Meanings.{Source, columns_named, columns_in, side_meaning, condition, meaning, sources};
-ghost use Rattle.binder.specs.Refusing.{Tells, repeated_among};
+ghost use Rattle.beas_core.specs.Results.{IsRefusedAs};
+ghost use Rattle.binder.specs.Refusing.{first, repeated_among};
 ghost use Rattle.binder.specs.Scopes.{found_in, found_at, one_more, found_by, names_of, IsScope};
 
 use crate::found::{AtomColumns, Found};
@@ -91,7 +92,7 @@ fn add_columns<'a>(
     atom: usize,
     columns: &'a [Column],
 ) -> Result<(), NoMemory>
-    ensures { OnOk result ((q : List ℕ) (before : List Bound) → found_at by_name.old q ≡ found_in before
+    ensures { OnOk result ((q : List ℕ) (before : List BoundColumn) → found_at by_name.old q ≡ found_in before
         → found_at by_name.new q ≡ found_in (before ++ columns_in atom q columns.now)) }
 {
     for (place, column) in columns.iter().enumerate() {
@@ -115,9 +116,9 @@ pub fn scope_of<'a>(
     catalogue: &'a Catalogue,
     items: &'a [FromItem],
 ) -> Result<Scope<'a>, Fail>
-    ensures names { IfOk result (λ scope. (ref : Ref)
+    ensures names { IfOk result (λ scope. (ref : ColumnRef)
         → names_of scope ref ≡ meaning (sources catalogue.now items.now) ref) }
-    ensures repeated { Tells result (repeated_among items.now) }
+    ensures repeated { IsRefusedAs result (first (repeated_among items.now)) }
 {
     let mut scope = Scope::new(alloc);
     for (atom, item) in items.iter().enumerate() {

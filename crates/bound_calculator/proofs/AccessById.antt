@@ -1,12 +1,12 @@
 -- The constraint with an id, found by a walk or by its place.
-use Rattle.std.proofs.Common.{◌≡◌, ◌≢◌, ◌==◌, ◌<◌, ◌≤◌, ◌+◌, ℕ, zero, suc, Bool, true, false, cond, List, [], ◌∷◌, length, drop, get_or, Some, refl, ap, sym, ◌∙◌, arith, drop-cons, add-one}
-use Rattle.std.specs.List.{AllPairs, find}
+use Rattle.std.proofs.Common.{◌≡◌, ◌≢◌, ◌==◌, ◌||◌, ◌<◌, ◌≤◌, ◌+◌, ℕ, zero, suc, Bool, true, false, cond, List, [], ◌∷◌, length, drop, get_or, Some, refl, ap, sym, ◌∙◌, arith, drop-cons, add-one}
+use Rattle.std.specs.List.{find}
 use Rattle.std.specs.Option.{unwrap_or}
-use Rattle.std.proofs.lemmas.Bool.{eqb-true, eqb-false, eq-eqb}
+use Rattle.std.proofs.lemmas.Bool.{eqb-true, eq-eqb}
 use Rattle.std.proofs.lemmas.List.{drop_all}
 use Rattle.beas_core.specs.declared.schema.AccessId.{AccessId}
 use Rattle.beas_core.specs.declared.schema.Access.{Access}
-use Rattle.beas_core.specs.Derivations.{access_in}
+use Rattle.beas_core.specs.Derivations.{access_in, is_live}
 use Rattle.beas_core.specs.Shapes.{EachIdOnce}
 
 not_same : (a b : ℕ) → a ≢ b → (a == b) ≡ false
@@ -37,9 +37,25 @@ pub found_later : (accesses : List Access) (id : AccessId) (i : ℕ) (d : Access
     → access_in (drop i accesses) id ≡ access_in (drop (i + 1) accesses) id
 found_later accesses id i d l h = ap (λ xs. access_in xs id) (one_more accesses i d l) ∙ head_is_not (get_or accesses i d) (drop (i + 1) accesses) id h
 
-pub found_nowhere : (accesses : List Access) (id : AccessId) (i : ℕ) → length accesses ≤ i → (access_in (drop i accesses) id).bound ≡ 0
+pub live_later : (accesses : List Access) (id : AccessId) (i : ℕ) (d : Access) → i < length accesses → (get_or accesses i d).id.0 ≢ id.0
+    → is_live (drop i accesses) id ≡ is_live (drop (i + 1) accesses) id
+live_later accesses id i d l h =
+    ap (λ xs. is_live xs id) (one_more accesses i d l) ∙ ap (λ b. b || is_live (drop (i + 1) accesses) id) (not_same (get_or accesses i d).id.0 id.0 h)
+
+pub live_nowhere : (accesses : List Access) (id : AccessId) (i : ℕ) → length accesses ≤ i → is_live (drop i accesses) id ≡ false
+live_nowhere accesses id i l = ap (λ xs. is_live xs id) (drop_all i accesses l)
+
+-- a constraint that isn't live has no bound
+pub no_bound : (accesses : List Access) (id : AccessId) → is_live accesses id ≡ false → (access_in accesses id).bound ≡ 0
 unfolding access_in
-found_nowhere accesses id i l = ap (λ xs. (access_in xs id).bound) (drop_all i accesses l)
+no_bound [] id h = refl
+no_bound (a ∷ accesses) id h = by (a.id.0 == id.0) h (no_bound accesses id)
+  where
+    by : (b : Bool) → (b || is_live accesses id) ≡ false → (is_live accesses id ≡ false → (access_in accesses id).bound ≡ 0)
+        → (unwrap_or (cond b (Some a) (find (λ c. c.id.0 == id.0) accesses))
+        (record { id = id; name = []; table = record { 0 = 0 }; key = []; fetched = []; bound = 0 })).bound ≡ 0
+    by true g later = cc
+    by false g later = later g
 
 rest_of : (a : Access) (accesses : List Access) → EachIdOnce (a ∷ accesses) → EachIdOnce accesses
 rest_of a accesses h i j d l m = h (suc i) (suc j) d (omega arith) (omega arith)

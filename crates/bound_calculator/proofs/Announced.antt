@@ -1,5 +1,5 @@
 -- The announced number, step by step.
-use Rattle.std.proofs.Common.{◌≡◌, ◌≤◌, ◌<◌, ◌+◌, ◌*◌, ℕ, List, [], ◌∷◌, length, drop, get_or, refl, ap, sym, ◌∙◌, arith, drop-cons, add-one}
+use Rattle.std.proofs.Common.{◌≡◌, ◌≤◌, ◌<◌, ◌+◌, ◌*◌, ℕ, List, [], ◌∷◌, length, drop, get_or, ap, sym, ◌∙◌, drop-cons, add-one}
 use Rattle.std.proofs.lemmas.List.{drop_all}
 use Rattle.beas_core.specs.declared.schema.Access.{Access}
 use Rattle.beas_core.specs.declared.plan.DStep.{DStep}

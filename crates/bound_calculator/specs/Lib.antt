@@ -1,1 +1,2 @@
 pub mod DerivationSizes
+pub mod QuerySizes

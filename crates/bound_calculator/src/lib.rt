@@ -1,9 +1,10 @@
-//! The announced number: how many reads a derivation takes at most.
+//! The announced number: how many reads a derivation takes at most, and how many rows a query answers at most.
 #![tactic(auto)]
 
 mod bounds;
+mod sizes;
 
-ghost use Rattle.std.specs.Prelude.{◌≡◌, ◌+◌, ◌*◌, ◌≤◌, ◌^◌, MatchOption, MatchResult, sum_by, if◌then◌else◌};
+ghost use Rattle.std.specs.Prelude.{◌≡◌, ◌+◌, ◌*◌, ◌≤◌, ◌<◌, ◌^◌, IfSome, MatchOption, MatchResult, sum_by, if◌then◌else◌};
 ghost use Rattle.beas_core.specs.declared.refusal.Refusal.TheVariants.{TooLarge};
 ghost use Rattle.beas_core.specs.Numbers.{announced_from, last_size};
 ghost use Rattle.beas_core.specs.Shapes.{EachIdOnce};
@@ -11,10 +12,13 @@ ghost use Rattle.bound_calculator.specs.DerivationSizes.{sizes_of};
 
 use crate::bounds::bound_of;
 use beas_core::{Access, Derivation, List, Refusal, Sizes};
+pub use bounds::access_with;
+pub use sizes::size;
 
-// The sizes with one more step: nothing where the reads pass 2^128 - 1.
-fn with_step(sizes: Sizes, adds: bool, bound: u32) -> Option<Sizes>
-    ensures { MatchOption result (2 ^ 128 ≤ sizes.reads + sizes.last * bound)
+/// The sizes with one more step. Nothing where the reads pass 2^128 - 1.
+pub fn with_step(sizes: Sizes, adds: bool, bound: u32) -> Option<Sizes>
+    ensures small { IfSome result (λ next. next.reads < 2 ^ 128) }
+    ensures sizes { MatchOption result (2 ^ 128 ≤ sizes.reads + sizes.last * bound)
         (λ next. next ≡ record {
           reads = sizes.reads + sizes.last * bound;
           last = if adds then sizes.last * bound else sizes.last;
@@ -27,9 +31,9 @@ fn with_step(sizes: Sizes, adds: bool, bound: u32) -> Option<Sizes>
 }
 
 #[tactic(auto, using(crate::proofs::Announced::announced_step, crate::proofs::Announced::last_step, crate::proofs::Announced::announced_end, crate::proofs::Announced::last_end))]
-/// The sizes of a derivation before whose first step `first` valuations stand. `TooLarge` exactly where its reads
-/// pass 2^128 - 1.
-pub fn bound_from(
+/// The sizes of a derivation before whose first step `first` valuations stand: one where its block is by itself, as
+/// many as its guide has answers where it is guided. `TooLarge` exactly where its reads pass 2^128 - 1.
+pub fn block_bound(
     derivation: &Derivation,
     accesses: &List<Access>,
     first: u128,
@@ -51,17 +55,6 @@ pub fn bound_from(
         }
     }
     Ok(sizes)
-}
-
-/// The sizes of the derivation of a block by itself: one valuation stands before its first step. `TooLarge` exactly
-/// where its reads pass 2^128 - 1.
-pub fn block_bound(derivation: &Derivation, accesses: &List<Access>) -> Result<Sizes, Refusal>
-    requires { EachIdOnce accesses.now }
-    ensures { MatchResult result
-        (λ sizes. sizes ≡ sizes_of accesses.now 1 derivation.now.steps)
-        (λ why. (why ≡ TooLarge) × (2 ^ 128 ≤ announced_from accesses.now 1 derivation.now.steps)) }
-{
-    bound_from(derivation, accesses, 1)
 }
 
 /// The reads of some blocks together. `TooLarge` exactly where they pass 2^128 - 1.

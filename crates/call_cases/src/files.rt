@@ -10,14 +10,14 @@ pub struct Shelves {
     pub steady: SteadyFiles,
 }
 
-/// What a read gives.
+/// What a load gives.
 fn read_in<F: Files>(
     alloc: Global,
     files: &mut F,
     name: &str,
     limit: u32,
 ) -> Result<String, NoMemory> {
-    match files.read(alloc, name, u64::from(limit)) {
+    match files.load(alloc, name, u64::from(limit)) {
         Ok(bytes) => Ok(format!(in alloc; "{:?}", str::from_utf8(bytes.as_slice()))?),
         Err(FilesError::Failed) => Ok(format!(in alloc; "failed")?),
         Err(FilesError::TooLong { limit }) => Ok(format!(in alloc; "above {limit} bytes")?),
@@ -49,20 +49,20 @@ impl Shelves {
         Ok(format!(in alloc; "{name} has {} bytes", content.len())?)
     }
 
-    /// Lets the read with a number fail, from 0 on.
+    /// Lets the load with a number fail, from 0 on.
     pub fn fail(&mut self, alloc: Global, call: u32) -> Result<String, NoMemory> {
         self.memory.fail_at(call)?;
         Ok(format!(in alloc; "read {call} is to fail")?)
     }
 
-    /// What a read of both kinds gives.
-    pub fn read(&mut self, alloc: Global, name: &str, limit: u32) -> Result<String, NoMemory> {
+    /// What a load of both kinds gives.
+    pub fn load(&mut self, alloc: Global, name: &str, limit: u32) -> Result<String, NoMemory> {
         let one = read_in(alloc, &mut self.memory, name, limit)?;
         let other = read_in(alloc, &mut self.steady, name, limit)?;
         Ok(format!(in alloc; "{one}, steadily {other}")?)
     }
 
-    /// How many reads of a file failed.
+    /// How many loads of a file failed.
     pub fn faults(&self, alloc: Global, name: &str) -> Result<String, NoMemory> {
         Ok(format!(in alloc; "{} faults", self.memory.faults(name))?)
     }

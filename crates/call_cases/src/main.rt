@@ -4,8 +4,8 @@
 //! A line is words with one space between them. Files, outputs and a table are there from the start, empty, and each
 //! call leaves them to the next. A line that begins with `#` is a comment.
 //!
-//! - `add NAME BYTES` gives both kinds of files in memory a file, `fail N` lets the read with this number fail, from 0
-//!   on, `read NAME LIMIT` reads a file of both kinds, and `faults NAME` tells how many of its reads failed.
+//! - `add NAME BYTES` gives both kinds of files in memory a file, `fail N` lets the load with this number fail, from 0
+//!   on, `read NAME LIMIT` loads a file of both kinds, and `faults NAME` tells how many of its loads failed.
 //! - `put BYTES` puts a piece into both kinds of outputs in memory, `full N` lets the first fail after so many bytes,
 //!   and `sent` tells what both took and how often a put failed.
 //! - `push N LIMIT`, `append N,N,.. LIMIT`, `swap I J`, `remove I` and `truncate LEN` change the rows of a table, of
@@ -56,7 +56,7 @@ fn answer_to<L: Ledger>(
     match name {
         "add" => scene.shelves.add(alloc, first, second),
         "fail" => scene.shelves.fail(alloc, number),
-        "read" => scene.shelves.read(alloc, first, number_of(second)),
+        "read" => scene.shelves.load(alloc, first, number_of(second)),
         "faults" => scene.shelves.faults(alloc, first),
         "put" => scene.outputs.put(alloc, first),
         "full" => scene.outputs.fail_after(alloc, u64::from(number)),

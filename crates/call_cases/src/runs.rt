@@ -1,5 +1,5 @@
 // A run over files and outputs that never fail.
-use beas_cases::run_steady;
+use steady_runs::run_steady;
 use beas_core::{Limits, NoMemory, Steps};
 use outside::{SteadyFiles, SteadySink};
 use session::Session;

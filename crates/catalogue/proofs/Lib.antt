@@ -3,3 +3,4 @@ pub mod Keeping
 pub mod ListFacts
 pub mod MayMake
 pub mod RepeatFacts
+pub mod StoredFacts

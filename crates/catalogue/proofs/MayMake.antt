@@ -24,7 +24,8 @@ use Rattle.beas_core.specs.declared.schema.TableId.{TableId}
 use Rattle.beas_core.specs.Shapes.{EachOnce}
 use Rattle.catalogue.specs.Schema.{Schema, table_named}
 use Rattle.catalogue.specs.Kept.{MayMakeTable, MayMakeAccess}
-use Rattle.catalogue.specs.Refusing.{refused_if, first_repeated, repeated_name, unknown_table, unknown_column, no_such_column, column_ids, columns_of_named, new_access, admit_refusal, add_table_refusal}
+use Rattle.beas_core.specs.Results.{refused_if}
+use Rattle.catalogue.specs.Refusing.{first_repeated, repeated_name, unknown_table, unknown_column, no_such_column, column_ids, columns_of_named, new_access, admit_refusal, add_table_refusal}
 use Rattle.catalogue.proofs.ListFacts.{find_none, none_from_map, option_or-both_none}
 
 not_refused : (b : Bool) (why : Refusal) → refused_if b why ≡ None → b ≡ false
@@ -169,7 +170,7 @@ may_make_access limits schema spec e some few =
     let r = option_or-both_none _ _ d.0 in
     let f = option_or-both_none _ _ d.1 in
     let v = digits_value 10 spec.limit in
-    let digits = list_all is_ascii_digit spec.limit in
+    let digits = nat_le 1 (length spec.limit) && list_all is_ascii_digit spec.limit in
     let test : (digits && nat_le 1 v && nat_le v 4294967295) ≡ true = limit_some _ v (not_refused _ _ f.0) in
     let least : 1 ≤ v = leb-true 1 v (and_right digits (nat_le 1 v) (and_left (digits && nat_le 1 v) (nat_le v 4294967295) test)) in
     record {

@@ -3,3 +3,4 @@ pub mod Kept
 pub mod Queries
 pub mod Refusing
 pub mod Schema
+pub mod Stored

@@ -7,13 +7,10 @@
 --     insert_refusal limits db id rows
 --     create_access_refusal limits db spec
 --     new_access schema spec                        the constraint that a statement makes
---     IsRefusedAs result refusal                    the result is this refusal, Ok where there is none, or out of memory
-use Rattle.std.specs.Prelude.{◌≡◌, ◌==◌, ◌+◌, if◌then◌else◌, Bool, not, nat_le, nat_lt, ℕ, List, [], ◌∷◌, ◌++◌, length, map, find, take, zip, Option, Some, None, Result, Ok, Err, option_map, is_some, unwrap_or}
+use Rattle.std.specs.Prelude.{◌==◌, ◌+◌, Bool, not, nat_le, nat_lt, ℕ, List, [], ◌∷◌, ◌++◌, length, map, find, take, zip, Option, None, option_map, is_some, unwrap_or}
 use Rattle.std.specs.List.{list_any, enumerate_from, position_or_len}
 use Rattle.std.specs.Option.{option_or, is_none}
 use Rattle.std.specs.Str.{bytes_eq}
-use Rattle.beas_core.specs.declared.errors.Fail.{Fail}
-use Rattle.beas_core.specs.declared.errors.Fail.TheVariants.{NoMemory, Refused}
 use Rattle.beas_core.specs.declared.limits.Limits.{Limits}
 use Rattle.beas_core.specs.declared.refusal.Refusal.{Refusal}
 use Rattle.beas_core.specs.declared.refusal.Refusal.TheVariants.{TableExists, UnknownTable, UnknownColumn, DuplicateName, WrongType, BadLimit, AlreadyBroken, BreaksBound, WrongWidth, TooMany, UnknownAccess}
@@ -25,17 +22,10 @@ use Rattle.beas_core.specs.declared.schema.ColumnId.{ColumnId}
 use Rattle.beas_core.specs.declared.schema.TableId.{TableId}
 use Rattle.beas_core.specs.declared.value.Value.{Value}
 use Rattle.beas_core.specs.Groups.{greatest, project}
+use Rattle.beas_core.specs.Results.{refused_if}
 use Rattle.beas_core.specs.Spelling.{limit_in}
 use Rattle.catalogue.specs.Schema.{Schema, table_named, columns_at, column_named, has_access, accesses_on}
 use Rattle.catalogue.specs.Database.{Database, schema_of, rows_at, has_kind}
-
-abbrev pub IsRefusedAs : {T : Type 0} → Result T Fail → Option Refusal → Type 0
-IsRefusedAs (Ok value) refusal = refusal ≡ None
-IsRefusedAs (Err NoMemory) refusal = Unit {0}
-IsRefusedAs (Err (Refused why)) refusal = refusal ≡ Some why
-
-abbrev pub refused_if : Bool → Refusal → Option Refusal
-refused_if failing why = if failing then Some why else None
 
 -- the first name that stands among those before it, if there is one
 abbrev pub first_repeated : List (List ℕ) → Option (List ℕ)

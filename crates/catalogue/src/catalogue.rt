@@ -1,11 +1,11 @@
 // Tables and live access constraints.
 ghost use Rattle.std.specs.Prelude.{◌≡◌, ◌≢◌, ◌+◌, ◌<◌, ◌≤◌, [], List, length, map, slice_index_or, ◌==◌, option_map, is_some, IsTrue, IsOk, IfOk, IfSome, OnOk, OnErr, None, Some, nat_le};
-ghost use Rattle.std.specs.List.{list_any, remove as list_remove};
+ghost use Rattle.std.specs.List.{list_any, remove};
 ghost use Rattle.catalogue.specs.Schema.{SchemaIsSound, TableIsSound, table_named, table_at, access_with_id, columns_at, has_access, schema_with_table, schema_with_access, schema_without_access};
 ghost use Rattle.beas_core.specs.declared.schema.Access.{Access as Constraint};
 ghost use Rattle.catalogue.specs.Kept.{MayMakeTable, MayMakeAccess, ids_on, id_of_access_named};
-ghost use Rattle.beas_core.specs.declared.refusal.Counted.TheVariants.{Constraints as OfConstraints};
-ghost use Rattle.catalogue.specs.Refusing.{IsRefusedAs, refused_if, unknown_table, add_table_refusal, resolve_refusal, admit_refusal, drop_access_refusal, column_ids, columns_of_named, new_access};
+ghost use Rattle.beas_core.specs.Results.{IsRefusedAs, refused_if};
+ghost use Rattle.catalogue.specs.Refusing.{unknown_table, add_table_refusal, resolve_refusal, admit_refusal, drop_access_refusal, column_ids, columns_of_named, new_access};
 
 use crate::columns::{bound_of, ids_of};
 use crate::ids::{place_of_id, push_in, push_in_room, remove_in, reserve_in};
@@ -266,7 +266,7 @@ impl Catalogue {
         ensures named { is_some result ≡ has_access self.now name.now }
         ensures within { IfSome result (λ place. place < length self.now.accesses) }
         ensures only { IfSome result (λ place. (schema_without_access self.now name.now).accesses
-            ≡ list_remove self.now.accesses place) }
+            ≡ remove self.now.accesses place) }
     {
         let id = self.access_named(name)?;
         let accesses = self.accesses.as_slice();
@@ -373,7 +373,7 @@ impl Catalogue {
 
     fn refuse_one_too_many(&self, limits: &Limits) -> Result<(), Fail>
         ensures { IsRefusedAs result (refused_if (nat_le limits.now.constraints self.now.created)
-            (Refusal.TooMany OfConstraints limits.now.constraints)) }
+            (Refusal.TooMany Counted.Constraints limits.now.constraints)) }
     {
         if self.created >= limits.constraints {
             return Err(Fail::Refused(Refusal::TooMany {

@@ -4,7 +4,8 @@ ghost use Rattle.std.specs.Str.{bytes_eq};
 ghost use Rattle.std.specs.Option.{is_none};
 ghost use Rattle.beas_core.specs.Spelling.{limit_in};
 ghost use Rattle.catalogue.specs.Schema.{column_named};
-ghost use Rattle.catalogue.specs.Refusing.{IsRefusedAs, refused_if, unknown_column, column_ids};
+ghost use Rattle.beas_core.specs.Results.{IsRefusedAs, refused_if};
+ghost use Rattle.catalogue.specs.Refusing.{unknown_column, column_ids};
 
 use beas_core::{Column, ColumnId, Duplicate, Fail, List, Name, Refusal, Text, limit_of};
 use std::alloc::Global;

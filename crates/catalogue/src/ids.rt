@@ -1,7 +1,7 @@
 // Ids of constraints, and lists with room.
 ghost use Rattle.std.specs.Prelude.{◌≡◌, ◌≢◌, ◌<◌, ◌==◌, [], ◌∷◌, ◌++◌, not, map, filter, length, slice_index_or, slice_set, vec_len, vec_capacity, IsTrue, OnOk, AllPairs};
 ghost use Rattle.std.specs.List.{list_any};
-ghost use Rattle.beas_core.specs.declared.schema.Access.{Access as Constraint};
+ghost use Rattle.beas_core.specs.declared.schema.Access.{Access};
 ghost use Rattle.catalogue.specs.Schema.{access_with_id};
 ghost use Rattle.catalogue.specs.Kept.{Ids};
 
@@ -12,7 +12,7 @@ pub fn place_of_id(accesses: &[Access], id: AccessId) -> usize
     requires rise { AllPairs (λ a b. a.id.0 < b.id.0) accesses.now }
     requires live { IsTrue (list_any (λ a. a.id.0 == id.0) accesses.now) }
     ensures within { result < length accesses.now }
-    ensures found { (d : Constraint) → slice_index_or accesses.now result d ≡ access_with_id accesses.now id }
+    ensures found { (d : Access) → slice_index_or accesses.now result d ≡ access_with_id accesses.now id }
     ensures has_id { (access_with_id accesses.now id).id.0 ≡ id.0 }
 {
     accesses.partition_point(|access| access.id.0 < id.0)

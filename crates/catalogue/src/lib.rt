@@ -2,8 +2,8 @@
 //!
 //! The contracts speak in three modules of `specs`: `Schema` has what a catalogue holds and what is true of each one,
 //! `Refusing` why a call is refused, and `Kept` the ids that are found by a name or by a table. The crates above cite
-//! two more: `Database`, what updates make of tables with their rows, and `Queries`, when a query is over a catalogue's
-//! tables.
+//! three more: `Database`, what updates make of tables with their rows, `Stored`, a catalogue and the rows of its tables
+//! as a database, and `Queries`, when a query is over a catalogue's tables.
 //!
 //! Scripts test it (`script_cases/data`), and so do sessions with lowered limits (`limit_cases/data`) and drawn updates
 //! (`update_cases`). It keeps no rows, so it doesn't promise that a constraint holds, nor that a call says `NoMemory`

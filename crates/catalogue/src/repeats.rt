@@ -1,6 +1,7 @@
 // Names that stand twice in one list.
 ghost use Rattle.std.specs.Prelude.{◌≡◌, map, List, ℕ, IfOk, option_copied};
-ghost use Rattle.catalogue.specs.Refusing.{first_repeated, repeated_name, IsRefusedAs};
+ghost use Rattle.beas_core.specs.Results.{IsRefusedAs};
+ghost use Rattle.catalogue.specs.Refusing.{first_repeated, repeated_name};
 
 use beas_core::{Column, Duplicate, Fail, Name, NoMemory, Refusal};
 use indexmap::IndexMap;

@@ -17,9 +17,9 @@ pub enum Cell<'a> {
 /// What has a value for each column, `Int(0)` where a column is none of its own.
 pub trait Tuple: Copy {
     ghost use Rattle.std.specs.Prelude.{List};
-    ghost use Rattle.beas_core.specs.declared.value.Value.{Value as Item};
+    ghost use Rattle.beas_core.specs.declared.value.Value.{Value};
 
-    ghost values: { Self → List Item };
+    ghost values: { Self → List Value };
 
     fn cell(&self, column: ColumnId) -> Cell<'_>
         ensures { value_of result ≡ value_at (Self.values self.now) column };

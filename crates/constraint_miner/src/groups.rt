@@ -29,7 +29,7 @@ pub fn lend_rows<'a, L: Ledger>(
     Ok(lent)
 }
 
-// How many distinct tuples the group of a tuple has up to it, where the one before it has so many in its own.
+/// How many distinct tuples the group of a tuple has up to it, where the one before it has so many in its own.
 fn size_with<T: Tuple>(
     before: Option<&T>,
     tuple: &T,
@@ -56,7 +56,7 @@ fn size_with<T: Tuple>(
     }
 }
 
-// The size of the greatest group of tuples in order.
+/// The size of the greatest group of tuples in order.
 fn greatest_run<T: Tuple>(tuples: &[T], key: &[ColumnId], fetched: &[ColumnId]) -> u32
     requires few { length tuples.now < 2 ^ 32 }
     ensures { result ≡ greatest_from key.now fetched.now None 0 0 (map T.values tuples.now) }

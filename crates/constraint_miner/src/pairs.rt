@@ -15,7 +15,7 @@ use std::sync::ledger::Ledger;
 /// Two columns, and the size of the greatest group of the second for a value of the first.
 pub type Pair = (ColumnId, ColumnId, u32);
 
-// The columns below a width.
+/// The columns below a width.
 fn columns_below(alloc: Global, width: u16) -> Result<Vec<ColumnId>, NoMemory>
     ensures { IfOk result (λ columns. columns.items ≡ columns_from 0 width) }
 {
@@ -26,7 +26,7 @@ fn columns_below(alloc: Global, width: u16) -> Result<Vec<ColumnId>, NoMemory>
     Ok(columns)
 }
 
-// Puts the tuples of two columns into `tuples`.
+/// Puts the tuples of two columns into `tuples`.
 fn project_rows<'a>(
     rows: &[&'a [Value]],
     first: ColumnId,
@@ -46,7 +46,7 @@ fn project_rows<'a>(
     Ok(())
 }
 
-// The pair of two columns, where they differ and its greatest group is within the limit.
+/// The pair of two columns, where they differ and its greatest group is within the limit.
 fn pair_of<'a>(
     rows: &[&'a [Value]],
     first: ColumnId,
@@ -69,7 +69,7 @@ fn pair_of<'a>(
     }
 }
 
-// Adds the pairs of one first column.
+/// Adds the pairs of one first column.
 fn add_pairs<'a>(
     rows: &[&'a [Value]],
     first: ColumnId,
@@ -90,7 +90,7 @@ fn add_pairs<'a>(
     Ok(())
 }
 
-// The pairs of these columns.
+/// The pairs of these columns.
 fn pairs_of(
     alloc: Global,
     rows: &[&[Value]],

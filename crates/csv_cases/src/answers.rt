@@ -6,7 +6,7 @@ use std::alloc::Global;
 /// The greatest length of a text that is written whole.
 const SHORT: usize = 40;
 
-// A number, or a text in quotes, of which a long one is given by its length.
+/// A number, or a text in quotes, of which a long one is given by its length.
 fn value_text(alloc: Global, value: &Value) -> Result<String, NoMemory> {
     match value {
         Value::Int(number) => Ok(format!(in alloc; "{number}")?),
@@ -21,7 +21,7 @@ fn value_text(alloc: Global, value: &Value) -> Result<String, NoMemory> {
     }
 }
 
-// Adds a row, its values in parentheses.
+/// Adds a row, its values in parentheses.
 fn add_row(alloc: Global, said: &mut String, row: &Row) -> Result<(), NoMemory> {
     said.push_str(" (")?;
     for (i, value) in row.as_slice().iter().enumerate() {

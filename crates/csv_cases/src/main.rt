@@ -15,7 +15,7 @@ use beas_core::{ColType, Column, List, Name, NoMemory};
 use std::alloc::Global;
 use std::io;
 
-// Adds a column to a table.
+/// Adds a column to a table.
 fn add(
     alloc: Global,
     columns: &mut List<Column>,
@@ -28,7 +28,7 @@ fn add(
     Ok(())
 }
 
-// The columns that a letter stands for.
+/// The columns that a letter stands for.
 fn columns_of(alloc: Global, letter: u8) -> Result<List<Column>, NoMemory> {
     let mut columns = List::new(alloc);
     match letter {
@@ -42,7 +42,7 @@ fn columns_of(alloc: Global, letter: u8) -> Result<List<Column>, NoMemory> {
     Ok(columns)
 }
 
-// What is written for one case.
+/// What is written for one case.
 fn answer_to(alloc: Global, letter: u8, spelled: &[u8]) -> Result<String, NoMemory> {
     let columns = columns_of(alloc, letter)?;
     let bytes = spelling::bytes_of(alloc, spelled)?;

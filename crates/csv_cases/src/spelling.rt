@@ -2,7 +2,7 @@
 use beas_core::NoMemory;
 use std::alloc::Global;
 
-// What the next byte belongs to.
+/// What the next byte belongs to.
 #[derive(Clone, Copy)]
 enum State {
     Plain,
@@ -49,7 +49,7 @@ fn repeat(bytes: &mut Vec<u8>, byte: u8, count: u32) -> Result<(), NoMemory> {
     Ok(())
 }
 
-// Takes one byte of the spelling.
+/// Takes one byte of the spelling.
 fn take(bytes: &mut Vec<u8>, state: State, byte: u8) -> Result<State, NoMemory> {
     match state {
         State::Backslash => after_backslash(bytes, byte),

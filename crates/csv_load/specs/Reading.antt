@@ -1,16 +1,12 @@
--- What a reader over a text has left, and how a call fails.
+-- What a reader over a text has left.
 --     left_of reader       the records that it has still to give
 --     IsPlain reader       it reads with the default settings, widths may differ, and no record is a header to it
 --     weight records       their fields, a record without fields counted as one
---     FailsAs fault why    out of memory, or the fault
-use Rattle.std.specs.Prelude.{◌≡◌, ◌+◌, if◌then◌else◌, ℕ, max, true, false, List, [], ◌∷◌, length, Option, Some, unwrap_or}
+use Rattle.std.specs.Prelude.{◌≡◌, ◌+◌, if◌then◌else◌, ℕ, max, true, false, List, [], ◌∷◌, length, Some, unwrap_or}
 use Rattle.std.proofs.Common.{Bor}
 use Rattle.csv.specs.Reading.{default_config, has_failed, is_flexible, Ready, reader_config, reader_state, reader_trim, records_from, source_of}
 use Rattle.csv.specs.declared.reader.Reader.{Reader}
 use Rattle.csv.specs.declared.reader.Trim.TheVariants as trim
-use Rattle.beas_core.specs.declared.errors.Fail.{Fail}
-use Rattle.beas_core.specs.declared.errors.Fail.TheVariants.{NoMemory, Refused}
-use Rattle.beas_core.specs.declared.refusal.Refusal.{Refusal}
 use Rattle.csv_load.specs.CsvRows.{Record}
 
 abbrev pub bytes_left : Reader (Bor (List ℕ)) → List ℕ
@@ -30,10 +26,6 @@ pub record IsPlainSetup (reader : Reader (Bor (List ℕ))) : Type 0 where
 
 abbrev pub IsPlain : Reader (Bor (List ℕ)) → Type 0
 IsPlain reader = has_failed reader ≡ false → IsPlainSetup reader
-
-abbrev pub FailsAs : Option Refusal → Fail → Type 0
-FailsAs fault NoMemory = Unit {0}
-FailsAs fault (Refused why) = fault ≡ Some why
 
 -- how many records and fields there are, each record counted at least once
 abbrev pub weight : List Record → ℕ

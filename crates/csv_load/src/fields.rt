@@ -23,7 +23,7 @@ pub fn is_name(field: &[u8], column: &Column) -> bool
     field.eq_ignore_ascii_case(column.name.as_str().as_bytes())
 }
 
-// The number of an optional sign and digits.
+/// The number of an optional sign and digits.
 fn number_of(text: &str) -> Option<i64>
     ensures { result ≡ integer_in text.now }
 {
@@ -31,7 +31,7 @@ fn number_of(text: &str) -> Option<i64>
     number.ok()
 }
 
-// The bytes as a text, where they are one.
+/// The bytes as a text, where they are one.
 fn text_in(bytes: &[u8]) -> Option<&str>
     ensures { option_map (λ text. text.now) result ≡ text_in bytes.now }
 {
@@ -50,7 +50,7 @@ fn integer_of(field: &[u8]) -> Option<i64>
     }
 }
 
-// The field as a text of at most so many bytes, where it is one.
+/// The field as a text of at most so many bytes, where it is one.
 fn short_text_in(field: &[u8], longest: u32) -> Option<&str>
     ensures { option_map (λ text. text.now) result ≡ short_text_in longest field.now }
 {

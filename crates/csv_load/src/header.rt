@@ -28,7 +28,7 @@ pub struct Layout<'a> {
     pub slots: Vec<Slot>,
 }
 
-// The one column that a header's field names.
+/// The one column that a header's field names.
 fn column_of<'a>(columns: &'a [Column], field: &[u8]) -> Option<&'a Column>
     ensures { option_map (λ column. column.now) result ≡ column_of columns.now field.now }
 {
@@ -44,7 +44,7 @@ fn column_of<'a>(columns: &'a [Column], field: &[u8]) -> Option<&'a Column>
     found
 }
 
-// Whether the field at a place names the column.
+/// Whether the field at a place names the column.
 fn is_named_at(header: &ByteRecord, place: usize, column: &Column) -> bool
     ensures { result ≡ option_map_or (λ field. names field column.now) (slice_get (fields_of header.now) place) false }
 {
@@ -54,7 +54,7 @@ fn is_named_at(header: &ByteRecord, place: usize, column: &Column) -> bool
     }
 }
 
-// The place of the one field that names a column.
+/// The place of the one field that names a column.
 fn place_of(header: &ByteRecord, column: &Column) -> Option<usize>
     ensures { result ≡ place_of (fields_of header.now) column.now }
 {
@@ -70,7 +70,7 @@ fn place_of(header: &ByteRecord, column: &Column) -> Option<usize>
     found
 }
 
-// The one column that the field at a place names.
+/// The one column that the field at a place names.
 fn column_at<'a>(columns: &'a [Column], header: &ByteRecord, place: usize) -> Option<&'a Column>
     ensures { option_map (λ column. column.now) result
         ≡ option_and_then (column_of columns.now) (slice_get (fields_of header.now) place) }
@@ -81,7 +81,7 @@ fn column_at<'a>(columns: &'a [Column], header: &ByteRecord, place: usize) -> Op
     }
 }
 
-// The columns in the file's order, where each field names one.
+/// The columns in the file's order, where each field names one.
 fn in_file_order<'a>(
     alloc: Global,
     columns: &'a [Column],
@@ -102,7 +102,7 @@ fn in_file_order<'a>(
     Ok(Some(in_file))
 }
 
-// The places of the columns, where each is named once.
+/// The places of the columns, where each is named once.
 fn slots_of(
     alloc: Global,
     columns: &[Column],

@@ -1,11 +1,12 @@
 // The rows of the records under a header.
-ghost use Rattle.std.specs.Prelude.{◌≡◌, ◌≤◌, ◌<◌, ◌+◌, ◌^◌, not, None, false, map, length, slice_get, option_map, IfOk, IfErr, OnOk};
+ghost use Rattle.std.specs.Prelude.{◌≡◌, ◌≤◌, ◌<◌, ◌+◌, ◌^◌, not, None, false, map, length, slice_get, option_map, IfOk};
 ghost use Rattle.std.specs.Option.{is_some, option_and_then, option_map_or};
 ghost use Rattle.csv.specs.Records.{fields_of};
 ghost use Rattle.csv_load.specs.Fields.{cell};
 ghost use Rattle.csv_load.specs.CsvRows.{is_bad, bad_column, fault_in, fault_under, fault_of, rows_in};
 ghost use Rattle.csv_load.specs.Layouts.{row_of_slots, the_columns, value_at as value_in_slot};
-ghost use Rattle.csv_load.specs.Reading.{FailsAs, weight};
+ghost use Rattle.beas_core.specs.Results.{IsRefusedAs};
+ghost use Rattle.csv_load.specs.Reading.{weight};
 
 use crate::fields::{field_at, has_value, value_of};
 use crate::header::{Layout, Slot, layout_of};
@@ -14,7 +15,7 @@ use beas_core::{Column, Duplicate, Fail, Limits, List, NoMemory, Refusal, Row, V
 use csv::ByteRecord;
 use std::alloc::Global;
 
-// Whether the field at a place has no value in the column.
+/// Whether the field at a place has no value in the column.
 fn is_bad_at(column: &Column, fields: &ByteRecord, place: usize, longest: u32) -> bool
     ensures { result ≡ option_map_or (is_bad longest column.now) (slice_get (fields_of fields.now) place) false }
 {
@@ -24,7 +25,7 @@ fn is_bad_at(column: &Column, fields: &ByteRecord, place: usize, longest: u32) -
     }
 }
 
-// The first column whose field has no value of its kind.
+/// The first column whose field has no value of its kind.
 fn bad_column<'a>(columns: &[&'a Column], fields: &ByteRecord, longest: u32) -> Option<&'a Column>
     ensures { option_map (λ column. column.now) result
         ≡ bad_column longest (the_columns columns.now) (fields_of fields.now) }
@@ -37,7 +38,7 @@ fn bad_column<'a>(columns: &[&'a Column], fields: &ByteRecord, longest: u32) -> 
     None
 }
 
-// The value that a record has in a slot.
+/// The value that a record has in a slot.
 fn value_at(
     alloc: Global,
     slot: &Slot,
@@ -69,7 +70,7 @@ fn values_of(
     Ok(List::from_vec(values))
 }
 
-// The row of record `nth`.
+/// The row of record `nth`.
 fn row_of(
     alloc: Global,
     layout: &Layout,
@@ -79,11 +80,9 @@ fn row_of(
 ) -> Result<Row, Fail>
     requires few_columns { length layout.now.in_file.items < 2 ^ 32 }
     requires few_fields { length (fields_of fields.now) < 2 ^ 32 }
-    ensures good { OnOk result
-        (fault_in longest (the_columns layout.now.in_file.items) nth (fields_of fields.now) ≡ None) }
     ensures rows { IfOk result (λ row. row ≡ row_of_slots longest layout.now.slots.items (fields_of fields.now)) }
-    ensures refused { IfErr result
-        (λ why. FailsAs (fault_in longest (the_columns layout.now.in_file.items) nth (fields_of fields.now)) why) }
+    ensures refused { IsRefusedAs result
+        (fault_in longest (the_columns layout.now.in_file.items) nth (fields_of fields.now)) }
 {
     let found = fields.len();
     let wanted = layout.in_file.len();
@@ -101,7 +100,7 @@ fn row_of(
     Ok(values_of(alloc, layout.slots.as_slice(), fields, longest)?)
 }
 
-// The rows of all records that are left. They are numbered from 1.
+/// The rows of all records that are left. They are numbered from 1.
 fn rows_left(
     alloc: Global,
     layout: &Layout,
@@ -110,10 +109,8 @@ fn rows_left(
 ) -> Result<List<Row>, Fail>
     requires few { weight records.old < 2 ^ 32 }
     requires room { length layout.now.in_file.items + weight records.old ≤ 2 ^ 32 }
-    ensures good { OnOk result (fault_under longest (the_columns layout.now.in_file.items) records.old ≡ None) }
     ensures rows { IfOk result (λ rows. rows ≡ map (row_of_slots longest layout.now.slots.items) records.old) }
-    ensures refused { IfErr result
-        (λ why. FailsAs (fault_under longest (the_columns layout.now.in_file.items) records.old) why) }
+    ensures refused { IsRefusedAs result (fault_under longest (the_columns layout.now.in_file.items) records.old) }
 {
     let mut rows = Vec::new(alloc);
     let mut fields = ByteRecord::new(alloc);
@@ -143,9 +140,8 @@ pub fn rows_of(
     limits: &Limits,
 ) -> Result<List<Row>, Fail>
     requires { length bytes.now < 2 ^ 32 }
-    ensures good { OnOk result (fault_of limits.now.text columns.now bytes.now ≡ None) }
     ensures rows { IfOk result (λ rows. rows ≡ rows_in limits.now.text columns.now bytes.now) }
-    ensures refused { IfErr result (λ why. FailsAs (fault_of limits.now.text columns.now bytes.now) why) }
+    ensures refused { IsRefusedAs result (fault_of limits.now.text columns.now bytes.now) }
 {
     let mut records = Records::of(alloc, bytes);
     let mut header = ByteRecord::new(alloc);

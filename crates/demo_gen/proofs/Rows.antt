@@ -3,7 +3,8 @@ use Rattle.std.proofs.Common.{◌≡◌, ◌∙◌, ◌+◌, ◌++◌, ℕ, zero
 use Rattle.std.specs.List.{flat_map, range_with_len}
 use Rattle.std.proofs.lemmas.Grind.{flat_map-append}
 use Rattle.std.proofs.lemmas.List.FromFn.{map-range_with_len_more}
-use Rattle.demo_gen.specs.Demo.{rows_text, separator, with_commas}
+use Rattle.beas_core.specs.Texts.{with_commas}
+use Rattle.demo_gen.specs.Demo.{rows_text, separator}
 
 pub no_rows : (row : ℕ → List ℕ) → rows_text row 0 ≡ []
 unfolding rows_text

@@ -3,18 +3,8 @@
 --     demo_text seed       each with a semicolon and a line feed after it
 use Rattle.std.specs.Prelude.{◌+◌, ◌*◌, ◌/◌, ◌%◌, ℕ, zero, suc, List, [], ◌∷◌, ◌++◌, map, codes, decimal}
 use Rattle.std.specs.List.{flat_map, range_with_len}
+use Rattle.beas_core.specs.Texts.{concatenation, with_commas}
 use Rattle.demo_gen.specs.Draws.{draw_at, state_after}
-
--- the parts one after another
-abbrev pub concatenation : List (List ℕ) → List ℕ
-concatenation [] = []
-concatenation (part ∷ []) = part
-concatenation (part ∷ next ∷ parts) = part ++ concatenation (next ∷ parts)
-
--- with a comma and a space between them
-abbrev pub with_commas : List (List ℕ) → List ℕ
-with_commas [] = []
-with_commas (row ∷ rows) = row ++ flat_map (λ other. codes ", " ++ other) rows
 
 -- what stands before row n
 abbrev pub separator : ℕ → List ℕ

@@ -5,7 +5,7 @@ use Rattle.std.specs.Prelude.{◌-◌, ◌^◌, ℕ, Bool, true, false, List, []
 use Rattle.std.specs.List.{sum_by}
 use Rattle.demo_gen.specs.declared.summary.Outcome.{Outcome}
 use Rattle.demo_gen.specs.declared.summary.Outcome.TheVariants.{Answered, Other, Refused}
-use Rattle.demo_gen.specs.Demo.{concatenation}
+use Rattle.beas_core.specs.Texts.{concatenation}
 
 abbrev pub is_refused : Outcome → Bool
 is_refused Refused = true

@@ -1,6 +1,7 @@
--- The output of the last valuations is the full answer.
-use Rattle.std.proofs.Common.{◌≡◌, ◌==◌, ◌&&◌, ◌<◌, ◌+◌, ℕ, zero, suc, Bool, true, false, not, cond, nat_lt, List, [], ◌∷◌, ◌++◌, length, map, get_or, None, ◌⊎◌, inl, inr, refl, ap, sym, ◌∙◌, subst, arith, zero-add}
-use Rattle.std.specs.List.{list_all, list_any, filter, flat_map, enumerate_from, range_with_len}
+-- The outputs of the last valuations are the full answer, and of a guided block those of its rows that stand in the guide.
+use Rattle.std.proofs.Common.{◌≡◌, ◌==◌, ◌&&◌, ◌<◌, ◌+◌, ℕ, zero, suc, Bool, true, false, not, cond, nat_lt, List, [], ◌∷◌, ◌++◌, length, map, get_or, Some, None, ◌⊎◌, inl, inr, refl, ap, sym, ◌∙◌, subst, arith, zero-add}
+use Rattle.std.specs.Option.{is_some}
+use Rattle.std.specs.List.{list_all, list_any, filter, flat_map, zip, enumerate_from, range_with_len}
 use Rattle.std.proofs.lemmas.Bool.{eqb-true, ltb-true}
 use Rattle.std.proofs.lemmas.List.{append-nil, length-map}
 use Rattle.std.proofs.lemmas.List.Elements.{All-contains}
@@ -16,24 +17,28 @@ use Rattle.beas_core.specs.declared.query.Comparison.{Comparison}
 use Rattle.beas_core.specs.declared.query.Block.{Block}
 use Rattle.beas_core.specs.declared.plan.DStep.{DStep}
 use Rattle.beas_core.specs.declared.plan.Normal.{Normal}
-use Rattle.beas_core.specs.Types.{TableRows, Row, ClassSet, Binding, Bindings}
+use Rattle.beas_core.specs.Types.{TableRows, Row, ClassSet, Binding, Bindings, Guide}
 use Rattle.beas_core.specs.Order.{row_cmp_total}
+use Rattle.beas_core.specs.Sets.{distinct}
 use Rattle.beas_core.specs.Groups.{value_at, member_columns, has_column}
 use Rattle.beas_core.specs.Shapes.{IsPlace, OperandIsPlace, ComparisonIsWellFormed, BlockIsWellFormed, AccessIsWellFormed, width_of}
 use Rattle.beas_core.specs.Full.{same_value, comparison_holds, operand_value, choices, choice_value, meets, full_of_block}
 use Rattle.beas_core.specs.Classes.{Linked, itself, equated, turned, chained, same_place, class_of, operand_places, used_places, needed_columns, normal_of}
-use Rattle.beas_core.specs.Coverage.{has, class_at, place_class, constant_classes, needed_of, needed_places, holds_needed, is_open, atoms_of, ClassesInRange}
+use Rattle.beas_core.specs.Coverage.{has, class_at, place_class, output_classes, start_classes, needed_of, needed_places, holds_needed, is_open, atoms_of, ClassesInRange}
 use Rattle.beas_core.specs.Derivations.{access_in, table_of, use_of, bound_after, is_on_table, is_served_by, steps_are_sound, IsSound}
 use Rattle.beas_core.specs.Valuations.{value_of, agrees, bindings_of, with_row_for, ways, comparison_is_bound, operand_is_bound, comparison_is_met, is_consistent, classes_in, as_bindings, output_row, valued_rows, valuations, answers_of, starts}
-use Rattle.beas_core.proofs.Sets.{Has, Has-map, Has-from_map, Has-filter, Has-from_filter, Has-append_left, Has-append_right, Has-append_cases, Has-distinct, Has-from_distinct, Has-from_contains, Contains-from_has, distinct_same}
+use Rattle.beas_core.proofs.Sets.{Has, Has-map, Has-from_map, Has-filter, Has-from_filter, Has-append_left, Has-append_right, Has-append_cases, Has-distinct, Has-from_distinct, Has-from_contains, Contains-from_has, IsInOrder-distinct, same_sets}
 use Rattle.beas_core.proofs.ValueOrder.{row_cmp_tells}
 use Rattle.evaluation_facts.proofs.MemberTests.{and_left, and_right, and_both, or_cases, or_left, or_right, from_not, which, all_has, all_by, any_has, any_by, none_has, Has-flat_map, Has-from_flat_map}
 use Rattle.evaluation_facts.proofs.SoundParts.{SoundParts, sound_parts, steps_from}
 use Rattle.evaluation_facts.proofs.UseFacts.{same_number}
-use Rattle.evaluation_facts.proofs.BindingFacts.{keys, Binds, map_same, same_value_to, same_from, agreed, Has-range, value_in_valuation}
+use Rattle.evaluation_facts.specs.Guides.{GuideFits}
+use Rattle.evaluation_facts.proofs.BindingFacts.{zip-maps, keys, Binds, map_same, same_value_to, same_from, agreed, Has-range, value_in_valuation}
 use Rattle.evaluation_facts.proofs.ConsistencyFacts.{compared_alike}
 use Rattle.evaluation_facts.proofs.FrontBounds.{front_binds}
 use Rattle.evaluation_facts.proofs.ClassFacts.{has_enumerated, width_at, class_from_linked, linked_from_class, has_place, classes_in_range, constants_in_range}
+use Rattle.beas_core.specs.Queries.{inside}
+use Rattle.evaluation_facts.proofs.GuidedLaw.{InGuide, Has-inside, Has-from_inside, in_order-inside}
 
 abbrev none : Atom
 none = record { table = record { 0 = 0 }; width = 0 }
@@ -175,6 +180,35 @@ module _ (block : Block) where
       Has-flat_map (λ n. map (λ c. record { atom = n.0; column = c }) n.1) (enumerate_from 0 needed) (p.atom, get_or needed p.atom []) p m
       (Has-map (λ c. record { atom = p.atom; column = c }) (get_or needed p.atom []) p.column (needed_column p h used))
 
+-- every start has the constants, and one of a guided block a row of the guide too
+constants_in : (normal : Normal) (guide : Guide) (start : Bindings) → Has (starts normal guide) start → (b : Binding) → Has normal.constants b → Has start b
+constants_in normal None start (inl e) b h = subst (λ u. Has u b) (sym e) h
+constants_in normal None start (inr n) b h = absurd n
+constants_in normal (Some found) start m b h =
+    let r = Has-from_map (λ row. normal.constants ++ zip (output_classes normal) row) found start m in
+    subst (λ u. Has u b) (sym r.2) (Has-append_left normal.constants (zip (output_classes normal) r.0) b h)
+
+-- the start that a row makes, where it stands in the guide
+start_for : (normal : Normal) (guide : Guide) (row : Row) → InGuide guide row
+    → (start : Bindings) × (Has (starts normal guide) start) × ((b : Binding) → Has start b → Has normal.constants b ⊎ Has (zip (output_classes normal) row) b)
+start_for normal None row g = (normal.constants, inl refl, λ b h. inl h)
+start_for normal (Some found) row g = (
+  normal.constants ++ zip (output_classes normal) row,
+  Has-map (λ r. normal.constants ++ zip (output_classes normal) r) found row g,
+  λ b h. Has-append_cases normal.constants (zip (output_classes normal) row) b h,
+)
+
+-- a row is known by the values of its places
+zipped_values : (value : ℕ → Value) (class : Place → ℕ) (places : List Place) (row : Row) → length row ≡ length places
+    → ((b : Binding) → Has (zip (map class places) row) b → b.1 ≡ value b.0) → map (λ p. value (class p)) places ≡ row
+zipped_values value class [] [] e f = refl
+zipped_values value class [] (v ∷ row) e f = absurd (omega (arith, e))
+zipped_values value class (p ∷ places) [] e f = absurd (omega (arith, e))
+zipped_values value class (p ∷ places) (v ∷ row) e f =
+    let first = f (class p, v) (inl refl) in
+    let rest = zipped_values value class places row (omega arith) (λ b h. f b (inr h)) in
+    cc
+
 -- each way has a row of each step, and any rows make a way
 module _ (rows : TableRows) (normal : Normal) (accesses : List Access) (ranges : ClassesInRange normal) where
   -- the row that a way chose for a step
@@ -214,19 +248,20 @@ module _ (rows : TableRows) (normal : Normal) (accesses : List Access) (ranges :
       )
 
 module _ (rows : TableRows) (block : Block) (shape : BlockIsWellFormed block) (accesses : List Access) (steps : List DStep)
-    (sound : IsSound (normal_of block) accesses (constant_classes (normal_of block)) steps)
+    (guide : Guide) (fit : GuideFits (normal_of block) guide)
+    (sound : IsSound (normal_of block) accesses (start_classes (normal_of block) (is_some guide)) steps)
     (formed : (s : DStep) → Has steps s → AccessIsWellFormed (width_of block.atoms s.atom) (access_in accesses s.access)) where
   abbrev normal : Normal
   normal = normal_of block
 
   abbrev bound : ClassSet
-  bound = bound_after (normal_of block) accesses (constant_classes (normal_of block)) steps
+  bound = bound_after (normal_of block) accesses (start_classes (normal_of block) (is_some guide)) steps
 
   abbrev all_ways : List Bindings
-  all_ways = ways rows (normal_of block) accesses (starts (normal_of block) None) steps
+  all_ways = ways rows (normal_of block) accesses (starts (normal_of block) guide) steps
 
-  parts : SoundParts (normal_of block) accesses (constant_classes (normal_of block)) steps
-  parts = sound_parts (normal_of block) accesses (constant_classes (normal_of block)) steps sound.sound
+  parts : SoundParts (normal_of block) accesses (start_classes (normal_of block) (is_some guide)) steps
+  parts = sound_parts (normal_of block) accesses (start_classes (normal_of block) (is_some guide)) steps sound.sound
 
   equality_place : (e : Place × Place) → Has block.equalities e → IsPlace block.atoms e.0 × IsPlace block.atoms e.1
   equality_place e h = All-contains (λ d. IsPlace block.atoms d.0 × IsPlace block.atoms d.1) block.equalities e shape.equalities
@@ -253,9 +288,9 @@ module _ (rows : TableRows) (block : Block) (shape : BlockIsWellFormed block) (a
       twice false e = cc
 
   way_binds : (w : Bindings) → Has all_ways w → Binds bound w
-  way_binds = front_binds rows (normal_of block) accesses None (classes_in_range block shape) (constants_in_range block shape) tt steps []
-      (subst (λ all. steps_are_sound (normal_of block) accesses (constant_classes (normal_of block)) all ≡ true) (sym (append-nil steps))
-      (steps_from (normal_of block) accesses (constant_classes (normal_of block)) steps parts.each))
+  way_binds = front_binds rows (normal_of block) accesses guide (classes_in_range block shape) (constants_in_range block shape) fit steps []
+      (subst (λ all. steps_are_sound (normal_of block) accesses (start_classes (normal_of block) (is_some guide)) all ≡ true) (sym (append-nil steps))
+      (steps_from (normal_of block) accesses (start_classes (normal_of block) (is_some guide)) steps parts.each))
 
   table_is : (k : ℕ) → k < length block.atoms → table_of normal k ≡ (get_or block.atoms k none).table
   unfolding normal_of
@@ -266,9 +301,9 @@ module _ (rows : TableRows) (block : Block) (shape : BlockIsWellFormed block) (a
     agree : agrees w ≡ true
     agree = and_left (agrees w) (list_all (comparison_is_met normal bound w) normal.comparisons) consistent
 
-    way_parts : (start : Bindings) × (Has (starts normal None) start) × ((b : Binding) → Has start b → Has w b) × ((s : DStep) → Has steps s
+    way_parts : (start : Bindings) × (Has (starts normal guide) start) × ((b : Binding) → Has start b → Has w b) × ((s : DStep) → Has steps s
         → RowFor rows normal accesses (classes_in_range block shape) s w)
-    way_parts = ways_rows rows normal accesses (classes_in_range block shape) steps (starts normal None) w way
+    way_parts = ways_rows rows normal accesses (classes_in_range block shape) steps (starts normal guide) w way
 
     abbrev GivesValues : ℕ → Row → Type 0
     GivesValues k row = (p : Place) → p.atom ≡ k → IsPlace block.atoms p → Has (used_places block) p → value_at row p.column ≡ value_of w (place_class normal p)
@@ -330,9 +365,8 @@ module _ (rows : TableRows) (block : Block) (shape : BlockIsWellFormed block) (a
         ∙ sym (value_chosen e.1 places.1 used.1))))
         (all_by (λ c. same_value (choice_value choice_made.0 c.0) c.1) block.constants (λ c h.
         let place = constant_place c h in
-        let start_is : way_parts.0 ≡ normal.constants = elim way_parts.1 [ inl e ↦ e | inr n ↦ absurd n ] in
         let given = Has-map (λ d. (class_of block d.0, d.1)) block.constants c h in
-        let binding = way_parts.2 (class_of block c.0, c.1) (subst (λ u. Has u (class_of block c.0, c.1)) (sym start_is) given) in
+        let binding = way_parts.2 (class_of block c.0, c.1) (constants_in normal guide way_parts.0 way_parts.1 (class_of block c.0, c.1) given) in
         same_value_to (choice_value choice_made.0 c.0) c.1 (value_chosen c.0 place (used_constant block c h)
         ∙ ap (value_of w) (place_class_is block c.0 place) ∙ sym (agreed w (class_of block c.0, c.1) agree binding)))))
         (all_by (comparison_holds (choice_value choice_made.0)) block.comparisons (λ c h.
@@ -358,8 +392,29 @@ module _ (rows : TableRows) (block : Block) (shape : BlockIsWellFormed block) (a
         let used = used_output block p h in
         value_in_valuation bound w (place_class normal p) (bound_place p place used) ∙ sym (value_chosen p place used))
 
+    outputs_are : output_row normal bound (map (value_of w) (classes_in bound)) ≡ map (λ p. value_of w (place_class normal p)) normal.output
+    unfolding normal_of
+    outputs_are = map_same (λ p. value_of (as_bindings bound (map (value_of w) (classes_in bound))) (place_class normal p))
+        (λ p. value_of w (place_class normal p)) block.output (λ p h.
+        value_in_valuation bound w (place_class normal p) (bound_place p (output_place p h) (used_output block p h)))
+
+    -- a way of a guided block starts from a row of its guide, which is its output
+    output_in_guide : InGuide guide (output_row normal bound (map (value_of w) (classes_in bound)))
+    output_in_guide = by guide refl
+      where
+        by : (some : Guide) → guide ≡ some → InGuide some (output_row normal bound (map (value_of w) (classes_in bound)))
+        by None e = tt
+        by (Some found) e =
+            let from = subst (λ g. Has (starts normal g) way_parts.0) e way_parts.1 in
+            let r = Has-from_map (λ row. normal.constants ++ zip (output_classes normal) row) found way_parts.0 from in
+            let wide = All-contains (λ row. length row ≡ length normal.output) found r.0 (subst (GuideFits normal) e fit) (Contains-from_has found r.0 r.1) in
+            let whole = zipped_values (value_of w) (place_class normal) normal.output r.0 wide (λ b h.
+            agreed w b agree (way_parts.2 b (subst (λ u. Has u b) (sym r.2) (Has-append_right normal.constants (zip (output_classes normal) r.0) b h)))) in
+            subst (Has found) (sym (outputs_are ∙ whole)) r.1
+
   -- a choice that meets all conditions makes a consistent way
-  module _ (choice : List Row) (member : Has (choices rows block.atoms) choice) (met : meets block choice ≡ true) where
+  module _ (choice : List Row) (member : Has (choices rows block.atoms) choice) (met : meets block choice ≡ true)
+      (in_guide : InGuide guide (map (choice_value choice) block.output)) where
     equal_met : list_all (λ e. same_value (choice_value choice e.0) (choice_value choice e.1)) block.equalities ≡ true
     equal_met = and_left (list_all (λ e. same_value (choice_value choice e.0) (choice_value choice e.1)) block.equalities)
         (list_all (λ c. same_value (choice_value choice c.0) c.1) block.constants)
@@ -398,9 +453,13 @@ module _ (rows : TableRows) (block : Block) (shape : BlockIsWellFormed block) (a
         (and_left (nat_lt s.atom (length block.atoms)) ((table_of normal s.atom).0 == (access_in accesses s.access).table.0)
         (all_has (is_on_table normal accesses) steps s parts.each.tables h))
 
+    made_start : (start : Bindings) × (Has (starts normal guide) start) × ((b : Binding) → Has start b
+        → Has normal.constants b ⊎ Has (zip (output_classes normal) (map (choice_value choice) block.output)) b)
+    made_start = start_for normal guide (map (choice_value choice) block.output) in_guide
+
     made_way : (w : Bindings) × (Has all_ways w) × ((b : Binding) → Has w b
-        → Has normal.constants b ⊎ ((s : DStep) × (Has steps s) × (Has (bindings_of normal accesses s (get_or choice s.atom [])) b)))
-    made_way = way_of rows normal accesses (classes_in_range block shape) (λ k. get_or choice k []) steps (starts normal None) normal.constants (inl refl)
+        → Has made_start.0 b ⊎ ((s : DStep) × (Has steps s) × (Has (bindings_of normal accesses s (get_or choice s.atom [])) b)))
+    made_way = way_of rows normal accesses (classes_in_range block shape) (λ k. get_or choice k []) steps (starts normal guide) made_start.0 made_start.1
         (λ s h. subst (λ t. Has (rows t) (get_or choice s.atom [])) (sym (table_is s.atom (step_atom s h)))
         (row_in_choice rows block.atoms choice member s.atom (step_atom s h)))
 
@@ -419,11 +478,18 @@ module _ (rows : TableRows) (block : Block) (shape : BlockIsWellFormed block) (a
     from_place : (b : Binding) → Has made_way.0 b → FromPlace b
     unfolding normal_of
     from_place b h = elim (made_way.2 b h) [
+      | inl start ↦ elim (made_start.2 b start) [
       | inl k ↦ (
           let m = Has-from_map (λ d. (class_of block d.0, d.1)) block.constants b k in
           let same = same_from (choice_value choice m.0.0) m.0.1
           (all_has (λ c. same_value (choice_value choice c.0) c.1) block.constants m.0 constants_met m.1) in
           (m.0.0, constant_place m.0 m.1, ap (λ d. d.0) (sym m.2), ap (λ d. d.1) m.2 ∙ sym same))
+      | inr k ↦ (
+          let m = Has-from_map (λ p. (place_class normal p, choice_value choice p)) block.output b
+          (subst (λ bs. Has bs b) (zip-maps (place_class normal) (choice_value choice) block.output) k) in
+          let place = output_place m.0 m.1 in
+          (m.0, place, sym (place_class_is block m.0 place) ∙ ap (λ d. d.0) (sym m.2), ap (λ d. d.1) m.2))
+      ]
       | inr k ↦ (
           let s = k.0 in
           let m = Has-from_map (λ c. (class_at normal s.atom c, value_at (get_or choice s.atom []) c)) (member_columns (access_in accesses s.access)) b k.2 in
@@ -492,7 +558,7 @@ module _ (rows : TableRows) (block : Block) (shape : BlockIsWellFormed block) (a
   abbrev full_outputs : List Row
   full_outputs = map (λ choice. map (choice_value choice) block.output) (filter (meets block) (choices rows block.atoms))
 
-  outputs_in_full : (row : Row) → Has outputs row → Has full_outputs row
+  outputs_in_full : (row : Row) → Has outputs row → Has full_outputs row × InGuide guide row
   outputs_in_full row h =
       let m = Has-from_map (output_row normal bound) found row h in
       let d = Has-from_distinct row_cmp_total row_cmp_tells (map (λ w. map (value_of w) (classes_in bound)) (filter (is_consistent normal bound) all_ways))
@@ -500,22 +566,37 @@ module _ (rows : TableRows) (block : Block) (shape : BlockIsWellFormed block) (a
       let v = Has-from_map (λ w. map (value_of w) (classes_in bound)) (filter (is_consistent normal bound) all_ways) m.0 d in
       let f = Has-from_filter (is_consistent normal bound) all_ways v.0 v.1 in
       let choice = choice_made v.0 f.0 f.1 in
-      let e = m.2 ∙ ap (output_row normal bound) v.2 ∙ output_is v.0 f.0 f.1 in
-      subst (Has full_outputs) (sym e)
-      (Has-map (λ c. map (choice_value c) block.output) (filter (meets block) (choices rows block.atoms)) choice.0
-      (Has-filter (meets block) (choices rows block.atoms) choice.0 choice.1 (choice_meets v.0 f.0 f.1)))
+      let to = m.2 ∙ ap (output_row normal bound) v.2 in
+      let e = to ∙ output_is v.0 f.0 f.1 in (
+        subst (Has full_outputs) (sym e)
+            (Has-map (λ c. map (choice_value c) block.output) (filter (meets block) (choices rows block.atoms)) choice.0
+            (Has-filter (meets block) (choices rows block.atoms) choice.0 choice.1 (choice_meets v.0 f.0 f.1))),
+        subst (InGuide guide) (sym to) (output_in_guide v.0 f.0 f.1),
+      )
 
-  full_in_outputs : (row : Row) → Has full_outputs row → Has outputs row
-  full_in_outputs row h =
+  full_in_outputs : (row : Row) → Has full_outputs row → InGuide guide row → Has outputs row
+  full_in_outputs row h in_guide =
       let m = Has-from_map (λ c. map (choice_value c) block.output) (filter (meets block) (choices rows block.atoms)) row h in
       let f = Has-from_filter (meets block) (choices rows block.atoms) m.0 m.1 in
-      let way = made_way m.0 f.0 f.1 in
+      let its_row = subst (InGuide guide) m.2 in_guide in
+      let way = made_way m.0 f.0 f.1 its_row in
       let v = map (value_of way.0) (classes_in bound) in
       let member = Has-distinct row_cmp_total row_cmp_tells (map (λ w. map (value_of w) (classes_in bound)) (filter (is_consistent normal bound) all_ways)) v
       (Has-map (λ w. map (value_of w) (classes_in bound)) (filter (is_consistent normal bound) all_ways) way.0
-      (Has-filter (is_consistent normal bound) all_ways way.0 way.1 (way_consistent m.0 f.0 f.1))) in
-      subst (Has outputs) (output_made m.0 f.0 f.1 ∙ sym m.2) (Has-map (output_row normal bound) found v member)
+      (Has-filter (is_consistent normal bound) all_ways way.0 way.1 (way_consistent m.0 f.0 f.1 its_row))) in
+      subst (Has outputs) (output_made m.0 f.0 f.1 its_row ∙ sym m.2) (Has-map (output_row normal bound) found v member)
 
-  pub answers_are_full : answers_of rows (normal_of block) accesses None steps ≡ full_of_block rows block
+  pub answers_are_inside : answers_of rows (normal_of block) accesses guide steps ≡ inside guide (full_of_block rows block)
   unfolding answers_of valuations full_of_block
-  answers_are_full = distinct_same row_cmp_total row_cmp_tells outputs full_outputs (λ row. (outputs_in_full row, full_in_outputs row))
+  answers_are_inside = same_sets row_cmp_total row_cmp_tells _ _
+      (IsInOrder-distinct row_cmp_total row_cmp_tells outputs)
+      (in_order-inside guide (distinct _ full_outputs) (IsInOrder-distinct row_cmp_total row_cmp_tells full_outputs))
+      (λ row. (
+        λ h. (
+            let o = outputs_in_full row (Has-from_distinct row_cmp_total row_cmp_tells outputs row h) in
+            Has-inside guide (distinct _ full_outputs) row o.1 (Has-distinct row_cmp_total row_cmp_tells full_outputs row o.0)),
+        λ h. (
+            let o = Has-from_inside guide (distinct _ full_outputs) row h in
+            Has-distinct row_cmp_total row_cmp_tells outputs row
+            (full_in_outputs row (Has-from_distinct row_cmp_total row_cmp_tells full_outputs row o.0) o.1)),
+      ))

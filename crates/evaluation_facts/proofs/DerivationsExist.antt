@@ -7,7 +7,8 @@ use Rattle.beas_core.specs.declared.plan.Normal.{Normal}
 use Rattle.beas_core.specs.declared.plan.NotCovered.{NotCovered}
 use Rattle.beas_core.specs.Types.{ClassSet, Use}
 use Rattle.beas_core.specs.Coverage.{has, holds_classes, key_classes, fetched_classes, class_at, uses, Within, IsClosed, is_covered, covered_set, reason, atoms_of, ClassesInRange}
-use Rattle.beas_core.specs.Derivations.{member_classes, bound_after, adds_class, step_of, with_use, enabled_uses, least_bound, then_step, adding_steps, serving_steps, greedy_steps, derivation}
+use Rattle.beas_core.specs.Derivations.{member_classes, bound_after, adds_class, step_of, with_use, enabled_uses, least_bound, then_step, adding_steps, serving_steps, greedy_steps}
+use Rattle.beas_core.specs.Pruning.{derivation, pruned}
 use Rattle.beas_core.specs.Groups.{member_columns}
 use Rattle.beas_core.specs.Shapes.{EachIdOnce}
 use Rattle.beas_core.proofs.Sets.{Has, Has-filter, Has-from_filter, Has-from_map, Has-map, Has-append_right, Has-append_cases, Has-from_contains, Contains-from_has}
@@ -140,11 +141,11 @@ module _ (normal : Normal) (accesses : List Access) where
         by true h later = refl
         by false h later = pick (least_bound (enabled_uses normal accesses set)) h refl later
 
-  pub derivation_exists : ClassesInRange normal → (start : ClassSet) → length start ≡ normal.count
+  greedy_exists : ClassesInRange normal → (start : ClassSet) → length start ≡ normal.count
       → is_covered normal accesses (covered_set normal accesses start) ≡ true
-      → is_some (derivation normal accesses start) ≡ true
-  unfolding derivation greedy_steps
-  derivation_exists ranges start starts covered = by (adding_steps normal.count normal accesses start)
+      → is_some (greedy_steps normal accesses start) ≡ true
+  unfolding greedy_steps
+  greedy_exists ranges start starts covered = by (adding_steps normal.count normal accesses start)
       (exists ranges start starts covered normal.count start starts (λ c h. h) (omega arith))
     where
       by : (o : Option (List DStep)) → is_some o ≡ true
@@ -152,10 +153,10 @@ module _ (normal : Normal) (accesses : List Access) where
       by None h = h
       by (Some steps) h = refl
 
-  pub derivation_only_if : EachIdOnce accesses → ClassesInRange normal → (start : ClassSet) → length start ≡ normal.count
-      → is_some (derivation normal accesses start) ≡ true → is_covered normal accesses (covered_set normal accesses start) ≡ true
-  unfolding derivation greedy_steps
-  derivation_only_if once ranges start starts h = by (adding_steps normal.count normal accesses start) refl h
+  greedy_only_if : EachIdOnce accesses → ClassesInRange normal → (start : ClassSet) → length start ≡ normal.count
+      → is_some (greedy_steps normal accesses start) ≡ true → is_covered normal accesses (covered_set normal accesses start) ≡ true
+  unfolding greedy_steps
+  greedy_only_if once ranges start starts h = by (adding_steps normal.count normal accesses start) refl h
     where
       by : (o : Option (List DStep)) → adding_steps normal.count normal accesses start ≡ o
           → is_some (option_map (λ steps. steps ++ serving_steps normal accesses steps (bound_after normal accesses start steps) (atoms_of normal)) o) ≡ true
@@ -166,6 +167,24 @@ module _ (normal : Normal) (accesses : List Access) where
           let inside = reached once (covered_set normal accesses start) least.closed normal.count start steps least.from_start e in
           covered_within normal accesses (bound_after normal accesses start steps) (covered_set normal accesses start) inside
           (added normal accesses once normal.count start steps e).1
+
+  -- there are steps before any is dropped exactly where there are some after
+  is_some-pruned : (start : ClassSet) → is_some (derivation normal accesses start) ≡ is_some (greedy_steps normal accesses start)
+  unfolding derivation
+  is_some-pruned start = by (greedy_steps normal accesses start)
+    where
+      by : (o : Option (List DStep)) → is_some (option_map (pruned normal accesses start) o) ≡ is_some o
+      by None = refl
+      by (Some steps) = refl
+
+  pub derivation_exists : ClassesInRange normal → (start : ClassSet) → length start ≡ normal.count
+      → is_covered normal accesses (covered_set normal accesses start) ≡ true
+      → is_some (derivation normal accesses start) ≡ true
+  derivation_exists ranges start starts covered = is_some-pruned start ∙ greedy_exists ranges start starts covered
+
+  pub derivation_only_if : EachIdOnce accesses → ClassesInRange normal → (start : ClassSet) → length start ≡ normal.count
+      → is_some (derivation normal accesses start) ≡ true → is_covered normal accesses (covered_set normal accesses start) ≡ true
+  derivation_only_if once ranges start starts h = greedy_only_if once ranges start starts (sym (is_some-pruned start) ∙ h)
 
   -- a derivation is lacking exactly where there is a reason
   module _ (once : EachIdOnce accesses) (ranges : ClassesInRange normal) (start : ClassSet) (starts : length start ≡ normal.count) where

@@ -1,3 +1,4 @@
+pub mod AgreementFacts
 pub mod AnswerFacts
 pub mod BindingFacts
 pub mod ClassFacts
@@ -7,15 +8,21 @@ pub mod ConsistencyFacts
 pub mod CoveredSetFacts
 pub mod DerivationsExist
 pub mod FrontBounds
+pub mod GuidedLaw
+pub mod KeptFacts
 pub mod MemberTests
 pub mod MoreAccesses
+pub mod PruningFacts
 pub mod QueryBounds
 pub mod ReadFacts
 pub mod ReasonFacts
 pub mod SetSizes
+pub mod SizeFacts
 pub mod SoundDerivations
 pub mod SoundParts
 pub mod StartFacts
+pub mod StartRows
 pub mod StepExtends
 pub mod StepSizes
+pub mod TaskFacts
 pub mod UseFacts

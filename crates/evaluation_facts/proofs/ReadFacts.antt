@@ -14,7 +14,7 @@ use Rattle.beas_core.specs.Derivations.{access_in}
 use Rattle.evaluation_facts.specs.StepReads.{reads_at, reads_from}
 use Rattle.beas_core.specs.Reads.{Probe, keys_after, probes_after, probes, probe_reads, access_of_step, reads_of}
 
-sum_mapped : {A B : Type 0} (f : B → ℕ) (g : A → B) (xs : List A) → sum_by f (map g xs) ≡ sum_by (λ x. f (g x)) xs
+pub sum_mapped : {A B : Type 0} (f : B → ℕ) (g : A → B) (xs : List A) → sum_by f (map g xs) ≡ sum_by (λ x. f (g x)) xs
 sum_mapped {A} f g xs = sym (sum-map f (map g xs)) ∙ ap (sum_by (λ n. n)) (twice xs) ∙ sum-map (λ x. f (g x)) xs
   where
     twice : (ys : List A) → map f (map g ys) ≡ map (λ x. f (g x)) ys

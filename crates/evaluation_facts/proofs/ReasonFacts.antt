@@ -8,9 +8,10 @@ use Rattle.beas_core.specs.declared.plan.Normal.{Normal}
 use Rattle.beas_core.specs.declared.plan.NotCovered.{NotCovered}
 use Rattle.beas_core.specs.declared.plan.NotCovered.TheVariants.{ColumnOpen, AtomUnindexed}
 use Rattle.beas_core.specs.Types.{ClassSet}
-use Rattle.beas_core.specs.Coverage.{has, place_class, uses, needed_places, serves, is_served, is_open, atoms_of, is_covered, reason, own_cover, own_is_covered, own_reason, query_is_covered, first_uncovered_from, first_uncovered}
+use Rattle.beas_core.specs.Coverage.{has, place_class, uses, needed_places, serves, is_served, is_open, atoms_of, is_covered, covered_set, reason}
+use Rattle.beas_core.specs.Guiding.{BlockTask, task_start, task_reason, first_uncovered_from, first_uncovered}
 use Rattle.beas_core.proofs.Sets.{Has-from_contains, Contains-from_has}
-use Rattle.evaluation_facts.specs.Covered.{Server, IsCovered}
+use Rattle.evaluation_facts.specs.Covered.{Server, IsCovered, task_is_covered}
 use Rattle.evaluation_facts.proofs.MemberTests.{and_left, and_right, and_both, from_not, to_not, any_has, any_by, all_has, all_by, none_has, none_by}
 use Rattle.evaluation_facts.proofs.UseFacts.{same_number}
 use Rattle.evaluation_facts.proofs.BindingFacts.{Has-range, from_range}
@@ -112,29 +113,30 @@ module _ (normal : Normal) (accesses : List Access) (set : ClassSet) where
           any_by (λ u. (u.atom == atom) && serves normal set u) (uses normal accesses) s.by (Has-from_contains (uses normal accesses) s.by s.member)
           (and_both (s.by.atom == atom) (serves normal set s.by) (same_number s.by.atom atom s.on_atom) s.serves_it)
 
--- a query is covered exactly where no block has a reason
-module _ (accesses : List Access) where
-  none_uncovered : (n : ℕ) (normals : List Normal) → query_is_covered normals accesses ≡ true → first_uncovered_from n normals accesses ≡ None
-  none_uncovered n [] h = refl
-  none_uncovered n (normal ∷ normals) h =
-      let here = covered-reason normal accesses (own_cover normal accesses) (and_left (own_is_covered normal accesses) (query_is_covered normals accesses) h) in
-      let later = none_uncovered (n + 1) normals (and_right (own_is_covered normal accesses) (query_is_covered normals accesses) h) in
-      ap (λ o. option_or (option_map (λ why. record { block = n; why = why }) o) (first_uncovered_from (n + 1) normals accesses)) here ∙ later
+-- there is no first uncovered block exactly where each is covered
+none_uncovered : (n : ℕ) (tasks : List BlockTask) → list_all task_is_covered tasks ≡ true → first_uncovered_from n tasks ≡ None
+none_uncovered n [] h = refl
+none_uncovered n (task ∷ tasks) h =
+    let here = covered-reason task.normal task.accesses (covered_set task.normal task.accesses (task_start task))
+    (and_left (task_is_covered task) (list_all task_is_covered tasks) h) in
+    let later = none_uncovered (n + 1) tasks (and_right (task_is_covered task) (list_all task_is_covered tasks) h) in
+    ap (λ o. option_or (option_map (λ why. record { block = n; why = why }) o) (first_uncovered_from (n + 1) tasks)) here ∙ later
 
-  all_covered : (n : ℕ) (normals : List Normal) → first_uncovered_from n normals accesses ≡ None → query_is_covered normals accesses ≡ true
-  all_covered n [] h = refl
-  all_covered n (normal ∷ normals) h = by (own_reason normal accesses) refl h (all_covered (n + 1) normals)
-    where
-      by : (o : Option NotCovered) → own_reason normal accesses ≡ o
-          → option_or (option_map (λ why. record { block = n; why = why }) o) (first_uncovered_from (n + 1) normals accesses) ≡ None
-          → (first_uncovered_from (n + 1) normals accesses ≡ None → query_is_covered normals accesses ≡ true)
-          → query_is_covered (normal ∷ normals) accesses ≡ true
-      by None e g later =
-          and_both (own_is_covered normal accesses) (query_is_covered normals accesses) (reason-covered normal accesses (own_cover normal accesses) e) (later g)
-      by (Some why) e g later = cc
+all_covered : (n : ℕ) (tasks : List BlockTask) → first_uncovered_from n tasks ≡ None → list_all task_is_covered tasks ≡ true
+all_covered n [] h = refl
+all_covered n (task ∷ tasks) h = by (task_reason task) refl h (all_covered (n + 1) tasks)
+  where
+    by : (o : Option NotCovered) → task_reason task ≡ o
+        → option_or (option_map (λ why. record { block = n; why = why }) o) (first_uncovered_from (n + 1) tasks) ≡ None
+        → (first_uncovered_from (n + 1) tasks ≡ None → list_all task_is_covered tasks ≡ true)
+        → list_all task_is_covered (task ∷ tasks) ≡ true
+    by None e g later =
+        and_both (task_is_covered task) (list_all task_is_covered tasks)
+        (reason-covered task.normal task.accesses (covered_set task.normal task.accesses (task_start task)) e) (later g)
+    by (Some why) e g later = cc
 
-  pub covered-no_first : (normals : List Normal) → query_is_covered normals accesses ≡ true → first_uncovered normals accesses ≡ None
-  covered-no_first normals h = none_uncovered 0 normals h
+pub covered-no_first : (tasks : List BlockTask) → list_all task_is_covered tasks ≡ true → first_uncovered tasks ≡ None
+covered-no_first tasks h = none_uncovered 0 tasks h
 
-  pub no_first-covered : (normals : List Normal) → first_uncovered normals accesses ≡ None → query_is_covered normals accesses ≡ true
-  no_first-covered normals h = all_covered 0 normals h
+pub no_first-covered : (tasks : List BlockTask) → first_uncovered tasks ≡ None → list_all task_is_covered tasks ≡ true
+no_first-covered tasks h = all_covered 0 tasks h

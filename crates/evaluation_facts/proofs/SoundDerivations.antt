@@ -10,11 +10,13 @@ use Rattle.beas_core.specs.declared.plan.DStep.{DStep}
 use Rattle.beas_core.specs.declared.plan.Normal.{Normal}
 use Rattle.beas_core.specs.Types.{ClassSet, Use}
 use Rattle.beas_core.specs.Coverage.{has, holds_classes, key_classes, uses, with_classes, Within, needed_places, holds_needed, serves, is_served, is_open, is_covered, place_class, atoms_of}
-use Rattle.beas_core.specs.Derivations.{access_in, is_live, table_of, member_classes, use_of, bound_by, bound_after, each_step, adds_class, is_on_table, key_is_bound, adds_rightly, is_served_by, IsSound, step_of, with_use, enabled_uses, least_bound, then_step, adding_steps, serving_steps, greedy_steps, derivation}
+use Rattle.beas_core.specs.Derivations.{access_in, is_live, table_of, member_classes, use_of, bound_by, bound_after, each_step, adds_class, is_on_table, key_is_bound, adds_rightly, is_served_by, IsSound, step_of, with_use, enabled_uses, least_bound, then_step, adding_steps, serving_steps, greedy_steps}
+use Rattle.beas_core.specs.Pruning.{derivation, pruned}
 use Rattle.beas_core.specs.Shapes.{EachIdOnce}
 use Rattle.beas_core.proofs.Sets.{Has, Has-filter, Has-from_filter, all_from}
 use Rattle.evaluation_facts.proofs.MemberTests.{and_left, and_right, and_both, or_left, or_right, to_not, from_not, which, any_has, any_by, all_has, all_by, none_has, none_by}
 use Rattle.evaluation_facts.proofs.SoundParts.{sound_from}
+use Rattle.evaluation_facts.proofs.PruningFacts.{pruned_sound}
 use Rattle.evaluation_facts.proofs.ClassSetFacts.{has-with_kept, holds-within}
 use Rattle.evaluation_facts.proofs.UseFacts.{use_facts, found_by_id, least_has, least_none, same_number}
 
@@ -321,4 +323,11 @@ module _ (normal : Normal) (accesses : List Access) where
 
     pub derivation_sound : (start : ClassSet) (steps : List DStep) → derivation normal accesses start ≡ Some steps → IsSound normal accesses start steps
     unfolding derivation
-    derivation_sound start steps h = greedy_sound start steps h
+    derivation_sound start steps h = by (greedy_steps normal accesses start) refl h
+      where
+        by : (o : Option (List DStep)) → greedy_steps normal accesses start ≡ o → option_map (pruned normal accesses start) o ≡ Some steps
+            → IsSound normal accesses start steps
+        by None e g = cc
+        by (Some greedy) e g =
+            let same : pruned normal accesses start greedy ≡ steps = cc in
+            subst (IsSound normal accesses start) same (pruned_sound normal accesses start greedy (greedy_sound start greedy e))

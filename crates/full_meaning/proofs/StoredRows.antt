@@ -4,8 +4,8 @@ use Rattle.std.proofs.Math.Path.{fun_ext}
 use Rattle.beas_core.specs.Types.{Row}
 use Rattle.catalogue.specs.Schema.{Schema}
 use Rattle.catalogue.specs.Database.{rows_at}
-use Rattle.update_guard.specs.Guarding.{database_of}
-use Rattle.update_guard.proofs.GuardFacts.{rows_at_stored}
+use Rattle.catalogue.specs.Stored.{database_of}
+use Rattle.catalogue.proofs.StoredFacts.{rows_at_stored}
 use Rattle.reference_evaluation.specs.Tables.{rows_in}
 
 pub rows_are_stored : (schema : Schema) (rows : List (List Row)) → length rows ≡ length schema.tables → rows_in rows ≡ rows_at (database_of schema rows)

@@ -110,6 +110,6 @@ times_more names name =
     let itself : bytes_eq name name ≡ true = (bytes_eq-Decides name name).1 refl in
     rw (sum_by-append (λ n. cond (bytes_eq n name) 1 0) names (name ∷ []), itself) refl
 
--- one more failed read of a name
+-- one more failed load of a name
 pub rose_after : (before now : List (List ℕ)) (name : List ℕ) → now ≡ before ++ name ∷ [] → Rose (times before name) (times now name)
 rose_after before now name grown = rw (grown, times_more before name) (omega arith)

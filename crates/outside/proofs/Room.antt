@@ -1,5 +1,5 @@
 -- What a sink with a total takes is a prefix.
-use Rattle.std.proofs.Common.{◌≡◌, ◌-◌, ◌++◌, [], sym, ℕ, List, Option, Some, None, length, take, drop, refl}
+use Rattle.std.proofs.Common.{◌≡◌, ◌-◌, ◌++◌, [], sym, ℕ, List, Option, Some, None, length, drop, refl}
 use Rattle.std.proofs.lemmas.List.{take-append-drop, append-nil}
 use Rattle.outside.specs.Parts.{SentPart}
 use Rattle.outside.specs.Room.{part_taken}

@@ -1,11 +1,11 @@
--- Files in memory, and what a read of one is to answer.
+-- Files in memory, and what a load of one is to answer.
 --     content_of files name        the bytes of the first file with this name, if there is one
 --     times names name             how often a name stands in a list
 --     answer_within bytes limit    the bytes, or that they are more than the limit
 --     answer_of content limit      the same, or a failure where there is no content
---     is_due files                 whether the next read was told to fail
---     next_answer files name limit what the next read is to answer where memory is there
-use Rattle.std.specs.Prelude.{◌<◌, ℕ, Bool, List, Option, Some, None, Result, Ok, Err, length, bytes_eq, nat_eq, nat_lt, if◌then◌else◌}
+--     is_due files                 whether the next load was told to fail
+--     next_answer files name limit what the next load is to answer where memory is there
+use Rattle.std.specs.Prelude.{ℕ, Bool, List, Option, Some, None, Result, Ok, Err, length, bytes_eq, nat_eq, nat_lt, if◌then◌else◌}
 use Rattle.std.specs.List.{find, count_by, list_any}
 use Rattle.std.specs.Option.{option_map}
 use Rattle.outside.specs.declared.files.FilesError.{FilesError}
@@ -27,7 +27,7 @@ answer_of None limit = Err Failed
 answer_of (Some bytes) limit = answer_within bytes limit
 
 abbrev pub is_due : MemoryFiles → Bool
-is_due files = list_any (λ call. nat_eq call files.reads) files.failing
+is_due files = list_any (λ call. nat_eq call files.loads) files.failing
 
 abbrev pub next_answer : MemoryFiles → List ℕ → ℕ → Result (List ℕ) FilesError
 next_answer files name limit = if is_due files then Err Failed else answer_of (content_of files.shelf name) limit

@@ -1,7 +1,7 @@
 -- A sink that takes no more than a total of bytes, where it was told one.
 --     part_taken total sent bytes      the part of the bytes that it takes after those sent
 --     put_answer total sent bytes      success where that is all of them, else a failure
-use Rattle.std.specs.Prelude.{◌-◌, ◌<◌, ℕ, List, Option, Some, None, Result, Ok, Err, length, take, nat_lt, if◌then◌else◌}
+use Rattle.std.specs.Prelude.{◌-◌, ℕ, List, Option, Some, None, Result, Ok, Err, length, take, nat_lt, if◌then◌else◌}
 use Rattle.outside.specs.declared.sink.SinkError.{SinkError}
 use Rattle.outside.specs.declared.sink.SinkError.TheVariants.{Failed}
 

@@ -1,4 +1,4 @@
-//! What lies outside the engine: files that are read whole, sinks that bytes are put into, and kinds of both in memory.
+//! What lies outside the engine: files that are loaded whole, sinks that take bytes, and kinds of both in memory.
 #![tactic(auto)]
 
 mod files;

@@ -8,13 +8,13 @@ use crate::shelf::{Shelf, copy_within};
 use beas_core::{Bytes, List, NoMemory, Text};
 use std::alloc::Global;
 
-/// Files in memory. Reads can be told to fail, and the name of each failed read is kept.
+/// Files in memory. Reads can be told to fail, and the name of each failed load is kept.
 #[derive(Debug, Drop)]
 pub struct MemoryFiles {
     shelf: Shelf,
     failing: List<u32>,
     failed: List<Text>,
-    reads: u64,
+    loads: u64,
 }
 
 impl MemoryFiles {
@@ -23,13 +23,13 @@ impl MemoryFiles {
         ensures shelf { result.shelf ≡ [] }
         ensures failing { result.failing ≡ [] }
         ensures failed { result.failed ≡ [] }
-        ensures reads { result.reads ≡ 0 }
+        ensures loads { result.loads ≡ 0 }
     {
         MemoryFiles {
             shelf: Shelf::new(alloc),
             failing: List::new(alloc),
             failed: List::new(alloc),
-            reads: 0,
+            loads: 0,
         }
     }
 
@@ -41,23 +41,23 @@ impl MemoryFiles {
         ensures err { OnErr result (self.new ≡ self.old) }
         ensures failing { self.new.failing ≡ self.old.failing }
         ensures failed { self.new.failed ≡ self.old.failed }
-        ensures reads { self.new.reads ≡ self.old.reads }
+        ensures loads { self.new.loads ≡ self.old.loads }
     {
         self.shelf.add(name, bytes)
     }
 
-    /// Lets the read with this number fail, counted from 0 over all reads.
+    /// Lets the load with this number fail, counted from 0 over all loads.
     pub fn fail_at(&mut self, call: u32) -> Result<(), NoMemory>
         ensures ok { OnOk result (self.new.failing ≡ self.old.failing ++ call ∷ []) }
         ensures err { OnErr result (self.new ≡ self.old) }
         ensures shelf { self.new.shelf ≡ self.old.shelf }
         ensures failed { self.new.failed ≡ self.old.failed }
-        ensures reads { self.new.reads ≡ self.old.reads }
+        ensures loads { self.new.loads ≡ self.old.loads }
     {
         self.failing.push(call)
     }
 
-    /// How many reads of this name failed.
+    /// How many loads of this name failed.
     pub fn faults(&self, name: &str) -> u64
         ensures { result ≡ times self.now.failed name.now }
     {
@@ -68,17 +68,17 @@ impl MemoryFiles {
             .count() as u64
     }
 
-    /// Whether the next read is one that was told to fail.
+    /// Whether the next load is one that was told to fail.
     fn is_due(&self) -> bool
         ensures { result ≡ is_due self.now }
     {
         self.failing
             .as_slice()
             .iter()
-            .any(|call| u64::from(*call) == self.reads)
+            .any(|call| u64::from(*call) == self.loads)
     }
 
-    /// What the next read is to answer.
+    /// What the next load is to answer.
     fn answer(&self, alloc: Global, name: &str, limit: u64) -> Result<Bytes, FilesError>
         ensures { IsErrOf result FilesError.NoMemory ⊎ (result ≡ next_answer self.now name.now limit) }
     {
@@ -91,14 +91,14 @@ impl MemoryFiles {
         }
     }
 
-    /// Keeps the name of a failed read.
+    /// Keeps the name of a failed load.
     fn fail(&mut self, alloc: Global, name: &str) -> FilesError
         ensures failed { result ≡ FilesError.Failed → self.new.failed ≡ self.old.failed ++ name.now ∷ [] }
         ensures same { result ≢ FilesError.Failed → self.new.failed ≡ self.old.failed }
         ensures cause { (result ≡ FilesError.Failed) ⊎ (result ≡ FilesError.NoMemory) }
         ensures shelf { self.new.shelf ≡ self.old.shelf }
         ensures failing { self.new.failing ≡ self.old.failing }
-        ensures reads { self.new.reads ≡ self.old.reads }
+        ensures loads { self.new.loads ≡ self.old.loads }
     {
         match Text::from_str(alloc, name) {
             Ok(name) => match self.failed.push(name) {
@@ -111,26 +111,25 @@ impl MemoryFiles {
 }
 
 impl Files for MemoryFiles {
-    ghost told = { λ _. true };
+    ghost seen = { λ files. record {
+        told = true;
+        content = content_of files.shelf;
+        faults = times files.failed;
+        taken = 0
+    } };
 
-    ghost content = { λ files. content_of files.shelf };
-
-    ghost faults = { λ files. times files.failed };
-
-    ghost taken = { λ _. 0 };
-
-    fn read(&mut self, alloc: Global, name: &str, limit: u64) -> Result<Bytes, FilesError>
+    fn load(&mut self, alloc: Global, name: &str, limit: u64) -> Result<Bytes, FilesError>
         ensures answer { IsErrOf result FilesError.NoMemory ⊎ (result ≡ next_answer self.old name.now limit) }
         ensures failed { IsErrOf result FilesError.Failed → self.new.failed ≡ self.old.failed ++ name.now ∷ [] }
         ensures rose { IsErrOf result FilesError.Failed → Rose (times self.old.failed name.now)
             (times self.new.failed name.now) }
         ensures same { (IsErrOf result FilesError.Failed → ⊥) → self.new.failed ≡ self.old.failed }
-        ensures reads { self.new.reads ≡ min (self.old.reads + 1) (2 ^ 64 - 1) }
+        ensures loads { self.new.loads ≡ min (self.old.loads + 1) (2 ^ 64 - 1) }
         ensures failing { self.new.failing ≡ self.old.failing }
         ensures shelf { self.new.shelf ≡ self.old.shelf }
     {
         let answer = self.answer(alloc, name, limit);
-        self.reads = self.reads.saturating_add(1);
+        self.loads = self.loads.saturating_add(1);
         match answer {
             Err(FilesError::Failed) => Err(self.fail(alloc, name)),
             other => other,
@@ -138,7 +137,7 @@ impl Files for MemoryFiles {
     }
 }
 
-/// Files in memory of which no read fails. A missing name has the empty content.
+/// Files in memory of which no load fails. A missing name has the empty content.
 #[derive(Debug, Drop)]
 pub struct SteadyFiles {
     shelf: Shelf,
@@ -166,15 +165,14 @@ impl SteadyFiles {
 }
 
 impl Files for SteadyFiles {
-    ghost told = { λ _. true };
+    ghost seen = { λ files. record {
+        told = true;
+        content = λ name. Some (unwrap_or (content_of files.shelf name) []);
+        faults = λ _. 0;
+        taken = 0
+    } };
 
-    ghost content = { λ files name. Some (unwrap_or (content_of files.shelf name) []) };
-
-    ghost faults = { λ _ _. 0 };
-
-    ghost taken = { λ _. 0 };
-
-    fn read(&mut self, alloc: Global, name: &str, limit: u64) -> Result<Bytes, FilesError>
+    fn load(&mut self, alloc: Global, name: &str, limit: u64) -> Result<Bytes, FilesError>
         ensures answer { IsErrOf result FilesError.NoMemory ⊎ (result
             ≡ answer_within (unwrap_or (content_of self.old.shelf name.now) []) limit) }
         ensures shelf { self.new.shelf ≡ self.old.shelf }

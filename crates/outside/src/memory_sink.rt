@@ -74,11 +74,7 @@ fn first(bytes: &[u8], count: u64) -> &[u8]
 }
 
 impl Sink for MemorySink {
-    ghost told = { λ _. true };
-
-    ghost sent = { λ sink. sink.sent.items };
-
-    ghost faults = { λ sink. sink.faults };
+    ghost seen = { λ sink. record { told = true; bytes = sink.sent.items; faults = sink.faults } };
 
     #[tactic(auto, using(crate::proofs::Room::part_sent, crate::proofs::Room::none_sent))]
     fn put(&mut self, bytes: &[u8]) -> Result<(), SinkError>
@@ -130,11 +126,7 @@ impl SteadySink {
 }
 
 impl Sink for SteadySink {
-    ghost told = { λ _. true };
-
-    ghost sent = { λ sink. sink.sent.items };
-
-    ghost faults = { λ _. 0 };
+    ghost seen = { λ sink. record { told = true; bytes = sink.sent.items; faults = 0 } };
 
     fn put(&mut self, bytes: &[u8]) -> Result<(), SinkError>
         ensures answer { IsErrOf result SinkError.NoMemory ⊎ IsOk result }

@@ -33,6 +33,26 @@ use Rattle.plan_builder.specs.Candidates.{AreLeft, AreServed, AreWaiting, Entry,
 use Rattle.plan_builder.specs.Choices.{may_add}
 use Rattle.plan_builder.proofs.ChoiceFacts.{lesser}
 
+-- an open place among some, found or not
+pub none_open : (normal : Normal) (set : ClassSet) (ps : List Place) → find (is_open normal set) ps ≡ None → list_any (is_open normal set) ps ≡ false
+none_open normal set [] e = refl
+none_open normal set (p ∷ ps) e = by (is_open normal set p) e (none_open normal set ps)
+  where
+    by : (b : Bool) → cond b (Some p) (find (is_open normal set) ps) ≡ None
+        → (find (is_open normal set) ps ≡ None → list_any (is_open normal set) ps ≡ false) → (b || list_any (is_open normal set) ps) ≡ false
+    by true f more = cc
+    by false f more = more f
+
+pub some_open : (normal : Normal) (set : ClassSet) (p : Place) (ps : List Place) → find (is_open normal set) ps ≡ Some p
+    → list_any (is_open normal set) ps ≡ true
+some_open normal set p [] e = cc
+some_open normal set p (q ∷ ps) e = by (is_open normal set q) e (some_open normal set p ps)
+  where
+    by : (b : Bool) → cond b (Some q) (find (is_open normal set) ps) ≡ Some p
+        → (find (is_open normal set) ps ≡ Some p → list_any (is_open normal set) ps ≡ true) → (b || list_any (is_open normal set) ps) ≡ true
+    by true f more = refl
+    by false f more = more f
+
 -- ---- the least bound of a list
 
 keeps : (x : Use) (back : List Use) → ((v : Use) → Has back v → lesser v x ≡ false) → best_of lesser x back ≡ x
@@ -495,28 +515,10 @@ module _ (normal : Normal) (accesses : List Access) (us : List Use) (same : us �
   unfolding is_covered
   covers answer is none =
       is ∙ all_served
-      ∙ sym (ap (λ b. not b && list_all (is_served normal accesses set) (atoms_of normal)) (none_open (needed_places normal) none))
-    where
-      none_open : (ps : List Place) → find (is_open normal set) ps ≡ None → list_any (is_open normal set) ps ≡ false
-      none_open [] e = refl
-      none_open (p ∷ ps) e = by (is_open normal set p) e (none_open ps)
-        where
-          by : (b : Bool) → cond b (Some p) (find (is_open normal set) ps) ≡ None
-              → (find (is_open normal set) ps ≡ None → list_any (is_open normal set) ps ≡ false) → (b || list_any (is_open normal set) ps) ≡ false
-          by true f more = cc
-          by false f more = more f
+      ∙ sym (ap (λ b. not b && list_all (is_served normal accesses set) (atoms_of normal)) (none_open normal set (needed_places normal) none))
 
 pub covers_not : (normal : Normal) (accesses : List Access) (set : ClassSet) (p : Place) → find (is_open normal set) (needed_places normal) ≡ Some p
     → false ≡ is_covered normal accesses set
 unfolding is_covered
 covers_not normal accesses set p some =
-    sym (ap (λ b. not b && list_all (is_served normal accesses set) (atoms_of normal)) (some_open (needed_places normal) some))
-  where
-    some_open : (ps : List Place) → find (is_open normal set) ps ≡ Some p → list_any (is_open normal set) ps ≡ true
-    some_open [] e = cc
-    some_open (q ∷ ps) e = by (is_open normal set q) e (some_open ps)
-      where
-        by : (b : Bool) → cond b (Some q) (find (is_open normal set) ps) ≡ Some p
-            → (find (is_open normal set) ps ≡ Some p → list_any (is_open normal set) ps ≡ true) → (b || list_any (is_open normal set) ps) ≡ true
-        by true f more = refl
-        by false f more = more f
+    sym (ap (λ b. not b && list_all (is_served normal accesses set) (atoms_of normal)) (some_open normal set p (needed_places normal) some))

@@ -1,5 +1,7 @@
+pub mod CandidateFacts
 pub mod ChoiceFacts
+pub mod DropTurns
+pub mod Drops
+pub mod PreparationFacts
 pub mod SetFacts
 pub mod Turns
-pub mod PreparationFacts
-pub mod CandidateFacts

@@ -1,11 +1,11 @@
 -- What is prepared of a query, block by block, and that it fits the constraints that it is prepared over.
-use Rattle.std.proofs.Common.{◌≡◌, ◌≢◌, ◌==◌, ◌<◌, ◌≤◌, ◌+◌, ◌^◌, ℕ, zero, suc, Bool, true, false, not, cond, nat_lt, List, [], ◌∷◌, length, map, drop, get_or, Option, Some, None, Ok, Err, inl, inr, refl, ap, sym, ◌∙◌, subst, arith, zero-add}
+use Rattle.std.proofs.Common.{◌≡◌, ◌≢◌, ◌==◌, ◌&&◌, ◌<◌, ◌≤◌, ◌+◌, ◌*◌, ◌^◌, ℕ, zero, suc, Bool, true, false, not, cond, nat_lt, List, [], ◌∷◌, length, map, drop, get_or, Option, Some, None, Ok, Err, inl, inr, refl, ap, sym, ◌∙◌, subst, arith, zero-add}
 use Rattle.std.specs.List.{All, AllZip, find, list_any, enumerate_from, range_with_len, filter}
 use Rattle.std.specs.Option.{option_map, option_or, is_some}
 use Rattle.std.specs.Prelude.{unwrap_or, nat_le}
-use Rattle.std.specs.Borrow.{Bor}
 use Rattle.std.proofs.lemmas.List.{length-map, get_or-map, get_or_default, drop_more, drop_all}
-use Rattle.std.proofs.lemmas.List.Elements.{All-contains}
+use Rattle.std.proofs.lemmas.List.Elements.{All-contains, All-from_recursion}
+use Rattle.std.proofs.Math.Nat.{mul-le-mul_left}
 use Rattle.std.proofs.lemmas.List.FromFn.{length-enumerate_from}
 use Rattle.std.proofs.lemmas.Bool.{eqb-true}
 use Rattle.std.proofs.lemmas.Bool.Decides.{nat_tests}
@@ -24,26 +24,35 @@ use Rattle.beas_core.specs.declared.plan.Derivation.{Derivation}
 use Rattle.beas_core.specs.declared.plan.Prepared.{Prepared}
 use Rattle.beas_core.specs.declared.plan.NotCovered.{NotCovered}
 use Rattle.beas_core.specs.declared.plan.NotCovered.TheVariants.{ColumnOpen, AtomUnindexed}
+use Rattle.beas_core.specs.Types.{ClassSet}
 use Rattle.beas_core.specs.Shapes.{BlockIsWellFormed, EachIdOnce, AccessIsWellFormed, IsPlace, QueryIsWellFormed, width_of}
 use Rattle.beas_core.specs.Trees.{QueryTree, blocks_of}
 use Rattle.beas_core.specs.Classes.{normal_of, needed_columns, used_places, same_place}
-use Rattle.beas_core.specs.Coverage.{Uncovered, constant_classes, first_uncovered, first_uncovered_from, is_open, is_served, needed_places, atoms_of, own_cover, own_reason, reason}
-use Rattle.beas_core.specs.Derivations.{access_in, is_live, is_on_table, own_derivation, table_of, IsSound}
-use Rattle.beas_core.specs.Numbers.{announced_from, own_announced_of_all}
-use Rattle.beas_core.specs.Fits.{PlanFits, OwnPlanIsSound}
-use Rattle.beas_core.proofs.Sets.{Has, Contains-from_has, Has-from_map, Has-from_filter}
+use Rattle.beas_core.specs.Coverage.{ClassesInRange, constant_classes, covered_set, is_open, is_served, needed_places, atoms_of, own_is_covered, own_reason, reason, start_classes}
+use Rattle.beas_core.specs.Guiding.{BlockTask, Uncovered, block_tasks, first_uncovered, first_uncovered_from, is_guided_task, task_reason, task_start, task_steps}
+use Rattle.beas_core.specs.Derivations.{access_in, is_live, is_on_table, is_served_by, table_of, IsSound}
+use Rattle.beas_core.specs.Pruning.{derivation, own_derivation}
+use Rattle.beas_core.specs.Numbers.{announced_from, last_size, size_after}
+use Rattle.beas_core.specs.Queries.{query_bound}
+use Rattle.beas_core.specs.Results.{Gives, IsRefusedAs}
+use Rattle.beas_core.specs.Fits.{GuidedOnlyWithGuide, PlanFits, PlansAreSound}
+use Rattle.beas_core.proofs.Sets.{Has, Contains-from_has, all_from, Has-from_map, Has-from_filter}
 use Rattle.beas_core.proofs.Accesses.{access_in-member}
 use Rattle.evaluation_facts.proofs.MemberTests.{and_left, and_right, all_has, Has-from_flat_map}
-use Rattle.evaluation_facts.proofs.BindingFacts.{from_range}
-use Rattle.evaluation_facts.proofs.ClassFacts.{classes_in_range, width_at}
-use Rattle.evaluation_facts.proofs.DerivationsExist.{lacking_if_reason}
+use Rattle.evaluation_facts.proofs.BindingFacts.{Has-range, from_range}
+use Rattle.evaluation_facts.proofs.ClassFacts.{width_at}
+use Rattle.evaluation_facts.proofs.DerivationsExist.{derivation_only_if}
+use Rattle.evaluation_facts.proofs.ReasonFacts.{covered-reason}
 use Rattle.evaluation_facts.proofs.SoundDerivations.{derivation_sound}
 use Rattle.evaluation_facts.proofs.SoundParts.{sound_parts}
 use Rattle.evaluation_facts.proofs.StartFacts.{start_counted}
+use Rattle.evaluation_facts.proofs.TaskFacts.{TaskIsSound, guided_only_with_guide, length-tasks, plans_are_sound}
 use Rattle.catalogue.specs.Queries.{AtomIsOver, BlockIsOver, QueryIsOver}
-use Rattle.catalogue.specs.Refusing.{IsRefusedAs}
 use Rattle.catalogue.specs.Schema.{Schema, SchemaIsSound, AccessIsSound, columns_at}
-use Rattle.plan_builder.specs.Preparation.{Prepares, announced_number, header_of, no_block, not_covered, own_plan, place_name, plans_of, preparation, prepared_query, refusal_of, unless_uncovered}
+use Rattle.plan_builder.specs.declared.preparation.BlockAt.{BlockAt}
+use Rattle.plan_builder.specs.Parts.{Grows, blocks_at, normal_task, task_at}
+use Rattle.plan_builder.specs.Preparation.{announced_number, flags_of, header_of, no_block, not_covered, task_plan, place_name, plans_of, preparation, prepared_query, refusal_of, unless_uncovered}
+use Rattle.plan_builder.proofs.Turns as turns
 
 -- constraints whose ids rise have each id once
 pub ids_once : (schema : Schema) → SchemaIsSound schema → EachIdOnce schema.accesses
@@ -131,12 +140,11 @@ needed_is_place block p h =
     subst (λ n. IsPlace block.atoms (record { atom = n; column = p.column })) (sym atom)
     (subst (λ n. IsPlace block.atoms (record { atom = k.0; column = record { 0 = n } })) (sym column) place)
 
-pub open_is_place : (block : Block) (accesses : List Access) (atom : ℕ) (column : ColumnId)
-    → own_reason (normal_of block) accesses ≡ Some (ColumnOpen atom column) → IsPlace block.atoms (record { atom = atom; column = column })
+pub open_is_place : (block : Block) (accesses : List Access) (set : ClassSet) (atom : ℕ) (column : ColumnId)
+    → reason (normal_of block) accesses set ≡ Some (ColumnOpen atom column) → IsPlace block.atoms (record { atom = atom; column = column })
 unfolding reason
-open_is_place block accesses atom column h =
+open_is_place block accesses set atom column h =
     let normal = normal_of block in
-    let set = own_cover normal accesses in
     needed_is_place block (record { atom = atom; column = column })
     (find_has (is_open normal set) (needed_places normal) (record { atom = atom; column = column })
     (open_found (find (is_open normal set) (needed_places normal)) (find (λ a. not (is_served normal accesses set a)) (atoms_of normal)) atom column h))
@@ -151,93 +159,148 @@ pub as_many_needed : (block : Block) → length (normal_of block).needed ≡ len
 unfolding normal_of
 as_many_needed block = length-map (enumerate_from 0 block.atoms) (λ a. needed_columns block a.0 a.1.width) ∙ length-enumerate_from 0 block.atoms
 
--- a block with a derivation has no reason
-pub no_reason : (block : Block) (accesses : List Access) (steps : List DStep) → BlockIsWellFormed block → EachIdOnce accesses
-    → own_derivation (normal_of block) accesses ≡ Some steps → own_reason (normal_of block) accesses ≡ None
-no_reason block accesses steps shape once h = by (own_reason (normal_of block) accesses) refl
-  where
-    by : (o : Option NotCovered) → own_reason (normal_of block) accesses ≡ o → o ≡ None
-    by None e = refl
-    by (Some why) e =
-        let lacks = lacking_if_reason (normal_of block) accesses once (classes_in_range block shape) (constant_classes (normal_of block))
-        (start_counted (normal_of block) false) (ap is_some e) in
-        cc
+-- what is found out of a block, from its constants and then from its output too
+module _ (normal : Normal) (accesses : List Access) (once : EachIdOnce accesses) (ranges : ClassesInRange normal) (has : Bool) where
+  abbrev this_task : BlockTask
+  this_task = normal_task normal accesses has
+
+  abbrev pub IsPlanned : Bool → List DStep → Type 0
+  IsPlanned guided steps = (guided ≡ is_guided_task this_task) × (task_steps this_task ≡ Some steps) × (task_reason this_task ≡ None)
+
+  no_reason : (flag : Bool) (steps : List DStep) → derivation normal accesses (start_classes normal flag) ≡ Some steps
+      → reason normal accesses (covered_set normal accesses (start_classes normal flag)) ≡ None
+  no_reason flag steps h = covered-reason normal accesses (covered_set normal accesses (start_classes normal flag))
+      (derivation_only_if normal accesses once ranges (start_classes normal flag) (start_counted normal flag) (ap is_some h))
+
+  and_no : (b : Bool) → (b && false) ≡ false
+  and_no true = refl
+  and_no false = refl
+
+  and_yes : (b : Bool) → (b && true) ≡ b
+  and_yes true = refl
+  and_yes false = refl
+
+  planned_as : (flag : Bool) (steps : List DStep) → is_guided_task this_task ≡ flag → derivation normal accesses (start_classes normal flag) ≡ Some steps
+      → IsPlanned flag steps
+  planned_as flag steps e h = (
+    sym e,
+    ap (λ g. derivation normal accesses (start_classes normal g)) e ∙ h,
+    ap (λ g. reason normal accesses (covered_set normal accesses (start_classes normal g))) e ∙ no_reason flag steps h,
+  )
+
+  pub planned_alone : (steps : List DStep) → own_derivation normal accesses ≡ Some steps → IsPlanned false steps
+  planned_alone steps h =
+      let covered : own_is_covered normal accesses ≡ true =
+      derivation_only_if normal accesses once ranges (constant_classes normal) (start_counted normal false) (ap is_some h) in
+      planned_as false steps (ap (λ b. has && not b) covered ∙ and_no has) h
+
+  module _ (why : NotCovered) (out : own_reason normal accesses ≡ Some why) where
+    flag_is : is_guided_task this_task ≡ has
+    flag_is = ap (λ b. has && not b) (turns.not_covered normal accesses (covered_set normal accesses (constant_classes normal)) why out) ∙ and_yes has
+
+    pub planned_guided : has ≡ true → (steps : List DStep) → derivation normal accesses (start_classes normal true) ≡ Some steps → IsPlanned true steps
+    planned_guided e steps h = planned_as true steps (flag_is ∙ e) h
+
+    pub reason_guided : has ≡ true → (other : NotCovered)
+        → reason normal accesses (covered_set normal accesses (start_classes normal true)) ≡ Some other → task_reason this_task ≡ Some other
+    reason_guided e other h = ap (λ g. reason normal accesses (covered_set normal accesses (start_classes normal g))) (flag_is ∙ e) ∙ h
 
 -- ---- block after block
 
-module _ (lent : List (Bor Block)) (i : ℕ) (block : Bor Block) (below : i < length lent) (is : block ≡ get_or lent i block) where
-  pub lent_below : i < length (map (λ b. b.now) lent)
-  lent_below = subst (λ n. i < n) (sym (length-map lent (λ (b : Bor Block). b.now))) below
+module _ (lent : List BlockAt) (i : ℕ) (at : BlockAt) (below : i < length lent) (is : at ≡ get_or lent i at) where
+  pub lent_below : i < length (blocks_at lent)
+  lent_below = subst (λ n. i < n) (sym (length-map lent (λ (b : BlockAt). b.block.now))) below
 
-  pub lent_is : block.now ≡ get_or (map (λ b. b.now) lent) i block.now
-  lent_is = ap (λ (b : Bor Block). b.now) is ∙ sym (get_or-map (λ (b : Bor Block). b.now) lent i block block.now below)
+  pub lent_is : at.block.now ≡ get_or (blocks_at lent) i at.block.now
+  lent_is = ap (λ (b : BlockAt). b.block.now) is ∙ sym (get_or-map (λ (b : BlockAt). b.block.now) lent i at at.block.now below)
 
-  pub lent_all : (P : Block → Type 0) → All P (map (λ b. b.now) lent) → P block.now
-  lent_all P all = subst P (sym lent_is) (all i block.now lent_below)
+  pub lent_all : (P : Block → Type 0) → All P (blocks_at lent) → P at.block.now
+  lent_all P all = subst P (sym lent_is) (all i at.block.now lent_below)
 
-module _ (schema : Schema) (blocks : List Block) where
+module _ (schema : Schema) (lent : List BlockAt) where
+  abbrev task : BlockAt → BlockTask
+  task b = task_at schema.accesses b
+
   -- the first of the blocks from a number on that isn't covered
   abbrev pub uncovered_from : ℕ → Option Uncovered
-  uncovered_from i = first_uncovered_from i (map normal_of (drop i blocks)) schema.accesses
+  uncovered_from i = first_uncovered_from i (map task (drop i lent))
 
   abbrev found_or : ℕ → Option NotCovered → Option Uncovered → Option Uncovered
   found_or i why later = option_or (option_map (λ w. record { block = i; why = w }) why) later
 
-  split : (i : ℕ) (block : Block) → i < length blocks → block ≡ get_or blocks i block
-      → uncovered_from i ≡ found_or i (own_reason (normal_of block) schema.accesses) (uncovered_from (i + 1))
-  split i block l e =
-      ap (λ bs. first_uncovered_from i (map normal_of bs) schema.accesses) (drop_more blocks i block l)
-      ∙ ap (λ b. found_or i (own_reason (normal_of b) schema.accesses) (uncovered_from (i + 1))) (sym e)
+  split : (i : ℕ) (at : BlockAt) → i < length lent → at ≡ get_or lent i at
+      → uncovered_from i ≡ found_or i (task_reason (task at)) (uncovered_from (i + 1))
+  split i at l e =
+      ap (λ bs. first_uncovered_from i (map task bs)) (drop_more lent i at l)
+      ∙ ap (λ b. found_or i (task_reason (task b)) (uncovered_from (i + 1))) (sym e)
 
-  pub covered_next : (i : ℕ) (block : Block) → i < length blocks → block ≡ get_or blocks i block → own_reason (normal_of block) schema.accesses ≡ None
+  pub covered_next : (i : ℕ) (at : BlockAt) → i < length lent → at ≡ get_or lent i at → task_reason (task at) ≡ None
       → uncovered_from i ≡ uncovered_from (i + 1)
-  covered_next i block l e none = split i block l e ∙ ap (λ o. found_or i o (uncovered_from (i + 1))) none
+  covered_next i at l e none = split i at l e ∙ ap (λ o. found_or i o (uncovered_from (i + 1))) none
 
-  uncovered_here : (i : ℕ) (block : Block) (why : NotCovered) → i < length blocks → block ≡ get_or blocks i block
-      → own_reason (normal_of block) schema.accesses ≡ Some why → uncovered_from i ≡ Some (record { block = i; why = why })
-  uncovered_here i block why l e some = split i block l e ∙ ap (λ o. found_or i o (uncovered_from (i + 1))) some
+  uncovered_here : (i : ℕ) (at : BlockAt) (why : NotCovered) → i < length lent → at ≡ get_or lent i at
+      → task_reason (task at) ≡ Some why → uncovered_from i ≡ Some (record { block = i; why = why })
+  uncovered_here i at why l e some = split i at l e ∙ ap (λ o. found_or i o (uncovered_from (i + 1))) some
 
-  pub none_after : (i : ℕ) → length blocks ≤ i → uncovered_from i ≡ None
-  none_after i all = ap (λ bs. first_uncovered_from i (map normal_of bs) schema.accesses) (drop_all i blocks all)
+  none_after : (i : ℕ) → length lent ≤ i → uncovered_from i ≡ None
+  none_after i all = ap (λ bs. first_uncovered_from i (map task bs)) (drop_all i lent all)
 
   -- a block's refusal is that of all blocks, where the blocks before it are covered
-  pub refused_here : (T U : Type 0) (e : Fail) (i : ℕ) (block : Block) → uncovered_from 0 ≡ uncovered_from i → i < length blocks
-      → block ≡ get_or blocks i block
-      → IsRefusedAs {T = T} (Err e) (option_map (not_covered schema (i + 1) block) (own_reason (normal_of block) schema.accesses))
-      → IsRefusedAs {T = U} (Err e) (option_map (refusal_of schema blocks) (uncovered_from 0))
-  refused_here T U NoMemory i block so_far l is h = tt
-  refused_here T U (Refused why) i block so_far l is h = by (own_reason (normal_of block) schema.accesses) refl h
+  pub refused_here : (T U : Type 0) (e : Fail) (i : ℕ) (at : BlockAt) → uncovered_from 0 ≡ uncovered_from i → i < length lent
+      → at ≡ get_or lent i at
+      → IsRefusedAs {A = T} (Err e) (option_map (not_covered schema (i + 1) at.block.now) (task_reason (task at)))
+      → IsRefusedAs {A = U} (Err e) (option_map (refusal_of schema (blocks_at lent)) (uncovered_from 0))
+  refused_here T U NoMemory i at so_far l is h = tt
+  refused_here T U (Refused why) i at so_far l is h = by (task_reason (task at)) refl h
     where
-      by : (o : Option NotCovered) → own_reason (normal_of block) schema.accesses ≡ o → option_map (not_covered schema (i + 1) block) o ≡ Some why
-          → option_map (refusal_of schema blocks) (uncovered_from 0) ≡ Some why
+      by : (o : Option NotCovered) → task_reason (task at) ≡ o → option_map (not_covered schema (i + 1) at.block.now) o ≡ Some why
+          → option_map (refusal_of schema (blocks_at lent)) (uncovered_from 0) ≡ Some why
       by None e g = cc
       by (Some w) e g =
-          ap (option_map (refusal_of schema blocks)) (so_far ∙ uncovered_here i block w l is e)
-          ∙ ap (λ b. Some (not_covered schema (i + 1) b w)) (get_or_default blocks i no_block block l ∙ sym is) ∙ g
+          ap (option_map (refusal_of schema (blocks_at lent))) (so_far ∙ uncovered_here i at w l is e)
+          ∙ ap (λ b. Some (not_covered schema (i + 1) b w)) (get_or_default (blocks_at lent) i no_block at.block.now (lent_below lent i at l is)
+          ∙ sym (lent_is lent i at l is)) ∙ g
 
-  pub covered_all : (i : ℕ) → uncovered_from 0 ≡ uncovered_from i → length blocks ≤ i → option_map (refusal_of schema blocks) (uncovered_from 0) ≡ None
-  covered_all i so_far all = ap (option_map (refusal_of schema blocks)) (so_far ∙ none_after i all)
+  pub covered_all : (i : ℕ) → uncovered_from 0 ≡ uncovered_from i → length lent ≤ i
+      → option_map (refusal_of schema (blocks_at lent)) (uncovered_from 0) ≡ None
+  covered_all i so_far all = ap (option_map (refusal_of schema (blocks_at lent))) (so_far ∙ none_after i all)
 
 -- derivations that are the canonical ones are those that the announced number is taken of
-pub same_plans : (accesses : List Access) (normals : List Normal) (plans : List Derivation)
-    → map (λ d. Some d.steps) plans ≡ map (λ n. own_derivation n accesses) normals → plans ≡ map (own_plan accesses) normals
-same_plans accesses [] [] e = refl
-same_plans accesses [] (p ∷ plans) e = cc
-same_plans accesses (n ∷ normals) [] e = cc
-same_plans accesses (n ∷ normals) (p ∷ plans) e =
-    let first : Some p.steps ≡ own_derivation n accesses = cc in
-    let rest : map (λ d. Some d.steps) plans ≡ map (λ m. own_derivation m accesses) normals = cc in
-    let here : p ≡ own_plan accesses n = ap (λ o. record { steps = unwrap_or o [] }) first in
-    ap (λ d. d ∷ plans) here ∙ ap (λ ds. own_plan accesses n ∷ ds) (same_plans accesses normals plans rest)
+pub same_plans : (tasks : List BlockTask) (plans : List Derivation) → map (λ d. Some d.steps) plans ≡ map task_steps tasks → plans ≡ map task_plan tasks
+same_plans [] [] e = refl
+same_plans [] (p ∷ plans) e = cc
+same_plans (t ∷ tasks) [] e = cc
+same_plans (t ∷ tasks) (p ∷ plans) e =
+    let first : Some p.steps ≡ task_steps t = cc in
+    let rest : map (λ d. Some d.steps) plans ≡ map task_steps tasks = cc in
+    let here : p ≡ task_plan t = ap (λ o. record { steps = unwrap_or o [] }) first in
+    ap (λ d. d ∷ plans) here ∙ ap (λ ds. task_plan t ∷ ds) (same_plans tasks plans rest)
 
--- ---- the number
+-- ---- a query has at most as many rows as reads
 
-pub announced_more : (accesses : List Access) (plans : List Derivation) (i : ℕ) (d : Derivation) → i < length plans
-    → own_announced_of_all accesses (drop i plans) ≡ announced_from accesses 1 (get_or plans i d).steps + own_announced_of_all accesses (drop (i + 1) plans)
-announced_more accesses plans i d l = ap (own_announced_of_all accesses) (drop_more plans i d l)
+more_reads : (accesses : List Access) (b : ℕ) (s : DStep) → 1 ≤ (access_in accesses s.access).bound
+    → size_after accesses b s ≤ b * (access_in accesses s.access).bound
+more_reads accesses b s h = by s.adds
+  where
+    by : (adds : Bool) → cond adds (b * (access_in accesses s.access).bound) b ≤ b * (access_in accesses s.access).bound
+    by true = omega arith
+    by false = at_least b (access_in accesses s.access).bound h
+      where
+        at_least : (m k : ℕ) → 1 ≤ k → m ≤ m * k
+        at_least m k l = let z = mul-le-mul_left m l in omega (arith, z)
 
-pub announced_none : (accesses : List Access) (plans : List Derivation) (i : ℕ) → length plans ≤ i → own_announced_of_all accesses (drop i plans) ≡ 0
-announced_none accesses plans i all = ap (own_announced_of_all accesses) (drop_all i plans all)
+few_rows : (accesses : List Access) (b : ℕ) (steps : List DStep) → 1 ≤ length steps → ((s : DStep) → Has steps s → 1 ≤ (access_in accesses s.access).bound)
+    → last_size accesses b steps ≤ announced_from accesses b steps
+few_rows accesses b [] l h = absurd (omega (arith, l))
+few_rows accesses b (s ∷ []) l h = let m = more_reads accesses b s (h s (inl refl)) in omega (arith, m)
+few_rows accesses b (s ∷ t ∷ steps) l h =
+    let m = few_rows accesses (size_after accesses b s) (t ∷ steps) (omega arith) (λ r k. h r (inr k)) in omega (arith, m)
+
+-- a derivation that grows leaves at most as many valuations as reads
+pub few_left : (accesses : List Access) (b : ℕ) (plan : Derivation) → Grows accesses plan
+    → last_size accesses b plan.steps ≤ announced_from accesses b plan.steps
+few_left accesses b plan g = few_rows accesses b plan.steps g.some_step
+    (λ s m. All-contains (λ r. 1 ≤ (access_in accesses r.access).bound) plan.steps s g.bounds (Contains-from_has plan.steps s m))
 
 -- ---- what fits
 
@@ -265,11 +328,12 @@ module _ (schema : Schema) (sound : SchemaIsSound schema) where
       inside : (a b : ℕ) → nat_lt a b ≡ true → a < b
       inside a b h = grind (arith, nat_tests)
 
-  plan_sound : (block : Block) (plan : Derivation) → BlockIsOver schema block
-      → Some plan.steps ≡ own_derivation (normal_of block) schema.accesses → OwnPlanIsSound schema.accesses (normal_of block) plan
-  plan_sound block plan over h =
+  task_sound : (block : Block) (has : Bool) (plan : Derivation) → BlockIsOver schema block
+      → Some plan.steps ≡ task_steps (normal_task (normal_of block) schema.accesses has)
+      → TaskIsSound (normal_task (normal_of block) schema.accesses has) plan
+  task_sound block has plan over h =
       let normal = normal_of block in
-      let start = constant_classes normal in
+      let start = task_start (normal_task normal schema.accesses has) in
       let is_sound : IsSound normal schema.accesses start plan.steps =
       derivation_sound normal schema.accesses (ids_once schema sound) start plan.steps (sym h) in
       let parts = sound_parts normal schema.accesses start plan.steps is_sound.sound in
@@ -284,97 +348,155 @@ module _ (schema : Schema) (sound : SchemaIsSound schema) where
       Has-at (x ∷ xs) zero d l = inl refl
       Has-at (x ∷ xs) (suc i) d l = inr (Has-at xs i d (omega arith))
 
-  plans_sound : (blocks : List Block) (plans : List Derivation) → ((b : Block) → Has blocks b → BlockIsOver schema b)
-      → map (λ d. Some d.steps) plans ≡ map (λ n. own_derivation n schema.accesses) (map normal_of blocks)
-      → AllZip (OwnPlanIsSound schema.accesses) (map normal_of blocks) plans
-  plans_sound [] [] over e = tt
-  plans_sound [] (p ∷ plans) over e = cc
-  plans_sound (b ∷ blocks) [] over e = cc
-  plans_sound (b ∷ blocks) (p ∷ plans) over e =
-      let first : Some p.steps ≡ own_derivation (normal_of b) schema.accesses = cc in
-      let rest : map (λ d. Some d.steps) plans ≡ map (λ m. own_derivation m schema.accesses) (map normal_of blocks) = cc in
-      (plan_sound b p (over b (inl refl)) first, plans_sound blocks plans (λ c m. over c (inr m)) rest)
+  pub tasks_sound : (lent : List BlockAt) (plans : List Derivation) → ((b : Block) → Has (blocks_at lent) b → BlockIsOver schema b)
+      → map (λ d. Some d.steps) plans ≡ map task_steps (map (task_at schema.accesses) lent)
+      → AllZip TaskIsSound (map (task_at schema.accesses) lent) plans
+  tasks_sound [] [] over e = tt
+  tasks_sound [] (p ∷ plans) over e = cc
+  tasks_sound (b ∷ lent) [] over e = cc
+  tasks_sound (b ∷ lent) (p ∷ plans) over e =
+      let first : Some p.steps ≡ task_steps (task_at schema.accesses b) = cc in
+      let rest : map (λ d. Some d.steps) plans ≡ map task_steps (map (task_at schema.accesses) lent) = cc in
+      (task_sound b.block.now b.has_guide p (over b.block.now (inl refl)) first, tasks_sound lent plans (λ c m. over c (inr m)) rest)
 
-  pub plan_fits : (prepared : Prepared) → QueryIsWellFormed prepared.query → QueryIsOver schema prepared.query
-      → prepared.normals ≡ map normal_of (blocks_of prepared.query)
-      → map (λ d. Some d.steps) prepared.derivations ≡ map (λ n. own_derivation n schema.accesses) prepared.normals
-      → prepared.bound ≡ own_announced_of_all schema.accesses prepared.derivations → PlanFits schema.accesses prepared
-  plan_fits prepared shape over normals plans bound =
-      let blocks = blocks_of prepared.query in
-      let all_over : (b : Block) → Has blocks b → BlockIsOver schema b =
-      λ b m. All-contains (BlockIsOver schema) blocks b over (Contains-from_has blocks b m) in
-      let many = sym (length-map prepared.derivations (λ (d : Derivation). Some d.steps)) ∙ ap length plans
-      ∙ length-map prepared.normals (λ n. own_derivation n schema.accesses) in
-      record {
-        well_formed = record { query = shape; normals = normals; derivations = many };
-        plans = subst (λ ns. AllZip (OwnPlanIsSound schema.accesses) ns prepared.derivations) (sym normals)
-            (plans_sound blocks prepared.derivations all_over
-            (plans ∙ ap (map (λ n. own_derivation n schema.accesses)) normals));
-        bound = bound;
-      }
+  -- a sound derivation of a block with an atom has a step
+  pub plan_grows : (block : Block) (has : Bool) (plan : Derivation) → 1 ≤ length block.atoms
+      → TaskIsSound (normal_task (normal_of block) schema.accesses has) plan → Grows schema.accesses plan
+  plan_grows block has plan some h = record {
+    some_step = by plan.steps h.sound;
+    bounds = λ i d l. (h.well_formed i d l).bound;
+  }
+    where
+      by : (steps : List DStep) → IsSound (normal_of block) schema.accesses (task_start (normal_task (normal_of block) schema.accesses has)) steps
+          → 1 ≤ length steps
+      by (s ∷ steps) k = omega arith
+      by [] k =
+          let normal = normal_of block in
+          let parts = sound_parts normal schema.accesses (task_start (normal_task normal schema.accesses has)) [] k.sound in
+          let many = ap length (atoms_are block) in
+          let first = all_has (is_served_by normal schema.accesses []) (atoms_of normal) 0 parts.served
+          (Has-range (length normal.atoms) 0 0 (omega arith) (omega (arith, many, some))) in
+          cc
+
+  pub plans_grow : (lent : List BlockAt) (plans : List Derivation) → ((b : Block) → Has (blocks_at lent) b → 1 ≤ length b.atoms)
+      → AllZip TaskIsSound (map (task_at schema.accesses) lent) plans → (d : Derivation) → Has plans d → Grows schema.accesses d
+  plans_grow lent [] some h d m = absurd m
+  plans_grow [] (p ∷ plans) some h d m = absurd h
+  plans_grow (b ∷ lent) (p ∷ plans) some h d (inl e) =
+      subst (Grows schema.accesses) (sym e) (plan_grows b.block.now b.has_guide p (some b.block.now (inl refl)) h.0)
+  plans_grow (b ∷ lent) (p ∷ plans) some h d (inr m) = plans_grow lent plans (λ c k. some c (inr k)) h.1 d m
+
+  module _ (query : QueryTree) (shape : QueryIsWellFormed query) (over : QueryIsOver schema query) (lent : List BlockAt)
+      (blocks : blocks_at lent ≡ blocks_of query) (tasks : map (task_at schema.accesses) lent ≡ block_tasks (λ n. schema.accesses) query)
+      (plans : List Derivation) (made : map (λ d. Some d.steps) plans ≡ map task_steps (map (task_at schema.accesses) lent)) where
+    each_over : (b : Block) → Has (blocks_at lent) b → BlockIsOver schema b
+    each_over b m = All-contains (BlockIsOver schema) (blocks_of query) b over (Contains-from_has (blocks_of query) b (subst (λ bs. Has bs b) blocks m))
+
+    each_some : (b : Block) → Has (blocks_at lent) b → 1 ≤ length b.atoms
+    each_some b m =
+        let there = Contains-from_has (blocks_of query) b (subst (λ bs. Has bs b) blocks m) in
+        (All-contains BlockIsWellFormed (blocks_of query) b shape.blocks there).some_atom
+
+    pub all_grow : All (Grows schema.accesses) plans
+    all_grow = All-from_recursion (Grows schema.accesses) plans (all_from (Grows schema.accesses) plans
+        (λ d m. plans_grow lent plans each_some (tasks_sound lent plans each_over made) d m))
+
+    pub as_many_plans : length plans ≡ length (blocks_of query)
+    as_many_plans = sym (length-map plans (λ (d : Derivation). Some d.steps)) ∙ ap length made ∙ length-map (map (task_at schema.accesses) lent) task_steps
+        ∙ ap length tasks ∙ length-tasks (λ n. schema.accesses) 0 false query
+
+    pub plan_fits : (prepared : Prepared) → prepared.query ≡ query → prepared.normals ≡ map normal_of (blocks_of query) → prepared.derivations ≡ plans
+        → prepared.guided ≡ map is_guided_task (map (task_at schema.accesses) lent)
+        → prepared.bound ≡ query_bound schema.accesses prepared.guided plans query → PlanFits schema.accesses prepared
+    plan_fits prepared q n d g b =
+        let flags : prepared.guided ≡ flags_of (λ k. schema.accesses) query = g ∙ ap (map is_guided_task) tasks in
+        let sound_plans = plans_are_sound (λ k. schema.accesses) schema.accesses (λ k. refl) query plans
+        (subst (λ ts. AllZip TaskIsSound ts plans) tasks (tasks_sound lent plans each_over made)) in
+        let many = ap length n ∙ length-map (blocks_of query) normal_of in
+        record {
+          well_formed = record {
+            query = subst QueryIsWellFormed (sym q) shape;
+            normals = n ∙ ap (λ t. map normal_of (blocks_of t)) (sym q);
+            derivations = ap length d ∙ as_many_plans ∙ sym many;
+            flags = ap length flags ∙ length-map (block_tasks (λ k. schema.accesses) query) is_guided_task
+                ∙ length-tasks (λ k. schema.accesses) 0 false query ∙ sym many;
+            guided = subst (λ t. GuidedOnlyWithGuide prepared.guided 0 false t) (sym q)
+                (subst (λ gs. GuidedOnlyWithGuide gs 0 false query) (sym flags) (guided_only_with_guide (λ k. schema.accesses) query));
+          };
+          plans = subst (λ t. PlansAreSound schema.accesses prepared.guided prepared.derivations 0 t) (sym q)
+              (subst (λ ds. PlansAreSound schema.accesses prepared.guided ds 0 query) (sym d)
+              (subst (λ gs. PlansAreSound schema.accesses gs plans 0 query) (sym flags) sound_plans));
+          bound = b ∙ ap (λ ds. query_bound schema.accesses prepared.guided ds query) (sym d)
+              ∙ ap (λ t. query_bound schema.accesses prepared.guided prepared.derivations t) (sym q);
+        }
 
 -- ---- the answer
-
-pub prepares_err : (T : Type 0) (e : Fail) (schema : Schema) (query : QueryTree) (blocks : List Block) → blocks ≡ blocks_of query
-    → IsRefusedAs {T = T} (Err e) (option_map (refusal_of schema blocks) (first_uncovered (map normal_of blocks) schema.accesses))
-    → Prepares (Err e) (preparation schema query)
-unfolding preparation
-prepares_err T NoMemory schema query blocks same h = tt
-prepares_err T (Refused why) schema query blocks same h = by (first_uncovered (map normal_of (blocks_of query)) schema.accesses) whole
-  where
-    whole : option_map (refusal_of schema (blocks_of query)) (first_uncovered (map normal_of (blocks_of query)) schema.accesses) ≡ Some why
-    whole = subst (λ bs. option_map (refusal_of schema bs) (first_uncovered (map normal_of bs) schema.accesses) ≡ Some why) same h
-
-    by : (o : Option Uncovered) → option_map (refusal_of schema (blocks_of query)) o ≡ Some why → unless_uncovered schema query o ≡ Err why
-    by None e = cc
-    by (Some found) e = let f : refusal_of schema (blocks_of query) found ≡ why = cc in ap Err f
 
 pub none_mapped : {A B : Type 0} (f : A → B) (o : Option A) → option_map f o ≡ None → o ≡ None
 none_mapped f None e = refl
 none_mapped f (Some a) e = cc
 
-pub all_covered : (schema : Schema) (query : QueryTree) (blocks : List Block) → blocks ≡ blocks_of query
-    → option_map (refusal_of schema blocks) (first_uncovered (map normal_of blocks) schema.accesses) ≡ None
-    → first_uncovered (map normal_of (blocks_of query)) schema.accesses ≡ None
-all_covered schema query blocks same h =
-    subst (λ bs. first_uncovered (map normal_of bs) schema.accesses ≡ None) same
-    (none_mapped (refusal_of schema blocks) (first_uncovered (map normal_of blocks) schema.accesses) h)
+module _ (schema : Schema) (query : QueryTree) where
+  abbrev constraints : ℕ → List Access
+  constraints n = schema.accesses
 
-module _ (schema : Schema) (query : QueryTree) (none : first_uncovered (map normal_of (blocks_of query)) schema.accesses ≡ None) where
-  -- the derivations of the query's blocks are those that are announced
-  pub plans_are : (normals : List Normal) (plans : List Derivation) → normals ≡ map normal_of (blocks_of query)
-      → map (λ d. Some d.steps) plans ≡ map (λ n. own_derivation n schema.accesses) normals → plans ≡ plans_of schema query
-  plans_are normals plans n d = same_plans schema.accesses normals plans d ∙ ap (map (own_plan schema.accesses)) n
-
-  pub prepares_too_large : (e : Fail) → e ≡ Refused TooLarge → 2 ^ 128 ≤ announced_number schema query → Prepares (Err e) (preparation schema query)
+  pub gives_err : (A : Type 0) (e : Fail) (blocks : List Block) (tasks : List BlockTask) → blocks ≡ blocks_of query → tasks ≡ block_tasks constraints query
+      → IsRefusedAs {A = A} (Err e) (option_map (refusal_of schema blocks) (first_uncovered tasks)) → Gives (Err e) (preparation schema query)
   unfolding preparation
-  prepares_too_large e is large =
-      subst (λ f. Prepares (Err f) (preparation schema query)) (sym is)
-      (ap (unless_uncovered schema query) none
-      ∙ ap (λ b. cond b (Err TooLarge) (Ok (prepared_query schema query))) (passes (2 ^ 128) (announced_number schema query) large))
+  gives_err A NoMemory blocks tasks same made h = tt
+  gives_err A (Refused why) blocks tasks same made h = by (first_uncovered (block_tasks constraints query)) whole
     where
-      passes : (a b : ℕ) → a ≤ b → nat_le a b ≡ true
-      passes a b h = grind (arith, nat_tests)
+      whole : option_map (refusal_of schema (blocks_of query)) (first_uncovered (block_tasks constraints query)) ≡ Some why
+      whole = ap (λ ts. option_map (refusal_of schema (blocks_of query)) (first_uncovered ts)) (sym made)
+          ∙ ap (λ bs. option_map (refusal_of schema bs) (first_uncovered tasks)) (sym same) ∙ h
 
-  pub prepares_ok : announced_number schema query < 2 ^ 128 → Prepares (Ok (prepared_query schema query)) (preparation schema query)
-  unfolding preparation
-  prepares_ok small =
-      ap (unless_uncovered schema query) none
-      ∙ ap (λ b. cond b (Err TooLarge) (Ok (prepared_query schema query))) (below (2 ^ 128) (announced_number schema query) small)
-    where
-      below : (a b : ℕ) → b < a → nat_le a b ≡ false
-      below a b h = grind (arith, nat_tests)
+      by : (o : Option Uncovered) → option_map (refusal_of schema (blocks_of query)) o ≡ Some why
+          → unless_uncovered schema schema.accesses constraints query o ≡ Err why
+      by None e = cc
+      by (Some found) e = let f : refusal_of schema (blocks_of query) found ≡ why = cc in ap Err f
 
-  pub prepares_parts : (p : Prepared) → p.query ≡ query → p.header ≡ header_of schema (blocks_of query) → p.normals ≡ map normal_of (blocks_of query)
-      → map (λ d. Some d.steps) p.derivations ≡ map (λ n. own_derivation n schema.accesses) p.normals
-      → p.bound ≡ own_announced_of_all schema.accesses p.derivations → p.bound < 2 ^ 128 → Prepares (Ok p) (preparation schema query)
-  prepares_parts p q h n d b small =
-      let plans = plans_are p.normals p.derivations n d in
-      let number : p.bound ≡ announced_number schema query = b ∙ ap (own_announced_of_all schema.accesses) plans in
-      let is : p ≡ prepared_query schema query =
-      ap (λ (x : QueryTree). record p { query = x }) q
-      ∙ ap (λ x. record (prepared_query schema query) { header = x; normals = p.normals; derivations = p.derivations; bound = p.bound }) h
-      ∙ ap (λ x. record (prepared_query schema query) { normals = x; derivations = p.derivations; bound = p.bound }) n
-      ∙ ap (λ x. record (prepared_query schema query) { derivations = x; bound = p.bound }) plans
-      ∙ ap (λ x. record (prepared_query schema query) { bound = x }) number in
-      subst (λ x. Prepares (Ok x) (preparation schema query)) (sym is) (prepares_ok (subst (λ x. x < 2 ^ 128) number small))
+  pub all_covered : (blocks : List Block) (tasks : List BlockTask) → tasks ≡ block_tasks constraints query
+      → option_map (refusal_of schema blocks) (first_uncovered tasks) ≡ None → first_uncovered (block_tasks constraints query) ≡ None
+  all_covered blocks tasks made h = ap first_uncovered (sym made) ∙ none_mapped (refusal_of schema blocks) (first_uncovered tasks) h
+
+  module _ (none : first_uncovered (block_tasks constraints query) ≡ None) where
+    pub gives_too_large : (e : Fail) → e ≡ Refused TooLarge → 2 ^ 128 ≤ announced_number schema.accesses constraints query
+        → Gives (Err e) (preparation schema query)
+    unfolding preparation
+    gives_too_large e is large =
+        subst (λ f. Gives (Err f) (preparation schema query)) (sym is)
+        (ap (unless_uncovered schema schema.accesses constraints query) none
+        ∙ ap (λ b. cond b (Err TooLarge) (Ok (prepared_query schema schema.accesses constraints query)))
+        (passes (2 ^ 128) (announced_number schema.accesses constraints query) large))
+      where
+        passes : (a b : ℕ) → a ≤ b → nat_le a b ≡ true
+        passes a b h = grind (arith, nat_tests)
+
+    gives_ok : announced_number schema.accesses constraints query < 2 ^ 128
+        → Gives (Ok (prepared_query schema schema.accesses constraints query)) (preparation schema query)
+    unfolding preparation
+    gives_ok small =
+        ap (unless_uncovered schema schema.accesses constraints query) none
+        ∙ ap (λ b. cond b (Err TooLarge) (Ok (prepared_query schema schema.accesses constraints query)))
+        (below (2 ^ 128) (announced_number schema.accesses constraints query) small)
+      where
+        below : (a b : ℕ) → b < a → nat_le a b ≡ false
+        below a b h = grind (arith, nat_tests)
+
+    -- what is prepared has the derivations and the flags of the tasks
+    pub gives_parts : (p : Prepared) → p.query ≡ query → p.header ≡ header_of schema (blocks_of query) → p.normals ≡ map normal_of (blocks_of query)
+        → p.derivations ≡ plans_of constraints query → p.guided ≡ flags_of constraints query
+        → p.bound ≡ query_bound schema.accesses p.guided p.derivations query → p.bound < 2 ^ 128 → Gives (Ok p) (preparation schema query)
+    gives_parts p q h n d g b small =
+        let number : p.bound ≡ announced_number schema.accesses constraints query =
+        b ∙ ap (λ gs. query_bound schema.accesses gs p.derivations query) g
+        ∙ ap (λ ds. query_bound schema.accesses (flags_of constraints query) ds query) d in
+        let goal = prepared_query schema schema.accesses constraints query in
+        let is : p ≡ goal =
+        ap (λ (x : QueryTree). record p { query = x }) q
+        ∙ ap (λ x. record goal { header = x; normals = p.normals; derivations = p.derivations; bound = p.bound; guided = p.guided }) h
+        ∙ ap (λ x. record goal { normals = x; derivations = p.derivations; bound = p.bound; guided = p.guided }) n
+        ∙ ap (λ x. record goal { derivations = x; bound = p.bound; guided = p.guided }) d
+        ∙ ap (λ x. record goal { bound = x; guided = p.guided }) number
+        ∙ ap (λ x. record goal { guided = x }) g in
+        subst (λ x. Gives (Ok x) (preparation schema query)) (sym is) (gives_ok (subst (λ x. x < 2 ^ 128) number small))

@@ -11,7 +11,8 @@ use Rattle.beas_core.specs.declared.plan.NotCovered.{NotCovered}
 use Rattle.beas_core.specs.Types.{ClassSet, Use}
 use Rattle.beas_core.specs.Shapes.{EachIdOnce}
 use Rattle.beas_core.specs.Coverage.{serves, uses, is_covered, reason, atoms_of, covered_set, holds_needed, ClassesInRange}
-use Rattle.beas_core.specs.Derivations.{least_bound, is_served_by, then_step, enabled_uses, adding_steps, serving_steps, greedy_steps, derivation, step_of, with_use, use_of, bound_after, bound_by}
+use Rattle.beas_core.specs.Derivations.{least_bound, is_served_by, then_step, enabled_uses, adding_steps, serving_steps, greedy_steps, step_of, with_use, use_of, bound_after, bound_by}
+use Rattle.beas_core.specs.Pruning.{derivation, pruned}
 use Rattle.beas_core.proofs.Sets.{Has, Has-from_filter}
 use Rattle.evaluation_facts.proofs.UseFacts.{use_facts, found_by_id, least_has}
 use Rattle.evaluation_facts.proofs.SoundDerivations.{bound_step, bound-append}
@@ -110,20 +111,24 @@ served_same normal accesses steps us atom e = by steps ∙ ap (served_among norm
     by [] = refl
     by (s ∷ ss) = ap (λ b. ((s.atom == atom) && holds_needed normal (use_of accesses s)) || b) (by ss)
 
+-- the atoms from one on
+pub atoms_more : (normal : Normal) (i : ℕ) → i < length normal.atoms → drop i (atoms_of normal) ≡ i ∷ drop (i + 1) (atoms_of normal)
+atoms_more normal i below =
+    drop-cons (atoms_of normal) i 0 (subst (λ n. i < n) (sym (length-range_with_len 0 (length normal.atoms))) below)
+    ∙ ap (λ k. k ∷ drop (suc i) (atoms_of normal)) (get_or-range_with_len 0 (length normal.atoms) i 0 below ∙ zero_plus i)
+    ∙ ap (λ k. i ∷ drop k (atoms_of normal)) (sym (add-one i))
+  where
+    zero_plus : (n : ℕ) → 0 + n ≡ n
+    zero_plus n = omega arith
+
+pub atoms_end : (normal : Normal) (i : ℕ) → length normal.atoms ≤ i → drop i (atoms_of normal) ≡ []
+atoms_end normal i l = drop_all i (atoms_of normal) (subst (λ n. n ≤ i) (sym (length-range_with_len 0 (length normal.atoms))) l)
+
 -- one atom more
 module _ (normal : Normal) (accesses : List Access) (first steps : List DStep) (set : ClassSet) (i : ℕ) (below : i < length normal.atoms) (whole : List DStep)
     (left : whole ≡ steps ++ serving_steps normal accesses first set (drop i (atoms_of normal))) where
-  next_atom : drop i (atoms_of normal) ≡ i ∷ drop (i + 1) (atoms_of normal)
-  next_atom =
-      drop-cons (atoms_of normal) i 0 (subst (λ n. i < n) (sym (length-range_with_len 0 (length normal.atoms))) below)
-      ∙ ap (λ k. k ∷ drop (suc i) (atoms_of normal)) (get_or-range_with_len 0 (length normal.atoms) i 0 below ∙ zero_plus i)
-      ∙ ap (λ k. i ∷ drop k (atoms_of normal)) (sym (add-one i))
-    where
-      zero_plus : (n : ℕ) → 0 + n ≡ n
-      zero_plus n = omega arith
-
   turn : whole ≡ steps ++ serving_steps normal accesses first set (i ∷ drop (i + 1) (atoms_of normal))
-  turn = left ∙ ap (λ atoms. steps ++ serving_steps normal accesses first set atoms) next_atom
+  turn = left ∙ ap (λ atoms. steps ++ serving_steps normal accesses first set atoms) (atoms_more normal i below)
 
   abbrev rest : ClassSet → List DStep
   rest s = serving_steps normal accesses first s (drop (i + 1) (atoms_of normal))
@@ -151,8 +156,7 @@ module _ (normal : Normal) (accesses : List Access) (first steps : List DStep) (
 pub serve_end : (normal : Normal) (accesses : List Access) (first steps : List DStep) (set : ClassSet) (i : ℕ) → length normal.atoms ≤ i
     → steps ++ serving_steps normal accesses first set (drop i (atoms_of normal)) ≡ steps
 serve_end normal accesses first steps set i l =
-    ap (λ atoms. steps ++ serving_steps normal accesses first set atoms) (drop_all i (atoms_of normal) (subst (λ n. n ≤ i) (sym (length-range_with_len 0
-    (length normal.atoms))) l)) ∙ append-nil steps
+    ap (λ atoms. steps ++ serving_steps normal accesses first set atoms) (atoms_end normal i l) ∙ append-nil steps
 
 -- the derivation
 pub greedy_some : (normal : Normal) (accesses : List Access) (start : ClassSet) (first : List DStep)
@@ -168,17 +172,24 @@ unfolding greedy_steps
 greedy_none normal accesses start h = ap (option_map (λ steps. steps ++ serving_steps normal accesses steps (bound_after normal accesses start steps)
     (atoms_of normal))) h
 
-pub derivation_is : (normal : Normal) (accesses : List Access) (start : ClassSet) → derivation normal accesses start ≡ greedy_steps normal accesses start
-unfolding derivation
-derivation_is normal accesses start = refl
-
 pub always_why : (normal : Normal) (accesses : List Access) (start : ClassSet) → ClassesInRange normal → length start ≡ normal.count
     → greedy_steps normal accesses start ≡ None
     → reason normal accesses (covered_set normal accesses start) ≡ None → ⊥
+unfolding derivation
 always_why normal accesses start ranges counted h g =
     let e = derivation_exists normal accesses ranges start counted (reason-covered normal accesses (covered_set normal accesses start) g) in
-    let f = ap is_some (derivation_is normal accesses start ∙ h) in
+    let f = ap (λ o. is_some (option_map (pruned normal accesses start) o)) h in
     cc
+
+pub derivation_none : (normal : Normal) (accesses : List Access) (start : ClassSet) → greedy_steps normal accesses start ≡ None
+    → derivation normal accesses start ≡ None
+unfolding derivation
+derivation_none normal accesses start h = ap (option_map (pruned normal accesses start)) h
+
+pub derivation_some : (normal : Normal) (accesses : List Access) (start : ClassSet) (steps : List DStep) → greedy_steps normal accesses start ≡ Some steps
+    → derivation normal accesses start ≡ Some (pruned normal accesses start steps)
+unfolding derivation
+derivation_some normal accesses start steps h = ap (option_map (pruned normal accesses start)) h
 
 pub chosen_member : (p : Use → Bool) (us : List Use) (u : Use) → Some u ≡ least_bound (filter p us) → Has us u
 chosen_member p us u e = (Has-from_filter p us u (least_has (filter p us) u (sym e))).0

@@ -3,3 +3,4 @@ pub mod Choices
 pub mod Parts
 pub mod Plans
 pub mod Preparation
+pub mod Trials

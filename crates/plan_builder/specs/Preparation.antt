@@ -1,18 +1,17 @@
--- What is announced of a query over a schema, before any row is read.
---     header_of schema blocks          the column names of the first block's output
---     announced_number schema query    how many tuples the query reads at most, where its blocks are all covered
---     prepared_query schema query      the query with its header, and of each block its normal form and its canonical derivation
---     preparation schema query         so it is prepared, unless a block isn't covered or the number passes 2^128 - 1
---     Prepares result preparation      a call answers so, or is out of memory
-use Rattle.std.specs.Prelude.{◌≡◌, ◌+◌, ◌^◌, if◌then◌else◌, nat_le, ℕ, List, [], ◌∷◌, map, slice_index_or, Option, Some, None, Result, Ok, Err, unwrap_or}
-use Rattle.beas_core.specs.declared.errors.Fail.{Fail}
-use Rattle.beas_core.specs.declared.errors.Fail.TheVariants.{NoMemory, Refused}
+-- What is announced of a query over a schema, before any row is read. `constraints n` are those that block n may use, and `accesses` all of
+-- them, in which the constraints of steps are found by id.
+--     header_of schema blocks                            the column names of the first block's output
+--     plans_of, flags_of constraints query               of each block its canonical derivation, and whether it is guided
+--     announced_number accesses constraints query        how many tuples the query reads at most, where its blocks are all covered
+--     preparation_with schema accesses constraints query the query with its header, and of each block its normal form, its derivation and
+--                                                        whether it is guided, unless a block isn't covered or the number passes 2^128 - 1
+--     preparation schema query                           so it is prepared, where each block may use all live constraints
+use Rattle.std.specs.Prelude.{◌+◌, ◌^◌, if◌then◌else◌, nat_le, Bool, ℕ, List, [], ◌∷◌, map, slice_index_or, Option, Some, None, Result, Ok, Err, unwrap_or}
 use Rattle.beas_core.specs.declared.schema.Access.{Access}
 use Rattle.beas_core.specs.declared.schema.ColumnId.{ColumnId}
 use Rattle.beas_core.specs.declared.schema.TableId.{TableId}
 use Rattle.beas_core.specs.declared.query.Block.{Block}
 use Rattle.beas_core.specs.declared.query.Place.{Place}
-use Rattle.beas_core.specs.declared.plan.Normal.{Normal}
 use Rattle.beas_core.specs.declared.plan.Derivation.{Derivation}
 use Rattle.beas_core.specs.declared.plan.Prepared.{Prepared}
 use Rattle.beas_core.specs.declared.plan.NotCovered.{NotCovered}
@@ -21,9 +20,8 @@ use Rattle.beas_core.specs.declared.refusal.Refusal.{Refusal}
 use Rattle.beas_core.specs.declared.refusal.Refusal.TheVariants as refusal
 use Rattle.beas_core.specs.Trees.{QueryTree, blocks_of}
 use Rattle.beas_core.specs.Classes.{normal_of}
-use Rattle.beas_core.specs.Coverage.{Uncovered, first_uncovered}
-use Rattle.beas_core.specs.Derivations.{own_derivation}
-use Rattle.beas_core.specs.Numbers.{own_announced_of_all}
+use Rattle.beas_core.specs.Guiding.{BlockTask, Uncovered, block_tasks, first_uncovered, is_guided_task, task_steps}
+use Rattle.beas_core.specs.Queries.{query_bound}
 use Rattle.catalogue.specs.Schema.{Schema, columns_at}
 
 -- ---- names
@@ -63,35 +61,38 @@ refusal_of schema blocks found =
 -- ---- what is prepared
 
 -- the canonical derivation of a covered block
-abbrev pub own_plan : List Access → Normal → Derivation
-own_plan accesses normal = record { steps = unwrap_or (own_derivation normal accesses) [] }
+abbrev pub task_plan : BlockTask → Derivation
+task_plan task = record { steps = unwrap_or (task_steps task) [] }
 
-abbrev pub plans_of : Schema → QueryTree → List Derivation
-plans_of schema query = map (own_plan schema.accesses) (map normal_of (blocks_of query))
+abbrev pub plans_of : (ℕ → List Access) → QueryTree → List Derivation
+plans_of constraints query = map task_plan (block_tasks constraints query)
 
-abbrev pub announced_number : Schema → QueryTree → ℕ
-announced_number schema query = own_announced_of_all schema.accesses (plans_of schema query)
+abbrev pub flags_of : (ℕ → List Access) → QueryTree → List Bool
+flags_of constraints query = map is_guided_task (block_tasks constraints query)
 
-abbrev pub prepared_query : Schema → QueryTree → Prepared
-prepared_query schema query = record {
+abbrev pub announced_number : List Access → (ℕ → List Access) → QueryTree → ℕ
+announced_number accesses constraints query = query_bound accesses (flags_of constraints query) (plans_of constraints query) query
+
+abbrev pub prepared_query : Schema → List Access → (ℕ → List Access) → QueryTree → Prepared
+prepared_query schema accesses constraints query = record {
   query = query;
   header = header_of schema (blocks_of query);
   normals = map normal_of (blocks_of query);
-  derivations = plans_of schema query;
-  bound = announced_number schema query;
+  derivations = plans_of constraints query;
+  bound = announced_number accesses constraints query;
+  guided = flags_of constraints query;
 }
 
 -- refused at the first block that isn't covered, and where all are, at a number past 2^128 - 1
-abbrev pub unless_uncovered : Schema → QueryTree → Option Uncovered → Result Prepared Refusal
-unless_uncovered schema query (Some found) = Err (refusal_of schema (blocks_of query) found)
-unless_uncovered schema query None =
-    if nat_le (2 ^ 128) (announced_number schema query) then Err refusal.TooLarge else Ok (prepared_query schema query)
+abbrev pub unless_uncovered : Schema → List Access → (ℕ → List Access) → QueryTree → Option Uncovered → Result Prepared Refusal
+unless_uncovered schema accesses constraints query (Some found) = Err (refusal_of schema (blocks_of query) found)
+unless_uncovered schema accesses constraints query None =
+    if nat_le (2 ^ 128) (announced_number accesses constraints query) then Err refusal.TooLarge
+    else Ok (prepared_query schema accesses constraints query)
+
+abbrev pub preparation_with : Schema → List Access → (ℕ → List Access) → QueryTree → Result Prepared Refusal
+preparation_with schema accesses constraints query =
+    unless_uncovered schema accesses constraints query (first_uncovered (block_tasks constraints query))
 
 unfoldable pub preparation : Schema → QueryTree → Result Prepared Refusal
-preparation schema query =
-    unless_uncovered schema query (first_uncovered (map normal_of (blocks_of query)) schema.accesses)
-
-abbrev pub Prepares : Result Prepared Fail → Result Prepared Refusal → Type 0
-Prepares (Ok answer) preparation = preparation ≡ Ok answer
-Prepares (Err NoMemory) preparation = Unit {0}
-Prepares (Err (Refused why)) preparation = preparation ≡ Err why
+preparation schema query = preparation_with schema schema.accesses (λ n. schema.accesses) query

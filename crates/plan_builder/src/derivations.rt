@@ -2,8 +2,9 @@
 ghost use Rattle.std.specs.Prelude.{◌≡◌, ◌≤◌, ◌<◌, ◌++◌, ◌∷◌, [], IfOk, List as Several, OnOk, MatchBool, MatchResult, None, Some, length, map, take};
 ghost use Rattle.std.specs.List.{list_any};
 ghost use Rattle.beas_core.specs.declared.schema.Access.{Access as Constraint};
-ghost use Rattle.beas_core.specs.Coverage.{ClassesInRange, atoms_of, constant_classes as classes_of_constants, own_reason, uses as uses_in};
-ghost use Rattle.beas_core.specs.Derivations.{adding_steps, greedy_steps, own_derivation, serving_steps, step_of, use_of, with_use};
+ghost use Rattle.beas_core.specs.Coverage.{ClassesInRange, atoms_of, covered_set, own_reason, reason, uses as uses_in};
+ghost use Rattle.beas_core.specs.Derivations.{adding_steps, greedy_steps, serving_steps, step_of, use_of, with_use};
+ghost use Rattle.beas_core.specs.Pruning.{derivation as derivation_of, own_derivation};
 ghost use Rattle.beas_core.specs.Shapes.{EachIdOnce};
 ghost use Rattle.attribute_closure.specs.Uses.{as_use};
 ghost use Rattle.plan_builder.specs.Candidates.{AreCandidates};
@@ -11,8 +12,9 @@ ghost use Rattle.plan_builder.specs.Plans.{HasCome, served_among};
 
 use crate::candidates::Candidates;
 use crate::choices::best_serving;
+use crate::pruning::needed_steps;
 use crate::sets::{add_use, adds};
-use attribute_closure::{UseAt, close, constant_classes, holds_needed, why_not};
+use attribute_closure::{UseAt, close_from, constant_classes, holds_needed, why_not};
 use beas_core::{Access, DStep, Derivation, List, NoMemory, Normal, NotCovered};
 use std::alloc::Global;
 
@@ -23,7 +25,8 @@ pub struct Plan {
     pub set: Vec<bool>,
 }
 
-fn take_step(plan: &mut Plan, block: &Normal, found: UseAt<'_>) -> Result<(), NoMemory>
+/// Takes a use as the next step.
+pub fn take_step(plan: &mut Plan, block: &Normal, found: UseAt<'_>) -> Result<(), NoMemory>
     ensures steps { OnOk result (plan.new.steps
         ≡ plan.old.steps ++ step_of block.now plan.old.set.items (as_use found.entry) ∷ []) }
     ensures set { OnOk result (plan.new.set.items ≡ with_use block.now plan.old.set.items (as_use found.entry)) }
@@ -75,7 +78,8 @@ fn add_steps<'a>(
     Ok(candidates.cover(block))
 }
 
-fn is_served_among(block: &Normal, taken: &[UseAt<'_>], atom: u16) -> bool
+/// Whether one of some uses is on an atom and has its needed columns in key or fetched.
+pub fn is_served_among(block: &Normal, taken: &[UseAt<'_>], atom: u16) -> bool
     ensures { result ≡ served_among block.now atom (map as_use taken.now) }
 {
     for found in taken {
@@ -147,6 +151,34 @@ pub fn greedy(
     Ok(Some(plan.steps))
 }
 
+/// The derivation of a block from a start set of classes, or why its constraints don't cover it from there.
+pub fn derive_from(
+    alloc: Global,
+    accesses: &List<Access>,
+    block: &Normal,
+    start: &[bool],
+) -> Result<Result<Derivation, NotCovered>, NoMemory>
+    requires ranges { ClassesInRange block.now }
+    requires classes { length start.now ≡ block.now.count }
+    requires atoms { length block.now.atoms < 65536 }
+    requires needed { length block.now.needed ≤ 65536 }
+    requires ids { EachIdOnce accesses.now }
+    ensures { IfOk result (λ found. MatchResult found
+        (λ derivation. derivation_of block.now accesses.now start.now ≡ Some derivation.steps)
+        (λ why. (derivation_of block.now accesses.now start.now ≡ None)
+        × (reason block.now accesses.now (covered_set block.now accesses.now start.now) ≡ Some why))) }
+{
+    if let Some(steps) = greedy(alloc, accesses, block, start)? {
+        let steps = needed_steps(alloc, accesses.as_slice(), block, start, steps.as_slice())?;
+        return Ok(Ok(Derivation { steps }));
+    }
+    let covered = close_from(alloc, block, accesses, start)?;
+    match why_not(block, accesses.as_slice(), covered.as_slice()) {
+        Some(why) => Ok(Err(why)),
+        None => unreachable!(),
+    }
+}
+
 /// The derivation of a block by itself, or why its constraints don't cover it.
 pub fn derive(
     alloc: Global,
@@ -162,12 +194,5 @@ pub fn derive(
         (λ why. (own_derivation block.now accesses.now ≡ None) × (own_reason block.now accesses.now ≡ Some why))) }
 {
     let start = constant_classes(alloc, block)?;
-    if let Some(steps) = greedy(alloc, accesses, block, start.as_slice())? {
-        return Ok(Ok(Derivation { steps }));
-    }
-    let covered = close(alloc, block, accesses)?;
-    match why_not(block, accesses.as_slice(), covered.as_slice()) {
-        Some(why) => Ok(Err(why)),
-        None => unreachable!(),
-    }
+    derive_from(alloc, accesses, block, start.as_slice())
 }

@@ -5,6 +5,7 @@ mod candidates;
 mod choices;
 mod derivations;
 mod preparation;
+mod pruning;
 mod sets;
 
 pub use derivations::{derive, greedy};

@@ -1,34 +1,51 @@
 // What is announced of a query: for each block its normal form and derivation, and the greatest number of reads.
-ghost use Rattle.std.specs.Prelude.{◌≡◌, ◌<◌, ◌≤◌, ◌+◌, ◌^◌, All, IfErr, IfOk, MatchResult, Some, Ok as Answer, Err as Failure, length, map, option_map};
+ghost use Rattle.std.specs.Prelude.{◌≡◌, ◌<◌, ◌≤◌, ◌+◌, ◌++◌, ◌^◌, All, IfErr, IfOk, List as Several, MatchResult, None, OnOk, Some, Ok as Answer, Err as Failure, true, ℕ, length, map, option_map};
 ghost use Rattle.beas_core.specs.declared.refusal.Refusal.TheVariants.{TooLarge};
+ghost use Rattle.beas_core.specs.declared.schema.Access.{Access as Constraint};
 ghost use Rattle.beas_core.specs.Classes.{normal_of};
-ghost use Rattle.beas_core.specs.Coverage.{first_uncovered, own_reason};
-ghost use Rattle.beas_core.specs.Derivations.{own_derivation};
+ghost use Rattle.beas_core.specs.Coverage.{ClassesInRange};
 ghost use Rattle.beas_core.specs.Fits.{Fits, PlanFits};
-ghost use Rattle.beas_core.specs.Numbers.{own_announced_of_all};
+ghost use Rattle.beas_core.specs.Guiding.{after, first_uncovered, is_guided_task, task_reason, task_steps, tasks_from};
+ghost use Rattle.beas_core.specs.Queries.{announced_in, size_of};
+ghost use Rattle.beas_core.specs.Results.{Gives, IsRefusedAs};
 ghost use Rattle.beas_core.specs.Shapes.{BlockIsWellFormed, EachIdOnce, IsPlace, QueryIsWellFormed};
 ghost use Rattle.beas_core.specs.Trees.{blocks_of};
 ghost use Rattle.beas_core.specs.Types.{TableRows};
 ghost use Rattle.catalogue.specs.Queries.{BlockIsOver, QueryIsOver, RowsAreWide};
-ghost use Rattle.catalogue.specs.Refusing.{IsRefusedAs};
-ghost use Rattle.plan_builder.specs.Parts.{whole};
-ghost use Rattle.plan_builder.specs.Preparation.{Prepares, block_header as header_in, header_of, not_covered as refusal_in, place_name, preparation, refusal_of};
+ghost use Rattle.plan_builder.specs.Parts.{Grows, block_reads, block_size, blocks_at, normal_task, task_at, whole};
+ghost use Rattle.plan_builder.specs.Preparation.{block_header as header_in, header_of, not_covered as refusal_in, place_name, preparation, refusal_of};
 
-use crate::derivations::derive;
+use crate::derivations::{derive, derive_from};
+use crate::sets::guided_start;
 use beas_core::{
     Access, Block, Derivation, Duplicate, Fail, List, Name, NoMemory, Normal, NotCovered, Place,
-    Prepared, Query, Refusal,
+    Prepared, Query, QueryNode, Refusal,
 };
 use bound_calculator::block_bound;
 use catalogue::Catalogue;
-use normal_form::{blocks, normalise};
+use normal_form::normalise;
 use std::alloc::Global;
 
-/// The normal forms of blocks, and their derivations.
+/// A block of a query, and whether it has a guide.
+#[derive(Clone, Copy)]
+pub struct BlockAt<'a> {
+    pub block: &'a Block,
+    pub has_guide: bool,
+}
+
+/// The derivation of a block, and whether it is guided.
+#[derive(Drop)]
+pub struct TaskPlan {
+    pub derivation: Derivation,
+    pub guided: bool,
+}
+
+/// The normal forms of blocks, their derivations, and whether each is guided.
 #[derive(Drop)]
 pub struct Plans {
     pub normals: List<Normal>,
     pub derivations: List<Derivation>,
+    pub guided: List<bool>,
 }
 
 /// What is announced of a query, without the query itself.
@@ -37,6 +54,15 @@ pub struct Parts {
     pub header: List<Name>,
     pub plans: Plans,
     pub bound: u128,
+}
+
+/// How many tuples a part of a query reads at most, how many rows it answers at most, and the number of the first
+/// block after it.
+#[derive(Clone, Copy)]
+pub struct Announced {
+    pub reads: u128,
+    pub size: u128,
+    pub next: usize,
 }
 
 fn column_name(
@@ -70,14 +96,14 @@ fn block_header(alloc: Global, catalogue: &Catalogue, block: &Block) -> Result<L
 fn header_of(
     alloc: Global,
     catalogue: &Catalogue,
-    blocks: &[&Block],
+    blocks: &[BlockAt<'_>],
 ) -> Result<List<Name>, NoMemory>
-    requires shapes { All BlockIsWellFormed (map (λ b. b.now) blocks.now) }
-    requires over { All (BlockIsOver catalogue.now) (map (λ b. b.now) blocks.now) }
-    ensures { IfOk result (λ header. header ≡ header_of catalogue.now (map (λ b. b.now) blocks.now)) }
+    requires shapes { All BlockIsWellFormed (blocks_at blocks.now) }
+    requires over { All (BlockIsOver catalogue.now) (blocks_at blocks.now) }
+    ensures { IfOk result (λ header. header ≡ header_of catalogue.now (blocks_at blocks.now)) }
 {
     match blocks {
-        [first, ..] => block_header(alloc, catalogue, first),
+        [first, ..] => block_header(alloc, catalogue, first.block),
         [] => Ok(List::new(alloc)),
     }
 }
@@ -87,16 +113,16 @@ fn not_covered(
     alloc: Global,
     catalogue: &Catalogue,
     number: u32,
-    block: &Block,
+    at: BlockAt<'_>,
     why: NotCovered,
 ) -> Result<Refusal, NoMemory>
-    requires over { BlockIsOver catalogue.now block.now }
-    requires why { own_reason (normal_of block.now) catalogue.now.accesses ≡ Some why }
-    ensures { IfOk result (λ refusal. refusal ≡ refusal_in catalogue.now number block.now why) }
+    requires over { BlockIsOver catalogue.now at.block.now }
+    requires why { task_reason (task_at catalogue.now.accesses at) ≡ Some why }
+    ensures { IfOk result (λ refusal. refusal ≡ refusal_in catalogue.now number at.entry.block.now why) }
 {
     match why {
         NotCovered::ColumnOpen { atom, column } => {
-            let name = column_name(alloc, catalogue, block, Place { atom, column })?;
+            let name = column_name(alloc, catalogue, at.block, Place { atom, column })?;
             Ok(Refusal::NotCovered {
                 block: number,
                 atom: u32::from(atom) + 1,
@@ -111,86 +137,256 @@ fn not_covered(
     }
 }
 
+// The derivation of a block, from the classes of its output too where it has a guide and isn't covered by itself.
+fn plan_normal(
+    alloc: Global,
+    accesses: &List<Access>,
+    normal: &Normal,
+    has_guide: bool,
+) -> Result<Result<TaskPlan, NotCovered>, NoMemory>
+    requires ranges { ClassesInRange normal.now }
+    requires atoms { length normal.now.atoms < 65536 }
+    requires needed { length normal.now.needed ≤ 65536 }
+    requires ids { EachIdOnce accesses.now }
+    ensures { IfOk result (λ found. MatchResult found
+        (λ plan. (plan.guided ≡ is_guided_task (normal_task normal.now accesses.now has_guide))
+        × (task_steps (normal_task normal.now accesses.now has_guide) ≡ Some plan.derivation.steps)
+        × (task_reason (normal_task normal.now accesses.now has_guide) ≡ None))
+        (λ why. task_reason (normal_task normal.now accesses.now has_guide) ≡ Some why)) }
+{
+    match derive(alloc, accesses, normal)? {
+        Ok(derivation) => {
+            return Ok(Ok(TaskPlan {
+                derivation,
+                guided: false,
+            }));
+        }
+        Err(why) => {
+            if !has_guide {
+                return Ok(Err(why));
+            }
+        }
+    }
+    let start = guided_start(alloc, normal)?;
+    match derive_from(alloc, accesses, normal, start.as_slice())? {
+        Ok(derivation) => Ok(Ok(TaskPlan {
+            derivation,
+            guided: true,
+        })),
+        Err(why) => Ok(Err(why)),
+    }
+}
+
 // The normal form of the block with this number, and its derivation.
 fn plan_block(
     alloc: Global,
     catalogue: &Catalogue,
     number: u32,
-    block: &Block,
-) -> Result<(Normal, Derivation), Fail>
-    requires shape { BlockIsWellFormed block.now }
-    requires over { BlockIsOver catalogue.now block.now }
+    at: BlockAt<'_>,
+) -> Result<(Normal, TaskPlan), Fail>
+    requires shape { BlockIsWellFormed at.block.now }
+    requires over { BlockIsOver catalogue.now at.block.now }
     ensures refused { IsRefusedAs result (option_map
-        (refusal_in catalogue.now number block.now)
-        (own_reason (normal_of block.now) catalogue.now.accesses)) }
-    ensures normal { IfOk result (λ plan. plan.0 ≡ normal_of block.now) }
-    ensures steps { IfOk result (λ plan. Some plan.1.steps
-        ≡ own_derivation (normal_of block.now) catalogue.now.accesses) }
+        (refusal_in catalogue.now number at.entry.block.now)
+        (task_reason (task_at catalogue.now.accesses at.entry))) }
+    ensures normal { IfOk result (λ plan. plan.0 ≡ normal_of at.entry.block.now) }
+    ensures guided { IfOk result (λ plan. plan.1.guided ≡ is_guided_task (task_at catalogue.now.accesses at.entry)) }
+    ensures steps { IfOk result (λ plan. Some plan.1.derivation.steps
+        ≡ task_steps (task_at catalogue.now.accesses at.entry)) }
 {
-    let normal = normalise(alloc, block)?;
-    match derive(alloc, catalogue.accesses(), &normal)? {
-        Ok(derivation) => Ok((normal, derivation)),
-        Err(why) => Err(Fail::Refused(not_covered(alloc, catalogue, number, block, why)?)),
+    let normal = normalise(alloc, at.block)?;
+    match plan_normal(alloc, catalogue.accesses(), &normal, at.has_guide)? {
+        Ok(plan) => Ok((normal, plan)),
+        Err(why) => Err(Fail::Refused(not_covered(alloc, catalogue, number, at, why)?)),
     }
 }
 
-fn plan_blocks(alloc: Global, catalogue: &Catalogue, blocks: &[&Block]) -> Result<Plans, Fail>
-    requires shapes { All BlockIsWellFormed (map (λ b. b.now) blocks.now) }
-    requires over { All (BlockIsOver catalogue.now) (map (λ b. b.now) blocks.now) }
+fn plan_blocks(alloc: Global, catalogue: &Catalogue, blocks: &[BlockAt<'_>]) -> Result<Plans, Fail>
+    requires shapes { All BlockIsWellFormed (blocks_at blocks.now) }
+    requires over { All (BlockIsOver catalogue.now) (blocks_at blocks.now) }
     requires few { length blocks.now < 2 ^ 32 }
     ensures refused { IsRefusedAs result
-        (option_map (refusal_of catalogue.now (map (λ b. b.now) blocks.now))
-        (first_uncovered (map normal_of (map (λ b. b.now) blocks.now)) catalogue.now.accesses)) }
-    ensures normals { IfOk result (λ plans. plans.normals ≡ map normal_of (map (λ b. b.now) blocks.now)) }
+        (option_map (refusal_of catalogue.now (blocks_at blocks.now))
+        (first_uncovered (map (task_at catalogue.now.accesses) blocks.now))) }
+    ensures normals { IfOk result (λ plans. plans.normals ≡ map normal_of (blocks_at blocks.now)) }
+    ensures guided { IfOk result (λ plans. plans.guided
+        ≡ map is_guided_task (map (task_at catalogue.now.accesses) blocks.now)) }
     ensures derivations { IfOk result (λ plans. map (λ d. Some d.steps) plans.derivations
-        ≡ map (λ n. own_derivation n catalogue.now.accesses) plans.normals) }
+        ≡ map task_steps (map (task_at catalogue.now.accesses) blocks.now)) }
 {
     let mut plans = Plans {
         normals: List::new(alloc),
         derivations: List::new(alloc),
+        guided: List::new(alloc),
     };
-    for (place, block) in blocks.iter().enumerate() {
-        let (normal, derivation) = plan_block(alloc, catalogue, place as u32 + 1, block)?;
+    for (place, at) in blocks.iter().enumerate() {
+        let (normal, plan) = plan_block(alloc, catalogue, place as u32 + 1, *at)?;
         plans.normals.push(normal)?;
-        plans.derivations.push(derivation)?;
+        plans.derivations.push(plan.derivation)?;
+        plans.guided.push(plan.guided)?;
     }
     Ok(plans)
 }
 
-// The greatest number of reads of all blocks together. `TooLarge` exactly where it passes 2^128 - 1.
-fn bound_of_all(accesses: &List<Access>, derivations: &[Derivation]) -> Result<u128, Refusal>
-    requires { EachIdOnce accesses.now }
-    ensures { MatchResult result
-        (λ bound. bound ≡ own_announced_of_all accesses.now derivations.now)
-        (λ why. (why ≡ TooLarge) × (2 ^ 128 ≤ own_announced_of_all accesses.now derivations.now)) }
+fn push_blocks<'a>(
+    query: &'a Query,
+    has_guide: bool,
+    found: &mut List<BlockAt<'a>>,
+) -> Result<(), NoMemory>
+    ensures blocks { OnOk result (blocks_at found.new ≡ blocks_at found.old ++ blocks_of query.now) }
+    ensures tasks { OnOk result ((accesses : Several Constraint) (n : ℕ) → map (task_at accesses) found.new
+        ≡ map (task_at accesses) found.old ++ tasks_from (λ k. accesses) n has_guide query.now) }
 {
-    let mut bound: u128 = 0;
-    for derivation in derivations {
-        match bound.checked_add(block_bound(derivation, accesses)?.reads) {
-            Some(sum) => bound = sum,
-            None => return Err(Refusal::TooLarge),
+    match &query.node {
+        QueryNode::Block(block) => found.push(BlockAt { block, has_guide }),
+        QueryNode::Union(left, right) => {
+            push_blocks(left, has_guide, found)?;
+            push_blocks(right, has_guide, found)
+        }
+        QueryNode::Except(left, right) => {
+            push_blocks(left, has_guide, found)?;
+            push_blocks(right, true, found)
         }
     }
-    Ok(bound)
+}
+
+// What is announced of two parts together, where both sides of the sum give rows. `TooLarge` exactly where their reads
+// pass 2^128 - 1, since their rows are no more than these.
+fn both(one: Announced, other: Announced) -> Result<Announced, Refusal>
+    requires one { one.size ≤ one.reads }
+    requires other { other.size ≤ other.reads }
+    ensures { MatchResult result
+        (λ announced. announced ≡ record {
+          reads = one.reads + other.reads;
+          size = one.size + other.size;
+          next = other.next;
+        })
+        (λ why. (why ≡ TooLarge) × (2 ^ 128 ≤ one.reads + other.reads)) }
+{
+    let Some(reads) = one.reads.checked_add(other.reads) else {
+        return Err(Refusal::TooLarge);
+    };
+    match one.size.checked_add(other.size) {
+        Some(size) => Ok(Announced {
+            reads,
+            size,
+            next: other.next,
+        }),
+        None => Err(Refusal::TooLarge),
+    }
+}
+
+// What is announced of two parts together, where the left side alone gives rows.
+fn left_alone(one: Announced, other: Announced) -> Result<Announced, Refusal>
+    ensures { MatchResult result
+        (λ announced. announced ≡ record {
+          reads = one.reads + other.reads;
+          size = one.size;
+          next = other.next;
+        })
+        (λ why. (why ≡ TooLarge) × (2 ^ 128 ≤ one.reads + other.reads)) }
+{
+    match one.reads.checked_add(other.reads) {
+        Some(reads) => Ok(Announced {
+            reads,
+            size: one.size,
+            next: other.next,
+        }),
+        None => Err(Refusal::TooLarge),
+    }
+}
+
+// What is announced of a block before whose first step as many valuations stand as its guide has rows, where it is
+// guided.
+fn announce_block(
+    plans: &Plans,
+    accesses: &List<Access>,
+    number: usize,
+    guide: u128,
+) -> Result<Announced, Refusal>
+    requires ids { EachIdOnce accesses.now }
+    requires grow { All (Grows accesses.now) plans.now.derivations }
+    requires derivation { number < length plans.now.derivations }
+    requires guided { number < length plans.now.guided }
+    ensures rows { IfOk result (λ announced. announced.size ≤ announced.reads) }
+    ensures announced { MatchResult result
+        (λ announced. announced ≡ record {
+          reads = block_reads accesses.now plans.now number guide;
+          size = block_size accesses.now plans.now number guide;
+          next = number + 1;
+        })
+        (λ why. (why ≡ TooLarge) × (2 ^ 128 ≤ block_reads accesses.now plans.now number guide)) }
+{
+    let derivation = &plans.derivations.as_slice()[number];
+    let first = if plans.guided.as_slice()[number] {
+        guide
+    } else {
+        1
+    };
+    let sizes = block_bound(derivation, accesses, first)?;
+    Ok(Announced {
+        reads: sizes.reads,
+        size: sizes.last,
+        next: number + 1,
+    })
+}
+
+// What is announced of a part of a query, where its guide has at most so many rows. `TooLarge` exactly where its reads
+// pass 2^128 - 1, since its rows are no more than these.
+fn announce(
+    query: &Query,
+    plans: &Plans,
+    accesses: &List<Access>,
+    first: usize,
+    guide: u128,
+) -> Result<Announced, Refusal>
+    requires ids { EachIdOnce accesses.now }
+    requires grow { All (Grows accesses.now) plans.now.derivations }
+    requires derivations { after first query.now ≤ length plans.now.derivations }
+    requires guided { after first query.now ≤ length plans.now.guided }
+    ensures rows { IfOk result (λ announced. announced.size ≤ announced.reads) }
+    ensures announced { MatchResult result
+        (λ announced. announced ≡ record {
+          reads = announced_in accesses.now plans.now.guided plans.now.derivations first guide query.now;
+          size = size_of accesses.now plans.now.guided plans.now.derivations first guide query.now;
+          next = after first query.now;
+        })
+        (λ why. (why ≡ TooLarge)
+        × (2 ^ 128 ≤ announced_in accesses.now plans.now.guided plans.now.derivations first guide query.now)) }
+{
+    match &query.node {
+        QueryNode::Block(_) => announce_block(plans, accesses, first, guide),
+        QueryNode::Union(left, right) => {
+            let one = announce(left, plans, accesses, first, guide)?;
+            let other = announce(right, plans, accesses, one.next, guide)?;
+            both(one, other)
+        }
+        QueryNode::Except(left, right) => {
+            let one = announce(left, plans, accesses, first, guide)?;
+            let other = announce(right, plans, accesses, one.next, one.size)?;
+            left_alone(one, other)
+        }
+    }
 }
 
 fn parts_of(alloc: Global, catalogue: &Catalogue, query: &Query) -> Result<Parts, Fail>
     requires well_formed { QueryIsWellFormed query.now }
     requires over { QueryIsOver catalogue.now query.now }
     requires few { length (blocks_of query.now) < 2 ^ 32 }
-    ensures refused { IfErr result (λ why. Prepares (Failure why) (preparation catalogue.now query.now)) }
+    ensures refused { IfErr result (λ why. Gives (Failure why) (preparation catalogue.now query.now)) }
     ensures prepared { IfOk result (λ parts.
-        Prepares (Answer (whole query.now parts)) (preparation catalogue.now query.now)) }
+        Gives (Answer (whole query.now parts)) (preparation catalogue.now query.now)) }
     ensures plan { IfOk result (λ parts. PlanFits catalogue.now.accesses (whole query.now parts)) }
 {
-    let found = blocks(alloc, query)?;
+    let mut found = List::new(alloc);
+    push_blocks(query, false, &mut found)?;
     let plans = plan_blocks(alloc, catalogue, found.as_slice())?;
-    let bound = bound_of_all(catalogue.accesses(), plans.derivations.as_slice())?;
+    let announced = announce(query, &plans, catalogue.accesses(), 0, 1)?;
     let header = header_of(alloc, catalogue, found.as_slice())?;
     Ok(Parts {
         header,
         plans,
-        bound,
+        bound: announced.reads,
     })
 }
 
@@ -201,7 +397,7 @@ pub fn prepare(alloc: Global, catalogue: &Catalogue, query: Query) -> Result<Pre
     requires well_formed { QueryIsWellFormed query }
     requires over { QueryIsOver catalogue.now query }
     requires few { length (blocks_of query) < 2 ^ 32 }
-    ensures prepared { Prepares result (preparation catalogue.now query) }
+    ensures prepared { Gives result (preparation catalogue.now query) }
     ensures plan { IfOk result (PlanFits catalogue.now.accesses) }
     ensures fits { IfOk result (λ prepared. (rows : TableRows) → RowsAreWide catalogue.now rows
         → Fits catalogue.now.accesses rows prepared) }
@@ -213,5 +409,6 @@ pub fn prepare(alloc: Global, catalogue: &Catalogue, query: Query) -> Result<Pre
         normals: parts.plans.normals,
         derivations: parts.plans.derivations,
         bound: parts.bound,
+        guided: parts.plans.guided,
     })
 }

@@ -1,11 +1,12 @@
 // Sets of classes that grow by the columns of a use.
-ghost use Rattle.std.specs.Prelude.{◌≡◌, map};
-ghost use Rattle.beas_core.specs.Coverage.{ClassesInRange, class_at as class_of_column, with_classes};
+ghost use Rattle.std.specs.Prelude.{◌≡◌, IfOk, map, true};
+ghost use Rattle.beas_core.specs.Coverage.{class_at as class_of_column, place_class, start_classes, with_classes};
 ghost use Rattle.beas_core.specs.Derivations.{adds_class, with_use};
 ghost use Rattle.attribute_closure.specs.Uses.{as_use};
 
-use attribute_closure::{UseAt, class_at, holds_columns};
-use beas_core::{ColumnId, Normal};
+use attribute_closure::{UseAt, class_at, constant_classes, holds_columns};
+use beas_core::{ColumnId, List, NoMemory, Normal, Place};
+use std::alloc::Global;
 
 /// Whether a use adds a class to a set.
 pub fn adds(block: &Normal, set: &[bool], found: &UseAt<'_>) -> bool
@@ -33,4 +34,25 @@ pub fn add_use(block: &Normal, found: &UseAt<'_>, set: &mut [bool])
 {
     add_columns(block, found.atom, found.access.key.as_slice(), set);
     add_columns(block, found.atom, found.access.fetched.as_slice(), set);
+}
+
+#[tactic(auto, using(crate::proofs::SetFacts::places_more, crate::proofs::SetFacts::places_past))]
+fn add_places(block: &Normal, places: &[Place], set: &mut [bool])
+    ensures { set.new ≡ with_classes set.old (map (place_class block.now) places.now) }
+{
+    for place in places {
+        let class = usize::from(class_at(block, place.atom, place.column));
+        if class < set.len() {
+            set[class] = true;
+        }
+    }
+}
+
+/// The classes that are bound before the first step of a guided block: those of its constants and of its output.
+pub fn guided_start(alloc: Global, block: &Normal) -> Result<List<bool>, NoMemory>
+    ensures { IfOk result (λ set. set ≡ start_classes block.now true) }
+{
+    let mut set = constant_classes(alloc, block)?.into_vec();
+    add_places(block, block.output.as_slice(), &mut set);
+    Ok(List::from_vec(set))
 }

@@ -1,3 +1,3 @@
-pub mod BlockFacts
-pub mod FrontFacts
-pub mod StackFacts
+mod FrontFacts
+mod HeldFacts
+mod TreeFacts

@@ -1,11 +1,11 @@
 // Prepared queries, and what they answer.
-ghost use Rattle.std.specs.Prelude.{◌≡◌, ◌+◌, ◌≤◌, IfOk, OnOk, OnErr};
+ghost use Rattle.std.specs.Prelude.{◌≡◌, ◌+◌, ◌≤◌, IfOk, OnErr};
 ghost use Rattle.beas_core.specs.Fits.{Fits};
 ghost use Rattle.beas_core.specs.Full.{full_of};
-ghost use Rattle.beas_core.specs.Reads.{own_reads_of_all};
+ghost use Rattle.beas_core.specs.Queries.{query_reads};
 
-use crate::answering::answer_blocks;
-use crate::combining::combine;
+use crate::asking::ask_for_all;
+use crate::trees::answer_tree;
 use beas_core::{AccessPort, Answer, NoMemory, Prepared, Steps};
 use std::alloc::Global;
 use std::sync::ledger::Ledger;
@@ -20,20 +20,20 @@ pub fn execute<P: AccessPort, L: Ledger>(
 ) -> Result<Answer, NoMemory>
     requires { Fits (P.accesses port.now) (P.rows port.now) prepared.now }
     ensures rows { IfOk result (λ answer. answer.rows ≡ full_of (P.rows port.now) prepared.now.query) }
-    ensures reads { IfOk result (λ answer. answer.reads
-        ≡ own_reads_of_all (P.rows port.now) prepared.now.normals (P.accesses port.now) prepared.now.derivations) }
+    ensures reads { IfOk result (λ answer. answer.reads ≡ query_reads (P.rows port.now) (P.accesses port.now)
+        prepared.now.guided prepared.now.derivations prepared.now.query) }
     ensures bound { IfOk result (λ answer. answer.reads ≤ prepared.now.bound) }
 
     ensures cost { IfOk result (λ answer. steps.new ≡ steps.old + answer.reads) }
-    ensures spent { OnErr result (steps.new
-        ≤ steps.old
-        + own_reads_of_all (P.rows port.now) prepared.now.normals (P.accesses port.now) prepared.now.derivations) }
+    ensures spent { OnErr result (steps.new ≤ steps.old + query_reads (P.rows port.now) (P.accesses port.now)
+        prepared.now.guided prepared.now.derivations prepared.now.query) }
     ensures kept { steps.old ≤ steps.new }
 {
     // Read for what its type tells: the announced number fits 128 bits, and so do the reads.
     let _bound = prepared.bound;
+    ask_for_all(port, prepared.derivations.as_slice());
     let mut reads = 0;
-    let mut answers = answer_blocks(alloc, port, prepared, &mut reads, steps)?;
-    let rows = combine(alloc, &prepared.query, &mut answers)?;
+    let query = &prepared.query;
+    let (rows, _count) = answer_tree(alloc, port, prepared, query, 0, None, &mut reads, steps)?;
     Ok(Answer { rows, reads })
 }

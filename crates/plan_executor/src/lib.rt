@@ -2,7 +2,8 @@
 #![tactic(auto)]
 
 mod answering;
-mod combining;
+mod asking;
 mod executing;
+mod trees;
 
 pub use executing::execute;

@@ -68,7 +68,7 @@ module _ (normal : Normal) (set : ClassSet) (w : Bindings) where
   abbrev row : Row
   row = map (value_of w) (classes_in set)
 
-  meets_alike : meets_bound normal set row ≡ list_all (comparison_is_met normal set w) normal.comparisons
+  pub meets_alike : meets_bound normal set row ≡ list_all (comparison_is_met normal set w) normal.comparisons
   meets_alike = same_tests (meets_bound normal set row) (list_all (comparison_is_met normal set w) normal.comparisons)
       (λ h. all_by (comparison_is_met normal set w) normal.comparisons (λ c m.
       met_alike normal set (as_bindings set row) w (λ d k. value_in_valuation set w d k) c

@@ -30,7 +30,7 @@ use Rattle.evaluation_facts.specs.Extensions.{bindings_with, fits, extended_row,
 use Rattle.evaluation_facts.proofs.BindingFacts.{map_same, same_value_to, Has-classes_in, from_range}
 use Rattle.evaluation_facts.proofs.MemberTests.{all_has, Has-from_flat_map, all_by}
 use Rattle.plan_ops.specs.declared.joining.Join.{Join}
-use Rattle.plan_ops.specs.Joins.{at_place, joined_by, fits_by, joins, checks_of, joined_classes, IsWithin, IsJoin, IsTuple}
+use Rattle.plan_ops.specs.Joins.{at_place, joined_by, fits_by, joins, checks_of, joined_classes, IsJoin, IsTuple}
 use Rattle.plan_ops.specs.Over.{set_of}
 use Rattle.plan_ops.specs.Places.{place_of, column_of}
 use Rattle.plan_ops.proofs.MeetFacts.{filter_alike, wide_member, picked_values}

@@ -1,6 +1,7 @@
 pub mod BoundSets
 mod ConstantFacts
 mod ExtendFacts
+mod GuidedStarts
 mod JoinFacts
 mod KeyFacts
 pub mod MeetFacts

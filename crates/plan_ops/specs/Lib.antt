@@ -2,3 +2,4 @@ pub mod Joins
 pub mod Merging
 pub mod Over
 pub mod Places
+pub mod Started

@@ -22,5 +22,5 @@ pub use extending::extend;
 pub use keeping::keep;
 pub use projecting::project;
 pub use sets::{subtract, unite};
-pub use starting::start;
+pub use starting::{start, start_block};
 pub use valuations::Valuations;

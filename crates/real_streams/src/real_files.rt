@@ -24,7 +24,7 @@ pub struct ReadCounts {
 
 /// How a reader goes on after a piece.
 #[derive(Clone, Copy, Debug, PartialEq, Eq)]
-enum Turn {
+enum Progress {
     More,
     End,
 }
@@ -89,14 +89,14 @@ impl ReadCounts {
         piece: &mut [u8],
         bytes: &mut Vec<u8>,
         limit: u64,
-    ) -> Result<Turn, FilesError>
+    ) -> Result<Progress, FilesError>
         requires limit { limit < 2 ^ 64 - 1 }
         requires some { 0 < length piece.old }
         requires room { length bytes.old.items ≤ limit }
         ensures took { IfOk result (λ _. Took (S.remaining source.old) (S.remaining source.new) bytes.old.items
             bytes.new.items) }
-        ensures more { result ≡ Ok Turn.More → length bytes.old.items < length bytes.new.items }
-        ensures end { result ≡ Ok Turn.End → IsAtEnd (S.remaining source.new) }
+        ensures more { result ≡ Ok Progress.More → length bytes.old.items < length bytes.new.items }
+        ensures end { result ≡ Ok Progress.End → IsAtEnd (S.remaining source.new) }
         ensures fits { IfOk result (λ _. length bytes.new.items ≤ limit) }
         ensures counted { IfOk result (λ _. self.new.taken ≡ min
             (self.old.taken + length bytes.new.items - length bytes.old.items) (2 ^ 64 - 1)) }
@@ -114,7 +114,7 @@ impl ReadCounts {
         let before = self.taken;
         let room = (limit - bytes.len() as u64 + 1).min(piece.len() as u64) as usize;
         match read_some(source, &mut piece[..room]) {
-            Ok(0) => Ok(Turn::End),
+            Ok(0) => Ok(Progress::End),
             Ok(count) => {
                 self.taken = before.saturating_add(count as u64);
                 add_piece(bytes, &piece[..count], limit)
@@ -151,8 +151,8 @@ impl ReadCounts {
         // Steps are counted, and so many are never made.
         'pieces: for _ in 0..u64::MAX {
             match self.take_piece(source, piece, &mut bytes, limit) {
-                Ok(Turn::More) => {}
-                Ok(Turn::End) => return Ok(Bytes::from_vec(bytes)),
+                Ok(Progress::More) => {}
+                Ok(Progress::End) => return Ok(Bytes::from_vec(bytes)),
                 Err(why) => return Err(why),
             }
         }
@@ -219,8 +219,8 @@ fn room_for_a_piece(alloc: Global) -> Result<Vec<u8>, FilesError>
 }
 
 /// Adds a piece after the bytes, which are more than the limit then or not.
-fn add_piece(bytes: &mut Vec<u8>, piece: &[u8], limit: u64) -> Result<Turn, FilesError>
-    ensures ok { IfOk result (λ turn. (turn ≡ Turn.More) × (bytes.new.items ≡ bytes.old.items ++ piece.now)
+fn add_piece(bytes: &mut Vec<u8>, piece: &[u8], limit: u64) -> Result<Progress, FilesError>
+    ensures ok { IfOk result (λ turn. (turn ≡ Progress.More) × (bytes.new.items ≡ bytes.old.items ++ piece.now)
         × (length bytes.new.items ≤ limit)) }
     ensures too_long { (l : ℕ) → IsErrOf result (FilesError.TooLong l)
         → (l ≡ limit) × (limit < length bytes.old.items + length piece.now) }
@@ -232,7 +232,7 @@ fn add_piece(bytes: &mut Vec<u8>, piece: &[u8], limit: u64) -> Result<Turn, File
     if limit < bytes.len() as u64 {
         return Err(FilesError::TooLong { limit });
     }
-    Ok(Turn::More)
+    Ok(Progress::More)
 }
 
 /// The files of the system, by path. Their contents aren't told, and one count of faults serves all names.
@@ -270,15 +270,14 @@ impl<'a, R: rt::Files> RealFiles<'a, R> {
 }
 
 impl<R: rt::Files> Files for RealFiles<'_, R> {
-    ghost told = { λ _. false };
+    ghost seen = { λ files. record {
+        told = false;
+        content = λ _. None;
+        faults = λ _. files.counts.faults;
+        taken = files.counts.taken
+    } };
 
-    ghost content = { λ _ _. None };
-
-    ghost faults = { λ files _. files.counts.faults };
-
-    ghost taken = { λ files. files.counts.taken };
-
-    fn read(&mut self, alloc: Global, name: &str, limit: u64) -> Result<Bytes, FilesError>
+    fn load(&mut self, alloc: Global, name: &str, limit: u64) -> Result<Bytes, FilesError>
         requires { limit < 2 ^ 64 - 1 }
         ensures fits { IfOk result (λ bytes. length bytes ≤ limit) }
         ensures counted { IfOk result (λ bytes. self.new.counts.taken

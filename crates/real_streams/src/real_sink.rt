@@ -86,11 +86,7 @@ fn write_some<W: Write>(writer: &mut W, bytes: &[u8]) -> io::Result<usize>
 }
 
 impl<W: Write> Sink for RealSink<W> {
-    ghost told = { λ _. false };
-
-    ghost sent = { λ _. [] };
-
-    ghost faults = { λ sink. sink.faults };
+    ghost seen = { λ sink. record { told = false; bytes = []; faults = sink.faults } };
 
     fn put(&mut self, bytes: &[u8]) -> Result<(), SinkError>
         ensures ok { OnOk result (Appends (W.contents self.old.writer) (W.contents self.new.writer) bytes.now) }

@@ -290,8 +290,8 @@ pub fn is_covered(
     Ok(!open && served)
 }
 
-// Whether the class of some needed column isn't in the set.
-fn some_open(alloc: Global, normal: &Normal, set: &[bool]) -> Result<bool, NoMemory>
+/// Whether the class of some needed column isn't in the set.
+pub fn some_open(alloc: Global, normal: &Normal, set: &[bool]) -> Result<bool, NoMemory>
     requires { length normal.now.needed < 65536 }
     ensures { IfOk result (λ some. some ≡ list_any (is_open normal.now set.now) (needed_places normal.now)) }
 {

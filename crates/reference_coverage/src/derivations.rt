@@ -1,9 +1,9 @@
-// The canonical derivation.
+// The steps of a derivation before any is dropped.
 ghost use Rattle.std.specs.Prelude.{◌≡◌, ◌<◌, ◌&&◌, ◌==◌, ◌∷◌, map, filter, length, nat_lt, IfOk, option_map};
 ghost use Rattle.std.specs.List.{best_of};
 ghost use Rattle.std.specs.Option.{option_copied};
 ghost use Rattle.beas_core.specs.Coverage.{atoms_of, class_at, holds_classes, holds_needed, key_classes, serves, with_classes};
-ghost use Rattle.beas_core.specs.Derivations.{access_in, use_of, least_bound, adds_class, step_of, with_use, enabled_uses, adding_steps, serving_steps, is_served_by, bound_by, bound_after, derivation};
+ghost use Rattle.beas_core.specs.Derivations.{access_in, use_of, least_bound, adds_class, step_of, with_use, enabled_uses, adding_steps, serving_steps, is_served_by, bound_by, bound_after, greedy_steps};
 ghost use Rattle.beas_core.specs.Groups.{member_columns};
 ghost use Rattle.reference_coverage.specs.Turns.{serving_choice};
 
@@ -103,7 +103,8 @@ fn with_use(
     with_classes(alloc, set, &classes)
 }
 
-fn bound_by(
+/// The classes that are bound after one step.
+pub fn bound_by(
     alloc: Global,
     normal: &Normal,
     accesses: &[Access],
@@ -197,7 +198,8 @@ fn adding_steps(
     }
 }
 
-fn is_served_by(normal: &Normal, accesses: &[Access], steps: &[DStep], atom: u16) -> bool
+/// Whether some step on the atom holds all its needed columns.
+pub fn is_served_by(normal: &Normal, accesses: &[Access], steps: &[DStep], atom: u16) -> bool
     ensures { result ≡ is_served_by normal.now accesses.now steps.now atom }
 {
     steps.iter().any(|step| step.atom == atom && step_holds_needed(normal, accesses, step))
@@ -278,9 +280,9 @@ fn serving_after(
     serving_steps(alloc, normal, accesses, steps, set.as_slice(), &atoms)
 }
 
-/// The canonical derivation from a start set of classes, nothing where the block isn't covered.
-#[tactic(auto, unfolding(beas_core::specs::Derivations::derivation, beas_core::specs::Derivations::greedy_steps))]
-pub fn derivation(
+/// The steps that are taken before any is dropped, nothing where the block isn't covered.
+#[tactic(auto, unfolding(beas_core::specs::Derivations::greedy_steps))]
+pub fn greedy_steps(
     alloc: Global,
     normal: &Normal,
     accesses: &[Access],
@@ -288,7 +290,7 @@ pub fn derivation(
 ) -> Result<Option<List<DStep>>, NoMemory>
     requires atoms { length normal.now.atoms < 65536 }
     requires needed { length normal.now.needed < 65536 }
-    ensures { IfOk result (λ steps. steps ≡ derivation normal.now accesses.now start.now) }
+    ensures { IfOk result (λ steps. steps ≡ greedy_steps normal.now accesses.now start.now) }
 {
     match adding_steps(alloc, normal.count, normal, accesses, start)? {
         None => Ok(None),

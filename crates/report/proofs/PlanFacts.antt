@@ -1,29 +1,41 @@
--- The lines of a plan, step by step, and that each cost of a plan that fits is a number of 128 bits.
-use Rattle.std.proofs.Common.{◌≡◌, ◌≤◌, ◌<◌, ◌+◌, ◌*◌, ◌^◌, ◌++◌, ℕ, zero, suc, List, [], ◌∷◌, length, get_or, drop, arith, refl, ap, ◌∙◌, append_assoc}
+-- The lines of a plan, step by step, and that each cost and size of a plan that fits is a number of 128 bits.
+use Rattle.std.proofs.Common.{◌≡◌, ◌⊎◌, length-append, ◌≤◌, ◌<◌, ◌+◌, ◌*◌, ◌^◌, ◌++◌, ℕ, zero, suc, Bool, true, false, true≢false, cond, List, [], ◌∷◌, length, get_or, drop, inl, inr, arith, refl, ap, sym, ◌∙◌, append_assoc}
 use Rattle.std.proofs.Math.Seq.{drop-cons}
-use Rattle.std.proofs.lemmas.List.Elements.{All-nil, All-cons, All-contains}
-use Rattle.std.specs.Prelude.{codes, All, Bool, true, false, Option, Some, None, find, IsTrue, ◌==◌, ◌||◌, if◌then◌else◌}
-use Rattle.std.specs.List.{AllZip, enumerate_from, flat_map}
+use Rattle.std.proofs.Math.Nat.{mul-le-mul_left}
+use Rattle.std.proofs.lemmas.List.Elements.{All-contains, All-head, All-tail}
+use Rattle.std.proofs.lemmas.List.{length-map}
+use Rattle.std.specs.Prelude.{codes, All, IsTrue, if◌then◌else◌}
+use Rattle.std.specs.List.{range_with_len}
 use Rattle.beas_core.specs.declared.schema.Access.{Access}
+use Rattle.beas_core.specs.declared.schema.AccessId.{AccessId}
+use Rattle.beas_core.specs.declared.query.Block.{Block}
 use Rattle.beas_core.specs.declared.plan.DStep.{DStep}
 use Rattle.beas_core.specs.declared.plan.Normal.{Normal}
 use Rattle.beas_core.specs.declared.plan.Derivation.{Derivation}
 use Rattle.beas_core.specs.declared.plan.Prepared.{Prepared}
-use Rattle.beas_core.specs.declared.schema.AccessId.{AccessId}
-use Rattle.beas_core.specs.Derivations.{access_in, is_live}
-use Rattle.beas_core.specs.Numbers.{announced_from, size_after, own_announced_of_all}
-use Rattle.beas_core.specs.Fits.{OwnPlanIsSound, PlanFits}
-use Rattle.beas_core.proofs.Sets.{Contains-from_has}
+use Rattle.beas_core.specs.Types.{ClassSet}
+use Rattle.beas_core.specs.Coverage.{atoms_of}
+use Rattle.beas_core.specs.Derivations.{access_in, is_live, is_served_by, is_sound}
+use Rattle.beas_core.specs.Numbers.{announced_from, last_size, size_after}
+use Rattle.beas_core.specs.Shapes.{BlockIsWellFormed}
+use Rattle.beas_core.specs.Classes.{normal_of}
+use Rattle.beas_core.specs.Trees.{QueryTree, Single, Either, Minus, blocks_of}
+use Rattle.beas_core.specs.Guiding.{after}
+use Rattle.beas_core.specs.Queries.{plan_of, start_size, size_of, announced_in, query_bound}
+use Rattle.beas_core.specs.Fits.{PreparedIsWellFormed, PlanFits, PlansAreSound}
+use Rattle.beas_core.proofs.Sets.{Has, Has-append_left, Has-append_right, Contains-from_has}
 use Rattle.beas_core.proofs.Accesses.{access_in-member}
+use Rattle.evaluation_facts.proofs.MemberTests.{all_has}
+use Rattle.evaluation_facts.proofs.SoundParts.{sound_parts}
 use Rattle.catalogue.specs.Schema.{Schema, SchemaIsSound, AccessIsSound, access_with_id}
-use Rattle.report.specs.Plans.{StepsAreTold, answer_text, block_text, plan_text, step_line, step_text, steps_text, use_text}
+use Rattle.report.specs.Plans.{AllStepsTold, BlocksAreTold, answer_text, blocks_text, plan_text_over, step_line, step_text, steps_text, use_text}
 
 -- the lines of the steps left are that of the first and those after it
-pub steps_text-next : (schema : Schema) (b j size after : ℕ) (steps : List DStep) (i : ℕ) (d : DStep) → i < length steps
-    → after ≡ size_after schema.accesses size (get_or steps i d)
-    → steps_text schema b j size (drop i steps)
-    ≡ step_line schema b j size (get_or steps i d) ++ steps_text schema b (j + 1) after (drop (i + 1) steps)
-steps_text-next schema b j size after steps i d below left =
+pub steps_text-next : (schema : Schema) (accesses : List Access) (b j size after : ℕ) (steps : List DStep) (i : ℕ) (d : DStep) → i < length steps
+    → after ≡ size_after accesses size (get_or steps i d)
+    → steps_text schema accesses b j size (drop i steps)
+    ≡ step_line schema accesses b j size (get_or steps i d) ++ steps_text schema accesses b (j + 1) after (drop (i + 1) steps)
+steps_text-next schema accesses b j size after steps i d below left =
     let next : i + 1 ≡ suc i = omega arith in
     rw (left, next, drop-cons steps i d below) refl
 
@@ -36,30 +48,144 @@ announced-next accesses size after steps i d below left =
     let next : i + 1 ≡ suc i = omega arith in
     rw (left, next, drop-cons steps i d below) refl
 
--- so are the lines of the blocks left
-pub blocks_text-next : (f : ℕ × Derivation → List ℕ) (derivations : List Derivation) (i : ℕ) (d : Derivation) → i < length derivations
-    → flat_map f (enumerate_from (i + 1) (drop i derivations))
-    ≡ f (i + 1, get_or derivations i d) ++ flat_map f (enumerate_from (i + 1 + 1) (drop (i + 1) derivations))
-blocks_text-next f derivations i d below = rw (drop-cons derivations i d below) (rw (next (suc i) (i + 1) (omega arith)) refl)
+-- and the valuations after the last
+pub last-next : (accesses : List Access) (size after : ℕ) (steps : List DStep) (i : ℕ) (d : DStep) → i < length steps
+    → after ≡ size_after accesses size (get_or steps i d)
+    → last_size accesses size (drop i steps) ≡ last_size accesses after (drop (i + 1) steps)
+last-next accesses size after steps i d below left =
+    let next : i + 1 ≡ suc i = omega arith in
+    rw (left, next, drop-cons steps i d below) refl
+
+-- ---- numbers of 128 bits
+
+at_least_itself : (n bound : ℕ) → 1 ≤ bound → n ≤ n * bound
+at_least_itself n bound h = let p = mul-le-mul_left n h in omega (arith, p)
+
+-- a step leaves at most as many valuations as it costs
+size_within : (accesses : List Access) (s : DStep) (b : ℕ) → 1 ≤ (access_in accesses s.access).bound
+    → size_after accesses b s ≤ b * (access_in accesses s.access).bound
+size_within accesses s b h = by s.adds
   where
-    next : (m n : ℕ) → m ≡ n → drop m derivations ≡ drop n derivations
-    next m n e = cc
+    by : (adds : Bool) → cond adds (b * (access_in accesses s.access).bound) b ≤ b * (access_in accesses s.access).bound
+    by true = omega arith
+    by false = at_least_itself b (access_in accesses s.access).bound h
 
-all_told : (accesses : List Access) (normals : List Normal) (derivations : List Derivation)
-    → AllZip (OwnPlanIsSound accesses) normals derivations → own_announced_of_all accesses derivations < 2 ^ 128
-    → All (λ d. StepsAreTold accesses 1 d.steps) derivations
-all_told accesses normals [] plans fits = All-nil _
-all_told accesses [] (plan ∷ derivations) plans fits = absurd plans
-all_told accesses (normal ∷ normals) (plan ∷ derivations) plans fits =
-    let first : StepsAreTold accesses 1 plan.steps = record { live = plans.0.sound.live; cost = omega arith } in
-    All-cons (λ (d : Derivation). StepsAreTold accesses 1 d.steps) plan derivations first (all_told accesses normals derivations plans.1 (omega arith))
+-- so the valuations after the last step are at most what the steps cost, where there is a step
+last_within : (accesses : List Access) (b : ℕ) (s : DStep) (steps : List DStep)
+    → All (λ t. 1 ≤ (access_in accesses t.access).bound) (s ∷ steps) → last_size accesses b (s ∷ steps) ≤ announced_from accesses b (s ∷ steps)
+last_within accesses b s [] h = let w = size_within accesses s b (All-head (λ t. 1 ≤ (access_in accesses t.access).bound) s [] h) in omega (arith, w)
+last_within accesses b s (t ∷ steps) h =
+    let w = last_within accesses (size_after accesses b s) t steps (All-tail (λ t. 1 ≤ (access_in accesses t.access).bound) s (t ∷ steps) h) in omega (arith, w)
 
--- each block of a plan that fits can be told
+-- a block has an atom, so a sound derivation of it has a step
+some_step : (normal : Normal) (accesses : List Access) (start : ClassSet) (steps : List DStep) → 1 ≤ length normal.atoms
+    → is_sound normal accesses start steps ≡ true → 1 ≤ length steps
+some_step normal accesses start (s ∷ steps) some sound = omega arith
+some_step normal accesses start [] some sound =
+    let served = (sound_parts normal accesses start [] sound).served in
+    absurd (true≢false (sym (all_has (is_served_by normal accesses []) (atoms_of normal) 0 served (first (length normal.atoms) some))))
+  where
+    first : (n : ℕ) → 1 ≤ n → Has (range_with_len 0 n) 0
+    first zero h = absurd (omega (arith, h))
+    first (suc n) h = inl refl
+
+an_atom : (block : Block) → BlockIsWellFormed block → 1 ≤ length (normal_of block).atoms
+unfolding normal_of
+an_atom block shape = shape.some_atom
+
+block_within : (accesses : List Access) (b : ℕ) (steps : List DStep) → 1 ≤ length steps
+    → All (λ t. 1 ≤ (access_in accesses t.access).bound) steps → last_size accesses b steps ≤ announced_from accesses b steps
+block_within accesses b [] some bounds = absurd (omega (arith, some))
+block_within accesses b (s ∷ steps) some bounds = last_within accesses b s steps bounds
+
+abbrev WellFormed : QueryTree → Type 0
+WellFormed t = (block : Block) → Has (blocks_of t) block → BlockIsWellFormed block
+
+left_of : (l r : QueryTree) → ((block : Block) → Has (blocks_of l ++ blocks_of r) block → BlockIsWellFormed block) → WellFormed l
+left_of l r shapes block h = shapes block (Has-append_left (blocks_of l) (blocks_of r) block h)
+
+right_of : (l r : QueryTree) → ((block : Block) → Has (blocks_of l ++ blocks_of r) block → BlockIsWellFormed block) → WellFormed r
+right_of l r shapes block h = shapes block (Has-append_right (blocks_of l) (blocks_of r) block h)
+
+module _ (accesses : List Access) (guided : List Bool) (plans : List Derivation) where
+  -- a tree has at most as many answers as it is announced to read
+  size_announced : (n b : ℕ) (t : QueryTree) → WellFormed t → PlansAreSound accesses guided plans n t
+      → size_of accesses guided plans n b t ≤ announced_in accesses guided plans n b t
+  size_announced n b (Single block) shapes plan =
+      let shape : BlockIsWellFormed block = shapes block (inl refl) in
+      let some = some_step (normal_of block) accesses _ (plan_of plans n).steps (an_atom block shape) plan.sound.sound in
+      block_within accesses (start_size guided n b) (plan_of plans n).steps some (λ i d h. (plan.well_formed i d h).bound)
+  size_announced n b (Either l r) shapes plan =
+      let left = size_announced n b l (left_of l r shapes) plan.0 in
+      let right = size_announced (after n l) b r (right_of l r shapes) plan.1 in
+      omega (arith, left, right)
+  size_announced n b (Minus l r) shapes plan =
+      let left = size_announced n b l (left_of l r shapes) plan.0 in
+      omega (arith, left)
+
+  steps_told : (n b : ℕ) (t : QueryTree) → WellFormed t → PlansAreSound accesses guided plans n t
+      → announced_in accesses guided plans n b t < 2 ^ 128 → AllStepsTold accesses guided plans n b t
+  steps_told n b (Single block) shapes plan small = record { live = plan.sound.live; cost = small }
+  steps_told n b (Either l r) shapes plan small =
+      let left = size_announced n b l (left_of l r shapes) plan.0 in
+      let right = size_announced (after n l) b r (right_of l r shapes) plan.1 in (
+        steps_told n b l (left_of l r shapes) plan.0 (omega (arith, small)),
+        steps_told (after n l) b r (right_of l r shapes) plan.1 (omega (arith, small)),
+        omega (arith, left, right, small),
+      )
+  steps_told n b (Minus l r) shapes plan small = (
+    steps_told n b l (left_of l r shapes) plan.0 (omega (arith, small)),
+    steps_told (after n l) (size_of accesses guided plans n b l) r (right_of l r shapes) plan.1 (omega (arith, small)),
+  )
+
+-- what the blocks of a tree need, its parts have
+pub told_left : (accesses : List Access) (guided : List Bool) (plans : List Derivation) (n b : ℕ) (l r : QueryTree)
+    → BlocksAreTold accesses guided plans n b (Either l r) ⊎ BlocksAreTold accesses guided plans n b (Minus l r)
+    → BlocksAreTold accesses guided plans n b l
+told_left accesses guided plans n b l r (inl t) = record {
+  derivations = let e = length-append (blocks_of l) (blocks_of r) in omega (arith, e, t.derivations);
+  flags = let e = length-append (blocks_of l) (blocks_of r) in omega (arith, e, t.flags);
+  steps = t.steps.0;
+}
+told_left accesses guided plans n b l r (inr t) = record {
+  derivations = let e = length-append (blocks_of l) (blocks_of r) in omega (arith, e, t.derivations);
+  flags = let e = length-append (blocks_of l) (blocks_of r) in omega (arith, e, t.flags);
+  steps = t.steps.0;
+}
+
+pub told_right : (accesses : List Access) (guided : List Bool) (plans : List Derivation) (n b : ℕ) (l r : QueryTree)
+    → BlocksAreTold accesses guided plans n b (Either l r) → BlocksAreTold accesses guided plans (after n l) b r
+told_right accesses guided plans n b l r t = record {
+  derivations = let e = length-append (blocks_of l) (blocks_of r) in omega (arith, e, t.derivations);
+  flags = let e = length-append (blocks_of l) (blocks_of r) in omega (arith, e, t.flags);
+  steps = t.steps.1;
+}
+
+pub told_guided : (accesses : List Access) (guided : List Bool) (plans : List Derivation) (n b : ℕ) (l r : QueryTree)
+    → BlocksAreTold accesses guided plans n b (Minus l r)
+    → BlocksAreTold accesses guided plans (after n l) (size_of accesses guided plans n b l) r
+told_guided accesses guided plans n b l r t = record {
+  derivations = let e = length-append (blocks_of l) (blocks_of r) in omega (arith, e, t.derivations);
+  flags = let e = length-append (blocks_of l) (blocks_of r) in omega (arith, e, t.flags);
+  steps = t.steps.1;
+}
+
+-- there are as many blocks as normal forms
+blocks_counted : (prepared : Prepared) → PreparedIsWellFormed prepared → length (blocks_of prepared.query) ≡ length prepared.normals
+blocks_counted prepared formed = sym (ap length formed.normals ∙ length-map (blocks_of prepared.query) normal_of)
+
+-- the blocks of a plan that fits can be told
 pub told : (accesses : List Access) (prepared : Prepared) → PlanFits accesses prepared → prepared.bound < 2 ^ 128
-    → All (λ d. StepsAreTold accesses 1 d.steps) prepared.derivations
+    → BlocksAreTold accesses prepared.guided prepared.derivations 0 1 prepared.query
 told accesses prepared fits below =
-    let small = rw fits.bound at below in
-    all_told accesses prepared.normals prepared.derivations fits.plans small
+    let small : query_bound accesses prepared.guided prepared.derivations prepared.query < 2 ^ 128 = rw fits.bound at below in
+    let blocks = blocks_counted prepared fits.well_formed in
+    record {
+      derivations = omega (arith, blocks, fits.well_formed.derivations);
+      flags = omega (arith, blocks, fits.well_formed.flags);
+      steps = steps_told accesses prepared.guided prepared.derivations 0 1 prepared.query
+          (λ b m. All-contains BlockIsWellFormed (blocks_of prepared.query) b fits.well_formed.query.blocks (Contains-from_has (blocks_of prepared.query) b m)) fits.plans small;
+    }
 
 -- the catalogue's definition of the live constraint with an id is that of derivations
 pub access_is : (accesses : List Access) (id : AccessId) → access_with_id accesses id ≡ access_in accesses id
@@ -82,7 +208,7 @@ advance text next {line} {item} p l n w = rw (p, l, append_assoc text item next,
 pub step_told : (schema : Schema) (b j size : ℕ) (s : DStep) (access : Access) (atom bound after : ℕ) (used : List ℕ)
     → access ≡ access_in schema.accesses s.access → bound ≡ access.bound → after ≡ (if s.adds then size * bound else size)
     → used ≡ use_text schema access s.adds → atom ≡ s.atom
-    → (after ≡ size_after schema.accesses size s) × (step_text b j (atom + 1) used (size * bound) after ≡ step_line schema b j size s)
+    → (after ≡ size_after schema.accesses size s) × (step_text b j (atom + 1) used (size * bound) after ≡ step_line schema schema.accesses b j size s)
 step_told schema b j size s access atom bound after used a n r u t = (rw (r, n, a) refl, rw (r, u, t, n, a) refl)
 
 regrouped : (a b c d : List ℕ) → ((a ++ b) ++ c) ++ d ≡ a ++ (b ++ (c ++ d))
@@ -90,10 +216,10 @@ regrouped a b c d = simp append_assoc
 
 -- the blocks' lines and the line of the answer
 pub plan_whole : (schema : Schema) (prepared : Prepared) (blocks begun told text : List ℕ)
-    → blocks ≡ flat_map (λ d. block_text schema d.0 d.1) (enumerate_from 1 prepared.derivations)
+    → blocks ≡ blocks_text schema schema.accesses prepared.guided prepared.derivations 0 [] 1 prepared.query
     → begun ≡ blocks ++ codes "plan answer " → told ≡ begun ++ answer_text 1 prepared.query → text ≡ told ++ codes "\n"
-    → text ≡ plan_text schema prepared
-unfolding plan_text
+    → text ≡ plan_text_over schema schema.accesses prepared
+unfolding plan_text_over
 plan_whole schema prepared blocks begun told text b g o t =
     t ∙ ap (λ (x : List ℕ). x ++ codes "\n") (o ∙ ap (λ (x : List ℕ). x ++ answer_text 1 prepared.query) g)
     ∙ regrouped blocks (codes "plan answer ") (answer_text 1 prepared.query) (codes "\n")

@@ -1,12 +1,12 @@
 -- What csv's default writer writes of fields that are text is text.
-use Rattle.std.proofs.Common.{◌≡◌, ◌≢◌, ℕ, zero, suc, ◌<◌, Bool, true, false, ◌&&◌, List, [], ◌∷◌, ◌++◌, length, get_or, IsUtf8, inl, inr, refl, sym, subst, arith, append-nil}
+use Rattle.std.proofs.Common.{◌≡◌, ◌≢◌, ℕ, suc, ◌<◌, Bool, true, false, List, [], ◌∷◌, length, get_or, IsUtf8, inl, inr, refl, sym, subst, arith, append-nil}
 use Rattle.std.specs.List.{list_any}
 use Rattle.std.specs.Prelude.{if◌then◌else◌, ◌==◌}
 use Rattle.std.proofs.lemmas.Bool.{and_parts, cases_eq, ne_eqb}
 use Rattle.std.proofs.lemmas.Str.{IsUtf8-append, IsUtf8-nil, IsUtf8-encode, encode_ascii, inside_one}
 use lib.Utf8.{scalar, scalars, encode, encodes, low_scalar}
 use Rattle.csv.specs.Records.{AllText}
-use Rattle.csv.specs.Writing.{default_writer, escaped, quoted, needs_quotes, field_text, fields_text, is_blank, row_body, row_text, quote_mark}
+use Rattle.csv.specs.Writing.{default_writer, escaped, quoted, needs_quotes, field_text, fields_text, is_blank, row_body, row_text}
 use Rattle.csv.proofs.WriteFacts.{escaped-append, escaped-none}
 
 ascii_then : (x : ℕ) (xs : List ℕ) → x < 128 → IsUtf8 xs → IsUtf8 (x ∷ xs)

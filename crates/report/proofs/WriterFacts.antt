@@ -1,6 +1,6 @@
 -- A record that csv's writer writes, where records may differ in width.
-use Rattle.std.proofs.Common.{◌≡◌, ◌≢◌, ◌∙◌, ◌++◌, ◌∷◌, List, ℕ, [], refl, sym, subst, true, false, Some, IsUtf8}
-use Rattle.std.specs.Prelude.{if◌then◌else◌, Vec}
+use Rattle.std.proofs.Common.{◌≡◌, ◌≢◌, ◌∙◌, ◌++◌, ◌∷◌, List, ℕ, [], refl, ap, sym, subst, true, false, Some, IsUtf8}
+use Rattle.std.specs.Prelude.{map, Vec}
 use Rattle.std.specs.Io.KnownBytes.{Appends}
 use Rattle.std.specs.declared.alloc.Global.{Global}
 use Rattle.std.proofs.lemmas.Str.{IsUtf8-append}
@@ -59,3 +59,8 @@ record_stands before after fields stands texts whole same no_field blank = recor
   blank = blank;
   text = subst IsUtf8 (sym whole) (IsUtf8-append _ _ stands.text (IsUtf8-row_text fields texts));
 }
+
+-- the fields of names are the names
+pub names_as_fields : (names : List (List ℕ)) → map (λ name. name) names ≡ names
+names_as_fields [] = refl
+names_as_fields (name ∷ names) = ap (λ rest. name ∷ rest) (names_as_fields names)

@@ -8,9 +8,10 @@ use Rattle.csv.specs.Writing.{default_writer, row_text}
 use Rattle.beas_core.specs.declared.value.Value.{Value}
 use Rattle.beas_core.specs.declared.value.Value.TheVariants.{Int, Str}
 use Rattle.beas_core.specs.Refusals.{number_of}
+use Rattle.beas_core.specs.Texts.{concatenation}
 use Rattle.report.specs.declared.reports.Report.{Report}
 use Rattle.report.specs.declared.reports.Report.TheVariants.{Done, Changed, Greatest, Pairs, Explained, Answered, Refused}
-use Rattle.report.specs.Texts.{concatenation, refusal_text}
+use Rattle.report.specs.Texts.{refusal_text}
 
 unfoldable pub record_line : List (List ℕ) → List ℕ
 record_line fields = row_text default_writer fields

@@ -1,25 +1,20 @@
 -- The texts of refusals, as bytes.
 --     literal_text value        a value as a literal: a number in decimal, a text in quotes with its quotes doubled
 --     refusal_text why          what a report says of a refusal after its number
-use Rattle.std.specs.Prelude.{ℕ, Bool, true, false, List, [], ◌∷◌, ◌++◌, map, codes, decimal, Option, Some, None}
+use Rattle.std.specs.Prelude.{ℕ, true, false, List, [], ◌∷◌, map, codes, decimal, Some, None}
 use Rattle.std.specs.Fmt.{signed_decimal}
-use Rattle.std.specs.List.{flat_map}
 use Rattle.beas_core.specs.declared.value.Value.{Value}
 use Rattle.beas_core.specs.declared.value.Value.TheVariants.{Int, Str}
 use Rattle.beas_core.specs.declared.refusal.Counted.{Counted}
 use Rattle.beas_core.specs.declared.refusal.Counted.TheVariants.{Tables, Columns, Constraints, Atoms, Blocks, Outputs, Rows}
 use Rattle.beas_core.specs.declared.refusal.Refusal.{Refusal}
-use Rattle.beas_core.specs.declared.refusal.Refusal.TheVariants.{Syntax, TooDeep, TableExists, UnknownTable, UnknownColumn, Ambiguous, DuplicateName, MixedTypes, WrongType, ShapeMismatch, BadLimit, AlreadyBroken, BreaksBound, WrongWidth, NumberRange, Unreadable, BadField, RecordWidth, HeaderMismatch, NotCovered, TooLarge, OverBudget, TooMany, NeedsDistinct, FileTooLong, UnknownAccess, TextTooLong}
+use Rattle.beas_core.specs.declared.refusal.Refusal.TheVariants.{Syntax, TooDeep, TableExists, UnknownTable, UnknownColumn, Ambiguous, DuplicateName, MixedTypes, WrongType, ShapeMismatch, BadLimit, AlreadyBroken, BreaksBound, WrongWidth, NumberRange, Unreadable, BadField, RecordWidth, HeaderMismatch, NotCovered, TooLarge, OverBudget, TooMany, NeedsDistinct, FileTooLong, UnknownAccess, TextTooLong, NotGrouped, SumOfText, TooManyCandidates, BadSession, SessionBusy, SessionIdle}
+use Rattle.beas_core.specs.Texts.{concatenation, with_commas}
 use Rattle.sql_text.specs.Tokens.{in_quotes}
 
 abbrev pub literal_text : Value → List ℕ
 literal_text (Int number) = signed_decimal number
 literal_text (Str text) = in_quotes text
-
--- items with a comma and a space between them
-abbrev pub with_commas : List (List ℕ) → List ℕ
-with_commas [] = []
-with_commas (x ∷ xs) = x ++ flat_map (λ y. codes ", " ++ y) xs
 
 abbrev pub counted_text : Counted → List ℕ
 counted_text Tables = codes "tables"
@@ -29,12 +24,6 @@ counted_text Atoms = codes "atoms"
 counted_text Blocks = codes "blocks"
 counted_text Outputs = codes "outputs"
 counted_text Rows = codes "rows"
-
--- the parts one after another
-abbrev pub concatenation : List (List ℕ) → List ℕ
-concatenation [] = []
-concatenation (part ∷ []) = part
-concatenation (part ∷ next ∷ parts) = part ++ concatenation (next ∷ parts)
 
 -- what a report says of a refusal after its number, part by part
 abbrev pub refusal_parts : Refusal → List (List ℕ)
@@ -73,6 +62,12 @@ refusal_parts NeedsDistinct = codes "DISTINCT wanted" ∷ []
 refusal_parts (FileTooLong limit) = codes "file longer than " ∷ decimal limit ∷ codes " bytes" ∷ []
 refusal_parts (UnknownAccess name) = codes "unknown constraint " ∷ name ∷ []
 refusal_parts (TextTooLong limit) = codes "text longer than " ∷ decimal limit ∷ codes " bytes" ∷ []
+refusal_parts (NotGrouped column) = codes "column " ∷ column ∷ codes " not grouped" ∷ []
+refusal_parts (SumOfText column) = codes "sum of text column " ∷ column ∷ []
+refusal_parts (TooManyCandidates found) = decimal found ∷ codes " candidate columns, limit 16" ∷ []
+refusal_parts (BadSession digits) = codes "session " ∷ digits ∷ codes " not between 1 and 64" ∷ []
+refusal_parts (SessionBusy session) = codes "session " ∷ decimal session ∷ codes " has an open query" ∷ []
+refusal_parts (SessionIdle session) = codes "session " ∷ decimal session ∷ codes " has no open query" ∷ []
 
 abbrev pub refusal_text : Refusal → List ℕ
 refusal_text why = concatenation (refusal_parts why)

@@ -2,6 +2,7 @@
 #![tactic(auto)]
 
 mod decimal;
+mod fields;
 mod literals;
 mod plans;
 mod records;

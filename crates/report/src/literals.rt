@@ -1,6 +1,7 @@
 // Values as they are written in a statement.
 ghost use Rattle.std.specs.Prelude.{◌≡◌, ◌++◌, IfOk, OnOk, map};
-ghost use Rattle.report.specs.Texts.{literal_text, with_commas};
+ghost use Rattle.beas_core.specs.Texts.{with_commas};
+ghost use Rattle.report.specs.Texts.{literal_text};
 
 use beas_core::{List, NoMemory, Text, Value};
 use itoa::Buffer;

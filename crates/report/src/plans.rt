@@ -1,10 +1,12 @@
 // The plan lines of a prepared query.
-ghost use Rattle.std.specs.List.{enumerate_from, flat_map};
-ghost use Rattle.std.specs.Prelude.{◌≡◌, if◌then◌else◌, ◌≤◌, ◌<◌, ◌+◌, ◌*◌, ◌^◌, ◌++◌, ℕ, All, length, IsTrue, IfOk, OnOk};
+ghost use Rattle.std.specs.Prelude.{◌≡◌, if◌then◌else◌, ◌<◌, ◌+◌, ◌^◌, ◌++◌, length, IsTrue, IfOk, OnOk};
 ghost use Rattle.beas_core.specs.Derivations.{access_in, is_live};
 ghost use Rattle.beas_core.specs.Fits.{PlanFits};
+ghost use Rattle.beas_core.specs.Guiding.{after};
+ghost use Rattle.beas_core.specs.Numbers.{last_size};
+ghost use Rattle.beas_core.specs.Queries.{is_guided, plan_of, size_of, start_size};
 ghost use Rattle.beas_core.specs.Trees.{blocks_of};
-ghost use Rattle.report.specs.Plans.{StepsAreTold, answer_text, block_text, plan_text, step_text, steps_text, use_text, verb};
+ghost use Rattle.report.specs.Plans.{BlocksAreTold, StepsAreTold, answer_text, block_line, blocks_text, guide_text, plan_text, step_text, steps_text, use_text, verb};
 
 use crate::decimal::Decimal;
 use crate::texts::text;
@@ -13,8 +15,23 @@ use catalogue::Catalogue;
 use itoa::Buffer;
 use std::alloc::Global;
 
+/// What guides the blocks of a tree: how its answers are made of blocks, and how many there are at most.
+#[derive(Drop)]
+struct GuideNote {
+    answer: Text,
+    size: u128,
+}
+
+/// Where the lines of a tree's blocks end: the number of the next block, and how many answers the tree has at most.
+#[derive(Clone, Copy)]
+struct Reached {
+    next: usize,
+    size: u128,
+}
+
 /// How a prepared query is fetched: for each block from left to right a line, and one for each of its steps,
-/// with its cost and how many valuations it leaves at most; and at the end how the blocks make the answer.
+/// with its cost and how many valuations it leaves at most; and at the end how the blocks make the answer. The line
+/// of a guided block says how the blocks make its guide, and how many answers that has at most.
 pub fn plan_text(
     alloc: Global,
     prepared: &Prepared,
@@ -25,55 +42,189 @@ pub fn plan_text(
 {
     // Read for what its type tells: the announced number fits 128 bits, and so do the numbers of the steps.
     let _bound = prepared.bound;
-    let mut text = blocks_text(alloc, prepared.derivations.as_slice(), catalogue)?;
+    let derivations = prepared.derivations.as_slice();
+    let guided = prepared.guided.as_slice();
+    let no_guide = GuideNote {
+        answer: Text::new(alloc),
+        size: 1,
+    };
+    let mut text = Text::new(alloc);
+    push_blocks(
+        &mut text,
+        alloc,
+        derivations,
+        guided,
+        catalogue,
+        0,
+        &no_guide,
+        &prepared.query,
+    )?;
     text.push_str("plan answer ")?;
     push_answer(&mut text, 1, &prepared.query)?;
     text.push_str("\n")?;
     Ok(text)
 }
 
-fn blocks_text(
+/// Adds the lines of the blocks of a part of the query, whose first block has this number, from 0 on.
+fn push_blocks(
+    text: &mut Text,
     alloc: Global,
     derivations: &[Derivation],
+    guided: &[bool],
     catalogue: &Catalogue,
-) -> Result<Text, NoMemory>
-    requires { All (λ d. StepsAreTold catalogue.now.accesses 1 d.steps) derivations.now }
-    ensures { IfOk result (λ text. text
-        ≡ flat_map (λ d. block_text catalogue.now d.0 d.1) (enumerate_from 1 derivations.now)) }
+    first: usize,
+    guide: &GuideNote,
+    query: &Query,
+) -> Result<Reached, NoMemory>
+    requires { BlocksAreTold catalogue.now.accesses guided.now derivations.now first guide.now.size
+        query.now }
+    ensures text { OnOk result (text.new ≡ text.old ++ blocks_text catalogue.now catalogue.now.accesses guided.now
+        derivations.now first guide.now.answer guide.now.size query.now) }
+    ensures next { IfOk result (λ reached. reached.next ≡ after first query.now) }
+    ensures size { IfOk result (λ reached. reached.size
+        ≡ size_of catalogue.now.accesses guided.now derivations.now first guide.now.size query.now) }
 {
-    let mut text = Text::new(alloc);
-    for (place, derivation) in derivations.iter().enumerate() {
-        let lines = block_text(alloc, place + 1, derivation, catalogue)?;
-        text.push_str(lines.as_str())?;
+    match &query.node {
+        QueryNode::Block(_) => push_block(
+            text,
+            alloc,
+            derivations,
+            guided,
+            catalogue,
+            first,
+            guide,
+        ),
+        QueryNode::Union(left, right) => {
+            let l = push_blocks(
+                text,
+                alloc,
+                derivations,
+                guided,
+                catalogue,
+                first,
+                guide,
+                left,
+            )?;
+            let r = push_blocks(
+                text,
+                alloc,
+                derivations,
+                guided,
+                catalogue,
+                l.next,
+                guide,
+                right,
+            )?;
+            Ok(Reached {
+                next: r.next,
+                size: l.size + r.size,
+            })
+        }
+        QueryNode::Except(left, right) => {
+            let l = push_blocks(
+                text,
+                alloc,
+                derivations,
+                guided,
+                catalogue,
+                first,
+                guide,
+                left,
+            )?;
+            let right_guide = guide_note(alloc, first + 1, left, l.size)?;
+            let r = push_blocks(
+                text,
+                alloc,
+                derivations,
+                guided,
+                catalogue,
+                l.next,
+                &right_guide,
+                right,
+            )?;
+            Ok(Reached {
+                next: r.next,
+                size: l.size,
+            })
+        }
     }
-    Ok(text)
 }
 
-#[tactic(auto, unfolding(crate::specs::Plans::block_text))]
-fn block_text(
-    alloc: Global,
-    block: usize,
-    derivation: &Derivation,
-    catalogue: &Catalogue,
-) -> Result<Text, NoMemory>
-    requires { StepsAreTold catalogue.now.accesses 1 derivation.now.steps }
-    ensures { IfOk result (λ text. text ≡ block_text catalogue.now block derivation.now) }
+/// A part of the query, whose first block has this number from 1 on, as a guide.
+fn guide_note(alloc: Global, first: usize, query: &Query, size: u128) -> Result<GuideNote, NoMemory>
+    requires { first + length (blocks_of query.now) < 2 ^ 64 }
+    ensures answer { IfOk result (λ note. note.answer ≡ answer_text first query.now) }
+    ensures size { IfOk result (λ note. note.size ≡ size) }
 {
-    let steps = steps_text(alloc, block, derivation.steps.as_slice(), catalogue)?;
-    text!(in alloc; "plan block {}\n{}", Decimal(block), steps.as_str())
+    let mut answer = Text::new(alloc);
+    push_answer(&mut answer, first, query)?;
+    Ok(GuideNote { answer, size })
 }
 
-fn steps_text(
+/// Adds the lines of one block.
+fn push_block(
+    text: &mut Text,
+    alloc: Global,
+    derivations: &[Derivation],
+    guided: &[bool],
+    catalogue: &Catalogue,
+    n: usize,
+    guide: &GuideNote,
+) -> Result<Reached, NoMemory>
+    requires derivations { n < length derivations.now }
+    requires flags { n < length guided.now }
+    requires told { StepsAreTold catalogue.now.accesses (start_size guided.now n guide.now.size)
+        (plan_of derivations.now n).steps }
+    ensures text { OnOk result (text.new ≡ text.old ++ (block_line (n + 1) (guide_text (is_guided guided.now n)
+        guide.now.answer guide.now.size) ++ steps_text catalogue.now catalogue.now.accesses (n + 1) 1
+        (start_size guided.now n guide.now.size) (plan_of derivations.now n).steps)) }
+    ensures next { IfOk result (λ reached. reached.next ≡ n + 1) }
+    ensures size { IfOk result (λ reached. reached.size ≡ last_size catalogue.now.accesses
+        (start_size guided.now n guide.now.size) (plan_of derivations.now n).steps) }
+{
+    let is_guided = guided[n];
+    let steps = derivations[n].steps.as_slice();
+    let words = guide_text(alloc, is_guided, guide)?;
+    let line = block_line(alloc, n + 1, words.as_str())?;
+    text.push_str(line.as_str())?;
+    let start = if is_guided { guide.size } else { 1 };
+    let size = push_steps(text, alloc, n + 1, start, steps, catalogue)?;
+    Ok(Reached { next: n + 1, size })
+}
+
+#[tactic(auto, unfolding(crate::specs::Plans::block_line))]
+fn block_line(alloc: Global, block: usize, guide: &str) -> Result<Text, NoMemory>
+    ensures { IfOk result (λ text. text ≡ block_line block guide.now) }
+{
+    text!(in alloc; "plan block {}{guide}\n", Decimal(block))
+}
+
+/// What the line of a block says of its guide.
+fn guide_text(alloc: Global, is_guided: bool, guide: &GuideNote) -> Result<Text, NoMemory>
+    ensures { IfOk result (λ text. text ≡ guide_text is_guided guide.now.answer guide.now.size) }
+{
+    if is_guided {
+        text!(in alloc; " guided by {} size {}", guide.answer.as_str(), Decimal(guide.size))
+    } else {
+        Ok(Text::new(alloc))
+    }
+}
+
+/// Adds the lines of a block's steps, where so many valuations stand before the first at most, and tells how many
+/// stand after the last.
+fn push_steps(
+    text: &mut Text,
     alloc: Global,
     block: usize,
+    start: u128,
     steps: &[DStep],
     catalogue: &Catalogue,
-) -> Result<Text, NoMemory>
-    requires { StepsAreTold catalogue.now.accesses 1 steps.now }
-    ensures { IfOk result (λ text. text ≡ steps_text catalogue.now block 1 1 steps.now) }
+) -> Result<u128, NoMemory>
+    requires { StepsAreTold catalogue.now.accesses start steps.now }
+    ensures text { OnOk result (text.new ≡ text.old ++ steps_text catalogue.now catalogue.now.accesses block 1 start steps.now) }
+    ensures size { IfOk result (λ size. size ≡ last_size catalogue.now.accesses start steps.now) }
 {
-    let mut text = Text::new(alloc);
-    let mut size = 1;
+    let mut size = start;
     for (place, step) in steps.iter().enumerate() {
         let access = access_of(catalogue, step.access);
         let cost = size * u128::from(access.bound);
@@ -83,7 +234,7 @@ fn steps_text(
         let line = step_text(alloc, block, place + 1, atom, used.as_str(), cost, size)?;
         text.push_str(line.as_str())?;
     }
-    Ok(text)
+    Ok(size)
 }
 
 /// How many valuations a step leaves at most.

@@ -1,13 +1,13 @@
 // The header and the rows of an answer, a record each.
-ghost use Rattle.std.specs.Prelude.{◌≡◌, ◌∷◌, ◌++◌, [], map, IsUtf8, IfOk, OnOk};
+ghost use Rattle.std.specs.Prelude.{◌≡◌, ◌++◌, map, IsUtf8, IfOk, OnOk};
 ghost use Rattle.std.specs.List.{flat_map};
 ghost use Rattle.csv.specs.Records.{AllText, fields_of};
 ghost use Rattle.report.specs.Reports.{field_text, record_line, records_text};
 ghost use Rattle.report.specs.Records.{IsBetweenRecords, text_of_writer};
 
-use beas_core::{List, Name, NoMemory, Row, Text, Value};
+use crate::fields::Field;
+use beas_core::{List, Name, NoMemory, Row, Text};
 use csv::{StringRecord, Writer, WriterBuilder};
-use itoa::Buffer;
 use std::alloc::Global;
 
 /// The text, and after it the header and the rows as csv writes them.
@@ -30,6 +30,7 @@ pub fn with_records(
     text_of(bytes)
 }
 
+#[tactic(auto, using(crate::proofs::WriterFacts::names_as_fields))]
 fn write_header(
     writer: &mut Writer<Vec<u8>>,
     fields: &mut StringRecord,
@@ -39,11 +40,7 @@ fn write_header(
     ensures stands { OnOk result (IsBetweenRecords writer.new) }
     ensures written { OnOk result (text_of_writer writer.new ≡ text_of_writer writer.old ++ record_line header.now) }
 {
-    fields.clear();
-    for name in header {
-        fields.push_field(name.as_str())?;
-    }
-    write_record(writer, fields)
+    write_row(writer, fields, header)
 }
 
 fn write_rows(
@@ -62,32 +59,21 @@ fn write_rows(
     Ok(())
 }
 
-fn write_row(
+fn write_row<F: Field>(
     writer: &mut Writer<Vec<u8>>,
     fields: &mut StringRecord,
-    row: &[Value],
+    row: &[F],
 ) -> Result<(), NoMemory>
     requires { IsBetweenRecords writer.old }
     ensures stands { OnOk result (IsBetweenRecords writer.new) }
     ensures written { OnOk result (text_of_writer writer.new ≡ text_of_writer writer.old
-        ++ record_line (map field_text row.now)) }
+        ++ record_line (map F.field row.now)) }
 {
     fields.clear();
-    for value in row {
-        push_value(fields, value)?;
+    for item in row {
+        item.push_to(fields)?;
     }
     write_record(writer, fields)
-}
-
-fn push_value(fields: &mut StringRecord, value: &Value) -> Result<(), NoMemory>
-    ensures fields { OnOk result (fields_of fields.new ≡ fields_of fields.old ++ field_text value.now ∷ []) }
-    ensures text { IsUtf8 (field_text value.now) }
-{
-    match value {
-        Value::Int(number) => fields.push_field(Buffer::new().format(*number))?,
-        Value::Str(words) => fields.push_field(words.as_str())?,
-    }
-    Ok(())
 }
 
 fn write_record(writer: &mut Writer<Vec<u8>>, fields: &StringRecord) -> Result<(), NoMemory>

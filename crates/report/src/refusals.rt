@@ -1,15 +1,16 @@
 // What a report says of a refusal.
 ghost use Rattle.std.specs.Prelude.{◌≡◌, IfOk};
-ghost use Rattle.beas_core.specs.declared.refusal.Refusal.TheVariants.{BreaksBound, NotCovered as Uncovered, NumberRange as OutOfRange, Unreadable, UnknownColumn as NoSuchColumn};
+ghost use Rattle.beas_core.specs.declared.refusal.Refusal.TheVariants as refusal;
 ghost use Rattle.report.specs.Texts.{counted_text, refusal_text};
 
 use crate::decimal::Decimal;
 use crate::literals::literals;
 use crate::texts::text;
 use beas_core::Refusal::{
-    AlreadyBroken, Ambiguous, BadField, BadLimit, BreaksBound, DuplicateName, FileTooLong,
-    HeaderMismatch, MixedTypes, NeedsDistinct, NotCovered, NumberRange, OverBudget, RecordWidth,
-    ShapeMismatch, Syntax, TableExists, TextTooLong, TooDeep, TooLarge, TooMany, UnknownAccess,
+    AlreadyBroken, Ambiguous, BadField, BadLimit, BadSession, BreaksBound, DuplicateName,
+    FileTooLong, HeaderMismatch, MixedTypes, NeedsDistinct, NotCovered, NotGrouped, NumberRange,
+    OverBudget, RecordWidth, SessionBusy, SessionIdle, ShapeMismatch, SumOfText, Syntax,
+    TableExists, TextTooLong, TooDeep, TooLarge, TooMany, TooManyCandidates, UnknownAccess,
     UnknownColumn, UnknownTable, Unreadable, WrongType, WrongWidth,
 };
 use beas_core::{Counted, Name, NoMemory, Refusal, Row, Text};
@@ -61,11 +62,21 @@ pub fn refusal_text(alloc: Global, why: &Refusal) -> Result<Text, NoMemory>
         FileTooLong { limit } => text!(in alloc; "file longer than {} bytes", Decimal(*limit)),
         UnknownAccess { name } => text!(in alloc; "unknown constraint {}", name.as_str()),
         TextTooLong { limit } => text!(in alloc; "text longer than {} bytes", Decimal(*limit)),
+        NotGrouped { column } => text!(in alloc; "column {} not grouped", column.as_str()),
+        SumOfText { column } => text!(in alloc; "sum of text column {}", column.as_str()),
+        TooManyCandidates { found } =>
+            text!(in alloc; "{} candidate columns, limit 16", Decimal(*found)),
+        BadSession { digits } =>
+            text!(in alloc; "session {} not between 1 and 64", digits.as_str()),
+        SessionBusy { session } =>
+            text!(in alloc; "session {} has an open query", Decimal(*session)),
+        SessionIdle { session } =>
+            text!(in alloc; "session {} has no open query", Decimal(*session)),
     }
 }
 
 fn column_text(alloc: Global, table: &Option<Name>, column: &Name) -> Result<Text, NoMemory>
-    ensures { IfOk result (λ text. text ≡ refusal_text (NoSuchColumn table.now column.now)) }
+    ensures { IfOk result (λ text. text ≡ refusal_text (refusal.UnknownColumn table.now column.now)) }
 {
     match table {
         None => text!(in alloc; "unknown column {}", column.as_str()),
@@ -74,7 +85,7 @@ fn column_text(alloc: Global, table: &Option<Name>, column: &Name) -> Result<Tex
 }
 
 fn range_text(alloc: Global, negative: bool, digits: &Text) -> Result<Text, NoMemory>
-    ensures { IfOk result (λ text. text ≡ refusal_text (OutOfRange negative digits.now)) }
+    ensures { IfOk result (λ text. text ≡ refusal_text (refusal.NumberRange negative digits.now)) }
 {
     if negative {
         text!(in alloc; "number -{} out of range", digits.as_str())
@@ -89,7 +100,7 @@ fn reason_text(
     atom: u32,
     column: &Option<Name>,
 ) -> Result<Text, NoMemory>
-    ensures { IfOk result (λ text. text ≡ refusal_text (Uncovered block atom column.now)) }
+    ensures { IfOk result (λ text. text ≡ refusal_text (refusal.NotCovered block atom column.now)) }
 {
     let (block, atom) = (Decimal(block), Decimal(atom));
     match column {
@@ -100,14 +111,14 @@ fn reason_text(
 }
 
 fn breaks_text(alloc: Global, row: u32, access: &Name, key: &Row) -> Result<Text, NoMemory>
-    ensures { IfOk result (λ text. text ≡ refusal_text (BreaksBound row access.now key.now)) }
+    ensures { IfOk result (λ text. text ≡ refusal_text (refusal.BreaksBound row access.now key.now)) }
 {
     let key = literals(alloc, key)?;
     text!(in alloc; "row {} breaks {} at key ({})", Decimal(row), access.as_str(), key.as_str())
 }
 
 fn unreadable_text(alloc: Global, file: &Text) -> Result<Text, NoMemory>
-    ensures { IfOk result (λ text. text ≡ refusal_text (Unreadable file.now)) }
+    ensures { IfOk result (λ text. text ≡ refusal_text (refusal.Unreadable file.now)) }
 {
     let mut text = Text::from_str(alloc, "cannot read ")?;
     push_quoted(&mut text, file.as_str())?;

@@ -41,7 +41,10 @@ fn of_numbers(place: u32) -> Refusal {
         },
         11 => Refusal::NeedsDistinct,
         12 => Refusal::FileTooLong { limit: 67_108_864 },
-        _ => Refusal::TextTooLong { limit: 65_535 },
+        13 => Refusal::TextTooLong { limit: 65_535 },
+        14 => Refusal::TooManyCandidates { found: 17 },
+        15 => Refusal::SessionBusy { session: 1 },
+        _ => Refusal::SessionIdle { session: 64 },
     }
 }
 
@@ -69,7 +72,9 @@ fn of_name(place: u32, name: Name) -> Refusal {
             atom: 2,
             column: Some(name),
         },
-        _ => Refusal::UnknownAccess { name },
+        8 => Refusal::UnknownAccess { name },
+        9 => Refusal::NotGrouped { column: name },
+        _ => Refusal::SumOfText { column: name },
     }
 }
 
@@ -85,15 +90,17 @@ fn of_text(place: u32, written: Text) -> Refusal {
             negative: true,
             digits: written,
         },
-        _ => Refusal::Unreadable { file: written },
+        3 => Refusal::Unreadable { file: written },
+        _ => Refusal::BadSession { digits: written },
     }
 }
 
-const WRITTEN: [&str; 4] = [
+const WRITTEN: [&str; 5] = [
     "007",
     "9223372036854775808",
     "9223372036854775809",
     "it's\n.csv",
+    "065",
 ];
 
 const COUNTED: [Counted; 7] = [
@@ -130,21 +137,21 @@ fn refuse_key(rt: &HostRuntime, key: Row) -> Result<(), Stop> {
 }
 
 fn write_those_of_numbers(rt: &HostRuntime) -> Result<(), Stop> {
-    for place in 0..14 {
+    for place in 0..17 {
         refuse(rt, of_numbers(place))?;
     }
     Ok(())
 }
 
 fn write_those_of_names(rt: &HostRuntime) -> Result<(), Stop> {
-    for place in 0..9 {
+    for place in 0..11 {
         refuse(rt, of_name(place, name(rt.alloc(), "n_1")?))?;
     }
     Ok(())
 }
 
 fn write_those_of_texts(rt: &HostRuntime) -> Result<(), Stop> {
-    for place in 0..4 {
+    for place in 0..5 {
         let text = Text::from_str(rt.alloc(), WRITTEN[place])?;
         refuse(rt, of_text(place as u32, text))?;
     }

@@ -1,19 +1,18 @@
 //! The rows of one table, of which each that is handed out counts as one read.
 #![tactic(auto)]
 
-ghost use Rattle.std.specs.Prelude.{◌≡◌, ◌+◌, ◌<◌, ◌≤◌, ◌↔◌, ◌++◌, ◌∷◌, [], length, take, slice_index_or, IfErr, IsErrOf, OnOk, OnErr};
-ghost use Rattle.std.specs.List.{SwappedAt, remove as list_remove, swap as list_swap};
-ghost use Rattle.beas_core.specs.declared.refusal.Counted.TheVariants.{Rows as OfRows};
-ghost use Rattle.beas_core.specs.declared.errors.Fail.TheVariants.{NoMemory as Want};
+ghost use Rattle.std.specs.Prelude.{◌≡◌, ◌+◌, ◌<◌, ◌≤◌, ◌↔◌, ◌++◌, ◌∷◌, [], length, take, slice_index_or, IfErr, IfOk, IsErrOf, OnOk, OnErr};
+ghost use Rattle.std.specs.List.{SwappedAt, remove, swap};
 
-use beas_core::{Counted, Fail, List, Refusal, Row, Steps};
+use beas_core::{Counted, Fail, List, NoMemory, Refusal, Row, Steps, copy_row};
 use std::alloc::Global;
 use std::marker::Model;
 use std::mem;
 use std::sync::ledger::Ledger;
 
-/// The rows of a table, in the order in which they came. There are fewer than 2 to the 32.
-#[derive(Debug, Drop)]
+/// The rows of a table, in the order in which they came. There are fewer than 2 to the 32. Its rows are handed out by
+/// `row` alone, so it isn't `Debug`.
+#[derive(Drop)]
 pub struct Rows {
     rows: Vec<Row>,
 }
@@ -30,7 +29,7 @@ impl Model for Rows {
 }
 
 fn too_many(limit: u32) -> Fail
-    ensures { result ≡ Fail.Refused (Refusal.TooMany OfRows limit) }
+    ensures { result ≡ Fail.Refused (Refusal.TooMany Counted.Rows limit) }
 {
     Fail::Refused(Refusal::TooMany {
         what: Counted::Rows,
@@ -68,8 +67,8 @@ impl Rows {
     /// Adds a row at the end. It is refused as one too many where there are `limit` rows or more, and
     /// after any error the rows are as they were.
     pub fn push(&mut self, row: Row, limit: u32) -> Result<(), Fail>
-        ensures too_many { IsErrOf result (Fail.Refused (Refusal.TooMany OfRows limit)) ↔ (limit ≤ length self.old) }
-        ensures memory { length self.old < limit → IfErr result (λ why. why ≡ Want) }
+        ensures too_many { IsErrOf result (Fail.Refused (Refusal.TooMany Counted.Rows limit)) ↔ (limit ≤ length self.old) }
+        ensures memory { length self.old < limit → IfErr result (λ why. why ≡ Fail.NoMemory) }
         ensures ok { OnOk result (self.new ≡ self.old ++ row ∷ []) }
         ensures err { OnErr result (self.new ≡ self.old) }
     {
@@ -83,9 +82,9 @@ impl Rows {
     /// Moves all of `rows` to the end, in order. They are refused as too many where there would be more than
     /// `limit` rows, and after any error both lists are as they were.
     pub fn append(&mut self, alloc: Global, rows: &mut List<Row>, limit: u32) -> Result<(), Fail>
-        ensures too_many { IsErrOf result (Fail.Refused (Refusal.TooMany OfRows limit))
+        ensures too_many { IsErrOf result (Fail.Refused (Refusal.TooMany Counted.Rows limit))
             ↔ (limit < length self.old + length rows.old) }
-        ensures memory { length self.old + length rows.old ≤ limit → IfErr result (λ why. why ≡ Want) }
+        ensures memory { length self.old + length rows.old ≤ limit → IfErr result (λ why. why ≡ Fail.NoMemory) }
         ensures ok { OnOk result (self.new ≡ self.old ++ rows.old) }
         ensures moved { OnOk result (rows.new ≡ []) }
         ensures err { OnErr result (self.new ≡ self.old) }
@@ -102,10 +101,21 @@ impl Rows {
         Ok(())
     }
 
+    /// An equal list. It hands out no row and counts no read.
+    pub fn copy(&self, alloc: Global) -> Result<Rows, NoMemory>
+        ensures { IfOk result (λ copy. copy ≡ self.now) }
+    {
+        let mut rows = Vec::with_capacity(alloc, self.rows.len())?;
+        for row in &self.rows {
+            rows.push(copy_row(alloc, row)?)?;
+        }
+        Ok(Rows { rows })
+    }
+
     /// Takes the row with this index out; those after it close up. It takes no memory and counts no read.
     pub fn remove(&mut self, i: u32)
         requires { i < length self.old }
-        ensures { self.new ≡ list_remove self.old i }
+        ensures { self.new ≡ remove self.old i }
     {
         self.rows.remove(i as usize);
     }
@@ -114,7 +124,7 @@ impl Rows {
     pub fn swap(&mut self, i: u32, j: u32)
         requires first { i < length self.old }
         requires second { j < length self.old }
-        ensures swapped { self.new ≡ list_swap self.old i j }
+        ensures swapped { self.new ≡ swap self.old i j }
         ensures by_index { SwappedAt self.old self.new i j }
     {
         self.rows.swap(i as usize, j as usize);

@@ -26,7 +26,7 @@ pub struct Case {
     pub status: u8,
     /// Whether the words ask for a demonstration, which writes no reports.
     pub is_demonstration: bool,
-    /// The number of the read that fails, from 0 on, if one is to fail.
+    /// The number of the load that fails, from 0 on, if one is to fail.
     pub failing_read: Option<u32>,
     /// The words of the run that comes before, over the same session, where there is one.
     pub words_before: Vec<String>,
@@ -93,7 +93,7 @@ fn status_of(alloc: Global, files: &[CaseFile]) -> io::Result<u8> {
     Ok(digits.as_str().trim().parse::<u8>().unwrap_or(0))
 }
 
-/// The number of the read that fails.
+/// The number of the load that fails.
 fn failing_read_of(alloc: Global, files: &[CaseFile]) -> io::Result<Option<u32>> {
     let digits = text_of(alloc, files, "failing_read")?;
     Ok(digits.as_str().trim().parse::<u32>().ok())

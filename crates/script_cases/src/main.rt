@@ -6,7 +6,7 @@
 //! - `status`, the status that is wanted, where that isn't 0, and `error`, what is wanted on standard error, where that
 //!   isn't nothing;
 //! - `words`, the command line's words, one a line, where they aren't `script.beas`;
-//! - `failing_read`, the number of the read that fails, from 0 on, where one is to fail;
+//! - `failing_read`, the number of the load that fails, from 0 on, where one is to fail;
 //! - `before.beas`, a script that is run before, over the same session, where there is to be one;
 //! - all files that the scripts load.
 //!

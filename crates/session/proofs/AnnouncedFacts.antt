@@ -7,13 +7,13 @@ use Rattle.beas_core.specs.declared.plan.Prepared.{Prepared}
 use Rattle.beas_core.specs.declared.refusal.Refusal.{Refusal}
 use Rattle.beas_core.specs.declared.refusal.Refusal.TheVariants.{OverBudget}
 use Rattle.beas_core.specs.Trees.{QueryTree}
+use Rattle.beas_core.specs.Results.{Gives, IsRefusedAs}
 use Rattle.catalogue.specs.Schema.{Schema}
 use Rattle.sql_tree.specs.Trees.{Tree}
 use Rattle.binder.specs.Binding.{refusals, bound_query}
-use Rattle.binder.specs.Refusing.{Tells}
+use Rattle.binder.specs.Refusing.{first}
 use Rattle.plan_builder.specs.Preparation.{preparation}
 use Rattle.session.specs.Announced.{and_then, announcement, binding, within_budget}
-use Rattle.session.specs.Carried.{Gives}
 use Rattle.session.proofs.CarryFacts.{failed}
 use Rattle.session.proofs.GivenFacts.{given, given_fails, given_next}
 
@@ -21,14 +21,14 @@ module _ (limits : Limits) (budget : Option ℕ) (schema : Schema) (tree : Tree)
   abbrev prepare_within : QueryTree → Result Prepared Refusal
   prepare_within query = and_then (preparation schema query) (within_budget budget)
 
-  pub announced_unbound : (x : Fail) → Tells (failed QueryTree x) (refusals limits schema tree)
+  pub announced_unbound : (x : Fail) → IsRefusedAs (failed QueryTree x) (first (refusals limits schema tree))
       → Gives (failed Prepared x) (announcement limits budget schema tree)
   unfolding announcement
   announced_unbound x told =
       given_fails QueryTree Prepared (binding limits schema tree) prepare_within x
       (given (failed QueryTree x) (refusals limits schema tree) (bound_query schema tree) told tt)
 
-  module _ (query : QueryTree) (told : Tells (Ok query) (refusals limits schema tree)) (is : query ≡ bound_query schema tree) where
+  module _ (query : QueryTree) (told : IsRefusedAs (Ok query) (first (refusals limits schema tree))) (is : query ≡ bound_query schema tree) where
     pub announced_unprepared : (x : Fail) → Gives (failed Prepared x) (preparation schema query)
         → Gives (failed Prepared x) (announcement limits budget schema tree)
     unfolding announcement

@@ -7,25 +7,26 @@ use Rattle.beas_core.specs.declared.errors.NoMemory.{NoMemory as Want}
 use Rattle.beas_core.specs.declared.limits.Limits.{Limits}
 use Rattle.beas_core.specs.declared.refusal.Refusal.{Refusal}
 use Rattle.beas_core.specs.declared.schema.TableId.{TableId}
+use Rattle.beas_core.specs.Results.{Gives}
 use Rattle.catalogue.specs.Database.{Database}
+use Rattle.outside.specs.Seen.{IsLater, Seen}
 use Rattle.report.specs.declared.reports.Report.{Report}
-use Rattle.report.specs.declared.reports.Report.TheVariants.{Done, Changed}
-use Rattle.sql_tree.specs.declared.tree.Statement.{Statement}
-use Rattle.sql_tree.specs.declared.tree.Statement.TheVariants.{CreateTable, CreateAccess, DropAccess, Load, Insert, Delete, DiscoverGroup, DiscoverPairs, Select, Explain}
-use Rattle.session.specs.declared.outcome.Outcome.{Outcome}
-use Rattle.session.specs.declared.outcome.Outcome.TheVariants.{Failed}
-use Rattle.session.specs.Applied.{Applied, MayCost}
-use Rattle.session.specs.Carried.{Carried, Carries, Gives, Happens}
-use Rattle.session.specs.Effects.{Act, Does, Effect, Settings, act_of, load_act, load_effect, refusal_effect}
-use Rattle.session.specs.Ties.{AreTied, IsLater, Seen}
-use Rattle.session.proofs.CarryFacts.{failed, refusal_happens, stops_at}
+use Rattle.report.specs.declared.reports.Report.TheVariants.{Refused as Refusing}
+use Rattle.session.specs.declared.loading.LoadOutcome.{LoadOutcome}
+use Rattle.session.specs.declared.loading.LoadOutcome.TheVariants.{Failed}
+use Rattle.session.specs.Applying.{IsApplied, MayCost}
+use Rattle.session.specs.Carrying.{CarriesOut, CarriesOutLoad, Happens, HappensByLoad, Performs, reported}
+use Rattle.session.specs.Effects.{Action, Does, Loads, Effect, load_action, load_effect, refusal_effect}
+use Rattle.session.specs.Ties.{AreTied}
+use Rattle.session.specs.Turns.{IsWithin}
+use Rattle.session.proofs.CarryFacts.{carries_anywhere, failed, refusal_happens, stops_at}
 use Rattle.session.proofs.TieFacts.{tied_none}
 
-pub applied_at_once : (limit : ℕ) (act : Act) (E : Effect) (report : Report) (a : Database) (s t : ℕ) (before after : Seen) → act ≡ Does E
+applied_at_once : (limit : ℕ) (action : Action) (E : Effect) (report : Report) (a : Database) (s t : ℕ) (before after : Seen) → action ≡ Does E
     → Happens E report a s t
-    → IsLater before after → Applied limit act report a s t before after
-applied_at_once limit act E report a s t before after e h later =
-    let P : Act → Type 0 = λ x. Applied limit x report a s t before after in
+    → IsLater before after → IsApplied limit action report a s t before after
+applied_at_once limit action E report a s t before after e h later =
+    let P : Action → Type 0 = λ x. IsApplied limit x report a s t before after in
     subst P (sym e) (record {
       outcome = Failed;
       report_is = h.report_is;
@@ -34,89 +35,135 @@ applied_at_once limit act E report a s t before after e h later =
       tied = tied_none limit before after later;
     })
 
-pub applied_after_read : (limit : ℕ) (limits : Limits) (db : Database) (w : Result TableId Refusal) (file : List ℕ) (id : TableId) (outcome : Outcome)
-    (report : Report)
-    (a : Database) (before after : Seen) → w ≡ Ok id → Happens (load_effect limits db file id outcome) report a 0 0
-    → AreTied limit (record { name = file; outcome = outcome } ∷ []) before after → Applied limit (load_act limits db w file) report a 0 0 before after
-applied_after_read limit limits db w file id outcome report a before after e h tied =
-    let P : Result TableId Refusal → Type 0 = λ x. Applied limit (load_act limits db x file) report a 0 0 before after in
-    subst P (sym e) (record { outcome = outcome; report_is = h.report_is; db_is = h.db_is; cost_is = h.cost_is; tied = tied })
-
-pub applied_unknown : (limit : ℕ) (limits : Limits) (db : Database) (w : Result TableId Refusal) (file : List ℕ) (why : Refusal) (report : Report)
-    (a : Database)
-    (before after : Seen) → w ≡ Err why → Happens (refusal_effect db why) report a 0 0 → IsLater before after
-    → Applied limit (load_act limits db w file) report a 0 0 before after
-applied_unknown limit limits db w file why report a before after e h later =
-    applied_at_once limit (load_act limits db w file) (refusal_effect db why) report a 0 0 before after (ap (λ x. load_act limits db x file) e) h later
-
--- what reads nothing does so at every count
-pub applied_anywhere : (limit : ℕ) (act : Act) (report : Report) (a : Database) (n : ℕ) (before after : Seen) → Applied limit act report a 0 0 before after
-    → Applied limit act report a n n before after
-applied_anywhere limit act report a n before after h = record {
-  outcome = h.outcome;
-  report_is = h.report_is;
-  db_is = h.db_is;
-  cost_is = omega (arith, h.cost_is);
-  tied = h.tied;
-}
-
-pub may_cost_at_once : (act : Act) (E : Effect) (s t : ℕ) → act ≡ Does E → t ≤ s + E.cost → MayCost act s t
-may_cost_at_once act E s t e h = let P : Act → Type 0 = λ x. MayCost x s t in subst P (sym e) (λ outcome. h)
-
-pub may_cost_nothing : (act : Act) (n : ℕ) → MayCost act n n
-may_cost_nothing act n = λ outcome. omega arith
-
 pub later_same : (files : Seen) → IsLater files files
 later_same files = record { told = refl; content = refl; faults = λ name. omega arith; taken = omega arith }
 
--- a report that is the same of every effect is none
-pub load_denied : (limit : ℕ) (limits : Limits) (db : Database) (w : Result TableId Refusal) (file : List ℕ) (x : Fail) (r : Result Report Want) (files : Seen)
-    → Gives (failed TableId x) w
-    → ((effect : Effect) (before after : Database) (s t : ℕ) → Carries effect before (failed Report x) after s t → Carried effect before r after s t)
-    → IfOk r (λ report. Applied limit (load_act limits db w file) report db 0 0 files files)
-load_denied limit limits db w file NoMemory (Err want) files h so = tt
-load_denied limit limits db w file NoMemory (Ok report) files h so =
-    let one : Effect = record { report = Done; cost = 0; db = db } in
-    let two : Effect = record { report = Changed 0; cost = 0; db = db } in
-    absurd (let bad : Done ≡ Changed 0 = sym (so one db db 0 0 (stops_at one db db 0 refl)).report_is
-    ∙ (so two db db 0 0 (stops_at two db db 0 refl)).report_is in cc)
-load_denied limit limits db w file (Refused why) (Err want) files h so = tt
-load_denied limit limits db w file (Refused why) (Ok report) files h so =
-    applied_unknown limit limits db w file why report db files files h (so (refusal_effect db why) db db 0 0 (refusal_happens why db db 0 refl))
-    (later_same files)
+-- ---- LOAD
 
--- every statement but a LOAD is carried out at once
-pub at_once : (s : Settings) (db : Database) (statement : Statement)
-    → ((table file : List ℕ) → statement ≡ Load table file → ⊥) → (E : Effect) × (act_of s db statement ≡ Does E)
-at_once s db (CreateTable name columns) other = (_, refl)
-at_once s db (CreateAccess spec) other = (_, refl)
-at_once s db (DropAccess name) other = (_, refl)
-at_once s db (Load table file) other = absurd (other table file refl)
-at_once s db (Insert table tuples) other = (_, refl)
-at_once s db (Delete table conditions) other = (_, refl)
-at_once s db (DiscoverGroup table key fetched) other = (_, refl)
-at_once s db (DiscoverPairs table limit) other = (_, refl)
-at_once s db (Select tree) other = (_, refl)
-at_once s db (Explain tree) other = (_, refl)
+module _ (limit : ℕ) (limits : Limits) (db : Database) (w : Result TableId Refusal) (file : List ℕ) where
+  load_denied_by : (v : Result TableId Refusal) (x : Fail) (y : Seen) → Gives (failed TableId x) v
+      → Performs limit (load_action limits db v file) db (failed Report x) db 0 0 y y
+  load_denied_by (Ok id) NoMemory y h = (refl, refl)
+  load_denied_by (Err why) NoMemory y h = stops_at (refusal_effect db why) db db 0 refl
+  load_denied_by (Ok id) (Refused why) y h = absurd (let bad : Ok id ≡ Err why = h in cc)
+  load_denied_by (Err other) (Refused why) y h =
+      let P : Result TableId Refusal → Type 0 = λ v. Performs limit (load_action limits db v file) db (failed Report (Refused why)) db 0 0 y y in
+      subst P (sym h) (refusal_happens why db db 0 refl)
 
--- what a call did that carried out an effect at once
-pub record DidAtOnce (limit : ℕ) (act : Act) (db : Database) (r : Result Report Want) (a : Database) (s t : ℕ) (files : Seen) : Type 0 where
-  pub applied : IfOk r (λ report. Applied limit act report a s t files files)
+  pub load_denied : (x : Fail) (y : Seen) → Gives (failed TableId x) w → Performs limit (load_action limits db w file) db (failed Report x) db 0 0 y y
+  load_denied x y h = load_denied_by w x y h
+
+  module _ (id : TableId) (known : w ≡ Ok id) where
+    -- out of memory in the load of the file
+    pub load_stopped : (x y : Seen) → Performs limit (load_action limits db w file) db (failed Report NoMemory) db 0 0 x y
+    load_stopped x y =
+        let P : Result TableId Refusal → Type 0 = λ v. Performs limit (load_action limits db v file) db (failed Report NoMemory) db 0 0 x y in
+        subst P (sym known) (refl, refl)
+
+    by_outcome : (outcome : LoadOutcome) (r : Result Report Fail) (a : Database) (x y : Seen) → CarriesOut (load_effect limits db file id outcome) db r a 0 0
+        → AreTied limit (record { name = file; outcome = outcome } ∷ []) x y → CarriesOutLoad limit file (load_effect limits db file id) db r a 0 0 x y
+    by_outcome outcome (Ok report) a x y h tied = record { outcome = outcome; happens = h; tied = tied }
+    by_outcome outcome (Err NoMemory) a x y h tied = h.unchanged
+    by_outcome outcome (Err (Refused why)) a x y h tied = record { outcome = outcome; happens = h; tied = tied }
+
+    pub load_performed : (outcome : LoadOutcome) (r : Result Report Fail) (a : Database) (x y : Seen)
+        → CarriesOut (load_effect limits db file id outcome) db r a 0 0
+        → AreTied limit (record { name = file; outcome = outcome } ∷ []) x y → Performs limit (load_action limits db w file) db r a 0 0 x y
+    load_performed outcome r a x y h tied =
+        let P : Result TableId Refusal → Type 0 = λ v. Performs limit (load_action limits db v file) db r a 0 0 x y in
+        subst P (sym known) (refl, by_outcome outcome r a x y h tied)
+
+    -- the load of a known table waits for its file
+    pub load_waits : (E : Effect) → load_action limits db w file ≡ Does E → ⊥
+    load_waits E e =
+        let bad : Loads file (load_effect limits db file id) ≡ Does E = sym (ap (λ v. load_action limits db v file) known) ∙ e in cc
+
+-- ---- each statement
+
+by_load_anywhere : (limit : ℕ) (name : List ℕ) (E : LoadOutcome → Effect) (b a : Database) (r : Result Report Fail) (n : ℕ) (x y : Seen)
+    → CarriesOutLoad limit name E b r a 0 0 x y → CarriesOutLoad limit name E b r a n n x y
+by_load_anywhere limit name E b a (Ok report) n x y h = record {
+  outcome = h.outcome;
+  happens = carries_anywhere (E h.outcome) b a (Ok report) n h.happens;
+  tied = h.tied;
+}
+by_load_anywhere limit name E b a (Err NoMemory) n x y h = h
+by_load_anywhere limit name E b a (Err (Refused why)) n x y h = record {
+  outcome = h.outcome;
+  happens = carries_anywhere (E h.outcome) b a (Err (Refused why)) n h.happens;
+  tied = h.tied;
+}
+
+pub performs_anywhere : (limit : ℕ) (action : Action) (b a : Database) (r : Result Report Fail) (n : ℕ) (x y : Seen)
+    → Performs limit action b r a 0 0 x y → Performs limit action b r a n n x y
+performs_anywhere limit (Does E) b a r n x y h = carries_anywhere E b a r n h
+performs_anywhere limit (Loads name E) b a r n x y h = (refl, by_load_anywhere limit name E b a r n x y h.1)
+
+-- what a call did
+pub record Did (limit : ℕ) (action : Action) (db : Database) (r : Result Report Want) (a : Database) (s t : ℕ) (x y : Seen) : Type 0 where
+  pub applied : IfOk r (λ report. IsApplied limit action report a s t x y)
   pub unchanged : OnErr r (a ≡ db)
-  pub at_most : MayCost act s t
+  pub at_most : MayCost action s t
   pub no_fewer : s ≤ t
 
-pub did_at_once : (limit : ℕ) (act : Act) (E : Effect) (db : Database) (r : Result Report Want) (a : Database) (s t : ℕ) (files : Seen) → act ≡ Does E
-    → Carried E db r a s t → DidAtOnce limit act db r a s t files
-did_at_once limit act E db (Ok report) a s t files e h = record {
-  applied = applied_at_once limit act E report a s t files files e h (later_same files);
+did_at_once : (limit : ℕ) (E : Effect) (db : Database) (r : Result Report Fail) (a : Database) (s t : ℕ) (x y : Seen)
+    → CarriesOut E db r a s t → IsLater x y → Did limit (Does E) db (reported r) a s t x y
+did_at_once limit E db (Ok report) a s t x y h later = record {
+  applied = applied_at_once limit (Does E) E report a s t x y refl h later;
   unchanged = tt;
-  at_most = may_cost_at_once act E s t e (omega (arith, h.cost_is));
+  at_most = λ outcome. omega (arith, h.cost_is);
   no_fewer = omega (arith, h.cost_is);
 }
-did_at_once limit act E db (Err want) a s t files e h = record {
+did_at_once limit E db (Err NoMemory) a s t x y h later = record {
   applied = tt;
   unchanged = h.unchanged;
-  at_most = may_cost_at_once act E s t e h.at_most;
+  at_most = λ outcome. h.at_most;
   no_fewer = h.no_fewer;
 }
+did_at_once limit E db (Err (Refused why)) a s t x y h later = record {
+  applied = applied_at_once limit (Does E) E (Refusing why) a s t x y refl h later;
+  unchanged = tt;
+  at_most = λ outcome. omega (arith, h.cost_is);
+  no_fewer = omega (arith, h.cost_is);
+}
+
+applied_by_load : (limit : ℕ) (name : List ℕ) (E : LoadOutcome → Effect) (report : Report) (a : Database) (s t : ℕ) (x y : Seen)
+    → HappensByLoad limit name E report a s t x y → IsApplied limit (Loads name E) report a s t x y
+applied_by_load limit name E report a s t x y h = record {
+  outcome = h.outcome;
+  report_is = h.happens.report_is;
+  db_is = h.happens.db_is;
+  cost_is = h.happens.cost_is;
+  tied = h.tied;
+}
+
+did_by_load : (limit : ℕ) (name : List ℕ) (E : LoadOutcome → Effect) (db : Database) (r : Result Report Fail) (a : Database) (s t : ℕ) (x y : Seen) → t ≡ s
+    → CarriesOutLoad limit name E db r a s t x y → Did limit (Loads name E) db (reported r) a s t x y
+did_by_load limit name E db (Ok report) a s t x y e h = record {
+  applied = applied_by_load limit name E report a s t x y h;
+  unchanged = tt;
+  at_most = λ outcome. omega (arith, e);
+  no_fewer = omega (arith, e);
+}
+did_by_load limit name E db (Err NoMemory) a s t x y e h = record {
+  applied = tt;
+  unchanged = h;
+  at_most = λ outcome. omega (arith, e);
+  no_fewer = omega (arith, e);
+}
+did_by_load limit name E db (Err (Refused why)) a s t x y e h = record {
+  applied = applied_by_load limit name E (Refusing why) a s t x y h;
+  unchanged = tt;
+  at_most = λ outcome. omega (arith, e);
+  no_fewer = omega (arith, e);
+}
+
+pub did : (limit : ℕ) (action : Action) (db : Database) (r : Result Report Fail) (a : Database) (s t : ℕ) (x y : Seen)
+    → Performs limit action db r a s t x y → IsLater x y → Did limit action db (reported r) a s t x y
+did limit (Does E) db r a s t x y h later = did_at_once limit E db r a s t x y h later
+did limit (Loads name E) db r a s t x y h later = did_by_load limit name E db r a s t x y h.0 h.1
+
+pub within_reported : (r : Result Report Fail) → IfOk r IsWithin → IfOk (reported r) IsWithin
+within_reported (Ok report) within = within
+within_reported (Err NoMemory) within = tt
+within_reported (Err (Refused why)) within = tt

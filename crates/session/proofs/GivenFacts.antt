@@ -1,15 +1,12 @@
 -- Calls that give an answer or a refusal, one after another.
 use Rattle.std.proofs.Common.{◌≡◌, sym, ap, ◌∙◌, subst, List, [], ◌∷◌, Option, Some, None, Result, Ok, Err}
-use Rattle.std.specs.Prelude.{IfOk, IfErr, OnOk}
+use Rattle.std.specs.Prelude.{IfOk}
 use Rattle.beas_core.specs.declared.errors.Fail.{Fail}
 use Rattle.beas_core.specs.declared.errors.Fail.TheVariants.{NoMemory, Refused}
 use Rattle.beas_core.specs.declared.refusal.Refusal.{Refusal}
-use Rattle.beas_core.specs.declared.plan.Prepared.{Prepared}
-use Rattle.binder.specs.Refusing.{Tells, first}
-use Rattle.csv_load.specs.Reading.{FailsAs}
-use Rattle.plan_builder.specs.Preparation.{Prepares}
+use Rattle.beas_core.specs.Results.{Gives, IsRefusedAs}
+use Rattle.binder.specs.Refusing.{first}
 use Rattle.session.specs.Announced.{and_then, unless_refused}
-use Rattle.session.specs.Carried.{Gives}
 use Rattle.session.specs.Effects.{or_refusal}
 use Rattle.session.proofs.CarryFacts.{failed}
 
@@ -26,18 +23,18 @@ first_refused (other ∷ more) answer why h = ap (λ o. unless_refused (other_of
     other_of (Some x) = x ∷ []
 
 -- the first of the refusals, or the answer
-pub given : {A : Type 0} (r : Result A Fail) (refusals : List Refusal) (answer : A) → Tells r refusals → IfOk r (λ a. a ≡ answer)
+pub given : {A : Type 0} (r : Result A Fail) (refusals : List Refusal) (answer : A) → IsRefusedAs r (first refusals) → IfOk r (λ a. a ≡ answer)
     → Gives r (unless_refused refusals answer)
 given (Ok a) refusals answer told is = none_refused refusals answer a told is
 given (Err NoMemory) refusals answer told is = tt
 given (Err (Refused why)) refusals answer told is = first_refused refusals answer why told
 
 -- the fault, or the answer
-pub given_or_fault : {A : Type 0} (r : Result A Fail) (fault : Option Refusal) (answer : A) → OnOk r (fault ≡ None) → IfOk r (λ a. a ≡ answer)
-    → IfErr r (λ why. FailsAs fault why) → Gives r (or_refusal fault answer)
-given_or_fault (Ok a) fault answer good is refused = ap (λ f. or_refusal f answer) good ∙ ap (λ x. Ok x) (sym is)
-given_or_fault (Err NoMemory) fault answer good is refused = tt
-given_or_fault (Err (Refused why)) fault answer good is refused = ap (λ f. or_refusal f answer) refused
+pub given_or_fault : {A : Type 0} (r : Result A Fail) (fault : Option Refusal) (answer : A) → IsRefusedAs r fault → IfOk r (λ a. a ≡ answer)
+    → Gives r (or_refusal fault answer)
+given_or_fault (Ok a) fault answer refused is = ap (λ f. or_refusal f answer) refused ∙ ap (λ x. Ok x) (sym is)
+given_or_fault (Err NoMemory) fault answer refused is = tt
+given_or_fault (Err (Refused why)) fault answer refused is = ap (λ f. or_refusal f answer) refused
 
 pub given_fails : (A B : Type 0) (w : Result A Refusal) (next : A → Result B Refusal) (x : Fail) → Gives (failed A x) w → Gives (failed B x) (and_then w next)
 given_fails A B w next NoMemory h = tt
@@ -50,9 +47,3 @@ given_next {B} w next a r e h = subst (λ v. Gives r (and_then v next)) (sym e) 
 pub ok_both : {A E : Type 0} (P Q R : A → Type 0) → ((a : A) → P a → Q a → R a) → (r : Result A E) → IfOk r P → IfOk r Q → IfOk r R
 ok_both P Q R so (Ok a) p q = so a p q
 ok_both P Q R so (Err e) p q = tt
-
--- what is prepared is given
-pub prepares_gives : (r : Result Prepared Fail) (w : Result Prepared Refusal) → Prepares r w → Gives r w
-prepares_gives (Ok a) w h = h
-prepares_gives (Err NoMemory) w h = tt
-prepares_gives (Err (Refused why)) w h = h

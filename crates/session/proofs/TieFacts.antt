@@ -1,12 +1,13 @@
--- What a single read is tied to.
+-- What a single load is tied to.
 use Rattle.std.proofs.Common.{◌≡◌, ◌≢◌, ◌+◌, ◌*◌, ◌≤◌, ◌&&◌, ℕ, Bool, true, false, cond, zero, suc, List, [], ◌∷◌, All, refl, sym, ◌∙◌, subst, arith}
 use Rattle.std.proofs.Math.Bool.{and-true, and-false}
 use Rattle.std.proofs.lemmas.Slice.Eq.{bytes_eq-Decides}
 use Rattle.std.specs.Str.{bytes_eq}
 use Rattle.outside.specs.Counts.{RoseBy, Rose}
-use Rattle.session.specs.declared.outcome.Outcome.{Outcome}
-use Rattle.session.specs.Ties.{AreTied, GaveContent, IsLater, OutcomeFits, OutcomeIsShort, Seen, is_failed, is_too_long}
-use Rattle.session.specs.Turns.{Read}
+use Rattle.outside.specs.Seen.{IsLater, Seen}
+use Rattle.session.specs.declared.loading.LoadOutcome.{LoadOutcome}
+use Rattle.session.specs.Ties.{AreTied, GaveContent, LoadFits, LoadIsShort, is_failed, is_too_long}
+use Rattle.session.specs.Turns.{FileLoad}
 
 -- a count that didn't fall rose by nothing
 rose_by_none : (n m : ℕ) → n ≤ m → RoseBy 0 n m
@@ -32,7 +33,7 @@ rose_if false n m l rose = rose_by_none n m l
 never : (b : Bool) (n m : ℕ) → (b && false) ≡ true → Rose n m
 never b n m e = absurd (let bad : false ≡ true = sym (and-false b) ∙ e in cc)
 
-faults_rose : (name other : List ℕ) (o : Outcome) (before after : Seen) → IsLater before after
+faults_rose : (name other : List ℕ) (o : LoadOutcome) (before after : Seen) → IsLater before after
     → ((is_failed o ≡ true) → Rose (before.faults name) (after.faults name))
     → RoseBy (0 + cond (bytes_eq name other && is_failed o) 1 0) (before.faults other) (after.faults other)
 faults_rose name other o before after later rose =
@@ -49,14 +50,14 @@ bytes_rose : (limit : ℕ) (b : Bool) (n m : ℕ) → n ≤ m → ((b ≡ true) 
 bytes_rose limit true n m l rose = omega (arith, rose refl)
 bytes_rose limit false n m l rose = omega (arith, l)
 
-pub tied_one : (limit : ℕ) (name : List ℕ) (o : Outcome) (before after : Seen) → IsLater before after
-    → ((before.told ≡ true) → OutcomeFits limit (before.content name) o) → OutcomeIsShort limit o
+pub tied_one : (limit : ℕ) (name : List ℕ) (o : LoadOutcome) (before after : Seen) → IsLater before after
+    → ((before.told ≡ true) → LoadFits limit (before.content name) o) → LoadIsShort limit o
     → ((is_failed o ≡ true) → Rose (before.faults name) (after.faults name))
     → ((is_too_long o ≡ true) → (before.told ≢ true) → RoseBy (limit + 1) before.taken after.taken)
     → AreTied limit (record { name = name; outcome = o } ∷ []) before after
 tied_one limit name o before after later fits short failed taken = record {
   contents = λ h. all_one (GaveContent limit before) (record { name = name; outcome = o }) (fits h);
-  short = all_one (λ (r : Read). OutcomeIsShort limit r.outcome) (record { name = name; outcome = o }) short;
+  short = all_one (λ (l : FileLoad). LoadIsShort limit l.outcome) (record { name = name; outcome = o }) short;
   failed = λ other. faults_rose name other o before after later failed;
   too_long = λ h. bytes_rose limit (is_too_long o) before.taken after.taken later.taken (λ e. taken e h);
 }

@@ -1,8 +1,8 @@
 -- What a statement does: its report, how many tuples it reads, and the database afterwards.
 --     Settings                         the limits, the budget, and whether a query's plan is shown
 --     Effect                           a report, the tuples that are read, and the database afterwards
---     Act                              what a statement does at once, or by what the read of its file gives
---     act_of settings db statement     what the statement does
+--     Action                              what a statement does at once, or by what the load of its file gives
+--     action_of settings db statement     what the statement does
 -- The rules of refusals are those of the catalogue, the binder and the files; here stands which comes first.
 use Rattle.std.specs.Prelude.{◌-◌, if◌then◌else◌, ℕ, Bool, List, [], length, map, slice_index_or, unwrap_or, Option, Some, None, Result, Ok, Err}
 use Rattle.std.specs.Option.{ok_or}
@@ -18,7 +18,7 @@ use Rattle.beas_core.specs.declared.schema.ColumnId.{ColumnId}
 use Rattle.beas_core.specs.declared.schema.TableId.{TableId}
 use Rattle.beas_core.specs.Full.{full_of}
 use Rattle.beas_core.specs.Groups.{greatest}
-use Rattle.beas_core.specs.Reads.{own_reads_of_all}
+use Rattle.beas_core.specs.Queries.{query_reads}
 use Rattle.beas_core.specs.Spelling.{limit_in}
 use Rattle.beas_core.specs.Types.{Row}
 use Rattle.catalogue.specs.Database.{Database, schema_of, rows_at, with_table, with_access, without_access, with_more_rows, with_rows_kept, kept_rows, block_table}
@@ -36,8 +36,8 @@ use Rattle.report.specs.declared.reports.Report.{Report}
 use Rattle.report.specs.declared.reports.Report.TheVariants.{Done, Changed, Greatest, Pairs, Explained, Answered, Refused}
 use Rattle.report.specs.Plans.{plan_text}
 use Rattle.session.specs.declared.discovery.Resolved.{Resolved}
-use Rattle.session.specs.declared.outcome.Outcome.{Outcome}
-use Rattle.session.specs.declared.outcome.Outcome.TheVariants.{Content, Failed, TooLong}
+use Rattle.session.specs.declared.loading.LoadOutcome.{LoadOutcome}
+use Rattle.session.specs.declared.loading.LoadOutcome.TheVariants.{Content, Failed, TooLong}
 use Rattle.session.specs.Announced.{announcement, unless_refused}
 
 pub record Settings : Type 0 where
@@ -50,10 +50,10 @@ pub record Effect : Type 0 where
   pub cost : ℕ
   pub db : Database
 
--- a LOAD of a known table waits for what the read of its file gives; every other statement is carried out at once
-pub data Act : Type 0 where
-  Does : Effect → Act
-  Reads : List ℕ → (Outcome → Effect) → Act
+-- a LOAD of a known table waits for what the load of its file gives; every other statement is carried out at once
+pub data Action : Type 0 where
+  Does : Effect → Action
+  Loads : List ℕ → (LoadOutcome → Effect) → Action
 
 -- a refused statement changes nothing
 abbrev pub refusal_effect : Database → Refusal → Effect
@@ -124,15 +124,15 @@ insert_effect limits db table tuples =
 abbrev pub file_rows : Limits → List Column → List ℕ → Result (List Row) Refusal
 file_rows limits columns bytes = or_refusal (fault_of limits.text columns bytes) (rows_in limits.text columns bytes)
 
-abbrev pub load_effect : Limits → Database → List ℕ → TableId → Outcome → Effect
+abbrev pub load_effect : Limits → Database → List ℕ → TableId → LoadOutcome → Effect
 load_effect limits db file id Failed = refusal_effect db (Unreadable file)
 load_effect limits db file id TooLong = refusal_effect db (FileTooLong limits.file)
 load_effect limits db file id (Content bytes) =
     with_answer (file_rows limits (columns_at (schema_of db) id) bytes) db (λ rows. add_rows_effect limits db id rows)
 
-abbrev pub load_act : Limits → Database → Result TableId Refusal → List ℕ → Act
-load_act limits db (Err why) file = Does (refusal_effect db why)
-load_act limits db (Ok id) file = Reads file (load_effect limits db file id)
+abbrev pub load_action : Limits → Database → Result TableId Refusal → List ℕ → Action
+load_action limits db (Err why) file = Does (refusal_effect db why)
+load_action limits db (Ok id) file = Loads file (load_effect limits db file id)
 
 -- the report tells how many rows are gone
 abbrev pub delete_rows_effect : Database → Block → Effect
@@ -200,7 +200,7 @@ discover_pairs_effect db table digits =
 -- ---- queries and EXPLAIN
 
 abbrev pub reads_in : Database → Prepared → ℕ
-reads_in db prepared = own_reads_of_all (rows_at db) prepared.normals db.accesses prepared.derivations
+reads_in db prepared = query_reads (rows_at db) db.accesses prepared.guided prepared.derivations prepared.query
 
 abbrev pub plan_shown : Bool → Database → Prepared → List ℕ
 plan_shown explain db prepared = if explain then plan_text (schema_of db) prepared else []
@@ -225,14 +225,14 @@ explain_effect limits budget db tree =
 
 -- ---- each statement
 
-abbrev pub act_of : Settings → Database → Statement → Act
-act_of s db (CreateTable name columns) = Does (create_table_effect s.limits db name columns)
-act_of s db (CreateAccess spec) = Does (create_access_effect s.limits db spec)
-act_of s db (DropAccess name) = Does (drop_access_effect db name)
-act_of s db (Load table file) = load_act s.limits db (table_or_refusal (schema_of db) table) file
-act_of s db (Insert table tuples) = Does (insert_effect s.limits db table tuples)
-act_of s db (Delete table conditions) = Does (delete_effect s.limits db table conditions)
-act_of s db (DiscoverGroup table key fetched) = Does (discover_group_effect db table key fetched)
-act_of s db (DiscoverPairs table limit) = Does (discover_pairs_effect db table limit)
-act_of s db (Select tree) = Does (select_effect s db tree)
-act_of s db (Explain tree) = Does (explain_effect s.limits s.budget db tree)
+abbrev pub action_of : Settings → Database → Statement → Action
+action_of s db (CreateTable name columns) = Does (create_table_effect s.limits db name columns)
+action_of s db (CreateAccess spec) = Does (create_access_effect s.limits db spec)
+action_of s db (DropAccess name) = Does (drop_access_effect db name)
+action_of s db (Load table file) = load_action s.limits db (table_or_refusal (schema_of db) table) file
+action_of s db (Insert table tuples) = Does (insert_effect s.limits db table tuples)
+action_of s db (Delete table conditions) = Does (delete_effect s.limits db table conditions)
+action_of s db (DiscoverGroup table key fetched) = Does (discover_group_effect db table key fetched)
+action_of s db (DiscoverPairs table limit) = Does (discover_pairs_effect db table limit)
+action_of s db (Select tree) = Does (select_effect s db tree)
+action_of s db (Explain tree) = Does (explain_effect s.limits s.budget db tree)

@@ -1,7 +1,8 @@
 pub mod Announced
-pub mod Applied
-pub mod Carried
+pub mod Applying
+pub mod Carrying
 pub mod Effects
 pub mod Statements
+pub mod Stores
 pub mod Ties
 pub mod Turns

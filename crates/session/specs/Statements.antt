@@ -5,7 +5,7 @@
 use Rattle.std.specs.Prelude.{◌<◌, ◌≤◌, ◌^◌, List, length, All}
 use Rattle.sql_tree.specs.declared.tree.Literal.{Literal}
 use Rattle.sql_tree.specs.declared.tree.Statement.{Statement}
-use Rattle.sql_tree.specs.declared.tree.Statement.TheVariants.{CreateTable, CreateAccess, Load, Insert, Delete, Select, Explain}
+use Rattle.sql_tree.specs.declared.tree.Statement.TheVariants.{CreateTable, CreateAccess, DropAccess, Load, Insert, Delete, DiscoverGroup, DiscoverPairs, Select, Explain}
 use Rattle.sql_tree.specs.Trees.{Tree}
 use Rattle.binder.specs.Binding.{blocks_of}
 
@@ -25,9 +25,7 @@ StatementIsWellFormed (Insert table tuples) = TuplesAreFew tuples
 StatementIsWellFormed (Delete table conditions) = length conditions < 2 ^ 32
 StatementIsWellFormed (Select tree) = TreeIsWellFormed tree
 StatementIsWellFormed (Explain tree) = TreeIsWellFormed tree
-StatementIsWellFormed _ = Unit {0}
-
--- a LOAD alone waits for what the read of its file gives
-abbrev pub IsNoLoad : Statement → Type 0
-IsNoLoad (Load table file) = ⊥
-IsNoLoad _ = Unit {0}
+StatementIsWellFormed (DropAccess name) = Unit {0}
+StatementIsWellFormed (Load table file) = Unit {0}
+StatementIsWellFormed (DiscoverGroup table key fetched) = Unit {0}
+StatementIsWellFormed (DiscoverPairs table limit) = Unit {0}

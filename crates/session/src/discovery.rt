@@ -1,12 +1,13 @@
 // The greatest groups of a table.
 ghost use Rattle.std.specs.Prelude.{◌≡◌, ◌<◌, ◌≤◌, length, slice_index_or, [], All, IfOk};
+ghost use Rattle.beas_core.specs.Results.{Gives};
 ghost use Rattle.catalogue.specs.Database.{schema_of};
-ghost use Rattle.update_guard.specs.Stored.{database_in};
-ghost use Rattle.session.specs.Carried.{Carries, Gives};
+ghost use Rattle.session.specs.Stores.{database_in};
+ghost use Rattle.session.specs.Carrying.{CarriesOut};
 ghost use Rattle.session.specs.Effects.{discover_group_effect, discover_pairs_effect, greatest_effect, limit_or_refusal, name_at, named_pairs, resolution};
 ghost use Rattle.session.specs.Turns.{IsWithin};
 
-use crate::stored::{columns_of, known_table, rows_of_table};
+use crate::stored::{Store, columns_of, known_table, rows_of_table};
 use beas_core::{
     Column, ColumnId, Duplicate, Fail, List, Name, NoMemory, Refusal, Steps, TableId, Text,
     limit_of,
@@ -15,7 +16,6 @@ use constraint_miner::{Pair, greatest_group, pairs_within};
 use report::Report;
 use std::alloc::Global;
 use std::sync::ledger::Ledger;
-use update_guard::Guarded;
 
 /// A table and its columns, found by their names.
 #[derive(Drop)]
@@ -27,15 +27,15 @@ pub struct Resolved {
 
 fn resolve_names(
     alloc: Global,
-    guarded: &Guarded,
+    store: &Store,
     table: &Name,
     key: &List<Name>,
     fetched: &List<Name>,
 ) -> Result<Resolved, Fail>
-    ensures found { Gives result (resolution (schema_of (database_in guarded.now)) table.now key.now fetched.now) }
-    ensures live { IfOk result (λ found. found.table.0 < length (database_in guarded.now).tables) }
+    ensures found { Gives result (resolution (schema_of (database_in store.now)) table.now key.now fetched.now) }
+    ensures live { IfOk result (λ found. found.table.0 < length (database_in store.now).tables) }
 {
-    let (table, key, fetched) = guarded.catalogue.resolve(alloc, table, key, fetched)?;
+    let (table, key, fetched) = store.catalogue.resolve(alloc, table, key, fetched)?;
     Ok(Resolved {
         table,
         key,
@@ -45,17 +45,17 @@ fn resolve_names(
 
 fn greatest_of<L: Ledger>(
     alloc: Global,
-    guarded: &Guarded,
+    store: &Store,
     found: &Resolved,
     steps: &mut Steps<L>,
 ) -> Result<Report, Fail>
-    requires { found.now.table.0 < length (database_in guarded.now).tables }
-    ensures carried { Carries (greatest_effect (database_in guarded.now)
+    requires { found.now.table.0 < length (database_in store.now).tables }
+    ensures carried { CarriesOut (greatest_effect (database_in store.now)
         found.now.table found.now.key found.now.fetched)
-        (database_in guarded.now) result (database_in guarded.now) steps.old steps.new }
+        (database_in store.now) result (database_in store.now) steps.old steps.new }
     ensures within { IfOk result IsWithin }
 {
-    let rows = rows_of_table(guarded, found.table);
+    let rows = rows_of_table(store, found.table);
     let most = greatest_group(alloc, rows, &found.key, &found.fetched, steps)?;
     Ok(Report::Greatest { most })
 }
@@ -63,18 +63,18 @@ fn greatest_of<L: Ledger>(
 /// DISCOVER with FETCH. It reads each row of the table once.
 pub fn discover_group<L: Ledger>(
     alloc: Global,
-    guarded: &Guarded,
+    store: &Store,
     table: &Name,
     key: &List<Name>,
     fetched: &List<Name>,
     steps: &mut Steps<L>,
 ) -> Result<Report, Fail>
-    ensures carried { Carries (discover_group_effect (database_in guarded.now) table.now key.now fetched.now)
-        (database_in guarded.now) result (database_in guarded.now) steps.old steps.new }
+    ensures carried { CarriesOut (discover_group_effect (database_in store.now) table.now key.now fetched.now)
+        (database_in store.now) result (database_in store.now) steps.old steps.new }
     ensures within { IfOk result IsWithin }
 {
-    let found = resolve_names(alloc, guarded, table, key, fetched)?;
-    greatest_of(alloc, guarded, &found, steps)
+    let found = resolve_names(alloc, store, table, key, fetched)?;
+    greatest_of(alloc, store, &found, steps)
 }
 
 /// The number after LIMIT.
@@ -117,19 +117,19 @@ fn named_pairs(
 /// DISCOVER with LIMIT. It reads each row of the table once.
 pub fn discover_pairs<L: Ledger>(
     alloc: Global,
-    guarded: &Guarded,
+    store: &Store,
     table: &Name,
     digits: &Text,
     steps: &mut Steps<L>,
 ) -> Result<Report, Fail>
-    ensures carried { Carries (discover_pairs_effect (database_in guarded.now) table.now digits.now)
-        (database_in guarded.now) result (database_in guarded.now) steps.old steps.new }
+    ensures carried { CarriesOut (discover_pairs_effect (database_in store.now) table.now digits.now)
+        (database_in store.now) result (database_in store.now) steps.old steps.new }
     ensures within { IfOk result IsWithin }
 {
-    let id = known_table(alloc, guarded, table)?;
+    let id = known_table(alloc, store, table)?;
     let limit = known_limit(alloc, digits)?;
-    let columns = columns_of(guarded, id).as_slice();
-    let rows = rows_of_table(guarded, id);
+    let columns = columns_of(store, id).as_slice();
+    let rows = rows_of_table(store, id);
     let pairs = pairs_within(alloc, rows, columns.len() as u16, limit, steps)?;
     let found = named_pairs(alloc, columns, pairs.as_slice())?;
     Ok(Report::Pairs { found })

@@ -3,13 +3,12 @@
 
 mod changes;
 mod discovery;
-mod outcome;
+mod loading;
 mod queries;
-mod reading;
 mod session;
+mod settings;
 mod stored;
 mod tables;
 
-pub use outcome::Outcome;
-pub use reading::read;
+pub use loading::{LoadOutcome, load_file};
 pub use session::Session;

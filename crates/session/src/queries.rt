@@ -3,17 +3,21 @@ ghost use Rattle.std.specs.Prelude.{◌≡◌, ◌≤◌, ◌+◌, IfOk, OnOk};
 ghost use Rattle.beas_core.specs.Fits.{Fits, PlanFits};
 ghost use Rattle.beas_core.specs.Full.{full_of};
 ghost use Rattle.beas_core.specs.Types.{TableRows};
+ghost use Rattle.beas_core.specs.Results.{Gives};
 ghost use Rattle.catalogue.specs.Database.{rows_at, schema_of};
 ghost use Rattle.catalogue.specs.Queries.{RowsAreWide};
 ghost use Rattle.report.specs.Plans.{plan_text};
-ghost use Rattle.update_guard.specs.Stored.{database_in};
+ghost use Rattle.session.specs.Stores.{database_in};
 ghost use Rattle.session.specs.Announced.{announcement, binding, within_budget};
-ghost use Rattle.session.specs.Carried.{Carries, Gives};
+ghost use Rattle.session.specs.Applying.{settings_in};
+ghost use Rattle.session.specs.Carrying.{CarriesOut};
 ghost use Rattle.session.specs.Effects.{answer_effect, explain_effect, plan_shown, reads_in, select_effect};
 ghost use Rattle.session.specs.Statements.{TreeIsWellFormed};
 ghost use Rattle.session.specs.Turns.{IsWithin};
 
-use beas_core::{Answer, Fail, Limits, NoMemory, Prepared, Refusal, Steps, Text};
+use crate::stored::Store;
+use crate::settings::Settings;
+use beas_core::{Answer, Fail, NoMemory, Prepared, Refusal, Steps, Text};
 use binder::bind;
 use catalogue::Catalogue;
 use plan_builder::prepare;
@@ -22,7 +26,6 @@ use report::{Report, plan_text};
 use sql_tree::SelectTree;
 use std::alloc::Global;
 use std::sync::ledger::Ledger;
-use update_guard::Guarded;
 
 /// Refuses a query whose number is above the budget.
 fn refuse_above(budget: Option<u64>, prepared: Prepared) -> Result<Prepared, Refusal>
@@ -41,56 +44,56 @@ fn refuse_above(budget: Option<u64>, prepared: Prepared) -> Result<Prepared, Ref
 pub fn announcement(
     alloc: Global,
     catalogue: &Catalogue,
-    limits: &Limits,
-    budget: Option<u64>,
+    settings: &Settings,
     tree: &SelectTree,
 ) -> Result<Prepared, Fail>
     requires { TreeIsWellFormed tree.now }
-    ensures announced { Gives result (announcement limits.now budget catalogue.now tree.now) }
+    ensures announced { Gives result
+        (announcement settings.now.limits.now settings.now.budget catalogue.now tree.now) }
     ensures plan { IfOk result (PlanFits catalogue.now.accesses) }
     ensures fits { IfOk result (λ prepared. (rows : TableRows) → RowsAreWide catalogue.now rows
         → Fits catalogue.now.accesses rows prepared) }
 {
-    let query = bind(alloc, catalogue, limits, tree)?;
+    let query = bind(alloc, catalogue, settings.limits, tree)?;
     let prepared = prepare(alloc, catalogue, query)?;
-    Ok(refuse_above(budget, prepared)?)
+    Ok(refuse_above(settings.budget, prepared)?)
 }
 
 /// What is announced of a query over the store, whose rows it fits.
 fn prepared_over(
     alloc: Global,
-    guarded: &Guarded,
-    limits: &Limits,
-    budget: Option<u64>,
+    store: &Store,
+    settings: &Settings,
     tree: &SelectTree,
 ) -> Result<Prepared, Fail>
     requires { TreeIsWellFormed tree.now }
-    ensures announced { Gives result (announcement limits.now budget (schema_of (database_in guarded.now)) tree.now) }
-    ensures plan { IfOk result (PlanFits guarded.now.catalogue.accesses) }
-    ensures fits { IfOk result (Fits guarded.now.catalogue.accesses (rows_at (database_in guarded.now))) }
+    ensures announced { Gives result
+        (announcement settings.now.limits.now settings.now.budget (schema_of (database_in store.now)) tree.now) }
+    ensures plan { IfOk result (PlanFits store.now.catalogue.accesses) }
+    ensures fits { IfOk result (Fits store.now.catalogue.accesses (rows_at (database_in store.now))) }
 {
-    announcement(alloc, &guarded.catalogue, limits, budget, tree)
+    announcement(alloc, &store.catalogue, settings, tree)
 }
 
-fn plan_lines(alloc: Global, guarded: &Guarded, prepared: &Prepared) -> Result<Text, NoMemory>
-    requires { PlanFits guarded.now.catalogue.accesses prepared.now }
-    ensures { IfOk result (λ text. text ≡ plan_text (schema_of (database_in guarded.now)) prepared.now) }
+fn plan_lines(alloc: Global, store: &Store, prepared: &Prepared) -> Result<Text, NoMemory>
+    requires { PlanFits store.now.catalogue.accesses prepared.now }
+    ensures { IfOk result (λ text. text ≡ plan_text (schema_of (database_in store.now)) prepared.now) }
 {
-    plan_text(alloc, prepared, &guarded.catalogue)
+    plan_text(alloc, prepared, &store.catalogue)
 }
 
 /// The plan lines of a query where they are wanted.
 fn plan_shown(
     alloc: Global,
-    guarded: &Guarded,
+    store: &Store,
     prepared: &Prepared,
     explain: bool,
 ) -> Result<Text, NoMemory>
-    requires { PlanFits guarded.now.catalogue.accesses prepared.now }
-    ensures { IfOk result (λ text. text ≡ plan_shown explain (database_in guarded.now) prepared.now) }
+    requires { PlanFits store.now.catalogue.accesses prepared.now }
+    ensures { IfOk result (λ text. text ≡ plan_shown explain (database_in store.now) prepared.now) }
 {
     if explain {
-        plan_lines(alloc, guarded, prepared)
+        plan_lines(alloc, store, prepared)
     } else {
         Ok(Text::new(alloc))
     }
@@ -99,38 +102,38 @@ fn plan_shown(
 /// The answer of a query, from the indexes of the constraints.
 fn answer<L: Ledger>(
     alloc: Global,
-    guarded: &Guarded,
+    store: &Store,
     prepared: &Prepared,
     steps: &mut Steps<L>,
 ) -> Result<Answer, NoMemory>
-    requires { Fits guarded.now.catalogue.accesses (rows_at (database_in guarded.now)) prepared.now }
+    requires { Fits store.now.catalogue.accesses (rows_at (database_in store.now)) prepared.now }
     ensures rows { IfOk result (λ answer. answer.rows
-        ≡ full_of (rows_at (database_in guarded.now)) prepared.now.query) }
-    ensures reads { IfOk result (λ answer. answer.reads ≡ reads_in (database_in guarded.now) prepared.now) }
+        ≡ full_of (rows_at (database_in store.now)) prepared.now.query) }
+    ensures reads { IfOk result (λ answer. answer.reads ≡ reads_in (database_in store.now) prepared.now) }
     ensures within { IfOk result (λ answer. answer.reads ≤ prepared.now.bound) }
-    ensures cost { OnOk result (steps.new ≡ steps.old + reads_in (database_in guarded.now) prepared.now) }
-    ensures at_most { steps.new ≤ steps.old + reads_in (database_in guarded.now) prepared.now }
+    ensures cost { OnOk result (steps.new ≡ steps.old + reads_in (database_in store.now) prepared.now) }
+    ensures at_most { steps.new ≤ steps.old + reads_in (database_in store.now) prepared.now }
     ensures no_fewer { steps.old ≤ steps.new }
 {
-    execute(alloc, guarded, prepared, steps)
+    execute(alloc, store, prepared, steps)
 }
 
 /// The report of a query that is announced.
 fn answer_report<L: Ledger>(
     alloc: Global,
-    guarded: &Guarded,
+    store: &Store,
     explain: bool,
     prepared: Prepared,
     steps: &mut Steps<L>,
 ) -> Result<Report, Fail>
-    requires plan { PlanFits guarded.now.catalogue.accesses prepared }
-    requires fits { Fits guarded.now.catalogue.accesses (rows_at (database_in guarded.now)) prepared }
-    ensures carried { Carries (answer_effect explain (database_in guarded.now) prepared)
-        (database_in guarded.now) result (database_in guarded.now) steps.old steps.new }
+    requires plan { PlanFits store.now.catalogue.accesses prepared }
+    requires fits { Fits store.now.catalogue.accesses (rows_at (database_in store.now)) prepared }
+    ensures carried { CarriesOut (answer_effect explain (database_in store.now) prepared)
+        (database_in store.now) result (database_in store.now) steps.old steps.new }
     ensures within { IfOk result IsWithin }
 {
-    let plan = plan_shown(alloc, guarded, &prepared, explain)?;
-    let answer = answer(alloc, guarded, &prepared, steps)?;
+    let plan = plan_shown(alloc, store, &prepared, explain)?;
+    let answer = answer(alloc, store, &prepared, steps)?;
     Ok(Report::Answered {
         bound: prepared.bound,
         plan,
@@ -143,39 +146,35 @@ fn answer_report<L: Ledger>(
 /// A query, announced and then answered from the indexes of the constraints.
 pub fn select<L: Ledger>(
     alloc: Global,
-    guarded: &Guarded,
-    limits: &Limits,
-    budget: Option<u64>,
-    explain: bool,
+    store: &Store,
+    settings: &Settings,
     tree: &SelectTree,
     steps: &mut Steps<L>,
 ) -> Result<Report, Fail>
     requires { TreeIsWellFormed tree.now }
-    ensures carried { Carries
-        (select_effect (record { limits = limits.now; budget = budget; explain = explain })
-        (database_in guarded.now) tree.now)
-        (database_in guarded.now) result (database_in guarded.now) steps.old steps.new }
+    ensures carried { CarriesOut (select_effect (settings_in settings.now) (database_in store.now) tree.now)
+        (database_in store.now) result (database_in store.now) steps.old steps.new }
     ensures within { IfOk result IsWithin }
 {
-    let prepared = prepared_over(alloc, guarded, limits, budget, tree)?;
-    answer_report(alloc, guarded, explain, prepared, steps)
+    let prepared = prepared_over(alloc, store, settings, tree)?;
+    answer_report(alloc, store, settings.explain, prepared, steps)
 }
 
 /// EXPLAIN: what is announced of a query, and its plan lines. It reads nothing.
 pub fn explain(
     alloc: Global,
-    guarded: &Guarded,
-    limits: &Limits,
-    budget: Option<u64>,
+    store: &Store,
+    settings: &Settings,
     tree: &SelectTree,
 ) -> Result<Report, Fail>
     requires { TreeIsWellFormed tree.now }
-    ensures carried { Carries (explain_effect limits.now budget (database_in guarded.now) tree.now)
-        (database_in guarded.now) result (database_in guarded.now) 0 0 }
+    ensures carried { CarriesOut
+        (explain_effect settings.now.limits.now settings.now.budget (database_in store.now) tree.now)
+        (database_in store.now) result (database_in store.now) 0 0 }
     ensures within { IfOk result IsWithin }
 {
-    let prepared = prepared_over(alloc, guarded, limits, budget, tree)?;
-    let plan = plan_lines(alloc, guarded, &prepared)?;
+    let prepared = prepared_over(alloc, store, settings, tree)?;
+    let plan = plan_lines(alloc, store, &prepared)?;
     Ok(Report::Explained {
         bound: prepared.bound,
         plan,

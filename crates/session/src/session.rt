@@ -1,33 +1,32 @@
 // A session: the database, and what its statements are decided by.
-ghost use Rattle.std.specs.Prelude.{◌≡◌, ◌≤◌, [], ℕ, IfOk, OnErr, Some, None};
+ghost use Rattle.std.specs.Prelude.{◌≡◌, ◌≤◌, [], IfOk, OnErr};
 ghost use Rattle.beas_core.specs.Fits.{Fits};
-ghost use Rattle.catalogue.specs.Database.{Database};
+ghost use Rattle.beas_core.specs.Results.{Gives};
+ghost use Rattle.outside.specs.Seen.{IsLater};
 ghost use Rattle.session.specs.Announced.{announcement};
-ghost use Rattle.session.specs.Carried.{Carried, Carries, Gives};
-ghost use Rattle.session.specs.Effects.{Effect, Does, act_of, load_act, table_or_refusal};
-ghost use Rattle.session.specs.Statements.{IsNoLoad, StatementIsWellFormed, TreeIsWellFormed};
-ghost use Rattle.session.specs.Ties.{IsLater, view};
+ghost use Rattle.session.specs.Carrying.{Performs, reported};
+ghost use Rattle.session.specs.Effects.{Effect, Does, action_of};
+ghost use Rattle.session.specs.Statements.{StatementIsWellFormed, TreeIsWellFormed};
 ghost use Rattle.session.specs.Turns.{IsWithin};
 
 use crate::changes::{delete, insert, load};
 use crate::discovery::{discover_group, discover_pairs};
 use crate::queries::{announcement, explain, select};
-use crate::reading::read;
-use crate::stored::known_table;
+use crate::settings::Settings;
+use crate::stored::Store;
 use crate::tables::{create_access, create_table, drop_access};
-use beas_core::{Fail, Limits, Name, NoMemory, Prepared, Steps, Text};
+use beas_core::{Fail, Limits, NoMemory, Prepared, Steps};
 use outside::Files;
 use report::Report;
 use sql_tree::{SelectTree, Statement};
 use std::alloc::Global;
 use std::sync::ledger::Ledger;
-use update_guard::Guarded;
 
 /// Tables with their rows and constraints, and what statements over them are decided by.
-#[derive(Debug, Drop)]
+#[derive(Drop)]
 pub struct Session {
     /// The tables with their rows, and the constraints with their indexes.
-    pub guarded: Guarded,
+    pub guarded: Store,
     pub limits: Limits,
     /// A query with a greater number isn't run.
     pub budget: Option<u64>,
@@ -36,21 +35,30 @@ pub struct Session {
 }
 
 impl Session {
-    ghost use Rattle.catalogue.specs.Database.{rows_at, schema_of};
-    ghost use Rattle.catalogue.specs.Schema.{table_named};
-    ghost use Rattle.update_guard.specs.Stored.{database_in};
-    ghost use Rattle.session.specs.Applied.{Applied, MayCost, settings_of};
+    ghost use Rattle.catalogue.specs.Database.{rows_at};
+    ghost use Rattle.session.specs.Applying.{IsApplied, MayCost, database_of, settings_in, settings_of};
 
     /// A session without tables. It takes no memory.
     pub fn new(alloc: Global, limits: Limits, budget: Option<u64>, explain: bool) -> Session
-        ensures db { database_in result.guarded ≡ record { tables = []; accesses = []; created = 0 } }
+        ensures db { database_of result ≡ record { tables = []; accesses = []; created = 0 } }
         ensures settings { settings_of result ≡ record { limits = limits; budget = budget; explain = explain } }
     {
         Session {
-            guarded: Guarded::new(alloc),
+            guarded: Store::new(alloc),
             limits,
             budget,
             explain,
+        }
+    }
+
+    /// What its statements are decided by.
+    fn settings(&self) -> Settings<'_>
+        ensures { settings_in result ≡ settings_of self.now }
+    {
+        Settings {
+            limits: &self.limits,
+            budget: self.budget,
+            explain: self.explain,
         }
     }
 
@@ -60,15 +68,9 @@ impl Session {
         requires { TreeIsWellFormed tree.now }
         ensures announced { Gives result
             (announcement self.now.limits self.now.budget self.now.guarded.catalogue tree.now) }
-        ensures fits { IfOk result (Fits self.now.guarded.catalogue.accesses (rows_at (database_in self.now.guarded))) }
+        ensures fits { IfOk result (Fits self.now.guarded.catalogue.accesses (rows_at (database_of self.now))) }
     {
-        announcement(
-            alloc,
-            &self.guarded.catalogue,
-            &self.limits,
-            self.budget,
-            tree,
-        )
+        announcement(alloc, &self.guarded.catalogue, &self.settings(), tree)
     }
 
     /// Carries out a statement, and reports it. A refused statement changes nothing. Out of memory, the session is as
@@ -81,112 +83,82 @@ impl Session {
         steps: &mut Steps<L>,
     ) -> Result<Report, NoMemory>
         requires { StatementIsWellFormed statement.now }
-        ensures applied { IfOk result (λ report. Applied self.old.limits.file
-            (act_of (settings_of self.old) (database_in self.old.guarded) statement.now)
-            report (database_in self.new.guarded) steps.old steps.new
-            (view F.told F.content F.faults F.taken files.old) (view F.told F.content F.faults F.taken files.new)) }
+        ensures applied { IfOk result (λ report. IsApplied self.old.limits.file
+            (action_of (settings_of self.old) (database_of self.old) statement.now)
+            report (database_of self.new) steps.old steps.new (F.seen files.old) (F.seen files.new)) }
         ensures within { IfOk result IsWithin }
         ensures settings { settings_of self.new ≡ settings_of self.old }
 
         // Out of memory.
-        ensures unchanged { OnErr result (database_in self.new.guarded ≡ database_in self.old.guarded) }
+        ensures unchanged { OnErr result (database_of self.new ≡ database_of self.old) }
         ensures at_most { MayCost
-            (act_of (settings_of self.old) (database_in self.old.guarded) statement.now) steps.old steps.new }
+            (action_of (settings_of self.old) (database_of self.old) statement.now) steps.old steps.new }
         ensures no_fewer { steps.old ≤ steps.new }
 
         // The files.
         ensures unread { (effect : Effect)
-            → act_of (settings_of self.old) (database_in self.old.guarded) statement.now ≡ Does effect
+            → action_of (settings_of self.old) (database_of self.old) statement.now ≡ Does effect
             → files.new ≡ files.old }
-        ensures later { IsLater
-            (view F.told F.content F.faults F.taken files.old) (view F.told F.content F.faults F.taken files.new) }
+        ensures later { IsLater (F.seen files.old) (F.seen files.new) }
     {
-        match statement {
-            Statement::Load { table, file } => self.load(alloc, files, table, file),
-            _ => report_of(self.carry_out(alloc, statement, steps)),
-        }
+        report_of(self.carry_out(alloc, files, statement, steps))
     }
 
-    /// Carries out a statement other than a LOAD.
-    fn carry_out<L: Ledger>(
+    /// Carries out a statement.
+    fn carry_out<F: Files, L: Ledger>(
         &mut self,
         alloc: Global,
+        files: &mut F,
         statement: &Statement,
         steps: &mut Steps<L>,
     ) -> Result<Report, Fail>
-        requires form { StatementIsWellFormed statement.now }
-        requires no_load { IsNoLoad statement.now }
-        ensures carried { (effect : Effect)
-            → act_of (settings_of self.old) (database_in self.old.guarded) statement.now ≡ Does effect
-            → Carries effect (database_in self.old.guarded) result (database_in self.new.guarded) steps.old steps.new }
+        requires { StatementIsWellFormed statement.now }
+        ensures performed { Performs self.old.limits.file
+            (action_of (settings_of self.old) (database_of self.old) statement.now)
+            (database_of self.old) result (database_of self.new) steps.old steps.new
+            (F.seen files.old) (F.seen files.new) }
         ensures within { IfOk result IsWithin }
         ensures settings { settings_of self.new ≡ settings_of self.old }
+        ensures unread { (effect : Effect)
+            → action_of (settings_of self.old) (database_of self.old) statement.now ≡ Does effect
+            → files.new ≡ files.old }
+        ensures later { IsLater (F.seen files.old) (F.seen files.new) }
     {
         let limits = &self.limits;
-        let budget = self.budget;
-        let explained = self.explain;
-        let guarded = &mut self.guarded;
+        let settings = Settings {
+            limits,
+            budget: self.budget,
+            explain: self.explain,
+        };
+        let store = &mut self.guarded;
         match statement {
             Statement::CreateTable { name, columns } => {
-                create_table(alloc, guarded, limits, name, columns)
+                create_table(alloc, store, limits, name, columns)
             }
-            Statement::CreateAccess { spec } => create_access(alloc, guarded, limits, spec, steps),
-            Statement::DropAccess { name } => drop_access(alloc, guarded, name),
-            Statement::Load { .. } => unreachable!(),
-            Statement::Insert { table, rows } => insert(alloc, guarded, limits, table, rows),
+            Statement::CreateAccess { spec } => create_access(alloc, store, limits, spec, steps),
+            Statement::DropAccess { name } => drop_access(alloc, store, name),
+            Statement::Load { table, file } => load(alloc, store, limits, table, file, files),
+            Statement::Insert { table, rows } => insert(alloc, store, limits, table, rows),
             Statement::Delete { table, conditions } => {
-                delete(alloc, guarded, limits, table, conditions, steps)
+                delete(alloc, store, limits, table, conditions, steps)
             }
             Statement::DiscoverGroup {
                 table,
                 key,
                 fetched,
-            } => { discover_group(alloc, guarded, table, key, fetched, steps) }
+            } => { discover_group(alloc, store, table, key, fetched, steps) }
             Statement::DiscoverPairs { table, limit } => {
-                discover_pairs(alloc, guarded, table, limit, steps)
+                discover_pairs(alloc, store, table, limit, steps)
             }
-            Statement::Select { tree } => {
-                select(alloc, guarded, limits, budget, explained, tree, steps)
-            }
-            Statement::Explain { tree } => explain(alloc, guarded, limits, budget, tree),
+            Statement::Select { tree } => select(alloc, store, &settings, tree, steps),
+            Statement::Explain { tree } => explain(alloc, store, &settings, tree),
         }
-    }
-
-    /// LOAD.
-    fn load<F: Files>(
-        &mut self,
-        alloc: Global,
-        files: &mut F,
-        table: &Name,
-        file: &Text,
-    ) -> Result<Report, NoMemory>
-        ensures applied { IfOk result (λ report. Applied self.old.limits.file
-            (load_act self.old.limits (database_in self.old.guarded)
-            (table_or_refusal (schema_of (database_in self.old.guarded)) table.now) file.now)
-            report (database_in self.new.guarded) 0 0
-            (view F.told F.content F.faults F.taken files.old) (view F.told F.content F.faults F.taken files.new)) }
-        ensures within { IfOk result IsWithin }
-        ensures settings { settings_of self.new ≡ settings_of self.old }
-        ensures unchanged { OnErr result (database_in self.new.guarded ≡ database_in self.old.guarded) }
-        ensures unread { table_named (schema_of (database_in self.old.guarded)) table.now ≡ None → files.new
-            ≡ files.old }
-        ensures later { IsLater
-            (view F.told F.content F.faults F.taken files.old) (view F.told F.content F.faults F.taken files.new) }
-    {
-        let id = match known_table(alloc, &self.guarded, table) {
-            Ok(id) => id,
-            Err(why) => return report_of(Err(why)),
-        };
-        let outcome = read(alloc, files, file.as_str(), self.limits.file)?;
-        report_of(load(alloc, &mut self.guarded, &self.limits, file, id, &outcome))
     }
 }
 
 /// A refused statement is reported too.
 fn report_of(outcome: Result<Report, Fail>) -> Result<Report, NoMemory>
-    ensures carried { (effect : Effect) (before after : Database) (s t : ℕ)
-        → Carries effect before outcome after s t → Carried effect before result after s t }
-    ensures within { IfOk outcome IsWithin → IfOk result IsWithin }
+    ensures { result ≡ reported outcome }
 {
     match outcome {
         Ok(report) => Ok(report),

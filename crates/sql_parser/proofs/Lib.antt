@@ -1,5 +1,6 @@
 pub mod Digits
 pub mod Loops
+pub mod Openings
 pub mod Fronts
 pub mod SpelledIsRead
 pub mod QueryIsRead

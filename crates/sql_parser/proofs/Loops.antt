@@ -4,7 +4,7 @@ use Rattle.sql_tree.specs.Symbols.{Symbol}
 use Rattle.sql_parser.specs.declared.reader.ReadError.{ReadError}
 use Rattle.sql_parser.specs.declared.reader.ReadError.TheVariants as errors
 use Rattle.sql_tree.specs.Words.{COMMA}
-use Rattle.sql_parser.specs.Reading.{◌>>=◌, Gives, starts, rest_of, after, read_commas}
+use Rattle.sql_parser.specs.Reading.{◌>>=◌, GivesWithRest, starts, rest_of, after, read_commas}
 
 after-some : {X : Type 0} (front xs : List X) (rest : List Symbol) → after front (Some (xs, rest)) ≡ Some (front ++ xs, rest)
 unfolding after
@@ -56,6 +56,6 @@ commas-over read front n tokens e = rw e refl
 
 -- a call that fails, where the whole fails with it
 pub fails_on : {X Y : Type 0} (e : ReadError) (rest after : List Symbol) (part : Option (X × List Symbol)) (whole : Option (Y × List Symbol))
-    → Gives {X = X} (Err e) rest part → (part ≡ None → whole ≡ None) → Gives {X = Y} (Err e) after whole
+    → GivesWithRest {X = X} (Err e) rest part → (part ≡ None → whole ≡ None) → GivesWithRest {X = Y} (Err e) after whole
 fails_on errors.Syntax rest after part whole h f = f h
 fails_on errors.NoMemory rest after part whole h f = tt

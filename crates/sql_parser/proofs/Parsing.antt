@@ -1,26 +1,31 @@
 -- What is read is the one statement that the tokens spell.
-use Rattle.std.proofs.Common.{◌≡◌, ◌≤◌, Bool, true, false, List, [], ◌∷◌, Option, Some, None, Result, Ok, Err, refl, sym, ap, subst, inl, inr, ◌∙◌}
+use Rattle.std.proofs.Common.{◌≡◌, ◌≤◌, Bool, true, false, List, [], ◌∷◌, Option, Some, None, Result, Ok, Err, refl, sym, ap, subst, ◌∙◌}
 use Rattle.std.specs.Prelude.{nat_lt, IfOk, IsErrOf}
 use Rattle.std.proofs.lemmas.List.{append-nil}
 use Rattle.std.proofs.lemmas.Bool.{false≢true, ltb-false, ltb-true, le-ltb, lt-ltb}
 use Rattle.sql_tree.specs.declared.tree.Statement.{Statement}
-use Rattle.sql_tree.specs.declared.tree.Statement.TheVariants.{Select, Explain}
+use Rattle.sql_tree.specs.Trees.{Tree}
 use Rattle.beas_core.specs.declared.errors.Fail.{Fail}
 use Rattle.beas_core.specs.declared.errors.Fail.TheVariants.{Refused, NoMemory}
 use Rattle.beas_core.specs.declared.refusal.Refusal.{Refusal}
 use Rattle.beas_core.specs.declared.refusal.Refusal.TheVariants as refusal
 use Rattle.sql_tree.specs.Symbols.{Symbol, depth}
-use Rattle.sql_tree.specs.Grammar.{Spells, create_table, create_access, drop_access, load, insert, delete, discover_group, discover_pairs, select, explain, SpellsLone, lone, explained}
+use Rattle.sql_tree.specs.Grammar.{Spells, create_table, create_access, drop_access, load, insert, delete, discover_group, discover_pairs, over_query, IsOverQuery, select, explain, SpellsLone, lone, wants_distinct}
+use Rattle.beas_core.specs.Results.{Gives}
 use Rattle.sql_parser.specs.Reading.{read_statement}
-use Rattle.sql_parser.specs.Outcome.{Answers, Reading, Parses, SpellsNothing, lacks_distinct, with_distinct, to_the_end, found_reading}
+use Rattle.sql_parser.specs.Outcome.{Reading, Parses, SpellsNothing, lacks_distinct, with_distinct, to_the_end, found_reading}
 use Rattle.sql_parser.proofs.ReadIsSpelled.{some_is}
-use Rattle.sql_parser.proofs.StatementIsSpelled.{SpellsAny, whole, lacking, lacking_explained, statement-spelled}
-use Rattle.sql_parser.proofs.StatementIsRead.{spelled-reads, lone-reads}
+use Rattle.sql_parser.proofs.StatementIsSpelled.{SpellsAny, whole, lacking, statement-spelled}
+use Rattle.sql_parser.proofs.StatementIsRead.{spelled-reads, over-reads}
 
 any-spelled : (tokens : List Symbol) (s : Statement) → read_statement tokens ≡ Some (s, []) → SpellsAny tokens s
 any-spelled tokens s e =
     let t = statement-spelled tokens s [] e in
     subst (λ a. SpellsAny a s) (sym (append-nil t.front) ∙ sym t.parts) t.spelled
+
+over-lacks : {words : List Symbol} {t : Tree} {s : Statement} → IsOverQuery words t s → lacks_distinct s ≡ wants_distinct t
+over-lacks select = refl
+over-lacks explain = refl
 
 spells-no_lack : {a : List Symbol} {s : Statement} → Spells a s → lacks_distinct s ≡ false
 spells-no_lack (create_table i h) = refl
@@ -31,18 +36,15 @@ spells-no_lack (insert i h) = refl
 spells-no_lack (delete i w) = refl
 spells-no_lack (discover_group i k f) = refl
 spells-no_lack (discover_pairs i) = refl
-spells-no_lack (select q e) = e
-spells-no_lack (explain q e) = e
+spells-no_lack (over_query o q e) = over-lacks o ∙ e
 
 any-whole : {a : List Symbol} {s : Statement} → SpellsAny a s → lacks_distinct s ≡ false → Spells a s
 any-whole (whole h) e = h
-any-whole (lacking q l) e = absurd (false≢true (sym e ∙ l))
-any-whole (lacking_explained q l) e = absurd (false≢true (sym e ∙ l))
+any-whole (lacking o q l) e = absurd (false≢true (sym e ∙ over-lacks o ∙ l))
 
 any-lone : {a : List Symbol} {s : Statement} → SpellsAny a s → lacks_distinct s ≡ true → SpellsLone a
 any-lone (whole h) e = absurd (false≢true (sym (spells-no_lack h) ∙ e))
-any-lone (lacking q l) e = lone q l
-any-lone (lacking_explained q l) e = explained q l
+any-lone (lacking o q l) e = lone o q l
 
 -- ---- from what is read
 
@@ -53,12 +55,7 @@ pub lone_is_spelled : (tokens : List Symbol) (s : Statement) → read_statement 
 lone_is_spelled tokens s e l = any-lone (any-spelled tokens s e) l
 
 lone-lacks : (tokens : List Symbol) → SpellsLone tokens → (s : Statement) × (read_statement tokens ≡ Some (s, [])) × (lacks_distinct s ≡ true)
-lone-lacks tokens h =
-    let r = lone-reads h in
-    elim r.reads [
-      | inl e ↦ (Select r.tree, e, r.lacks)
-      | inr e ↦ (Explain r.tree, e, r.lacks)
-    ]
+lone-lacks tokens (lone {s = s} o q l) = (s, over-reads o q, over-lacks o ∙ l)
 
 pub nothing_is_spelled : (tokens : List Symbol) → ((s : Statement) → read_statement tokens ≡ Some (s, []) → ⊥) → SpellsNothing tokens
 nothing_is_spelled tokens h = record { no_statement = λ s k. h s (spelled-reads k); no_lone = λ k. let l = lone-lacks tokens k in h l.0 l.1 }
@@ -158,16 +155,16 @@ one_reading tokens (Err _) h = absurd h
 
 -- ---- what an answer tells, where it is the reading
 
-pub spelled : (tokens : List Symbol) (answer : Result Statement Fail) → Answers answer (found_reading tokens) → IfOk answer (λ s. Parses tokens (Ok s))
+pub spelled : (tokens : List Symbol) (answer : Result Statement Fail) → Gives answer (found_reading tokens) → IfOk answer (λ s. Parses tokens (Ok s))
 spelled tokens (Ok s) e = subst (Parses tokens) e (parsed-parses tokens)
 spelled tokens (Err why) e = tt
 
-pub refused : (tokens : List Symbol) (answer : Result Statement Fail) → Answers answer (found_reading tokens) → (why : Refusal) → IsErrOf answer (Refused why)
+pub refused : (tokens : List Symbol) (answer : Result Statement Fail) → Gives answer (found_reading tokens) → (why : Refusal) → IsErrOf answer (Refused why)
     → Parses tokens (Err why)
 refused tokens (Ok s) e why h = cc
 refused tokens (Err NoMemory) e why h = cc
 refused tokens (Err (Refused w)) e why h = let same : w ≡ why = cc in subst (Parses tokens) (e ∙ ap (λ (r : Refusal). Err r) same) (parsed-parses tokens)
 
-pub answered : (tokens : List Symbol) (answer : Result Statement Fail) → Answers answer (found_reading tokens) → (reading : Reading) → Parses tokens reading
-    → Answers answer reading
-answered tokens answer e reading h = subst (Answers answer) (one_reading tokens reading h) e
+pub answered : (tokens : List Symbol) (answer : Result Statement Fail) → Gives answer (found_reading tokens) → (reading : Reading) → Parses tokens reading
+    → Gives answer reading
+answered tokens answer e reading h = subst (Gives answer) (one_reading tokens reading h) e

@@ -10,15 +10,16 @@ use Rattle.sql_tree.specs.Trees.{Tree, Block}
 use Rattle.beas_core.specs.Spelling.{is_reserved, reserved_words}
 use Rattle.beas_core.proofs.Identifiers.{reserved_is_no_name}
 use Rattle.sql_tree.specs.Symbols.{Symbol, word, mark}
-use Rattle.sql_tree.specs.Grammar.{Commas, last, comma, IsRef, IsCondition, comparison, range, parentheses, IsConditions, last_condition, conjunction, IsWhere, no_where, where_, IsItem, alone, alias, as_alias, IsJoins, no_join, join, inner_join, cross_join, Source, IsSource, joined_source, IsDistinct, all_rows, distinct_rows, IsOutput, all_columns, columns, IsBlock, select_block, IsTerm, single, nested, IsQuery, term, union, except}
+use Rattle.sql_tree.specs.Grammar.{Commas, last, comma, IsRef, IsCondition, comparison, range, parentheses, IsConditions, last_condition, conjunction, IsWhere, no_where, where_, IsItem, alone, alias, as_alias, IsJoins, no_join, join, inner_join, cross_join, Source, IsSource, joined_source, IsDistinct, all_rows, distinct_rows, IsOutput, all_columns, columns, IsHead, select_output, Body, IsBody, from_sources, block_of, IsBlock, select_block, IsTerm, single, nested, IsQuery, term, union, except}
 use Rattle.sql_tree.specs.Words.{AND, AS, BETWEEN, CROSS, DISTINCT, EXCEPT, FROM, INNER, JOIN, ON, SELECT, UNION, WHERE, OPEN, CLOSE, COMMA, DOT, STAR}
 use Rattle.std.specs.List.{flat_map}
 use Rattle.std.proofs.lemmas.List.Concat.{flat_map-cons}
+use Rattle.sql_parser.specs.declared.blocks.Head.{Head}
 use Rattle.sql_parser.specs.declared.queries.Front.{Front}
 use Rattle.sql_parser.specs.declared.queries.Front.TheVariants.{Nothing, BeforeUnion, BeforeExcept}
 use Rattle.sql_parser.specs.Fronts.{joined_to}
-use Rattle.sql_parser.specs.Reading.{starts, rest_of, starts_id, read_ref, read_condition, read_conditions, read_where, read_alias, read_item, read_joined, read_crossed, starts_join, read_join, read_joins, read_source, read_sources, read_output, after_distinct, read_block, read_block_term, read_term, read_query, read_whole_query}
-use Rattle.sql_parser.proofs.SpelledIsRead.{id-reads, id-starts, id-no_word, id-some, list-reads, commas-start, closed-reads, NoDot, ref-reads, ref-some, ref-no_word, ref-no_mark, side-no_open, simple-compare, simple-range, condition-simple, condition-some, three, four}
+use Rattle.sql_parser.specs.Reading.{starts, rest_of, starts_id, read_ref, read_condition, read_conditions, read_where, read_alias, read_item, read_joined, read_crossed, starts_join, read_join, read_joins, read_source, read_sources, read_output, after_distinct, read_head, read_body, read_block, read_block_term, read_term, read_query, read_whole_query}
+use Rattle.sql_parser.proofs.SpelledIsRead.{id-reads, id-starts, id-no_word, id-some, list-reads, commas-start, closed-reads, NoDot, ref-reads, ref-some, ref-no_word, ref-no_mark, side-no_open, simple-compare, simple-range, condition-simple, condition-some, three}
 
 condition-closed : (n : ℕ) (a : List Symbol) (cs : List Cond) (rest : List Symbol) → read_conditions n (a ++ CLOSE ∷ rest) ≡ Some (cs, CLOSE ∷ rest)
     → read_condition (read_conditions n) ((OPEN ∷ a ++ CLOSE ∷ []) ++ rest) ≡ Some (cs, rest)
@@ -373,37 +374,55 @@ unfolding after_distinct starts rest_of
 distinct-reads all_rows rest n = (n, rw n refl)
 distinct-reads distinct_rows rest n = (refl, refl)
 
-from-no : (rest : List Symbol) → (Never DOT (FROM ∷ rest)) × (Never COMMA (FROM ∷ rest))
-unfolding starts
-from-no rest = (refl, refl)
+head-steps : (start tail : List Symbol) (distinct star : Bool) (rs : List ColumnRef) (rest : List Symbol) → starts DISTINCT start ≡ distinct
+    → after_distinct start ≡ tail → read_output tail ≡ Some ((star, rs), rest)
+    → read_head (SELECT ∷ start) ≡ Some (record { distinct = distinct; star = star; items = rs }, rest)
+unfolding read_head starts rest_of
+head-steps start tail distinct star rs rest d t o = rw (t, o, d) refl
 
-block-steps : (start tail : List Symbol) (dis star : Bool) (rs : List ColumnRef) (from : List Symbol) (sources : Source) (after_sources : List Symbol)
-    (cs : List Cond) (rest : List Symbol) → starts DISTINCT start ≡ dis → after_distinct start ≡ tail
-    → read_output tail ≡ Some ((star, rs), FROM ∷ from) → read_sources (length from) from ≡ Some (sources, after_sources)
-    → read_where after_sources ≡ Some (cs, rest)
-    → read_block (SELECT ∷ start) ≡ Some (record { distinct = dis; star = star; items = rs; from_items = sources.0; conditions = sources.1 ++ cs }, rest)
-unfolding read_block starts rest_of
-block-steps start tail dis star rs from sources after_sources cs rest d t o s w = rw (t, o, s, w, d) refl
+head-reads : {a : List Symbol} {distinct star : Bool} {rs : List ColumnRef} → IsHead a distinct star rs → (rest : List Symbol) → NoDot rest → Never COMMA rest
+    → read_head (a ++ rest) ≡ Some (record { distinct = distinct; star = star; items = rs }, rest)
+head-reads {distinct = distinct} {star = star} {rs = rs} (select_output {a = a} {b = b} h o) rest dot c =
+    let d = distinct-reads h (b ++ rest) (output-no_distinct o rest) in
+    ap (λ t. read_head (SELECT ∷ t)) (append_assoc a b rest)
+    ∙ head-steps (a ++ (b ++ rest)) (b ++ rest) distinct star rs rest d.0 d.1 (output-reads o rest dot c)
 
-block-reads : {a : List Symbol} {b : BlockTree} → IsBlock a b → (rest : List Symbol) → BlockEnds rest → read_block (a ++ rest) ≡ Some (b, rest)
-unfolding read_block starts rest_of
-block-reads (select_block {a = a} {b = b} {c = c} {d = d} {distinct = dis} {star = st} {rs = rs} {ss = ss} {cs = cs} h o s w) rest ends =
-    let tail : List Symbol = b ++ (FROM ∷ (c ++ (d ++ rest))) in
-    let dr = distinct-reads h tail (output-no_distinct o (FROM ∷ (c ++ (d ++ rest)))) in
-    let fits : length c ≤ length (c ++ (d ++ rest)) = omega (arith, length-append c (d ++ rest)) in
-    let from = from-no (c ++ (d ++ rest)) in
-    ap (λ t. read_block (SELECT ∷ t)) (four a b (FROM ∷ c) d rest)
-    ∙ block-steps (a ++ tail) tail dis st rs (c ++ (d ++ rest)) (items_of ss, conditions_of ss) (d ++ rest) cs rest dr.0 dr.1
-    (output-reads o (FROM ∷ (c ++ (d ++ rest))) from.0 from.1)
-    (sources-read (length (c ++ (d ++ rest))) c ss s fits (d ++ rest) (where-ends w rest ends.source) (where-no_comma w rest ends.comma))
+body-steps : (from : List Symbol) (sources : Source) (next : List Symbol) (cs : List Cond) (rest : List Symbol)
+    → read_sources (length from) from ≡ Some (sources, next) → read_where next ≡ Some (cs, rest)
+    → read_body (FROM ∷ from) ≡ Some ((sources.0, sources.1 ++ cs), rest)
+unfolding read_body starts rest_of
+body-steps from sources next cs rest s w = rw (s, w) refl
+
+pub body-reads : {a : List Symbol} {b : Body} → IsBody a b → (rest : List Symbol) → BlockEnds rest → read_body (a ++ rest) ≡ Some (b, rest)
+body-reads (from_sources {a = a} {b = b} {ss = ss} {cs = cs} s w) rest ends =
+    let fits : length a ≤ length (a ++ (b ++ rest)) = omega (arith, length-append a (b ++ rest)) in
+    ap (λ t. read_body (FROM ∷ t)) (append_assoc a b rest)
+    ∙ body-steps (a ++ (b ++ rest)) (items_of ss, conditions_of ss) (b ++ rest) cs rest
+    (sources-read (length (a ++ (b ++ rest))) a ss s fits (b ++ rest) (where-ends w rest ends.source) (where-no_comma w rest ends.comma))
     (where-reads w rest ends.source.dot ends.source.and_ ends.where_)
 
+body-no : {a : List Symbol} {b : Body} → IsBody a b → (rest : List Symbol) → NoDot (a ++ rest) × Never COMMA (a ++ rest)
+unfolding starts
+body-no (from_sources s w) rest = (refl, refl)
+
+block-steps : (tokens next : List Symbol) (head : Head) (body : Body) (rest : List Symbol) → read_head tokens ≡ Some (head, next)
+    → read_body next ≡ Some (body, rest) → read_block tokens ≡ Some (block_of head.distinct head.star head.items body, rest)
+unfolding read_block
+block-steps tokens next head body rest h k = rw (h, k) refl
+
+block-reads : {a : List Symbol} {b : BlockTree} → IsBlock a b → (rest : List Symbol) → BlockEnds rest → read_block (a ++ rest) ≡ Some (b, rest)
+block-reads (select_block {a = a} {b = b} {distinct = distinct} {star = star} {rs = rs} {body = body} h k) rest ends =
+    let no = body-no k rest in
+    ap read_block (append_assoc a b rest)
+    ∙ block-steps (a ++ (b ++ rest)) (b ++ rest) (record { distinct = distinct; star = star; items = rs }) body rest (head-reads h (b ++ rest) no.0 no.1)
+    (body-reads k rest ends)
+
 block-some : {a : List Symbol} {b : BlockTree} → IsBlock a b → 0 < length a
-block-some (select_block {a} {b} {c} {d} h o s w) = omega (arith, length-append (SELECT ∷ a ++ b ++ FROM ∷ c) d, length-append (SELECT ∷ a ++ b) (FROM ∷ c))
+block-some (select_block {b = body} (select_output {a = a} {b = b} h o) k) = omega (arith, length-append (SELECT ∷ a ++ b) body, length-append (SELECT ∷ a) b)
 
 block-no : (s : Symbol) → starts s (SELECT ∷ []) ≡ false → {a : List Symbol} {b : BlockTree} → IsBlock a b → (rest : List Symbol) → starts s (a ++ rest) ≡ false
 unfolding starts
-block-no s e (select_block h o c w) rest = e
+block-no s e (select_block (select_output h o) k) rest = e
 
 -- ---- terms and queries
 

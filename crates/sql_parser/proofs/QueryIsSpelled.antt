@@ -7,14 +7,15 @@ use Rattle.sql_tree.specs.declared.tree.FromItem.{FromItem}
 use Rattle.sql_tree.specs.declared.tree.BlockTree.{BlockTree}
 use Rattle.sql_tree.specs.Trees.{Tree, Block, Union, Except}
 use Rattle.sql_tree.specs.Symbols.{Symbol}
-use Rattle.sql_tree.specs.Grammar.{Commas, last, comma, IsRef, IsConditions, IsWhere, no_where, where_, IsItem, alone, alias, as_alias, IsJoins, no_join, join, inner_join, cross_join, Source, IsSource, joined_source, IsDistinct, all_rows, distinct_rows, IsOutput, all_columns, columns, IsBlock, select_block, IsTerm, single, nested, IsQuery, term, union, except}
+use Rattle.sql_tree.specs.Grammar.{Commas, last, comma, IsRef, IsConditions, IsWhere, no_where, where_, IsItem, alone, alias, as_alias, IsJoins, no_join, join, inner_join, cross_join, Source, IsSource, joined_source, IsDistinct, all_rows, distinct_rows, IsOutput, all_columns, columns, IsHead, select_output, Body, IsBody, from_sources, IsBlock, select_block, IsTerm, single, nested, IsQuery, term, union, except}
 use Rattle.sql_tree.specs.Words.{AS, CROSS, DISTINCT, EXCEPT, FROM, INNER, JOIN, ON, SELECT, UNION, WHERE, OPEN, CLOSE, COMMA, STAR}
 use Rattle.std.specs.List.{flat_map}
 use Rattle.std.proofs.lemmas.List.Concat.{flat_map-cons}
+use Rattle.sql_parser.specs.declared.blocks.Head.{Head}
 use Rattle.sql_parser.specs.declared.queries.Front.{Front}
 use Rattle.sql_parser.specs.declared.queries.Front.TheVariants.{Nothing, BeforeUnion, BeforeExcept}
 use Rattle.sql_parser.specs.Fronts.{joined_to}
-use Rattle.sql_parser.specs.Reading.{◌>>=◌, expect, starts, rest_of, starts_id, read_id, read_list, then_close, read_ref, read_conditions, read_where, read_alias, read_item, read_joined, read_crossed, starts_join, read_join, read_joins, read_source, read_sources, read_output, after_distinct, read_block, read_block_term, read_term, read_query, read_whole_query}
+use Rattle.sql_parser.specs.Reading.{◌>>=◌, expect, starts, rest_of, starts_id, read_id, read_list, then_close, read_ref, read_conditions, read_where, read_alias, read_item, read_joined, read_crossed, starts_join, read_join, read_joins, read_source, read_sources, read_output, after_distinct, read_head, read_body, read_block, read_block_term, read_term, read_query, read_whole_query}
 use Rattle.sql_parser.proofs.ReadIsSpelled.{Took, then_parts, read_as, some_is, none_is, bind-inv, pick-inv, took_as, starts-inv, expect-inv, closed-inv, id-spelled, commas-spelled, ref-spelled, conditions-spelled}
 
 pub where-spelled : (tokens : List Symbol) (cs : List Cond) (rest : List Symbol) → read_where tokens ≡ Some (cs, rest) → Took IsWhere tokens cs rest
@@ -229,35 +230,50 @@ distinct-spelled tokens =
     ] in
     go (starts DISTINCT tokens) refl
 
-block-made : {a b c d : List Symbol} {distinct star : Bool} {rs : List ColumnRef} {s : Source} {cs : List Cond} → IsDistinct a distinct → IsOutput b star rs
-    → SourcesOf c s → IsWhere d cs → IsBlock (SELECT ∷ a ++ b ++ FROM ∷ c ++ d)
-    (record { distinct = distinct; star = star; items = rs; from_items = s.0; conditions = s.1 ++ cs })
-block-made {a} {b} {c} {d} {distinct} {star} {rs} {s} {cs} h o k w =
-    subst (λ (t : Source). IsBlock (SELECT ∷ a ++ b ++ FROM ∷ c ++ d)
-    (record { distinct = distinct; star = star; items = rs; from_items = t.0; conditions = t.1 ++ cs }))
+abbrev HeadOf : List Symbol → Head → Type 0
+HeadOf a h = IsHead a h.distinct h.star h.items
+
+head-spelled : (tokens : List Symbol) (h : Head) (rest : List Symbol) → read_head tokens ≡ Some (h, rest) → Took HeadOf tokens h rest
+unfolding read_head
+head-spelled tokens h rest e =
+    let a = bind-inv (expect SELECT tokens) _ (h, rest) e in
+    let d = distinct-spelled a.0 in
+    let o = bind-inv (read_output (after_distinct a.0)) _ (h, rest) a.2 in
+    let u = output-spelled (after_distinct a.0) o.0.0 o.0.1 o.1 in
+    took_as (record {
+      front = SELECT ∷ d.front ++ u.front;
+      parts = then_parts (SELECT ∷ d.front) u.front o.0.1 (expect-inv SELECT tokens a.0 a.1 ∙ ap (λ r. SELECT ∷ r) d.parts) u.parts;
+      spelled = select_output d.spelled u.spelled;
+    }) o.2
+
+body-made : {a b : List Symbol} {s : Source} {cs : List Cond} → SourcesOf a s → IsWhere b cs → IsBody (FROM ∷ a ++ b) (s.0, s.1 ++ cs)
+body-made {a} {b} {s} {cs} k w =
+    subst (λ (t : Source). IsBody (FROM ∷ a ++ b) (t.0, t.1 ++ cs))
     (ap (λ (is : List FromItem). (is, flat_map (λ (t : Source). t.1) k.sources)) (sym k.items) ∙ ap (λ (es : List Cond). (s.0, es)) (sym k.conditions))
-    (select_block h o k.spelled w)
+    (from_sources k.spelled w)
+
+pub body-spelled : (tokens : List Symbol) (b : Body) (rest : List Symbol) → read_body tokens ≡ Some (b, rest) → Took IsBody tokens b rest
+unfolding read_body
+body-spelled tokens b rest e =
+    let f = bind-inv (expect FROM tokens) _ (b, rest) e in
+    let s = bind-inv (read_sources (length f.0) f.0) _ (b, rest) f.2 in
+    let t = sources-spelled (length f.0) f.0 s.0.0 s.0.1 s.1 in
+    let w = bind-inv (read_where s.0.1) _ (b, rest) s.2 in
+    let u = where-spelled s.0.1 w.0.0 w.0.1 w.1 in
+    took_as (record {
+      front = FROM ∷ t.front ++ u.front;
+      parts = then_parts (FROM ∷ t.front) u.front w.0.1 (expect-inv FROM tokens f.0 f.1 ∙ ap (λ r. FROM ∷ r) t.parts) u.parts;
+      spelled = body-made t.spelled u.spelled;
+    }) w.2
 
 block-spelled : (tokens : List Symbol) (b : BlockTree) (rest : List Symbol) → read_block tokens ≡ Some (b, rest) → Took IsBlock tokens b rest
 unfolding read_block
 block-spelled tokens b rest e =
-    let a = bind-inv (expect SELECT tokens) _ (b, rest) e in
-    let d = distinct-spelled a.0 in
-    let o = bind-inv (read_output (after_distinct a.0)) _ (b, rest) a.2 in
-    let ot = output-spelled (after_distinct a.0) o.0.0 o.0.1 o.1 in
-    let f = bind-inv (expect FROM o.0.1) _ (b, rest) o.2 in
-    let s = bind-inv (read_sources (length f.0) f.0) _ (b, rest) f.2 in
-    let st = sources-spelled (length f.0) f.0 s.0.0 s.0.1 s.1 in
-    let w = bind-inv (read_where s.0.1) _ (b, rest) s.2 in
-    let wt = where-spelled s.0.1 w.0.0 w.0.1 w.1 in
-    let selects = expect-inv SELECT tokens a.0 a.1 ∙ ap (λ r. SELECT ∷ r) d.parts in
-    let outputs = then_parts (SELECT ∷ d.front) ot.front o.0.1 selects ot.parts in
-    let froms = then_parts (SELECT ∷ d.front ++ ot.front) (FROM ∷ st.front) s.0.1 outputs (expect-inv FROM o.0.1 f.0 f.1 ∙ ap (λ r. FROM ∷ r) st.parts) in
-    took_as (record {
-      front = SELECT ∷ d.front ++ ot.front ++ FROM ∷ st.front ++ wt.front;
-      parts = then_parts (SELECT ∷ d.front ++ ot.front ++ FROM ∷ st.front) wt.front w.0.1 froms wt.parts;
-      spelled = block-made d.spelled ot.spelled st.spelled wt.spelled;
-    }) w.2
+    let h = bind-inv (read_head tokens) _ (b, rest) e in
+    let t = head-spelled tokens h.0.0 h.0.1 h.1 in
+    let k = bind-inv (read_body h.0.1) _ (b, rest) h.2 in
+    let u = body-spelled h.0.1 k.0.0 k.0.1 k.1 in
+    took_as (record { front = t.front ++ u.front; parts = then_parts t.front u.front k.0.1 t.parts u.parts; spelled = select_block t.spelled u.spelled }) k.2
 
 -- ---- queries
 

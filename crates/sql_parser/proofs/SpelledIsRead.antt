@@ -222,9 +222,6 @@ sign-no_dot at_least rest = (refl, refl)
 pub three : (a b c rest : List Symbol) → (a ++ b ++ c) ++ rest ≡ a ++ (b ++ (c ++ rest))
 three a b c rest = simp append_assoc
 
-pub four : (a b c d rest : List Symbol) → (a ++ b ++ c ++ d) ++ rest ≡ a ++ (b ++ (c ++ (d ++ rest)))
-four a b c d rest = simp append_assoc
-
 pub simple-compare : {a b c : List Symbol} {left right : Side} {sign : Sign} (l : IsSide a left) (s : IsSign b sign) (r : IsSide c right)
     → (is_literal left && is_literal right) ≡ false → (rest : List Symbol) → NoDot rest
     → read_simple ((a ++ b ++ c) ++ rest) ≡ Some (Compare left sign right, rest)

@@ -1,19 +1,22 @@
 -- Statements that are spelled are read.
-use Rattle.std.proofs.Common.{◌≡◌, ℕ, true, false, List, [], ◌∷◌, ◌++◌, Option, Some, None, refl, sym, ap, subst, inl, inr, ◌∙◌, append_assoc}
-use Rattle.std.specs.Prelude.{codes, bytes_eq, ◌⊎◌}
+use Rattle.std.proofs.Common.{◌≡◌, ℕ, true, false, List, [], ◌∷◌, ◌++◌, Option, Some, None, refl, sym, ap, subst, ◌∙◌, append_assoc}
+use Rattle.std.specs.Prelude.{codes, bytes_eq}
 use Rattle.std.proofs.lemmas.List.{append-nil}
 use Rattle.beas_core.specs.declared.schema.Column.{Column}
 use Rattle.sql_tree.specs.declared.tree.Literal.{Literal}
 use Rattle.sql_tree.specs.declared.tree.Cond.{Cond}
 use Rattle.sql_tree.specs.declared.tree.Statement.{Statement}
 use Rattle.sql_tree.specs.declared.tree.Statement.TheVariants.{CreateTable, CreateAccess, DropAccess, Load, Insert, Delete, DiscoverGroup, DiscoverPairs, Select, Explain}
+use Rattle.sql_parser.specs.declared.statements.Opening.{Opening}
+use Rattle.sql_parser.specs.declared.statements.Opening.TheVariants as opening
 use Rattle.sql_tree.specs.Trees.{Tree}
 use Rattle.beas_core.specs.Spelling.{is_name}
 use Rattle.sql_tree.specs.Symbols.{Symbol, word, number, quoted}
-use Rattle.sql_tree.specs.Grammar.{Commas, IsId, id, IsMaybeIds, IsColumn, IsTuple, IsWhere, IsQuery, Spells, create_table, create_access, drop_access, load, insert, delete, discover_group, discover_pairs, select, explain, SpellsLone, lone, explained, wants_distinct}
+use Rattle.sql_tree.specs.Grammar.{Commas, IsId, id, IsMaybeIds, IsColumn, IsTuple, IsWhere, IsQuery, Spells, create_table, create_access, drop_access, load, insert, delete, discover_group, discover_pairs, over_query, IsOverQuery, select, explain}
 use Rattle.sql_tree.specs.Words.{ACCESS, CREATE, DELETE, DISCOVER, DROP, EXPLAIN, FETCH, FROM, INSERT, INTO, LIMIT, LOAD, ON, SELECT, TABLE, VALUES, OPEN, CLOSE}
-use Rattle.sql_parser.specs.Reading.{starts, rest_of, read_id, read_number, read_quoted, read_list, read_maybe_ids, read_column, read_tuple, read_where, read_whole_query, read_columns, read_key, read_fetched, read_create_table, read_create_access, read_drop_access, read_load, read_insert, read_delete, read_pairs, read_group, read_discover, read_explain, read_select, read_create, read_statement}
+use Rattle.sql_parser.specs.Reading.{starts, rest_of, read_id, read_number, read_quoted, read_list, read_maybe_ids, read_column, read_tuple, read_where, read_whole_query, read_columns, read_key, read_fetched, read_create_table, read_create_access, read_drop_access, read_load, read_insert, read_delete, read_pairs, read_group, read_discover, read_explain, read_select, words_of, openings, begins_with, after_all, read_first, read_statement}
 use Rattle.sql_parser.proofs.SpelledIsRead.{ids-reads, closed-reads, maybe_ids-reads, columns-read, tuples-read}
+use Rattle.sql_parser.proofs.Openings.{first-passes}
 use Rattle.sql_parser.proofs.QueryIsRead.{nothing-ends, where-reads, query-reads, query-no}
 
 columns-closed : {a : List Symbol} {cs : List Column} → Commas IsColumn a cs → (rest : List Symbol)
@@ -32,32 +35,32 @@ fetched-closed {a} {ns} h rest = closed-reads (read_list read_id (a ++ CLOSE ∷
 
 table-reads : (n : List ℕ) (cs : List Column) (tokens : List Symbol) → is_name n ≡ true → read_columns tokens ≡ Some (cs, [])
     → read_statement (CREATE ∷ TABLE ∷ word n ∷ tokens) ≡ Some (CreateTable n cs, [])
-unfolding read_statement read_create read_create_table read_id starts rest_of
+unfolding read_first begins_with after_all read_create_table read_id starts rest_of
 table-reads n cs tokens r e = rw (r, e) refl
 
 access-reads : (n t limit : List ℕ) (key fetched : List (List ℕ)) (tokens next : List Symbol) → is_name n ≡ true → is_name t ≡ true
     → read_key tokens ≡ Some (key, next) → read_fetched next ≡ Some (fetched, LIMIT ∷ number limit ∷ [])
     → read_statement (CREATE ∷ ACCESS ∷ word n ∷ ON ∷ word t ∷ tokens)
     ≡ Some (CreateAccess (record { name = n; table = t; key = key; fetched = fetched; limit = limit }), [])
-unfolding read_statement read_create read_create_access read_id read_number starts rest_of
+unfolding read_first begins_with after_all read_create_access read_id read_number starts rest_of
 access-reads n t limit key fetched tokens next r q e f = rw (r, q, e, f) refl
 
 drop-reads : (n : List ℕ) → is_name n ≡ true → read_statement (DROP ∷ ACCESS ∷ word n ∷ []) ≡ Some (DropAccess n, [])
-unfolding read_statement read_drop_access read_id starts rest_of
+unfolding read_first begins_with after_all read_drop_access read_id starts rest_of
 drop-reads n r = rw r refl
 
 load-reads : (t file : List ℕ) → is_name t ≡ true → read_statement (LOAD ∷ word t ∷ FROM ∷ quoted file ∷ []) ≡ Some (Load t file, [])
-unfolding read_statement read_load read_id read_quoted starts rest_of
+unfolding read_first begins_with after_all read_load read_id read_quoted starts rest_of
 load-reads t file r = rw r refl
 
 insert-reads : (t : List ℕ) (rows : List (List Literal)) (tokens : List Symbol) → is_name t ≡ true → read_list read_tuple tokens ≡ Some (rows, [])
     → read_statement (INSERT ∷ INTO ∷ word t ∷ VALUES ∷ tokens) ≡ Some (Insert t rows, [])
-unfolding read_statement read_insert read_id starts rest_of
+unfolding read_first begins_with after_all read_insert read_id starts rest_of
 insert-reads t rows tokens r e = rw (r, e) refl
 
 delete-reads : (t : List ℕ) (cs : List Cond) (tokens : List Symbol) → is_name t ≡ true → read_where tokens ≡ Some (cs, [])
     → read_statement (DELETE ∷ FROM ∷ word t ∷ tokens) ≡ Some (Delete t cs, [])
-unfolding read_statement read_delete read_id starts rest_of
+unfolding read_first begins_with after_all read_delete read_id starts rest_of
 delete-reads t cs tokens r e = rw (r, e) refl
 
 key-no_limit : (tokens : List Symbol) → starts LIMIT (OPEN ∷ tokens) ≡ false
@@ -67,22 +70,16 @@ key-no_limit tokens = refl
 group-reads : (t : List ℕ) (key fetched : List (List ℕ)) (tokens next : List Symbol) → is_name t ≡ true → starts LIMIT tokens ≡ false
     → read_key tokens ≡ Some (key, next) → read_fetched next ≡ Some (fetched, [])
     → read_statement (DISCOVER ∷ word t ∷ tokens) ≡ Some (DiscoverGroup t key fetched, [])
-unfolding read_statement read_discover read_group read_id starts rest_of
+unfolding read_first begins_with after_all read_discover read_group read_id starts rest_of
 group-reads t key fetched tokens next r l e f = rw (r, l, e, f) refl
 
 pairs-read : (t limit : List ℕ) → is_name t ≡ true → read_statement (DISCOVER ∷ word t ∷ LIMIT ∷ number limit ∷ []) ≡ Some (DiscoverPairs t limit, [])
-unfolding read_statement read_discover read_pairs read_id read_number starts rest_of
+unfolding read_first begins_with after_all read_discover read_pairs read_id read_number starts rest_of
 pairs-read t limit r = rw r refl
 
 explain-reads : (tokens : List Symbol) (t : Tree) → read_whole_query tokens ≡ Some (t, []) → read_statement (EXPLAIN ∷ tokens) ≡ Some (Explain t, [])
-unfolding read_statement read_explain starts rest_of
+unfolding read_first begins_with after_all read_explain starts rest_of
 explain-reads tokens t e = rw e refl
-
-select-reads : (tokens : List Symbol) (t : Tree) → starts CREATE tokens ≡ false → starts DROP tokens ≡ false → starts LOAD tokens ≡ false
-    → starts INSERT tokens ≡ false → starts DELETE tokens ≡ false → starts DISCOVER tokens ≡ false → starts EXPLAIN tokens ≡ false
-    → read_whole_query tokens ≡ Some (t, []) → read_statement tokens ≡ Some (Select t, [])
-unfolding read_statement read_select
-select-reads tokens t a b c d e f g h = rw (a, b, c, d, e, f, g, h) refl
 
 whole-query : {a : List Symbol} {t : Tree} → IsQuery a t → read_whole_query a ≡ Some (t, [])
 unfolding starts
@@ -95,10 +92,34 @@ no_select w e = e
 never : {a : List Symbol} {t : Tree} → IsQuery a t → (w : List ℕ) → bytes_eq w (codes "select") ≡ false → starts (word w) a ≡ false
 never {a} q w e = subst (λ u. starts (word w) u ≡ false) (append-nil a) (query-no w (no_select w e) q [])
 
-any_select : {a : List Symbol} {t : Tree} → IsQuery a t → read_statement a ≡ Some (Select t, [])
-any_select {a} {t} q =
-    select-reads a t (never q (codes "create") refl) (never q (codes "drop") refl) (never q (codes "load") refl) (never q (codes "insert") refl)
-    (never q (codes "delete") refl) (never q (codes "discover") refl) (never q (codes "explain") refl) (whole-query q)
+begins-no : (w : Symbol) (ws tokens : List Symbol) → starts w tokens ≡ false → begins_with (w ∷ ws) tokens ≡ false
+unfolding begins_with
+begins-no w ws tokens e = rw e refl
+
+-- no query begins as another statement does
+query-no_opening : {a : List Symbol} {t : Tree} → IsQuery a t → (o : Opening) → begins_with (words_of o) a ≡ false
+query-no_opening {a} q opening.CreateTable = begins-no CREATE (TABLE ∷ []) a (never q (codes "create") refl)
+query-no_opening {a} q opening.CreateAccess = begins-no CREATE (ACCESS ∷ []) a (never q (codes "create") refl)
+query-no_opening {a} q opening.DropAccess = begins-no DROP (ACCESS ∷ []) a (never q (codes "drop") refl)
+query-no_opening {a} q opening.Load = begins-no LOAD [] a (never q (codes "load") refl)
+query-no_opening {a} q opening.Insert = begins-no INSERT (INTO ∷ []) a (never q (codes "insert") refl)
+query-no_opening {a} q opening.Delete = begins-no DELETE (FROM ∷ []) a (never q (codes "delete") refl)
+query-no_opening {a} q opening.Discover = begins-no DISCOVER [] a (never q (codes "discover") refl)
+query-no_opening {a} q opening.Explain = begins-no EXPLAIN [] a (never q (codes "explain") refl)
+
+query-left : {a : List Symbol} {t : Tree} → IsQuery a t → (os : List Opening) → read_first os a ≡ read_select a
+unfolding read_first
+query-left q [] = refl
+query-left {a} q (o ∷ os) = first-passes o os a (query-no_opening q o) ∙ query-left q os
+
+select-reads : (tokens : List Symbol) (t : Tree) → read_whole_query tokens ≡ Some (t, []) → read_select tokens ≡ Some (Select t, [])
+unfolding read_select
+select-reads tokens t e = rw e refl
+
+-- A statement over a query is read, also where it lacks its DISTINCT.
+pub over-reads : {words a : List Symbol} {t : Tree} {s : Statement} → IsOverQuery words t s → IsQuery a t → read_statement (words ++ a) ≡ Some (s, [])
+over-reads {a = a} {t = t} select q = query-left q openings ∙ select-reads a t (whole-query q)
+over-reads {a = a} {t = t} explain q = explain-reads a t (whole-query q)
 
 tuples-whole : {a : List Symbol} {rows : List (List Literal)} → Commas IsTuple a rows → read_list read_tuple a ≡ Some (rows, [])
 unfolding starts
@@ -124,18 +145,7 @@ spelled-reads (discover_group {b = b} {c = c} (id {n = table} r) k f) =
     ∙ group-reads table _ _ (OPEN ∷ (b ++ CLOSE ∷ (FETCH ∷ OPEN ∷ (c ++ CLOSE ∷ [])))) (FETCH ∷ OPEN ∷ (c ++ CLOSE ∷ [])) r (key-no_limit _) (key-closed k _)
     (fetched-closed f [])
 spelled-reads (discover_pairs {limit = limit} (id r)) = pairs-read _ limit r
-spelled-reads (select q e) = any_select q
-spelled-reads (explain {a} q e) = explain-reads a _ (whole-query q)
-
--- A query that lacks its DISTINCT is read.
-pub record ReadsLone (a : List Symbol) : Type 0 where
-  pub tree : Tree
-  pub lacks : wants_distinct tree ≡ true
-  pub reads : (read_statement a ≡ Some (Select tree, [])) ⊎ (read_statement a ≡ Some (Explain tree, []))
-
-pub lone-reads : {a : List Symbol} → SpellsLone a → ReadsLone a
-lone-reads (lone {t = t} q e) = record { tree = t; lacks = e; reads = inl (any_select q) }
-lone-reads (explained {a} {t} q e) = record { tree = t; lacks = e; reads = inr (explain-reads a t (whole-query q)) }
+spelled-reads (over_query o q e) = over-reads o q
 
 abbrev read_or : Statement → Option (Statement × List Symbol) → Statement
 read_or other (Some p) = p.0

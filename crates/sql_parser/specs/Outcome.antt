@@ -2,12 +2,10 @@
 --     Parses tokens reading      the reading is the statement that they spell, or why they spell none
 --     found_reading tokens       the reading, as it is found from left to right
 use Rattle.std.specs.Prelude.{◌≡◌, ◌<◌, ◌≤◌, nat_lt, if◌then◌else◌, Bool, false, List, [], ◌∷◌, Option, Some, None, Result, Ok, Err}
-use Rattle.beas_core.specs.declared.errors.Fail.{Fail}
-use Rattle.beas_core.specs.declared.errors.Fail.TheVariants.{Refused, NoMemory}
 use Rattle.beas_core.specs.declared.refusal.Refusal.{Refusal}
 use Rattle.beas_core.specs.declared.refusal.Refusal.TheVariants.{Syntax, TooDeep, NeedsDistinct}
 use Rattle.sql_tree.specs.declared.tree.Statement.{Statement}
-use Rattle.sql_tree.specs.declared.tree.Statement.TheVariants.{Select, Explain}
+use Rattle.sql_tree.specs.declared.tree.Statement.TheVariants.{CreateTable, CreateAccess, DropAccess, Load, Insert, Delete, DiscoverGroup, DiscoverPairs, Select, Explain}
 use Rattle.sql_tree.specs.Grammar.{Spells, SpellsLone, wants_distinct}
 use Rattle.sql_tree.specs.Symbols.{Symbol, depth}
 use Rattle.sql_parser.specs.Reading.{read_statement}
@@ -16,11 +14,18 @@ use Rattle.sql_parser.specs.Reading.{read_statement}
 abbrev pub Reading : Type 0
 Reading = Result Statement Refusal
 
--- a query, or its EXPLAIN, whose tree is one block without DISTINCT
+-- a statement over a query whose tree is one block without DISTINCT
 abbrev pub lacks_distinct : Statement → Bool
 lacks_distinct (Select tree) = wants_distinct tree
 lacks_distinct (Explain tree) = wants_distinct tree
-lacks_distinct _ = false
+lacks_distinct (CreateTable table columns) = false
+lacks_distinct (CreateAccess spec) = false
+lacks_distinct (DropAccess access) = false
+lacks_distinct (Load table file) = false
+lacks_distinct (Insert table rows) = false
+lacks_distinct (Delete table conditions) = false
+lacks_distinct (DiscoverGroup table key fetched) = false
+lacks_distinct (DiscoverPairs table limit) = false
 
 -- no statement, and no query that lacks its DISTINCT
 pub record SpellsNothing (tokens : List Symbol) : Type 0 where
@@ -47,9 +52,3 @@ to_the_end (Some (statement, symbol ∷ rest)) = Err Syntax
 
 unfoldable pub found_reading : List Symbol → Reading
 found_reading tokens = if nat_lt 32 (depth tokens) then Err TooDeep else to_the_end (read_statement tokens)
-
--- the answer is this reading, unless memory ran out
-abbrev pub Answers : Result Statement Fail → Reading → Type 0
-Answers (Ok s) wanted = wanted ≡ Ok s
-Answers (Err NoMemory) wanted = Unit {0}
-Answers (Err (Refused why)) wanted = wanted ≡ Err why

@@ -8,6 +8,9 @@ use Rattle.beas_core.specs.declared.query.Sign.{Sign}
 use Rattle.beas_core.specs.declared.query.Sign.TheVariants.{Equal, Differs, Less, AtMost, More, AtLeast}
 use Rattle.sql_parser.specs.declared.reader.ReadError.{ReadError}
 use Rattle.sql_parser.specs.declared.reader.ReadError.TheVariants as errors
+use Rattle.sql_parser.specs.declared.blocks.Head.{Head}
+use Rattle.sql_parser.specs.declared.statements.Opening.{Opening}
+use Rattle.sql_parser.specs.declared.statements.Opening.TheVariants as opening
 use Rattle.sql_parser.specs.declared.queries.Front.{Front}
 use Rattle.sql_parser.specs.declared.queries.Front.TheVariants.{Nothing, BeforeUnion, BeforeExcept}
 use Rattle.sql_tree.specs.declared.tree.Literal.{Literal}
@@ -24,7 +27,7 @@ use Rattle.sql_tree.specs.declared.tree.Statement.TheVariants.{CreateTable, Crea
 use Rattle.sql_tree.specs.Trees.{Tree, Block}
 use Rattle.beas_core.specs.Spelling.{is_name}
 use Rattle.sql_tree.specs.Symbols.{Symbol, word, number, quoted, mark}
-use Rattle.sql_tree.specs.Grammar.{signed_literal, is_literal, Source}
+use Rattle.sql_tree.specs.Grammar.{signed_literal, is_literal, Source, Body, block_of}
 use Rattle.sql_parser.specs.Fronts.{joined_to}
 use Rattle.sql_tree.specs.Words.{ACCESS, AND, AS, BETWEEN, CREATE, CROSS, DELETE, DISCOVER, DISTINCT, DROP, EXCEPT, EXPLAIN, FETCH, FROM, INNER, INSERT, INT, INTEGER, INTO, JOIN, LIMIT, LOAD, ON, SELECT, TABLE, TEXT, UNION, VALUES, WHERE, OPEN, CLOSE, COMMA, DOT, STAR, PLUS, MINUS}
 
@@ -34,10 +37,10 @@ abbrev pub ◌>>=◌ : {A B : Type 0} → Option A → (A → Option B) → Opti
 None >>= f = None
 
 -- What a call answered, and the tokens that it left, are what reading gives, unless memory ran out.
-abbrev pub Gives : {X : Type 0} → Result X ReadError → List Symbol → Option (X × List Symbol) → Type 0
-Gives (Ok x) rest read = read ≡ Some (x, rest)
-Gives (Err errors.Syntax) rest read = read ≡ None
-Gives (Err errors.NoMemory) rest read = Unit {0}
+abbrev pub GivesWithRest : {X : Type 0} → Result X ReadError → List Symbol → Option (X × List Symbol) → Type 0
+GivesWithRest (Ok x) rest read = read ≡ Some (x, rest)
+GivesWithRest (Err errors.Syntax) rest read = read ≡ None
+GivesWithRest (Err errors.NoMemory) rest read = Unit {0}
 
 -- The same of a call that answers nothing, and changes what it was handed to new.
 abbrev pub Adds : {X Y : Type 0} → Result X ReadError → Y → List Symbol → Option (Y × List Symbol) → Type 0
@@ -274,14 +277,26 @@ read_output tokens =
 unfoldable pub after_distinct : List Symbol → List Symbol
 after_distinct tokens = if starts DISTINCT tokens then rest_of tokens else tokens
 
-unfoldable pub read_block : List Symbol → Option (BlockTree × List Symbol)
-read_block tokens = do
+-- SELECT [ DISTINCT ] ( * | ref { , ref } )
+unfoldable pub read_head : List Symbol → Option (Head × List Symbol)
+read_head tokens = do
   start ← expect SELECT tokens
   (output, rest) ← read_output (after_distinct start)
-  rest ← expect FROM rest
+  Some (record { distinct = starts DISTINCT start; star = output.0; items = output.1 }, rest)
+
+-- FROM source { , source } [ WHERE conditions ]
+unfoldable pub read_body : List Symbol → Option (Body × List Symbol)
+read_body tokens = do
+  rest ← expect FROM tokens
   (sources, rest) ← read_sources (length rest) rest
   (conditions, rest) ← read_where rest
-  Some (record { distinct = starts DISTINCT start; star = output.0; items = output.1; from_items = sources.0; conditions = sources.1 ++ conditions }, rest)
+  Some ((sources.0, sources.1 ++ conditions), rest)
+
+unfoldable pub read_block : List Symbol → Option (BlockTree × List Symbol)
+read_block tokens = do
+  (head, rest) ← read_head tokens
+  (body, rest) ← read_body rest
+  Some (block_of head.distinct head.star head.items body, rest)
 
 unfoldable pub read_block_term : List Symbol → Option (Tree × List Symbol)
 read_block_term tokens = do
@@ -330,8 +345,7 @@ read_create_table tokens = do
 
 unfoldable pub read_create_access : List Symbol → Option (Statement × List Symbol)
 read_create_access tokens = do
-  rest ← expect ACCESS tokens
-  (name, rest) ← read_id rest
+  (name, rest) ← read_id tokens
   rest ← expect ON rest
   (table, rest) ← read_id rest
   (key, rest) ← read_key rest
@@ -342,8 +356,7 @@ read_create_access tokens = do
 
 unfoldable pub read_drop_access : List Symbol → Option (Statement × List Symbol)
 read_drop_access tokens = do
-  rest ← expect ACCESS tokens
-  (name, rest) ← read_id rest
+  (name, rest) ← read_id tokens
   Some (DropAccess name, rest)
 
 unfoldable pub read_load : List Symbol → Option (Statement × List Symbol)
@@ -355,16 +368,14 @@ read_load tokens = do
 
 unfoldable pub read_insert : List Symbol → Option (Statement × List Symbol)
 read_insert tokens = do
-  rest ← expect INTO tokens
-  (table, rest) ← read_id rest
+  (table, rest) ← read_id tokens
   rest ← expect VALUES rest
   (rows, rest) ← read_list read_tuple rest
   Some (Insert table rows, rest)
 
 unfoldable pub read_delete : List Symbol → Option (Statement × List Symbol)
 read_delete tokens = do
-  rest ← expect FROM tokens
-  (table, rest) ← read_id rest
+  (table, rest) ← read_id tokens
   (conditions, rest) ← read_where rest
   Some (Delete table conditions, rest)
 
@@ -394,17 +405,48 @@ read_select tokens = do
   (tree, rest) ← read_whole_query tokens
   Some (Select tree, rest)
 
-unfoldable pub read_create : List Symbol → Option (Statement × List Symbol)
-read_create tokens = if starts TABLE tokens then read_create_table (rest_of tokens) else read_create_access tokens
+-- ---- statements, by the words that they begin with
+
+abbrev pub words_of : Opening → List Symbol
+words_of opening.CreateTable = CREATE ∷ TABLE ∷ []
+words_of opening.CreateAccess = CREATE ∷ ACCESS ∷ []
+words_of opening.DropAccess = DROP ∷ ACCESS ∷ []
+words_of opening.Load = LOAD ∷ []
+words_of opening.Insert = INSERT ∷ INTO ∷ []
+words_of opening.Delete = DELETE ∷ FROM ∷ []
+words_of opening.Discover = DISCOVER ∷ []
+words_of opening.Explain = EXPLAIN ∷ []
+
+-- what stands after these words
+abbrev pub read_opened : Opening → List Symbol → Option (Statement × List Symbol)
+read_opened opening.CreateTable tokens = read_create_table tokens
+read_opened opening.CreateAccess tokens = read_create_access tokens
+read_opened opening.DropAccess tokens = read_drop_access tokens
+read_opened opening.Load tokens = read_load tokens
+read_opened opening.Insert tokens = read_insert tokens
+read_opened opening.Delete tokens = read_delete tokens
+read_opened opening.Discover tokens = read_discover tokens
+read_opened opening.Explain tokens = read_explain tokens
+
+abbrev pub openings : List Opening
+openings = opening.CreateTable ∷ opening.CreateAccess ∷ opening.DropAccess ∷ opening.Load ∷ opening.Insert ∷ opening.Delete ∷ opening.Discover
+    ∷ opening.Explain ∷ []
+
+-- whether all of these stand at the front, so that a word that is also a name is told from it by the token after it
+unfoldable pub begins_with : List Symbol → List Symbol → Bool
+begins_with [] tokens = true
+begins_with (symbol ∷ symbols) tokens = if starts symbol tokens then begins_with symbols (rest_of tokens) else false
+
+unfoldable pub after_all : List Symbol → List Symbol → List Symbol
+after_all [] tokens = tokens
+after_all (symbol ∷ symbols) tokens = after_all symbols (rest_of tokens)
+
+-- by the first of these openings that stands at the front; what begins with none is a query
+unfoldable pub read_first : List Opening → List Symbol → Option (Statement × List Symbol)
+read_first [] tokens = read_select tokens
+read_first (first ∷ others) tokens =
+    if begins_with (words_of first) tokens then read_opened first (after_all (words_of first) tokens) else read_first others tokens
 
 -- a statement, or a query that lacks its DISTINCT
-unfoldable pub read_statement : List Symbol → Option (Statement × List Symbol)
-read_statement tokens =
-    if starts CREATE tokens then read_create (rest_of tokens)
-    else if starts DROP tokens then read_drop_access (rest_of tokens)
-    else if starts LOAD tokens then read_load (rest_of tokens)
-    else if starts INSERT tokens then read_insert (rest_of tokens)
-    else if starts DELETE tokens then read_delete (rest_of tokens)
-    else if starts DISCOVER tokens then read_discover (rest_of tokens)
-    else if starts EXPLAIN tokens then read_explain (rest_of tokens)
-    else read_select tokens
+abbrev pub read_statement : List Symbol → Option (Statement × List Symbol)
+read_statement tokens = read_first openings tokens

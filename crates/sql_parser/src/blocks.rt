@@ -1,6 +1,6 @@
-// Blocks: SELECT with its items, FROM items and conditions.
+// Blocks: a head, which is SELECT with its items, and a body, which is the FROM items and conditions.
 ghost use Rattle.std.specs.Prelude.{◌≡◌, ◌∷◌, [], ◌++◌, codes, length};
-ghost use Rattle.sql_parser.specs.Reading.{Gives, Adds, after, after_both, read_alias, read_item, read_joined, read_crossed, starts_join, read_join, read_joins, read_source, read_sources, read_output, read_block};
+ghost use Rattle.sql_parser.specs.Reading.{GivesWithRest, Adds, after, after_both, read_alias, read_item, read_joined, read_crossed, starts_join, read_join, read_joins, read_source, read_sources, read_output, read_head, read_body, read_block};
 
 use crate::conditions::{conditions, where_conditions};
 use crate::parts::commas;
@@ -11,7 +11,7 @@ use std::alloc::Global;
 
 #[tactic(auto, unfolding(crate::specs::Reading::read_alias))]
 fn alias(reader: &mut Reader, alloc: Global, table: &Name) -> Result<Name, ReadError>
-    ensures { Gives result reader.new (read_alias table.now reader.old) }
+    ensures { GivesWithRest result reader.new (read_alias table.now reader.old) }
 {
     if reader.take_word("as") {
         return reader.name(alloc);
@@ -24,7 +24,7 @@ fn alias(reader: &mut Reader, alloc: Global, table: &Name) -> Result<Name, ReadE
 
 #[tactic(auto, unfolding(crate::specs::Reading::read_item))]
 fn from_item(reader: &mut Reader, alloc: Global) -> Result<FromItem, ReadError>
-    ensures { Gives result reader.new (read_item reader.old) }
+    ensures { GivesWithRest result reader.new (read_item reader.old) }
 {
     let table = reader.name(alloc)?;
     let alias = alias(reader, alloc, &table)?;
@@ -150,7 +150,7 @@ fn from_sources(
 
 #[tactic(auto, unfolding(crate::specs::Reading::read_output))]
 fn output(reader: &mut Reader, alloc: Global) -> Result<(bool, List<ColumnRef>), ReadError>
-    ensures { Gives result reader.new (read_output reader.old) }
+    ensures { GivesWithRest result reader.new (read_output reader.old) }
 {
     if reader.take_mark("*") {
         return Ok((true, List::new(alloc)));
@@ -159,23 +159,53 @@ fn output(reader: &mut Reader, alloc: Global) -> Result<(bool, List<ColumnRef>),
     Ok((false, items))
 }
 
-/// Reads a block.
-#[tactic(auto, unfolding(crate::specs::Reading::read_block, crate::specs::Reading::after_distinct, crate::specs::Reading::after, crate::specs::Reading::after_both))]
-pub fn block(reader: &mut Reader, alloc: Global) -> Result<BlockTree, ReadError>
-    ensures { Gives result reader.new (read_block reader.old) }
+/// SELECT with what it gives. With `star` it has no items.
+#[derive(Drop)]
+struct Head {
+    distinct: bool,
+    star: bool,
+    items: List<ColumnRef>,
+}
+
+#[tactic(auto, unfolding(crate::specs::Reading::read_head, crate::specs::Reading::after_distinct))]
+fn block_head(reader: &mut Reader, alloc: Global) -> Result<Head, ReadError>
+    ensures { GivesWithRest result reader.new (read_head reader.old) }
 {
     reader.want_word("select")?;
     let distinct = reader.take_word("distinct");
     let (star, items) = output(reader, alloc)?;
-    let mut tree = BlockTree {
+    Ok(Head {
         distinct,
         star,
         items,
-        from_items: List::new(alloc),
-        conditions: List::new(alloc),
-    };
+    })
+}
+
+/// Reads a body: its FROM items, and the conditions after ON and WHERE.
+#[tactic(auto, unfolding(crate::specs::Reading::read_body, crate::specs::Reading::after, crate::specs::Reading::after_both))]
+fn block_body(reader: &mut Reader, alloc: Global) -> Result<(List<FromItem>, List<Cond>), ReadError>
+    ensures { GivesWithRest result reader.new (read_body reader.old) }
+{
     reader.want_word("from")?;
-    from_sources(reader, alloc, &mut tree.from_items, &mut tree.conditions)?;
-    where_conditions(reader, alloc, &mut tree.conditions)?;
-    Ok(tree)
+    let mut items = List::new(alloc);
+    let mut found = List::new(alloc);
+    from_sources(reader, alloc, &mut items, &mut found)?;
+    where_conditions(reader, alloc, &mut found)?;
+    Ok((items, found))
+}
+
+/// Reads a block.
+#[tactic(auto, unfolding(crate::specs::Reading::read_block))]
+pub fn block(reader: &mut Reader, alloc: Global) -> Result<BlockTree, ReadError>
+    ensures { GivesWithRest result reader.new (read_block reader.old) }
+{
+    let head = block_head(reader, alloc)?;
+    let (from_items, conditions) = block_body(reader, alloc)?;
+    Ok(BlockTree {
+        distinct: head.distinct,
+        star: head.star,
+        items: head.items,
+        from_items,
+        conditions,
+    })
 }

@@ -1,6 +1,6 @@
 // Conditions. Parentheses around them leave no trace.
 ghost use Rattle.std.specs.Prelude.{◌≡◌, ◌∷◌, [], ◌++◌, codes, length};
-ghost use Rattle.sql_parser.specs.Reading.{Gives, Adds, after, then_close, starts_id, read_side, sign_of, read_sign, read_range, read_comparison, read_simple, read_condition, read_conditions, read_all_conditions, read_where};
+ghost use Rattle.sql_parser.specs.Reading.{GivesWithRest, Adds, after, then_close, starts_id, read_side, sign_of, read_sign, read_range, read_comparison, read_simple, read_condition, read_conditions, read_all_conditions, read_where};
 
 use crate::parts::Part;
 use crate::reader::{ReadError, Reader};
@@ -10,7 +10,7 @@ use std::alloc::Global;
 
 #[tactic(auto, unfolding(crate::specs::Reading::read_side))]
 fn side(reader: &mut Reader, alloc: Global) -> Result<Side, ReadError>
-    ensures { Gives result reader.new (read_side reader.old) }
+    ensures { GivesWithRest result reader.new (read_side reader.old) }
 {
     if reader.next_is_name() {
         let column = ColumnRef::read(reader, alloc)?;
@@ -22,7 +22,7 @@ fn side(reader: &mut Reader, alloc: Global) -> Result<Side, ReadError>
 
 #[tactic(auto, unfolding(crate::specs::Reading::read_range))]
 fn range(reader: &mut Reader, alloc: Global, value: Side) -> Result<Cond, ReadError>
-    ensures { Gives result reader.new (read_range value reader.old) }
+    ensures { GivesWithRest result reader.new (read_range value reader.old) }
 {
     let Side::Column(value) = value else {
         return Err(ReadError::Syntax);
@@ -35,7 +35,7 @@ fn range(reader: &mut Reader, alloc: Global, value: Side) -> Result<Cond, ReadEr
 
 #[tactic(auto, unfolding(crate::specs::Reading::read_comparison))]
 fn comparison(reader: &mut Reader, alloc: Global, left: Side) -> Result<Cond, ReadError>
-    ensures { Gives result reader.new (read_comparison left reader.old) }
+    ensures { GivesWithRest result reader.new (read_comparison left reader.old) }
 {
     let sign = reader.sign()?;
     let right = side(reader, alloc)?;
@@ -49,7 +49,7 @@ fn comparison(reader: &mut Reader, alloc: Global, left: Side) -> Result<Cond, Re
 
 #[tactic(auto, unfolding(crate::specs::Reading::read_simple))]
 fn simple_condition(reader: &mut Reader, alloc: Global) -> Result<Cond, ReadError>
-    ensures { Gives result reader.new (read_simple reader.old) }
+    ensures { GivesWithRest result reader.new (read_simple reader.old) }
 {
     let left = side(reader, alloc)?;
     if reader.take_word("between") {

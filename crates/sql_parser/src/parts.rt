@@ -1,6 +1,6 @@
 // The small parts of statements, and lists of them.
 ghost use Rattle.std.specs.Prelude.{◌≡◌, List, Option, ◌∷◌, [], codes, length};
-ghost use Rattle.sql_parser.specs.Reading.{Gives, read_commas, read_list, read_id, read_column, read_kind, read_signed, read_literal, read_tuple, read_ref, read_maybe_ids, starts_quoted, then_close};
+ghost use Rattle.sql_parser.specs.Reading.{GivesWithRest, read_commas, read_list, read_id, read_column, read_kind, read_signed, read_literal, read_tuple, read_ref, read_maybe_ids, starts_quoted, then_close};
 ghost use Rattle.sql_tree.specs.Symbols.{Symbol};
 
 use crate::numbers::significant_digits;
@@ -16,12 +16,12 @@ pub trait Part: Drop {
 
     /// Reads a part and goes after it. Where the tokens don't begin with one, that is an error in the syntax.
     fn read(reader: &mut Reader, alloc: Global) -> Result<Self, ReadError>
-        ensures { Gives result reader.new (reads reader.old) };
+        ensures { GivesWithRest result reader.new (reads reader.old) };
 }
 
 /// Reads one or more parts with commas between. Each takes a token or more.
 pub fn commas<T: Part>(reader: &mut Reader, alloc: Global) -> Result<Items<T>, ReadError>
-    ensures { Gives result reader.new (read_list T.reads reader.old) }
+    ensures { GivesWithRest result reader.new (read_list T.reads reader.old) }
 {
     let mut parts = Items::new(alloc);
     let mut room = reader.tokens_left();
@@ -47,7 +47,7 @@ impl Part for Name {
 /// Reads names, or none before a closing parenthesis.
 #[tactic(auto, unfolding(crate::specs::Reading::read_maybe_ids))]
 pub fn maybe_names(reader: &mut Reader, alloc: Global) -> Result<Items<Name>, ReadError>
-    ensures { Gives result reader.new (read_maybe_ids reader.old) }
+    ensures { GivesWithRest result reader.new (read_maybe_ids reader.old) }
 {
     if reader.next_is_mark(")") {
         return Ok(Items::new(alloc));
@@ -57,7 +57,7 @@ pub fn maybe_names(reader: &mut Reader, alloc: Global) -> Result<Items<Name>, Re
 
 #[tactic(auto, unfolding(crate::specs::Reading::read_kind))]
 fn column_kind(reader: &mut Reader) -> Result<ColType, ReadError>
-    ensures { Gives result reader.new (read_kind reader.old) }
+    ensures { GivesWithRest result reader.new (read_kind reader.old) }
 {
     if reader.take_word("integer") || reader.take_word("int") {
         return Ok(ColType::Integer);
@@ -81,7 +81,7 @@ impl Part for Column {
 
 #[tactic(auto, unfolding(crate::specs::Reading::read_signed))]
 fn signed_number(reader: &mut Reader, alloc: Global, negative: bool) -> Result<Literal, ReadError>
-    ensures { Gives result reader.new (read_signed negative reader.old) }
+    ensures { GivesWithRest result reader.new (read_signed negative reader.old) }
 {
     let written = reader.number(alloc)?;
     let digits = significant_digits(alloc, &written)?;

@@ -2,7 +2,7 @@
 ghost use Rattle.std.specs.Prelude.{◌≡◌, IfOk, length};
 ghost use Rattle.sql_tree.specs.Trees.{Block, Union, Except};
 ghost use Rattle.sql_parser.specs.Fronts.{joined_to};
-ghost use Rattle.sql_parser.specs.Reading.{Gives, read_block_term, read_term, read_query, read_whole_query, then_close};
+ghost use Rattle.sql_parser.specs.Reading.{GivesWithRest, read_block_term, read_term, read_query, read_whole_query, then_close};
 
 use crate::blocks::block;
 use crate::reader::{ReadError, Reader};
@@ -42,7 +42,7 @@ fn join_to(alloc: Global, front: Front, tree: SelectTree) -> Result<SelectTree, 
 
 #[tactic(auto, unfolding(crate::specs::Reading::read_block_term))]
 fn block_term(reader: &mut Reader, alloc: Global) -> Result<SelectTree, ReadError>
-    ensures { Gives result reader.new (read_block_term reader.old) }
+    ensures { GivesWithRest result reader.new (read_block_term reader.old) }
 {
     let block = block(reader, alloc)?;
     Ok(SelectTree {
@@ -53,7 +53,7 @@ fn block_term(reader: &mut Reader, alloc: Global) -> Result<SelectTree, ReadErro
 #[cycle(queries)]
 #[tactic(auto, unfolding(crate::specs::Reading::read_term, crate::specs::Reading::then_close))]
 fn term(reader: &mut Reader, alloc: Global, room: usize) -> Result<SelectTree, ReadError>
-    ensures { Gives result reader.new (read_term (read_query room Front.Nothing) reader.old) }
+    ensures { GivesWithRest result reader.new (read_term (read_query room Front.Nothing) reader.old) }
 {
     if reader.take_mark("(") {
         let tree = some_terms(reader, alloc, room)?;
@@ -65,7 +65,7 @@ fn term(reader: &mut Reader, alloc: Global, room: usize) -> Result<SelectTree, R
 
 #[cycle(queries)]
 fn some_terms(reader: &mut Reader, alloc: Global, mut room: usize) -> Result<SelectTree, ReadError>
-    ensures { Gives result reader.new (read_query room Front.Nothing reader.old) }
+    ensures { GivesWithRest result reader.new (read_query room Front.Nothing reader.old) }
 {
     let mut front = Front::Nothing;
     while room > 0 {
@@ -86,7 +86,7 @@ fn some_terms(reader: &mut Reader, alloc: Global, mut room: usize) -> Result<Sel
 
 /// Reads a query.
 pub fn query(reader: &mut Reader, alloc: Global) -> Result<SelectTree, ReadError>
-    ensures { Gives result reader.new (read_whole_query reader.old) }
+    ensures { GivesWithRest result reader.new (read_whole_query reader.old) }
 {
     let room = reader.tokens_left();
     some_terms(reader, alloc, room)

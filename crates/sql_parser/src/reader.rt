@@ -1,6 +1,6 @@
 // The tokens that are still to be read.
 ghost use Rattle.std.specs.Prelude.{◌≡◌, ◌∷◌, [], codes, length, if◌then◌else◌, IsTrue, OnOk};
-ghost use Rattle.sql_parser.specs.Reading.{Gives, Passes, starts, rest_of, expect, read_id, read_number, read_quoted, starts_id, starts_quoted, read_sign, sign_of};
+ghost use Rattle.sql_parser.specs.Reading.{GivesWithRest, Passes, starts, rest_of, begins_with, expect, read_id, read_number, read_quoted, starts_id, starts_quoted, read_sign, sign_of};
 ghost use Rattle.sql_tree.specs.Symbols.{word, mark, symbols};
 
 use beas_core::{Duplicate, Name, NoMemory, Sign, Text, is_name};
@@ -127,6 +127,20 @@ impl<'a> Reader<'a> {
         found
     }
 
+    /// Goes after these two words, where both are next, and says whether they were.
+    #[tactic(auto, unfolding(crate::specs::Reading::begins_with))]
+    pub fn take_words(&mut self, first: &str, second: &str) -> bool
+        ensures found { result ≡ begins_with (word first.now ∷ word second.now ∷ []) self.old }
+        ensures rest { self.new ≡ (if result then rest_of (rest_of self.old) else self.old) }
+    {
+        let before = self.rest;
+        if self.take_word(first) && self.take_word(second) {
+            return true;
+        }
+        self.rest = before;
+        false
+    }
+
     /// Goes after a word, which must be next.
     pub fn want_word(&mut self, text: &str) -> Result<(), ReadError>
         ensures { Passes result self.new (expect (word text.now) self.old) }
@@ -152,7 +166,7 @@ impl<'a> Reader<'a> {
     /// Reads an identifier.
     #[tactic(auto, unfolding(crate::specs::Reading::read_id))]
     pub fn name(&mut self, alloc: Global) -> Result<Name, ReadError>
-        ensures { Gives result self.new (read_id self.old) }
+        ensures { GivesWithRest result self.new (read_id self.old) }
     {
         match self.rest.split_first() {
             Some((token, rest)) if token.kind == TokenKind::Word && is_name(token.text.as_str()) =>
@@ -167,7 +181,7 @@ impl<'a> Reader<'a> {
     /// Reads the digits of a number.
     #[tactic(auto, unfolding(crate::specs::Reading::read_number))]
     pub fn number(&mut self, alloc: Global) -> Result<Text, ReadError>
-        ensures { Gives result self.new (read_number self.old) }
+        ensures { GivesWithRest result self.new (read_number self.old) }
     {
         match self.rest.split_first() {
             Some((token, rest)) if token.kind == TokenKind::Number => {
@@ -181,7 +195,7 @@ impl<'a> Reader<'a> {
     /// Reads a text between quotes.
     #[tactic(auto, unfolding(crate::specs::Reading::read_quoted))]
     pub fn quoted_text(&mut self, alloc: Global) -> Result<Text, ReadError>
-        ensures { Gives result self.new (read_quoted self.old) }
+        ensures { GivesWithRest result self.new (read_quoted self.old) }
     {
         match self.rest.split_first() {
             Some((token, rest)) if token.kind == TokenKind::Quoted => {
@@ -217,7 +231,7 @@ impl<'a> Reader<'a> {
     /// Reads the sign of a comparison.
     #[tactic(auto, unfolding(crate::specs::Reading::read_sign))]
     pub fn sign(&mut self) -> Result<Sign, ReadError>
-        ensures { Gives result self.new (read_sign self.old) }
+        ensures { GivesWithRest result self.new (read_sign self.old) }
     {
         match self.rest.split_first() {
             Some((token, rest)) if token.kind == TokenKind::Mark => {

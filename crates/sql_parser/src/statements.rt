@@ -1,6 +1,6 @@
 // Statements.
-ghost use Rattle.std.specs.Prelude.{◌≡◌, length};
-ghost use Rattle.sql_parser.specs.Reading.{Gives, Adds, after, then_close, read_columns, read_key, read_fetched, read_create_table, read_create_access, read_create, read_drop_access, read_load, read_insert, read_delete, read_pairs, read_group, read_discover, read_explain, read_select, read_statement};
+ghost use Rattle.std.specs.Prelude.{◌≡◌, if◌then◌else◌, length};
+ghost use Rattle.sql_parser.specs.Reading.{GivesWithRest, Adds, after, then_close, read_columns, read_key, read_fetched, read_create_table, read_create_access, read_drop_access, read_load, read_insert, read_delete, read_pairs, read_group, read_discover, read_explain, read_select, words_of, read_opened, begins_with, after_all, read_first, read_statement};
 
 use crate::conditions::where_conditions;
 use crate::parts::{commas, maybe_names};
@@ -12,7 +12,7 @@ use std::alloc::Global;
 
 #[tactic(auto, unfolding(crate::specs::Reading::read_columns, crate::specs::Reading::then_close))]
 fn columns(reader: &mut Reader, alloc: Global) -> Result<List<Column>, ReadError>
-    ensures { Gives result reader.new (read_columns reader.old) }
+    ensures { GivesWithRest result reader.new (read_columns reader.old) }
 {
     reader.want_mark("(")?;
     let columns = commas::<Column>(reader, alloc)?;
@@ -22,7 +22,7 @@ fn columns(reader: &mut Reader, alloc: Global) -> Result<List<Column>, ReadError
 
 #[tactic(auto, unfolding(crate::specs::Reading::read_key, crate::specs::Reading::then_close))]
 fn key(reader: &mut Reader, alloc: Global) -> Result<List<Name>, ReadError>
-    ensures { Gives result reader.new (read_key reader.old) }
+    ensures { GivesWithRest result reader.new (read_key reader.old) }
 {
     reader.want_mark("(")?;
     let names = maybe_names(reader, alloc)?;
@@ -32,7 +32,7 @@ fn key(reader: &mut Reader, alloc: Global) -> Result<List<Name>, ReadError>
 
 #[tactic(auto, unfolding(crate::specs::Reading::read_fetched, crate::specs::Reading::then_close))]
 fn fetch_list(reader: &mut Reader, alloc: Global) -> Result<List<Name>, ReadError>
-    ensures { Gives result reader.new (read_fetched reader.old) }
+    ensures { GivesWithRest result reader.new (read_fetched reader.old) }
 {
     reader.want_word("fetch")?;
     reader.want_mark("(")?;
@@ -43,7 +43,7 @@ fn fetch_list(reader: &mut Reader, alloc: Global) -> Result<List<Name>, ReadErro
 
 #[tactic(auto, unfolding(crate::specs::Reading::read_create_table))]
 fn create_table(reader: &mut Reader, alloc: Global) -> Result<Statement, ReadError>
-    ensures { Gives result reader.new (read_create_table reader.old) }
+    ensures { GivesWithRest result reader.new (read_create_table reader.old) }
 {
     let name = reader.name(alloc)?;
     let columns = columns(reader, alloc)?;
@@ -52,9 +52,8 @@ fn create_table(reader: &mut Reader, alloc: Global) -> Result<Statement, ReadErr
 
 #[tactic(auto, unfolding(crate::specs::Reading::read_create_access))]
 fn create_access(reader: &mut Reader, alloc: Global) -> Result<Statement, ReadError>
-    ensures { Gives result reader.new (read_create_access reader.old) }
+    ensures { GivesWithRest result reader.new (read_create_access reader.old) }
 {
-    reader.want_word("access")?;
     let name = reader.name(alloc)?;
     reader.want_word("on")?;
     let table = reader.name(alloc)?;
@@ -72,28 +71,17 @@ fn create_access(reader: &mut Reader, alloc: Global) -> Result<Statement, ReadEr
     Ok(Statement::CreateAccess { spec })
 }
 
-#[tactic(auto, unfolding(crate::specs::Reading::read_create))]
-fn create(reader: &mut Reader, alloc: Global) -> Result<Statement, ReadError>
-    ensures { Gives result reader.new (read_create reader.old) }
-{
-    if reader.take_word("table") {
-        return create_table(reader, alloc);
-    }
-    create_access(reader, alloc)
-}
-
 #[tactic(auto, unfolding(crate::specs::Reading::read_drop_access))]
 fn drop_access(reader: &mut Reader, alloc: Global) -> Result<Statement, ReadError>
-    ensures { Gives result reader.new (read_drop_access reader.old) }
+    ensures { GivesWithRest result reader.new (read_drop_access reader.old) }
 {
-    reader.want_word("access")?;
     let name = reader.name(alloc)?;
     Ok(Statement::DropAccess { name })
 }
 
 #[tactic(auto, unfolding(crate::specs::Reading::read_load))]
 fn load(reader: &mut Reader, alloc: Global) -> Result<Statement, ReadError>
-    ensures { Gives result reader.new (read_load reader.old) }
+    ensures { GivesWithRest result reader.new (read_load reader.old) }
 {
     let table = reader.name(alloc)?;
     reader.want_word("from")?;
@@ -103,9 +91,8 @@ fn load(reader: &mut Reader, alloc: Global) -> Result<Statement, ReadError>
 
 #[tactic(auto, unfolding(crate::specs::Reading::read_insert))]
 fn insert(reader: &mut Reader, alloc: Global) -> Result<Statement, ReadError>
-    ensures { Gives result reader.new (read_insert reader.old) }
+    ensures { GivesWithRest result reader.new (read_insert reader.old) }
 {
-    reader.want_word("into")?;
     let table = reader.name(alloc)?;
     reader.want_word("values")?;
     let rows = commas::<List<Literal>>(reader, alloc)?;
@@ -114,9 +101,8 @@ fn insert(reader: &mut Reader, alloc: Global) -> Result<Statement, ReadError>
 
 #[tactic(auto, unfolding(crate::specs::Reading::read_delete, crate::specs::Reading::after))]
 fn delete(reader: &mut Reader, alloc: Global) -> Result<Statement, ReadError>
-    ensures { Gives result reader.new (read_delete reader.old) }
+    ensures { GivesWithRest result reader.new (read_delete reader.old) }
 {
-    reader.want_word("from")?;
     let table = reader.name(alloc)?;
     let mut conditions = List::new(alloc);
     where_conditions(reader, alloc, &mut conditions)?;
@@ -125,7 +111,7 @@ fn delete(reader: &mut Reader, alloc: Global) -> Result<Statement, ReadError>
 
 #[tactic(auto, unfolding(crate::specs::Reading::read_pairs))]
 fn pairs(reader: &mut Reader, alloc: Global, table: Name) -> Result<Statement, ReadError>
-    ensures { Gives result reader.new (read_pairs table reader.old) }
+    ensures { GivesWithRest result reader.new (read_pairs table reader.old) }
 {
     let limit = reader.number(alloc)?;
     Ok(Statement::DiscoverPairs { table, limit })
@@ -133,7 +119,7 @@ fn pairs(reader: &mut Reader, alloc: Global, table: Name) -> Result<Statement, R
 
 #[tactic(auto, unfolding(crate::specs::Reading::read_group))]
 fn group(reader: &mut Reader, alloc: Global, table: Name) -> Result<Statement, ReadError>
-    ensures { Gives result reader.new (read_group table reader.old) }
+    ensures { GivesWithRest result reader.new (read_group table reader.old) }
 {
     let key = key(reader, alloc)?;
     let fetched = fetch_list(reader, alloc)?;
@@ -146,7 +132,7 @@ fn group(reader: &mut Reader, alloc: Global, table: Name) -> Result<Statement, R
 
 #[tactic(auto, unfolding(crate::specs::Reading::read_discover))]
 fn discover(reader: &mut Reader, alloc: Global) -> Result<Statement, ReadError>
-    ensures { Gives result reader.new (read_discover reader.old) }
+    ensures { GivesWithRest result reader.new (read_discover reader.old) }
 {
     let table = reader.name(alloc)?;
     if reader.take_word("limit") {
@@ -157,7 +143,7 @@ fn discover(reader: &mut Reader, alloc: Global) -> Result<Statement, ReadError>
 
 #[tactic(auto, unfolding(crate::specs::Reading::read_explain))]
 fn explain(reader: &mut Reader, alloc: Global) -> Result<Statement, ReadError>
-    ensures { Gives result reader.new (read_explain reader.old) }
+    ensures { GivesWithRest result reader.new (read_explain reader.old) }
 {
     let tree = query(reader, alloc)?;
     Ok(Statement::Explain { tree })
@@ -165,37 +151,93 @@ fn explain(reader: &mut Reader, alloc: Global) -> Result<Statement, ReadError>
 
 #[tactic(auto, unfolding(crate::specs::Reading::read_select))]
 fn select(reader: &mut Reader, alloc: Global) -> Result<Statement, ReadError>
-    ensures { Gives result reader.new (read_select reader.old) }
+    ensures { GivesWithRest result reader.new (read_select reader.old) }
 {
     let tree = query(reader, alloc)?;
     Ok(Statement::Select { tree })
 }
 
-/// Reads a statement, or a query that lacks its DISTINCT.
-#[tactic(auto, unfolding(crate::specs::Reading::read_statement))]
-pub fn statement(reader: &mut Reader, alloc: Global) -> Result<Statement, ReadError>
-    ensures { Gives result reader.new (read_statement reader.old) }
+/// How a statement begins that isn't a query alone.
+#[derive(Clone, Copy)]
+enum Opening {
+    CreateTable,
+    CreateAccess,
+    DropAccess,
+    Load,
+    Insert,
+    Delete,
+    Discover,
+    Explain,
+}
+
+const OPENINGS: [Opening; 8] = [
+    Opening::CreateTable,
+    Opening::CreateAccess,
+    Opening::DropAccess,
+    Opening::Load,
+    Opening::Insert,
+    Opening::Delete,
+    Opening::Discover,
+    Opening::Explain,
+];
+
+/// Goes after the words of an opening, where they are next, and says whether they were.
+#[tactic(auto, unfolding(crate::specs::Reading::begins_with, crate::specs::Reading::after_all))]
+fn take_opening(reader: &mut Reader, opening: Opening) -> bool
+    ensures found { result ≡ begins_with (words_of opening) reader.old }
+    ensures rest { reader.new ≡ (if result then after_all (words_of opening) reader.old else reader.old) }
 {
-    if reader.take_word("create") {
-        return create(reader, alloc);
+    match opening {
+        Opening::CreateTable => reader.take_words("create", "table"),
+        Opening::CreateAccess => reader.take_words("create", "access"),
+        Opening::DropAccess => reader.take_words("drop", "access"),
+        Opening::Load => reader.take_word("load"),
+        Opening::Insert => reader.take_words("insert", "into"),
+        Opening::Delete => reader.take_words("delete", "from"),
+        Opening::Discover => reader.take_word("discover"),
+        Opening::Explain => reader.take_word("explain"),
     }
-    if reader.take_word("drop") {
-        return drop_access(reader, alloc);
+}
+
+/// Reads what stands after the words of an opening.
+fn after_opening(
+    reader: &mut Reader,
+    alloc: Global,
+    opening: Opening,
+) -> Result<Statement, ReadError>
+    ensures { GivesWithRest result reader.new (read_opened opening reader.old) }
+{
+    match opening {
+        Opening::CreateTable => create_table(reader, alloc),
+        Opening::CreateAccess => create_access(reader, alloc),
+        Opening::DropAccess => drop_access(reader, alloc),
+        Opening::Load => load(reader, alloc),
+        Opening::Insert => insert(reader, alloc),
+        Opening::Delete => delete(reader, alloc),
+        Opening::Discover => discover(reader, alloc),
+        Opening::Explain => explain(reader, alloc),
     }
-    if reader.take_word("load") {
-        return load(reader, alloc);
-    }
-    if reader.take_word("insert") {
-        return insert(reader, alloc);
-    }
-    if reader.take_word("delete") {
-        return delete(reader, alloc);
-    }
-    if reader.take_word("discover") {
-        return discover(reader, alloc);
-    }
-    if reader.take_word("explain") {
-        return explain(reader, alloc);
+}
+
+/// Reads a statement by the first of these openings that is next. What begins with none is a query.
+fn by_first(
+    reader: &mut Reader,
+    alloc: Global,
+    openings: &[Opening],
+) -> Result<Statement, ReadError>
+    ensures { GivesWithRest result reader.new (read_first openings.now reader.old) }
+{
+    for opening in openings {
+        if take_opening(reader, *opening) {
+            return after_opening(reader, alloc, *opening);
+        }
     }
     select(reader, alloc)
+}
+
+/// Reads a statement, or a query that lacks its DISTINCT.
+pub fn statement(reader: &mut Reader, alloc: Global) -> Result<Statement, ReadError>
+    ensures { GivesWithRest result reader.new (read_statement reader.old) }
+{
+    by_first(reader, alloc, &OPENINGS)
 }

@@ -1,10 +1,11 @@
 // All of the tokens of a piece.
 ghost use Rattle.std.specs.Prelude.{◌≡◌, [], IfOk, IsErrOf};
 ghost use Rattle.beas_core.specs.declared.refusal.Refusal.{Refusal as Why};
+ghost use Rattle.beas_core.specs.Results.{Gives};
 ghost use Rattle.sql_tree.specs.Grammar.{wants_distinct};
 ghost use Rattle.sql_tree.specs.Symbols.{symbols};
 ghost use Rattle.sql_tree.specs.declared.tree.Statement.{Statement as Tree};
-ghost use Rattle.sql_parser.specs.Outcome.{Answers, Parses, Reading, lacks_distinct, found_reading};
+ghost use Rattle.sql_parser.specs.Outcome.{Parses, Reading, lacks_distinct, found_reading};
 ghost use Rattle.sql_parser.specs.Reading.{read_statement};
 
 use crate::nesting::is_too_deep;
@@ -34,7 +35,7 @@ fn is_plain_block(tree: &SelectTree) -> bool
 {
     match &tree.node {
         SelectNode::Block(block) => !block.distinct,
-        _ => false,
+        SelectNode::Union(..) | SelectNode::Except(..) => false,
     }
 }
 
@@ -44,13 +45,20 @@ fn lacks_distinct(statement: &Statement) -> bool
 {
     match statement {
         Statement::Select { tree } | Statement::Explain { tree } => is_plain_block(tree),
-        _ => false,
+        Statement::CreateTable { .. }
+        | Statement::CreateAccess { .. }
+        | Statement::DropAccess { .. }
+        | Statement::Load { .. }
+        | Statement::Insert { .. }
+        | Statement::Delete { .. }
+        | Statement::DiscoverGroup { .. }
+        | Statement::DiscoverPairs { .. } => false,
     }
 }
 
 /// Reads the tokens of a piece, unless memory runs out.
 fn reading(alloc: Global, tokens: &[Token]) -> Result<Statement, Fail>
-    ensures { Answers result (found_reading (symbols tokens.now)) }
+    ensures { Gives result (found_reading (symbols tokens.now)) }
 {
     if is_too_deep(tokens) {
         return Err(Fail::Refused(Refusal::TooDeep));
@@ -74,8 +82,8 @@ pub fn parse(alloc: Global, tokens: &[Token]) -> Result<Statement, Fail>
     ensures spelled { IfOk result (λ s. Parses (symbols tokens.now) (Ok s)) }
     ensures refused { (why : Why) → IsErrOf result (Fail.Refused why) → Parses (symbols tokens.now) (Err why) }
     // What is so by the grammar is answered, unless memory runs out.
-    ensures answered { (reading : Reading) → Parses (symbols tokens.now) reading → Answers result reading }
-    ensures parsed { Answers result (found_reading (symbols tokens.now)) }
+    ensures answered { (reading : Reading) → Parses (symbols tokens.now) reading → Gives result reading }
+    ensures parsed { Gives result (found_reading (symbols tokens.now)) }
 {
     reading(alloc, tokens)
 }

@@ -119,9 +119,14 @@ output_of star refs = if star then sign (codes "*") ∷ [] else comma_list ref_o
 abbrev pub distinct_of : Bool → List Lexeme
 distinct_of distinct = if distinct then keyword (codes "DISTINCT") ∷ [] else []
 
+abbrev pub head_of : Bool → Bool → List ColumnRef → List Lexeme
+head_of distinct star refs = keyword (codes "SELECT") ∷ distinct_of distinct ++ output_of star refs
+
+abbrev pub body_of : List FromItem → List Cond → List Lexeme
+body_of items conditions = keyword (codes "FROM") ∷ comma_list item_of items ++ where_of conditions
+
 abbrev pub block_of : BlockTree → List Lexeme
-block_of block = keyword (codes "SELECT") ∷ distinct_of block.distinct ++ output_of block.star block.items ++ keyword (codes "FROM") ∷ comma_list item_of
-    block.from_items ++ where_of block.conditions
+block_of block = head_of block.distinct block.star block.items ++ body_of block.from_items block.conditions
 
 abbrev pub in_parentheses : List Lexeme → List Lexeme
 in_parentheses lexemes = sign (codes "(") ∷ lexemes ++ sign (codes ")") ∷ []

@@ -129,6 +129,17 @@ Source = List FromItem × List Cond
 pub data IsSource : List Symbol → Source → Type 0 where
   joined_source : {a b : List Symbol} {i : FromItem} {is : List FromItem} {cs : List Cond} → IsItem a i → IsJoins b is cs → IsSource (a ++ b) ((i ∷ is, cs))
 
+-- what a block's rows come from: all its items in order, and the conditions after ON, then those after WHERE
+abbrev pub Body : Type 0
+Body = List FromItem × List Cond
+
+abbrev pub body_of : List Source → List Cond → Body
+body_of sources conditions = (flat_map (λ s. s.0) sources, flat_map (λ s. s.1) sources ++ conditions)
+
+-- FROM source { , source } [ WHERE conditions ]
+pub data IsBody : List Symbol → Body → Type 0 where
+  from_sources : {a b : List Symbol} {ss : List Source} {cs : List Cond} → Commas IsSource a ss → IsWhere b cs → IsBody (FROM ∷ a ++ b) (body_of ss cs)
+
 -- [ DISTINCT ]
 pub data IsDistinct : List Symbol → Bool → Type 0 where
   all_rows : IsDistinct [] false
@@ -139,19 +150,18 @@ pub data IsOutput : List Symbol → Bool → List ColumnRef → Type 0 where
   all_columns : IsOutput (STAR ∷ []) true []
   columns : {a : List Symbol} {rs : List ColumnRef} → Commas IsRef a rs → IsOutput a false rs
 
-abbrev pub block_of : Bool → Bool → List ColumnRef → List Source → List Cond → BlockTree
-block_of distinct star refs sources conditions = record {
-  distinct = distinct;
-  star = star;
-  items = refs;
-  from_items = flat_map (λ s. s.0) sources;
-  conditions = flat_map (λ s. s.1) sources ++ conditions;
-}
+-- SELECT [ DISTINCT ] ( * | ref { , ref } )
+pub data IsHead : List Symbol → Bool → Bool → List ColumnRef → Type 0 where
+  select_output : {a b : List Symbol} {distinct star : Bool} {rs : List ColumnRef} → IsDistinct a distinct → IsOutput b star rs
+      → IsHead (SELECT ∷ a ++ b) distinct star rs
 
--- SELECT [ DISTINCT ] ( * | ref { , ref } ) FROM source { , source } [ WHERE conditions ]
+abbrev pub block_of : Bool → Bool → List ColumnRef → Body → BlockTree
+block_of distinct star refs body = record { distinct = distinct; star = star; items = refs; from_items = body.0; conditions = body.1 }
+
+-- a head and a body
 pub data IsBlock : List Symbol → BlockTree → Type 0 where
-  select_block : {a b c d : List Symbol} {distinct star : Bool} {rs : List ColumnRef} {ss : List Source} {cs : List Cond} → IsDistinct a distinct
-      → IsOutput b star rs → Commas IsSource c ss → IsWhere d cs → IsBlock (SELECT ∷ a ++ b ++ FROM ∷ c ++ d) (block_of distinct star rs ss cs)
+  select_block : {a b : List Symbol} {distinct star : Bool} {rs : List ColumnRef} {body : Body} → IsHead a distinct star rs → IsBody b body
+      → IsBlock (a ++ b) (block_of distinct star rs body)
 
 mutual
   -- block | ( query )
@@ -168,7 +178,13 @@ mutual
 -- one block without DISTINCT
 abbrev pub wants_distinct : Tree → Bool
 wants_distinct (Block b) = not b.distinct
-wants_distinct _ = false
+wants_distinct (Union left right) = false
+wants_distinct (Except left right) = false
+
+-- the words in front of a query, and the statement that they make of its tree
+pub data IsOverQuery : List Symbol → Tree → Statement → Type 0 where
+  select : {t : Tree} → IsOverQuery [] t (Select t)
+  explain : {t : Tree} → IsOverQuery (EXPLAIN ∷ []) t (Explain t)
 
 -- The tokens spell the statement.
 pub data Spells : List Symbol → Statement → Type 0 where
@@ -189,12 +205,9 @@ pub data Spells : List Symbol → Statement → Type 0 where
       → Spells (DISCOVER ∷ a ++ OPEN ∷ b ++ CLOSE ∷ FETCH ∷ OPEN ∷ c ++ CLOSE ∷ []) (DiscoverGroup t key fetched)
   discover_pairs : {a : List Symbol} {t limit : List ℕ} → IsId a t
       → Spells (DISCOVER ∷ a ++ LIMIT ∷ number limit ∷ []) (DiscoverPairs t limit)
-  select : {a : List Symbol} {t : Tree} → IsQuery a t → wants_distinct t ≡ false
-      → Spells a (Select t)
-  explain : {a : List Symbol} {t : Tree} → IsQuery a t → wants_distinct t ≡ false
-      → Spells (EXPLAIN ∷ a) (Explain t)
+  over_query : {words a : List Symbol} {t : Tree} {s : Statement} → IsOverQuery words t s → IsQuery a t → wants_distinct t ≡ false
+      → Spells (words ++ a) s
 
--- The tokens spell a query whose tree is one block without DISTINCT, or EXPLAIN before one.
+-- The tokens spell a query whose tree is one block without DISTINCT, or words in front of one that make a statement of a query.
 pub data SpellsLone : List Symbol → Type 0 where
-  lone : {a : List Symbol} {t : Tree} → IsQuery a t → wants_distinct t ≡ true → SpellsLone a
-  explained : {a : List Symbol} {t : Tree} → IsQuery a t → wants_distinct t ≡ true → SpellsLone (EXPLAIN ∷ a)
+  lone : {words a : List Symbol} {t : Tree} {s : Statement} → IsOverQuery words t s → IsQuery a t → wants_distinct t ≡ true → SpellsLone (words ++ a)

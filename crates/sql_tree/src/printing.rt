@@ -1,7 +1,7 @@
 // The canonical text of statements.
 ghost use Rattle.std.specs.Prelude.{◌≡◌, ◌++◌, ◌∷◌, [], List, OnOk, IfOk, Option, codes, if◌then◌else◌};
 ghost use Rattle.sql_tree.specs.declared.printing.Between.{Between as Separator};
-ghost use Rattle.sql_tree.specs.Canonical.{Lexeme, keyword, name, digits, content, sign, parts_with, comma_list, names_of, column_of, type_of, literal_of, tuple_of, alias_before, ref_of, side_of, sign_text, condition_of, where_of, item_of, output_of, distinct_of, block_of, in_parentheses, operand_of, tree_lexemes, fetch_of, limit_of, access_of, lexemes_of, canonical_text};
+ghost use Rattle.sql_tree.specs.Canonical.{Lexeme, keyword, name, digits, content, sign, parts_with, comma_list, names_of, column_of, type_of, literal_of, tuple_of, alias_before, ref_of, side_of, sign_text, condition_of, where_of, item_of, output_of, distinct_of, head_of, body_of, block_of, in_parentheses, operand_of, tree_lexemes, fetch_of, limit_of, access_of, lexemes_of, canonical_text};
 ghost use Rattle.sql_tree.specs.Between.{lexeme_between};
 ghost use Rattle.sql_tree.specs.Writing.{put, put_all};
 
@@ -253,15 +253,38 @@ fn write_distinct(writer: &mut Writer, distinct: bool) -> Result<(), NoMemory>
 }
 
 #[tactic(auto, unfolding(crate::specs::Writing::put_all), using(crate::proofs::Written::put_all_append))]
+fn write_head(
+    writer: &mut Writer,
+    distinct: bool,
+    star: bool,
+    items: &Items<ColumnRef>,
+) -> Result<(), NoMemory>
+    ensures { OnOk result (writer.new ≡ put_all writer.old (head_of distinct star items.now)) }
+{
+    writer.word("SELECT")?;
+    write_distinct(writer, distinct)?;
+    write_output(writer, star, items)
+}
+
+#[tactic(auto, unfolding(crate::specs::Writing::put_all), using(crate::proofs::Written::put_all_append))]
+fn write_body(
+    writer: &mut Writer,
+    items: &Items<FromItem>,
+    conditions: &Items<Cond>,
+) -> Result<(), NoMemory>
+    ensures { OnOk result (writer.new ≡ put_all writer.old (body_of items.now conditions.now)) }
+{
+    writer.word("FROM")?;
+    write_parted::<FromItem>(writer, Between::Comma, items)?;
+    write_where(writer, conditions)
+}
+
+#[tactic(auto, unfolding(crate::specs::Writing::put_all), using(crate::proofs::Written::put_all_append))]
 fn write_block(writer: &mut Writer, block: &BlockTree) -> Result<(), NoMemory>
     ensures { OnOk result (writer.new ≡ put_all writer.old (block_of block.now)) }
 {
-    writer.word("SELECT")?;
-    write_distinct(writer, block.distinct)?;
-    write_output(writer, block.star, &block.items)?;
-    writer.word("FROM")?;
-    write_parted::<FromItem>(writer, Between::Comma, &block.from_items)?;
-    write_where(writer, &block.conditions)
+    write_head(writer, block.distinct, block.star, &block.items)?;
+    write_body(writer, &block.from_items, &block.conditions)
 }
 
 #[cycle(trees)]

@@ -66,6 +66,6 @@ pub fn read_endless(rt: &HostRuntime, limit: u32) -> io::Result<()> {
 /// Reads a file of the system.
 pub fn read_file(rt: &HostRuntime, limit: u32, path: &str) -> io::Result<()> {
     let mut files = RealFiles::new(rt);
-    let answer = files.read(rt.alloc(), path, u64::from(limit));
+    let answer = files.load(rt.alloc(), path, u64::from(limit));
     tell(rt, answer, files.faults(), files.taken())
 }

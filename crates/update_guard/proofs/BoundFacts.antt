@@ -17,11 +17,13 @@ use Rattle.catalogue.specs.Schema.{access_with_id, accesses_on}
 use Rattle.catalogue.specs.Kept.{ids_on}
 use Rattle.beas_core.specs.declared.refusal.Refusal.TheVariants.{AlreadyBroken}
 use Rattle.beas_core.specs.declared.refusal.Refusal.{Refusal}
-use Rattle.catalogue.specs.Refusing.{holds, broken, broken_bound, breaks_bound, first_of, already_broken, refused_if}
+use Rattle.catalogue.specs.Refusing.{holds, broken, broken_bound, breaks_bound, first_of, already_broken}
+use Rattle.beas_core.specs.Results.{refused_if}
 use Rattle.catalogue.proofs.ListFacts.{find_none}
 use Rattle.access_index.specs.Index.{Index, IsIndexOf}
 use Rattle.access_index.proofs.FewerRows.{Holds-front}
-use Rattle.update_guard.specs.Guarding.{HoldOver, IndexesOf}
+use Rattle.update_guard.specs.Guarding.{IndexesOf}
+use Rattle.catalogue.specs.Stored.{HoldOver}
 use Rattle.update_guard.specs.Indexing.{IsPlaceOn, no_access}
 use Rattle.update_guard.proofs.IndexFacts.{IsOwn, own}
 

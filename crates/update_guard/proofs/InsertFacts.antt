@@ -14,7 +14,8 @@ use Rattle.beas_core.specs.declared.refusal.Refusal.{Refusal}
 use Rattle.beas_core.specs.declared.schema.Access.{Access}
 use Rattle.beas_core.specs.Types.{Row}
 use Rattle.access_index.specs.Index.{Index}
-use Rattle.catalogue.specs.Refusing.{IsRefusedAs, broken, breaks_bound, first_of}
+use Rattle.catalogue.specs.Refusing.{broken, breaks_bound, first_of}
+use Rattle.beas_core.specs.Results.{IsRefusedAs}
 use Rattle.update_guard.specs.Guarding.{IndexesOf}
 use Rattle.update_guard.specs.Indexing.{no_access}
 
@@ -22,8 +23,8 @@ pub always_err : {A E Q : Type 0} (r : Result A E) → Q → OnErr r Q
 always_err (Ok x) q = tt
 always_err (Err x) q = q
 
-pub refused_head : (A : Type 0) (why : Fail) (first rest : Option Refusal) → IsRefusedAs {T = A} (Err why) first
-    → IsRefusedAs {T = A} (Err why) (option_or first rest)
+pub refused_head : (A : Type 0) (why : Fail) (first rest : Option Refusal) → IsRefusedAs {A = A} (Err why) first
+    → IsRefusedAs {A = A} (Err why) (option_or first rest)
 refused_head A NoMemory first rest r = tt
 refused_head A (Refused why) first rest r = ap (λ f. option_or f rest) r
 
@@ -86,7 +87,7 @@ room_of accesses rows table own added count more indexes live few fits is k d l 
     ]
 
 -- an error is the same refusal whatever the call would have answered
-pub refused_alike : (A B : Type 0) (why : Fail) (r : Option Refusal) → IsRefusedAs {T = A} (Err why) r → IsRefusedAs {T = B} (Err why) r
+pub refused_alike : (A B : Type 0) (why : Fail) (r : Option Refusal) → IsRefusedAs {A = A} (Err why) r → IsRefusedAs {A = B} (Err why) r
 refused_alike A B NoMemory r h = tt
 refused_alike A B (Refused why) r h = h
 

@@ -3,6 +3,5 @@ pub mod GuardFacts
 pub mod IndexFacts
 pub mod InsertFacts
 pub mod PortFacts
-pub mod ScanFacts
 pub mod SweepFacts
 pub mod UpdateFacts

@@ -5,21 +5,15 @@ use Rattle.std.proofs.lemmas.Bool.{cases_eq}
 use Rattle.std.proofs.lemmas.List.{get_or-set_same, get_or-set_other, set-get_or}
 use Rattle.std.proofs.lemmas.List.Elements.{All-append, All-filter}
 use Rattle.std.proofs.lemmas.List.Filters.{length-filter_both}
-use Rattle.beas_core.specs.declared.query.Block.{Block}
-use Rattle.beas_core.specs.declared.query.Place.{Place}
-use Rattle.beas_core.specs.declared.query.Atom.{Atom}
-use Rattle.beas_core.specs.declared.query.Operand.{Operand}
-use Rattle.beas_core.specs.declared.query.Operand.TheVariants.{At, Fixed}
 use Rattle.beas_core.specs.declared.schema.Access.{Access}
 use Rattle.beas_core.specs.declared.schema.TableId.{TableId}
-use Rattle.beas_core.specs.Shapes.{BlockIsWellFormed, IsPlace, OperandIsPlace, width_of}
 use Rattle.beas_core.specs.Types.{Row}
 use Rattle.beas_core.specs.Groups.{Holds}
 use Rattle.access_index.specs.Index.{Index}
 use Rattle.catalogue.specs.Schema.{Schema, columns_at}
 use Rattle.catalogue.specs.Database.{RowFits}
-use Rattle.update_guard.specs.Filtering.{PlaceFits, OperandFits, BlockFits}
-use Rattle.update_guard.specs.Guarding.{IndexesOf, HoldOver, IsGuarded}
+use Rattle.update_guard.specs.Guarding.{IndexesOf, IsGuarded}
+use Rattle.catalogue.specs.Stored.{HoldOver}
 use Rattle.access_index.proofs.FewerRows.{Holds-filter}
 use Rattle.update_guard.proofs.GuardFacts.{guarded_with_rows}
 
@@ -59,22 +53,3 @@ after_filter schema rows old new id p g live indexed =
     guarded_with_rows schema rows old new id (filter p (get_or rows id.0 [])) g live
     (omega (arith, g.few id.0 [] live, length-filter_both p (λ x. not (p x)) (λ x. refl) (get_or rows id.0 [])))
     (All-filter p (RowFits (columns_at schema id)) (get_or rows id.0 []) (g.fits id.0 live)) indexed (hold_filtered schema.accesses rows id.0 p live g.hold)
-
--- the places of a block of one atom fit its table's rows
-place_fits : (atoms : List Atom) (row : Row) (p : Place) → length atoms ≡ 1 → width_of atoms 0 ≡ length row → IsPlace atoms p → PlaceFits row p
-place_fits atoms row p one wide is =
-    let zero_atom : p.atom ≡ 0 = omega (arith, is.atom, one) in
-    record { atom = zero_atom; column = omega (arith, is.column, ap (width_of atoms) zero_atom, wide) }
-
-operand_fits : (atoms : List Atom) (row : Row) (o : Operand) → length atoms ≡ 1 → width_of atoms 0 ≡ length row → OperandIsPlace atoms o → OperandFits row o
-operand_fits atoms row (At p) one wide is = place_fits atoms row p one wide is
-operand_fits atoms row (Fixed v) one wide is = tt
-
-pub block_fits : (block : Block) (row : Row) → BlockIsWellFormed block → length block.atoms ≡ 1 → width_of block.atoms 0 ≡ length row → BlockFits row block
-block_fits block row form one wide = record {
-  equalities_left = λ k d l. place_fits block.atoms row (get_or block.equalities k d).0 one wide (form.equalities k d l).0;
-  equalities_right = λ k d l. place_fits block.atoms row (get_or block.equalities k d).1 one wide (form.equalities k d l).1;
-  constants = λ k d l. place_fits block.atoms row (get_or block.constants k d).0 one wide (form.constants k d l);
-  comparisons_left = λ k d l. place_fits block.atoms row (get_or block.comparisons k d).left one wide (form.comparisons k d l).left;
-  comparisons_right = λ k d l. operand_fits block.atoms row (get_or block.comparisons k d).right one wide (form.comparisons k d l).right;
-}

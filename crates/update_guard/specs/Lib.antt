@@ -1,5 +1,5 @@
-pub mod Filtering
 pub mod Guarding
 pub mod Indexing
+pub mod Inserting
 pub mod Making
 pub mod Stored

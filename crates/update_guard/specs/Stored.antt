@@ -7,7 +7,7 @@ use Rattle.beas_core.specs.Found.{Found}
 use Rattle.beas_core.specs.Types.{Row}
 use Rattle.access_index.specs.Index.{Index, members_at, stands_at}
 use Rattle.catalogue.specs.Database.{Database}
-use Rattle.update_guard.specs.Guarding.{database_of}
+use Rattle.catalogue.specs.Stored.{database_of}
 use Rattle.update_guard.specs.Indexing.{no_access}
 use Rattle.update_guard.specs.declared.guarded.Guarded.{Guarded}
 

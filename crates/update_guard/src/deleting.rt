@@ -2,16 +2,16 @@
 ghost use Rattle.std.specs.Prelude.{◌≡◌, ◌+◌, ◌<◌, List, [], length, All, vec_len, slice_index_or, slice_set};
 ghost use Rattle.beas_core.specs.Types.{Row as Tuple};
 ghost use Rattle.catalogue.specs.Database.{kept_rows};
-ghost use Rattle.update_guard.specs.Filtering.{BlockFits};
+ghost use Rattle.row_checks.specs.Filtering.{BlockFits};
 ghost use Rattle.update_guard.specs.Guarding.{IndexesOf, IsGuarded};
 ghost use Rattle.beas_core.specs.Shapes.{BlockIsWellFormed, width_of};
 ghost use Rattle.catalogue.specs.Schema.{columns_at};
 
-use crate::filtering::meets;
 use crate::indexing::remove_row;
 use access_index::AccessIndex;
 use beas_core::{Block, Steps, TableId};
 use catalogue::Catalogue;
+use row_checks::meets;
 use row_store::Rows;
 use std::sync::ledger::Ledger;
 

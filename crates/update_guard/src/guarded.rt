@@ -1,14 +1,14 @@
 // The guard and its updates.
-ghost use Rattle.std.specs.Prelude.{◌≡◌, ◌≢◌, ◌+◌, ◌<◌, ◌≤◌, ◌^◌, [], length, All, IfOk, OnOk, OnErr, Err};
-ghost use Rattle.beas_core.specs.declared.errors.Fail.TheVariants.{NoMemory as Want};
+ghost use Rattle.std.specs.Prelude.{◌≡◌, ◌≢◌, ◌+◌, ◌<◌, ◌≤◌, ◌^◌, [], length, All, IfOk, IsOk, IsTrue, OnOk, OnErr, Err};
 ghost use Rattle.beas_core.specs.Shapes.{BlockIsWellFormed, width_of};
-ghost use Rattle.catalogue.specs.Schema.{columns_at};
+ghost use Rattle.catalogue.specs.Schema.{columns_at, has_access};
 ghost use Rattle.catalogue.specs.Database.{schema_of, with_table, with_access, without_access, rows_at, with_more_rows, with_rows_kept, kept_rows, block_table};
-ghost use Rattle.catalogue.specs.Refusing.{IsRefusedAs, add_table_refusal, create_access_refusal, drop_access_refusal, insert_refusal, new_access};
-ghost use Rattle.update_guard.specs.Guarding.{IsGuarded, create_access_reads};
+ghost use Rattle.catalogue.specs.Refusing.{add_table_refusal, create_access_refusal, drop_access_refusal, insert_refusal, new_access};
+ghost use Rattle.beas_core.specs.Results.{IsRefusedAs};
+ghost use Rattle.update_guard.specs.Guarding.{IsGuarded};
+ghost use Rattle.catalogue.specs.Stored.{create_access_reads};
 
 use crate::deleting::delete_from;
-use crate::filtering::table_of;
 use crate::inserting::insert_into;
 use crate::making::{drop_index, make_access, make_table};
 use access_index::AccessIndex;
@@ -16,13 +16,15 @@ use beas_core::{
     AccessId, AccessSpec, Block, Column, Fail, Limits, List, Name, Row, Steps, TableId,
 };
 use catalogue::Catalogue;
+use row_checks::table_of;
 use row_store::Rows;
 use std::alloc::Global;
 use std::mem;
 use std::sync::ledger::Ledger;
 
-/// Tables with their rows, and each live constraint with its index. Every constraint holds.
-#[derive(Debug, Drop)]
+/// Tables with their rows, and each live constraint with its index. Every constraint holds. It isn't `Debug`, since its
+/// rows are handed out by `Rows::row` and by probes alone.
+#[derive(Drop)]
 pub struct Guarded {
     /// The tables and the live constraints.
     pub catalogue: Catalogue,
@@ -84,8 +86,8 @@ impl Guarded {
         ensures ok { OnOk result (database_in self.new ≡ with_access (database_in self.old)
             (new_access (schema_of (database_in self.old)) spec.now)) }
         ensures err { OnErr result (database_in self.new ≡ database_in self.old) }
-        ensures cost { result ≢ Err Want → steps.new ≡ steps.old + create_access_reads limits.now (database_in self.old)
-            spec.now }
+        ensures cost { result ≢ Err Fail.NoMemory → steps.new ≡ steps.old
+            + create_access_reads limits.now (database_in self.old) spec.now }
         ensures at_most { steps.new ≤ steps.old + create_access_reads limits.now (database_in self.old) spec.now }
         ensures no_fewer { steps.old ≤ steps.new }
     {
@@ -103,9 +105,11 @@ impl Guarded {
         made
     }
 
-    /// Drops a constraint with its index. After any error the database is as it was.
+    /// Drops a constraint with its index. Where its name is live the call takes no memory and succeeds; after any error
+    /// the database is as it was.
     pub fn drop_access(&mut self, alloc: Global, name: &Name) -> Result<(), Fail>
         ensures refused { IsRefusedAs result (drop_access_refusal (schema_of (database_in self.old)) name.now) }
+        ensures live { IsTrue (has_access (schema_of (database_in self.old)) name.now) → IsOk result }
         ensures ok { OnOk result (database_in self.new ≡ without_access (database_in self.old) name.now) }
         ensures err { OnErr result (database_in self.new ≡ database_in self.old) }
     {

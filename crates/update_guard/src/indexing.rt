@@ -2,14 +2,16 @@
 ghost use Rattle.std.specs.Prelude.{◌≡◌, ◌≢◌, ◌+◌, ◌<◌, ◌≤◌, ◌^◌, ◌++◌, ◌∷◌, ℕ, List, [], length, take, drop, All, Some, None, if◌then◌else◌, IfOk, OnOk, OnErr, IfSome, IsTrue, option_map, vec_len, ◌==◌, slice_index_or, slice_set};
 ghost use Rattle.std.specs.List.{list_any};
 ghost use Rattle.std.specs.Option.{is_none};
-ghost use Rattle.beas_core.specs.declared.errors.Fail.TheVariants.{NoMemory as Want};
 ghost use Rattle.beas_core.specs.Types.{Row as Tuple};
 ghost use Rattle.access_index.specs.Index.{Index};
 ghost use Rattle.catalogue.specs.Schema.{accesses_on, access_with_id};
 ghost use Rattle.catalogue.specs.Kept.{ids_on};
-ghost use Rattle.catalogue.specs.Refusing.{IsRefusedAs, broken, broken_bound};
-ghost use Rattle.update_guard.specs.Guarding.{IndexesOf, HoldOver};
+ghost use Rattle.catalogue.specs.Refusing.{broken, broken_bound};
+ghost use Rattle.beas_core.specs.Results.{IsRefusedAs};
+ghost use Rattle.update_guard.specs.Guarding.{IndexesOf};
+ghost use Rattle.catalogue.specs.Stored.{HoldOver};
 ghost use Rattle.update_guard.specs.Indexing.{AreIndexed, IsPlaceOn, no_access};
+ghost use Rattle.update_guard.specs.Inserting.{StayIndexed};
 
 use access_index::AccessIndex;
 use beas_core::{AccessId, NoMemory, Row, TableId};
@@ -168,9 +170,7 @@ pub fn add_all(
         → IndexesOf catalogue.now.accesses rows indexes.old.items → HoldOver catalogue.now.accesses rows
         → is_none (broken (accesses_on catalogue.now.accesses table) (slice_index_or rows table.0 [] ++ added.now))
         ≡ all) }
-    ensures err { OnErr result ((rows : List (List Tuple)) (front : List Tuple) → table.0 < length rows
-        → IndexesOf catalogue.now.accesses (slice_set rows table.0 front) indexes.old.items
-        → IndexesOf catalogue.now.accesses (slice_set rows table.0 front) indexes.new.items) }
+    ensures err { OnErr result (StayIndexed catalogue.now.accesses table indexes.old.items indexes.new.items) }
     ensures len { vec_len indexes.new ≡ vec_len indexes.old }
 {
     for k in 0..catalogue.ids_on(table).len() {

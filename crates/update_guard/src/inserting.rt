@@ -2,50 +2,27 @@
 ghost use Rattle.std.specs.Prelude.{◌≡◌, ◌+◌, ◌<◌, ◌≤◌, ◌^◌, nat_lt, ◌++◌, ◌∷◌, List, [], length, All, IfOk, OnOk, OnErr, vec_len, option_map, slice_index_or, slice_set};
 ghost use Rattle.beas_core.specs.Types.{Row as Tuple};
 ghost use Rattle.catalogue.specs.Schema.{accesses_on, columns_at};
-ghost use Rattle.beas_core.specs.Groups.{project};
-ghost use Rattle.catalogue.specs.Refusing.{IsRefusedAs, refused_if, wrong_width, wrong_type, breaks_bound, broken, broken_bound};
-ghost use Rattle.update_guard.specs.Guarding.{IndexesOf, HoldOver, IsGuarded};
+ghost use Rattle.catalogue.specs.Refusing.{wrong_width, wrong_type, breaks_bound, broken, broken_bound};
+ghost use Rattle.beas_core.specs.Results.{IsRefusedAs, refused_if};
+ghost use Rattle.update_guard.specs.Guarding.{IndexesOf, IsGuarded};
+ghost use Rattle.catalogue.specs.Stored.{HoldOver};
 ghost use Rattle.update_guard.specs.Indexing.{SomeRows, AreOwn};
+ghost use Rattle.update_guard.specs.Inserting.{IsRefusedOver, TakeRows, StayIndexed, HoldWith};
 ghost use Rattle.std.specs.Option.{option_or};
-ghost use Rattle.beas_core.specs.declared.refusal.Counted.TheVariants.{Rows as OfRows};
 
-use crate::checking::{refuse_types, refuse_widths};
 use crate::indexing::{add_all, add_row, first_broken, remove_rows};
 use access_index::AccessIndex;
 use beas_core::{
-    Access, ColumnId, Counted, Duplicate, Fail, Limits, List, NoMemory, Refusal, Row, TableId,
+    Counted, Fail, Limits, List, Refusal, Row, TableId,
 };
 use catalogue::Catalogue;
+use row_checks::{broken_by, refuse_too_many, refuse_types, refuse_widths};
 use row_store::Rows;
 use std::alloc::Global;
 
 /// From how many rows on they are tried together. Each index then takes them in its own order, which pays where
 /// searches would miss the processor's caches. Fewer rows gain nothing by it, and need no memory for an order.
 const MANY: usize = 64;
-
-/// The values of a row in these columns.
-fn values_in(alloc: Global, columns: &[ColumnId], row: &Row) -> Result<Row, NoMemory>
-    requires { All (λ column. column.0 < length row.now) columns.now }
-    ensures { IfOk result (λ values. values ≡ project columns.now row.now) }
-{
-    let mut values = List::new(alloc);
-    for column in columns {
-        values.push(row.as_slice()[column.0 as usize].copy(alloc)?)?;
-    }
-    Ok(values)
-}
-
-/// That a row breaks a constraint.
-fn broken_by(alloc: Global, access: &Access, row: &Row, number: u32) -> Result<Refusal, NoMemory>
-    requires { All (λ column. column.0 < length row.now) access.now.key }
-    ensures { IfOk result (λ why. why ≡ breaks_bound (number, row.now) access.now) }
-{
-    Ok(Refusal::BreaksBound {
-        row: number,
-        access: access.name.copy(alloc)?,
-        key: values_in(alloc, access.key.as_slice(), row)?,
-    })
-}
 
 /// Puts the row with this number into the indexes of its table's constraints, or into none. It is refused
 /// where a constraint would not hold with it.
@@ -65,12 +42,8 @@ fn put_row(
         → IndexesOf catalogue.now.accesses rows indexes.old.items → HoldOver catalogue.now.accesses rows
         → IsRefusedAs result (option_map (breaks_bound (number, row.now))
         (broken (accesses_on catalogue.now.accesses table) (slice_index_or rows table.0 [] ++ row.now ∷ []))) }
-    ensures added { OnOk result ((rows : List (List Tuple)) (front : List Tuple) → table.0 < length rows
-        → IndexesOf catalogue.now.accesses (slice_set rows table.0 front) indexes.old.items
-        → IndexesOf catalogue.now.accesses (slice_set rows table.0 (front ++ row.now ∷ [])) indexes.new.items) }
-    ensures err { OnErr result ((rows : List (List Tuple)) (front : List Tuple) → table.0 < length rows
-        → IndexesOf catalogue.now.accesses (slice_set rows table.0 front) indexes.old.items
-        → IndexesOf catalogue.now.accesses (slice_set rows table.0 front) indexes.new.items) }
+    ensures added { OnOk result (TakeRows catalogue.now.accesses table (row.now ∷ []) indexes.old.items indexes.new.items) }
+    ensures err { OnErr result (StayIndexed catalogue.now.accesses table indexes.old.items indexes.new.items) }
     ensures len { vec_len indexes.new ≡ vec_len indexes.old }
 {
     match first_broken(catalogue, table, indexes, row) {
@@ -96,19 +69,10 @@ fn add_each(
     requires few { length rows.now < 2 ^ 32 }
     requires wide { All (λ row. length row ≡ length (columns_at catalogue.now table)) rows.now }
     requires known { SomeRows catalogue.now.accesses table.0 (length rows.now) indexes.old.items }
-    ensures refused { (all : List (List Tuple)) → table.0 < length all
-        → IndexesOf catalogue.now.accesses all indexes.old.items → HoldOver catalogue.now.accesses all
-        → IsRefusedAs result
-        (broken_bound (accesses_on catalogue.now.accesses table) (slice_index_or all table.0 []) rows.now) }
-    ensures added { OnOk result ((all : List (List Tuple)) (front : List Tuple) → table.0 < length all
-        → IndexesOf catalogue.now.accesses (slice_set all table.0 front) indexes.old.items
-        → IndexesOf catalogue.now.accesses (slice_set all table.0 (front ++ rows.now)) indexes.new.items) }
-    ensures hold { OnOk result ((all : List (List Tuple)) → table.0 < length all
-        → IndexesOf catalogue.now.accesses all indexes.old.items → HoldOver catalogue.now.accesses all
-        → HoldOver catalogue.now.accesses (slice_set all table.0 (slice_index_or all table.0 [] ++ rows.now))) }
-    ensures err { OnErr result ((all : List (List Tuple)) (front : List Tuple) → table.0 < length all
-        → IndexesOf catalogue.now.accesses (slice_set all table.0 front) indexes.old.items
-        → IndexesOf catalogue.now.accesses (slice_set all table.0 front) indexes.new.items) }
+    ensures refused { IsRefusedOver catalogue.now.accesses table rows.now result indexes.old.items }
+    ensures added { OnOk result (TakeRows catalogue.now.accesses table rows.now indexes.old.items indexes.new.items) }
+    ensures hold { OnOk result (HoldWith catalogue.now.accesses table rows.now indexes.old.items) }
+    ensures err { OnErr result (StayIndexed catalogue.now.accesses table indexes.old.items indexes.new.items) }
     ensures len { vec_len indexes.new ≡ vec_len indexes.old }
 {
     for (i, row) in rows.iter().enumerate() {
@@ -139,19 +103,10 @@ pub fn add_rows(
     requires few { length rows.now < 2 ^ 32 }
     requires wide { All (λ row. length row ≡ length (columns_at catalogue.now table)) rows.now }
     requires known { SomeRows catalogue.now.accesses table.0 (length rows.now) indexes.old.items }
-    ensures refused { (all : List (List Tuple)) → table.0 < length all
-        → IndexesOf catalogue.now.accesses all indexes.old.items → HoldOver catalogue.now.accesses all
-        → IsRefusedAs result
-        (broken_bound (accesses_on catalogue.now.accesses table) (slice_index_or all table.0 []) rows.now) }
-    ensures added { OnOk result ((all : List (List Tuple)) (front : List Tuple) → table.0 < length all
-        → IndexesOf catalogue.now.accesses (slice_set all table.0 front) indexes.old.items
-        → IndexesOf catalogue.now.accesses (slice_set all table.0 (front ++ rows.now)) indexes.new.items) }
-    ensures hold { OnOk result ((all : List (List Tuple)) → table.0 < length all
-        → IndexesOf catalogue.now.accesses all indexes.old.items → HoldOver catalogue.now.accesses all
-        → HoldOver catalogue.now.accesses (slice_set all table.0 (slice_index_or all table.0 [] ++ rows.now))) }
-    ensures err { OnErr result ((all : List (List Tuple)) (front : List Tuple) → table.0 < length all
-        → IndexesOf catalogue.now.accesses (slice_set all table.0 front) indexes.old.items
-        → IndexesOf catalogue.now.accesses (slice_set all table.0 front) indexes.new.items) }
+    ensures refused { IsRefusedOver catalogue.now.accesses table rows.now result indexes.old.items }
+    ensures added { OnOk result (TakeRows catalogue.now.accesses table rows.now indexes.old.items indexes.new.items) }
+    ensures hold { OnOk result (HoldWith catalogue.now.accesses table rows.now indexes.old.items) }
+    ensures err { OnErr result (StayIndexed catalogue.now.accesses table indexes.old.items indexes.new.items) }
     ensures len { vec_len indexes.new ≡ vec_len indexes.old }
 {
     if rows.len() < MANY {
@@ -181,7 +136,7 @@ pub fn insert_rows(
     ensures refused { (all : List (List Tuple)) → table.0 < length all → slice_index_or all table.0 [] ≡ store.old
         → IndexesOf catalogue.now.accesses all indexes.old.items → HoldOver catalogue.now.accesses all
         → IsRefusedAs result (option_or (refused_if (nat_lt limits.now.rows (length store.old + length rows))
-        (Refusal.TooMany OfRows limits.now.rows))
+        (Refusal.TooMany Counted.Rows limits.now.rows))
         (broken_bound (accesses_on catalogue.now.accesses table) store.old rows)) }
     ensures rows { OnOk result (store.new ≡ store.old ++ rows) }
     ensures within { OnOk result (length store.old + length rows ≤ limits.now.rows) }
@@ -208,19 +163,6 @@ pub fn insert_rows(
     }
 }
 
-/// Refuses more rows where there would be more than the limit.
-fn refuse_too_many(there: u32, more: usize, limit: u32) -> Result<(), Fail>
-    ensures { IsRefusedAs result (refused_if (nat_lt limit (there + more)) (Refusal.TooMany OfRows limit)) }
-{
-    if there > limit || more > (limit - there) as usize {
-        return Err(Fail::Refused(Refusal::TooMany {
-            what: Counted::Rows,
-            limit: u64::from(limit),
-        }));
-    }
-    Ok(())
-}
-
 /// Checks rows and adds them at the end of a table and to its indexes, all or none.
 pub fn insert_into(
     alloc: Global,
@@ -238,7 +180,7 @@ pub fn insert_into(
     ensures refused { IsRefusedAs result (option_or (wrong_width (columns_at catalogue.now table) rows)
         (option_or (wrong_type (columns_at catalogue.now table) rows)
         (option_or (refused_if (nat_lt limits.now.rows (length (slice_index_or stores.old.items table.0 []) + length
-        rows)) (Refusal.TooMany OfRows limits.now.rows))
+        rows)) (Refusal.TooMany Counted.Rows limits.now.rows))
         (broken_bound (accesses_on catalogue.now.accesses table) (slice_index_or stores.old.items table.0 []) rows)))) }
     ensures ok { OnOk result (stores.new.items ≡ slice_set stores.old.items table.0
         (slice_index_or stores.old.items table.0 [] ++ rows)) }

@@ -1,9 +1,7 @@
 //! The store: tables with their rows, each constraint with its index, and updates that keep every constraint.
 #![tactic(auto)]
 
-mod checking;
 mod deleting;
-mod filtering;
 mod guarded;
 mod indexing;
 mod inserting;

@@ -1,11 +1,11 @@
 // Tables and constraints are made, each with its rows or its index, or not at all.
-ghost use Rattle.std.specs.Prelude.{◌≡◌, ◌≢◌, ◌+◌, ◌<◌, ◌≤◌, ◌++◌, ◌∷◌, if◌then◌else◌, [], length, vec_len, IfOk, IfErr, OnOk, OnErr, Err, None, slice_index_or};
+ghost use Rattle.std.specs.Prelude.{◌≡◌, ◌≢◌, ◌+◌, ◌<◌, ◌≤◌, ◌++◌, ◌∷◌, if◌then◌else◌, [], length, vec_len, IfOk, IfErr, IsOk, IsTrue, OnOk, OnErr, Err, None, slice_index_or};
 ghost use Rattle.beas_core.specs.Groups.{Holds};
 ghost use Rattle.std.specs.Option.{is_none, option_or};
-ghost use Rattle.beas_core.specs.declared.errors.Fail.TheVariants.{NoMemory as Want};
 ghost use Rattle.access_index.specs.Index.{IsIndexOf, Index};
-ghost use Rattle.catalogue.specs.Schema.{schema_with_table, schema_with_access, schema_without_access};
-ghost use Rattle.catalogue.specs.Refusing.{IsRefusedAs, add_table_refusal, admit_refusal, already_broken, new_access, drop_access_refusal};
+ghost use Rattle.catalogue.specs.Schema.{has_access, schema_with_table, schema_with_access, schema_without_access};
+ghost use Rattle.catalogue.specs.Refusing.{add_table_refusal, admit_refusal, already_broken, new_access, drop_access_refusal};
+ghost use Rattle.beas_core.specs.Results.{IsRefusedAs};
 ghost use Rattle.update_guard.specs.Making.{AddsIndex, DropsIndex};
 
 use access_index::AccessIndex;
@@ -52,7 +52,7 @@ fn index_that_holds<L: Ledger>(
     ensures index { IfOk result (λ index. IsIndexOf index rows.now) }
     ensures holds { OnOk result (Holds rows.now access) }
     ensures read { OnOk result (steps.new ≡ steps.old + length rows.now) }
-    ensures refused_read { IfErr result (λ why. why ≢ Want → steps.new ≡ steps.old + length rows.now) }
+    ensures refused_read { IfErr result (λ why. why ≢ Fail.NoMemory → steps.new ≡ steps.old + length rows.now) }
     ensures at_most { steps.new ≤ steps.old + length rows.now }
     ensures no_fewer { steps.old ≤ steps.new }
 {
@@ -110,7 +110,7 @@ pub fn make_access<L: Ledger>(
         (new_access catalogue.old spec.now) indexes.old.items indexes.new.items) }
     ensures err { OnErr result (catalogue.new ≡ catalogue.old) }
     ensures indexes_stay { OnErr result (indexes.new.items ≡ indexes.old.items) }
-    ensures cost { result ≢ Err Want → steps.new ≡ steps.old
+    ensures cost { result ≢ Err Fail.NoMemory → steps.new ≡ steps.old
         + (if is_none (admit_refusal limits.now catalogue.old spec.now) then length
         (slice_index_or rows.now (new_access catalogue.old spec.now).table.0 []) else 0) }
     ensures at_most { steps.new ≤ steps.old
@@ -126,7 +126,7 @@ pub fn make_access<L: Ledger>(
     }
 }
 
-/// Drops a constraint and its index.
+/// Drops a constraint and its index. Where its name is live it takes no memory.
 pub fn drop_index(
     alloc: Global,
     catalogue: &mut Catalogue,
@@ -135,6 +135,7 @@ pub fn drop_index(
 ) -> Result<(), Fail>
     requires { vec_len indexes.old ≡ length catalogue.old.accesses }
     ensures refused { IsRefusedAs result (drop_access_refusal catalogue.old name.now) }
+    ensures live { IsTrue (has_access catalogue.old name.now) → IsOk result }
     ensures ok { OnOk result (catalogue.new ≡ schema_without_access catalogue.old name.now) }
     ensures index { OnOk result (DropsIndex catalogue.old.accesses
         (schema_without_access catalogue.old name.now).accesses indexes.old.items indexes.new.items) }

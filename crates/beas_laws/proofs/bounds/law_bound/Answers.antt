@@ -1,19 +1,17 @@
 use Rattle.std.proofs.Common.{◌≡◌, true, All, sym, subst}
-use Rattle.std.proofs.lemmas.List.Elements.{All-contains, All-from_recursion}
+use Rattle.std.proofs.lemmas.List.Elements.{All-contains}
 use Rattle.beas_core.specs.declared.plan.Derivation.{Derivation}
 use Rattle.beas_core.specs.Derivations.{is_live}
-use Rattle.beas_core.proofs.Sets.{Contains-from_has, all_from}
-use Rattle.evaluation_facts.proofs.QueryBounds.{plans_live, prepared_reads}
+use Rattle.beas_core.proofs.Sets.{Contains-from_has}
+use Rattle.evaluation_facts.proofs.QueryBounds.{prepared_is_live, prepared_few}
 use Rattle.beas_laws.specs.Held.{StepHolds, PlanHolds}
 use Rattle.beas_laws.proofs.bounds.law_bound.Goals as goal
 
 pub ask_for_all-requires : goal.ask_for_all-requires
 ask_for_all-requires g c =
     let accesses = g.P.AccessPort.accesses c.args.port.now in
-    let plans = c.args.prepared.now.derivations in
-    let AreLive = λ (plan : Derivation). All (λ s. is_live accesses s.access ≡ true) plan.steps in
-    subst (All AreLive) (sym c.as_slice.ensures)
-    (All-from_recursion AreLive plans (all_from AreLive plans (plans_live accesses c.args.prepared.now.normals plans c.requires.plan.plans)))
+    subst (All (λ (plan : Derivation). All (λ s. is_live accesses s.access ≡ true) plan.steps)) (sym c.as_slice.ensures)
+    (prepared_is_live accesses c.args.prepared.now c.requires.plan)
 
 pub returns : goal.returns
 returns g c =
@@ -21,7 +19,8 @@ returns g c =
     let accesses = g.P.AccessPort.accesses c.args.port.now in
     let plans = c.args.prepared.now.derivations in
     let held = subst (All (PlanHolds rows accesses)) c.as_slice.ensures c.ask_for_all.ensures in
-    prepared_reads rows accesses c.args.prepared.now c.requires (λ plan m s member.
+    let both = prepared_few rows accesses c.args.prepared.now c.requires.plan (λ plan m s member.
     let steps = (All-contains (PlanHolds rows accesses) plans plan held (Contains-from_has plans plan m)).steps in
     let step = All-contains (StepHolds rows accesses) plan.steps s steps member in
-    (step.holds, step.bound))
+    (step.holds, step.bound)) in
+    record { answers = both.0; reads = both.1 }

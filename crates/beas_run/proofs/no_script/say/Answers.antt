@@ -1,7 +1,16 @@
-use Rattle.std.proofs.Common.{ap, Err}
+use Rattle.std.proofs.Common.{ap, inr, refl, Err}
+use Rattle.beas_run.proofs.Empty.{not_without}
 use Rattle.beas_run.proofs.Pieces.{none_sent}
 use Rattle.beas_run.proofs.no_script.say.Goals as goal
 
-pub returns-in-Err-NoMemory-clause-part : goal.returns-in-Err-NoMemory-clause-part
-returns-in-Err-NoMemory-clause-part g c = λ told.
-    let same = c.in-Err-NoMemory.ensures.none_sent (ap Err c.in-Err-NoMemory.field-0-is) told in rw same (none_sent _ _)
+pub returns-in-Err-NoMemory-clause-says : goal.returns-in-Err-NoMemory-clause-says
+returns-in-Err-NoMemory-clause-says g c =
+    let e = c.in-Err-NoMemory.ensures in
+    let is = ap Err c.in-Err-NoMemory.field-0-is in
+    record {
+      part = λ told. let same = e.none_sent is told in rw same (none_sent _ _);
+      whole = λ without. absurd (not_without 5 (inr (inr refl)) without);
+      unsaid = λ _ told. e.none_sent is told;
+      no_fault = λ _. e.no_memory is;
+      later = c.put.ensures.later;
+    }

@@ -4,10 +4,11 @@ use Rattle.beas_run.proofs.script.carry_out.Goals as goal
 
 pub returns-in-Ok-clause-reported : goal.returns-in-Ok-clause-reported
 returns-in-Ok-clause-reported g c =
-    reported _ _ _ c.in_ok-report.report _ _ _ c.in_ok-report.ensures.within c.in_ok-report.ensures.applied c.is_refusal.ensures c.in-Ok.ensures.whole
+    let e = c.in-Ok.ensures in
+    reported _ _ _ c.in_ok-report.report _ _ _ _ _ c.in_ok-report.ensures.within c.in_ok-report.ensures.applied c.is_refusal.ensures e.whole e.took
 
 pub returns-clause-stopped : goal.returns-clause-stopped
 returns-clause-stopped g c =
-    let e = c.write_report.ensures in
+    let e = c.take.ensures in
     inr (unreported _ _ _ c.in_ok-report.report c.in-Err.why _ _ c.in_ok-report.ensures.within c.in_ok-report.ensures.applied e.part
     (λ none. c.in-Err.ensures.unsent (ap Err none)))

@@ -1,19 +1,26 @@
 use Rattle.std.proofs.Common.{◌≡◌, drop}
-use Rattle.session.specs.Applied.{settings_of}
-use Rattle.session.specs.Ties.{view}
-use Rattle.beas_run.specs.Scripts.{readings_at}
-use Rattle.beas_run.specs.Walks.{scene}
-use Rattle.beas_run.proofs.Reached.{Reached}
+use Rattle.outside.specs.Seen.{IsLater, IsLaterSink, Sent}
+use Rattle.session.specs.Applying.{settings_of}
+use Rattle.beas_run.specs.Audiences.{unshown}
+use Rattle.beas_run.specs.Readings.{readings_at}
+use Rattle.beas_run.specs.Walks.{moment}
+use Rattle.beas_run.proofs.Walking.{Walking}
 use Rattle.beas_run.proofs.script.carry_out_all.Given as goal
 
 abbrev pub invariant-loop-place : goal.invariant-loop-place
 invariant-loop-place g l =
-    let files_then = view g.F.Files.told g.F.Files.content g.F.Files.faults g.F.Files.taken l.fn.files in
-    let files_now = view g.F.Files.told g.F.Files.content g.F.Files.faults g.F.Files.taken l.files in
+    let shown = g.A.Audience.shown in
+    let sent_then = shown (g.O.Sink.seen l.fn.out) in
+    let sent_now = shown (g.O.Sink.seen l.out) in
+    let files_then = g.F.Files.seen l.fn.files in
+    let files_now = g.F.Files.seen l.files in
     record {
-      reached : Reached (settings_of l.fn.session) (readings_at l.tokens l.pieces) (readings_at l.tokens (drop l.place l.pieces)) l.place l.refused
-          (scene l.fn.session l.fn.steps (g.O.Sink.told l.fn.out) (g.O.Sink.sent l.fn.out) files_then)
-          (scene l.session l.steps (g.O.Sink.told l.out) (g.O.Sink.sent l.out) files_now);
+      walking : Walking (g.A.Audience.took l.audience) (settings_of l.fn.session) (readings_at l.tokens l.pieces)
+          (readings_at l.tokens (drop l.place l.pieces)) l.place l.refused
+          (moment l.fn.session l.fn.steps sent_then files_then) (moment l.session l.steps sent_now files_now);
       settings : settings_of l.session ≡ settings_of l.fn.session;
-      faults : g.O.Sink.faults l.out ≡ g.O.Sink.faults l.fn.out;
+      files : IsLater files_then files_now;
+      out : IsLaterSink sent_then sent_now;
+      faults : sent_now.faults ≡ sent_then.faults;
+      unused : ((sent : Sent) → shown sent ≡ unshown) → l.out ≡ l.fn.out;
     }

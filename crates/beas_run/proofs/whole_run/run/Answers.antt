@@ -1,10 +1,9 @@
 use Rattle.std.proofs.Common.{refl, inl, inr, ap, arith, length}
-use Rattle.session.specs.Ties.{view}
 use Rattle.beas_run.proofs.Complete.{completes, completes_demo, completes_without}
 use Rattle.beas_run.proofs.Empty.{early_said, not_without, ran_nothing}
 use Rattle.beas_run.proofs.Pieces.{none_sent}
 use Rattle.beas_run.proofs.Sources.{but_faults, limits_stay, most, most_said, none_or_five, not_asked, not_with, ran_over, settings_are_words, seven_is_no_text, six_is_too_long, three_is_unread, two_is_words, two_or_five}
-use Rattle.beas_run.proofs.Ties.{later_twice}
+use Rattle.beas_run.proofs.Ties.{later_twice, sink_later}
 use Rattle.beas_run.proofs.whole_run.run.Goals as goal
 
 pub run_over-requires : goal.run_over-requires
@@ -14,41 +13,47 @@ pub returns-in-Ok : goal.returns-in-Ok
 returns-in-Ok g c =
     let e = c.in-Ok.ensures.source in
     let o = c.run_over.ensures in
-    let run = ran_over _ _ _ _ _ _ _ _ _ _ _ _ _ _ _ e c.as_str-text.ensures c.as_str-text.utf8 o in
+    let run = ran_over _ _ _ _ _ _ _ _ _ _ _ _ e c.as_str-text.ensures c.as_str-text.utf8 o in
     let settled = settings_are_words _ _ _ _ e.asked_is o.settings_are in
     record {
       ran = run;
-      untouched = λ w. absurd (not_without _ o.statuses w);
-      limits = limits_stay _ _ _ o.settings_are;
-      settings = λ _. settled;
-      settings_without = λ w. absurd (not_without _ o.statuses w);
-      settings_out_of_memory = λ _. inr settled;
-      statuses = most _ o.statuses;
-      words = λ none. absurd (not_asked _ _ e.asked_is none);
-      words_alone = λ s. absurd (not_without _ o.statuses (inl s));
-      unread = λ s. absurd (not_without _ o.statuses (inr (inl s)));
-      fault = o.fault;
-      no_fault = o.no_fault;
+      cause = record {
+        statuses = most _ o.statuses;
+        refused = λ none. absurd (not_asked _ _ e.asked_is none);
+        refused_alone = λ s. absurd (not_without _ o.statuses (inl s));
+        unread = λ s. absurd (not_without _ o.statuses (inr (inl s)));
+        fault = o.fault;
+        no_fault = o.no_fault;
+        too_long = λ s. absurd (not_without _ o.statuses (inr (inr (inl s))));
+        not_text = λ s. absurd (not_without _ o.statuses (inr (inr (inr s))));
+      };
+      complete = record {
+        complete = λ name script named readable out_quiet fits text. but_faults _ o.statuses (λ four. out_quiet (o.fault four));
+        complete_without = λ name script named readable.
+            completes_without _ _ _ (g.F.Files.seen c.run_over.new.files)
+            (most _ o.statuses) (λ s. absurd (not_without _ o.statuses (inl s))) (λ s. absurd (not_without _ o.statuses (inr (inl s))))
+            (λ s. absurd (not_without _ o.statuses (inr (inr (inl s))))) (λ s. absurd (not_without _ o.statuses (inr (inr (inr s)))))
+            name script named readable _ run.has;
+        complete_demo = λ seed asked out_quiet. but_faults _ o.statuses (λ four. out_quiet (o.fault four));
+      };
+      says = record {
+        part = λ _. none_sent _ _;
+        whole = λ w. absurd (not_without _ o.statuses w);
+        unsaid = λ _ _. refl;
+        no_fault = λ _. refl;
+        later = sink_later _;
+      };
       out_unused = λ w. absurd (not_without _ o.statuses w);
-      too_long = λ s. absurd (not_without _ o.statuses (inr (inr (inl s))));
-      not_text = λ s. absurd (not_without _ o.statuses (inr (inr (inr s))));
-      complete = λ name script named told is quiet out_quiet fits text. but_faults _ o.statuses (λ four. out_quiet (o.fault four));
-      complete_without = λ name script named told is quiet.
-          completes_without _ _ _ (view g.F.Files.told g.F.Files.content g.F.Files.faults g.F.Files.taken c.run_over.new.files)
-          (most _ o.statuses) (λ s. absurd (not_without _ o.statuses (inl s))) (λ s. absurd (not_without _ o.statuses (inr (inl s))))
-          (λ s. absurd (not_without _ o.statuses (inr (inr (inl s))))) (λ s. absurd (not_without _ o.statuses (inr (inr (inr s)))))
-          name script named told is quiet _ run.has;
-      complete_demo = λ seed asked out_quiet. but_faults _ o.statuses (λ four. out_quiet (o.fault four));
-      said = λ _. none_sent _ _;
-      said_whole = λ w. absurd (not_without _ o.statuses w);
       err_unused = λ _. refl;
-      unsaid = λ _ _. refl;
-      err_no_fault = λ _. refl;
-      later = later_twice _ _ _ e.later o.later;
-      out_told = o.told;
-      out_rise = o.rise;
-      err_told = refl;
-      err_rise = omega arith;
+      stays = record {
+        untouched = λ w. absurd (not_without _ o.statuses w);
+        limits = limits_stay _ _ _ o.settings_are;
+        settings = λ _. settled;
+        settings_without = λ w. absurd (not_without _ o.statuses w);
+        settings_out_of_memory = λ _. inr settled;
+        files = later_twice _ _ _ e.later o.files;
+        out = o.out;
+      };
     }
 
 pub returns-in-Err : goal.returns-in-Err
@@ -60,39 +65,39 @@ returns-in-Err g c =
     let run = ran_nothing _ _ why _ _ _ s.status (none_or_five why _ _ s.status e.seedless) (λ _. refl) refl refl e.later in
     record {
       ran = run;
-      untouched = λ _. record { sent = λ _. refl; steps = refl; db = refl };
-      limits = refl;
-      settings = λ w. absurd (not_with why _ s.status w);
-      settings_without = λ _. refl;
-      settings_out_of_memory = λ _. inl refl;
-      statuses = most_said why _ s.status;
-      words = λ none. two_or_five why _ s.status (e.words none);
-      words_alone = λ two. e.words_alone (two_is_words why _ s.status two);
-      unread = λ three. e.unread (three_is_unread why _ s.status three);
-      fault = λ four. absurd (early.1 four);
-      no_fault = λ _. refl;
+      cause = record {
+        statuses = most_said why _ s.status;
+        refused = λ none. two_or_five why _ s.status (e.words none);
+        refused_alone = λ two. e.words_alone (two_is_words why _ s.status two);
+        unread = λ three. e.unread (three_is_unread why _ s.status three);
+        fault = λ four. absurd (early.1 four);
+        no_fault = λ _. refl;
+        too_long = λ six. e.too_long (six_is_too_long why _ s.status six);
+        not_text = λ seven. e.not_text (seven_is_no_text why _ s.status seven);
+      };
+      complete = record {
+        complete = λ name script named readable out_quiet.
+            completes _ _ _ _ (most_said why _ s.status) (λ n. e.words_alone (two_is_words why _ s.status n)) (λ n. e.unread (three_is_unread why _ s.status n))
+            (λ n. e.too_long (six_is_too_long why _ s.status n)) (λ n. e.not_text (seven_is_no_text why _ s.status n)) name script named readable early.1;
+        complete_without = λ name script named readable.
+            completes_without _ _ _ _ (most_said why _ s.status) (λ n. e.words_alone (two_is_words why _ s.status n))
+            (λ n. e.unread (three_is_unread why _ s.status n)) (λ n. e.too_long (six_is_too_long why _ s.status n))
+            (λ n. e.not_text (seven_is_no_text why _ s.status n)) name script named readable _ run.has;
+        complete_demo = λ seed asked out_quiet.
+            completes_demo _ _ _ _ _ seed (most_said why _ s.status) (λ n. e.words_alone (two_is_words why _ s.status n))
+            (λ n. e.unread (three_is_unread why _ s.status n)) (λ n. e.too_long (six_is_too_long why _ s.status n))
+            (λ n. e.not_text (seven_is_no_text why _ s.status n)) asked early.1;
+      };
+      says = s.says;
       out_unused = λ _. refl;
-      too_long = λ six. e.too_long (six_is_too_long why _ s.status six);
-      not_text = λ seven. e.not_text (seven_is_no_text why _ s.status seven);
-      complete = λ name script named told is quiet out_quiet.
-          completes _ _ _ _ (most_said why _ s.status) (λ n. e.words_alone (two_is_words why _ s.status n)) (λ n. e.unread (three_is_unread why _ s.status n))
-          (λ n. e.too_long (six_is_too_long why _ s.status n)) (λ n. e.not_text (seven_is_no_text why _ s.status n)) name script named told is quiet early.1;
-      complete_without = λ name script named told is quiet.
-          completes_without _ _ _ _ (most_said why _ s.status) (λ n. e.words_alone (two_is_words why _ s.status n))
-          (λ n. e.unread (three_is_unread why _ s.status n)) (λ n. e.too_long (six_is_too_long why _ s.status n))
-          (λ n. e.not_text (seven_is_no_text why _ s.status n)) name script named told is quiet _ run.has;
-      complete_demo = λ seed asked out_quiet.
-          completes_demo _ _ _ _ _ seed (most_said why _ s.status) (λ n. e.words_alone (two_is_words why _ s.status n))
-          (λ n. e.unread (three_is_unread why _ s.status n)) (λ n. e.too_long (six_is_too_long why _ s.status n))
-          (λ n. e.not_text (seven_is_no_text why _ s.status n)) asked early.1;
-      said = s.part;
-      said_whole = s.whole;
       err_unused = λ w. absurd (not_with why _ s.status w);
-      unsaid = s.unsaid;
-      err_no_fault = s.no_fault;
-      later = e.later;
-      out_told = refl;
-      out_rise = omega arith;
-      err_told = s.told;
-      err_rise = s.rise;
+      stays = record {
+        untouched = λ _. record { sent = λ _. refl; steps = refl; db = refl };
+        limits = refl;
+        settings = λ w. absurd (not_with why _ s.status w);
+        settings_without = λ _. refl;
+        settings_out_of_memory = λ _. inl refl;
+        files = e.later;
+        out = sink_later _;
+      };
     }

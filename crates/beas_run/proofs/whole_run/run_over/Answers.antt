@@ -3,28 +3,26 @@ use Rattle.beas_run.proofs.whole_run.run_over.Goals as goal
 
 pub returns-in-Script : goal.returns-in-Script
 returns-in-Script g c =
-    let run = c.run_script.ensures in
+    let run = c.write_reports.ensures in
     record {
       statuses = run.statuses;
       walked = way_for c.args.args.now _ _ _ _ _ _ c.in-Script.is run.walked;
       settings_are = settings_for_same c.args.args.now _ _ _ c.in-Script.is run.settings;
       no_fault = run.no_fault;
       fault = run.fault;
-      told = run.told;
-      rise = run.rise;
-      later = run.later;
+      out = run.out;
+      files = run.files;
     }
 
 pub returns-in-Demo : goal.returns-in-Demo
 returns-in-Demo g c =
-    let run = c.run_demonstration.ensures in
+    let run = c.write_totals.ensures in
     record {
       statuses = run.statuses;
       walked = way_for c.args.args.now _ _ _ _ _ _ c.in-Demo.is run.demonstrated;
       settings_are = settings_for_same c.args.args.now _ _ _ c.in-Demo.is run.settings;
       no_fault = run.no_fault;
       fault = run.fault;
-      told = run.told;
-      rise = run.rise;
-      later = run.later;
+      out = run.out;
+      files = run.files;
     }

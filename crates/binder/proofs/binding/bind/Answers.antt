@@ -10,7 +10,7 @@ use Rattle.binder.proofs.OverTables.{query_over, as_many_blocks}
 use Rattle.beas_core.specs.Shapes.{QueryIsWellFormed}
 use Rattle.beas_core.specs.Trees as query
 use Rattle.catalogue.specs.Queries.{QueryIsOver}
-use Rattle.binder.proofs.TellsFacts.{err_first, err_second, first_none}
+use Rattle.binder.proofs.FirstFacts.{err_first, err_second, first_none}
 use Rattle.binder.proofs.binding.bind.Goals as goal
 
 pub returns-in_err-blocks-clause-refused : goal.returns-in_err-blocks-clause-refused

@@ -3,7 +3,7 @@ use Rattle.std.proofs.lemmas.Result.{err_from_is_err_and}
 use Rattle.std.proofs.lemmas.List.{map_more}
 use Rattle.binder.specs.LookedUp.{looked_up}
 use Rattle.binder.specs.Refusing.{repeated_aliases}
-use Rattle.binder.proofs.TellsFacts.{from_start, next_ok, err_next, at_end}
+use Rattle.binder.proofs.FirstFacts.{from_start, next_ok, err_next, at_end}
 use Rattle.binder.proofs.binding.look_up_all.Goals as goal
 
 pub loop-block-init : goal.loop-block-init

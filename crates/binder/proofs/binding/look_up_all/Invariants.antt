@@ -2,7 +2,7 @@ use Rattle.std.proofs.Common.{◌≡◌, map, take}
 use Rattle.std.specs.List.{flat_map}
 use Rattle.binder.specs.LookedUp.{looked_up}
 use Rattle.binder.specs.Refusing.{first, repeated_aliases}
-use Rattle.binder.proofs.TellsFacts.{first_from}
+use Rattle.binder.proofs.FirstFacts.{first_from}
 use Rattle.binder.proofs.binding.look_up_all.Given as goal
 
 abbrev pub invariant-loop-block : goal.invariant-loop-block

@@ -8,7 +8,7 @@ use Rattle.binder.specs.Binding.{blocks_of}
 use Rattle.binder.specs.LookedUp.{looked_up}
 use Rattle.binder.specs.Refusing.{first, unknown_tables, repeated_aliases}
 use Rattle.binder.proofs.JoinedFacts.{lent_flat_map, lent_map}
-use Rattle.binder.proofs.TellsFacts.{err_first, last_call}
+use Rattle.binder.proofs.FirstFacts.{err_first, last_call}
 use Rattle.binder.proofs.binding.looked_up_blocks.Goals as goal
 
 -- the lent blocks are those of the tree

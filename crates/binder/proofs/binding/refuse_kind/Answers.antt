@@ -3,7 +3,7 @@ use Rattle.std.specs.List.{enumerate_from}
 use Rattle.std.proofs.lemmas.Result.{err_from_is_err_and}
 use Rattle.binder.specs.declared.meaning.LookedUp.{LookedUp}
 use Rattle.binder.specs.Refusing.{places}
-use Rattle.binder.proofs.TellsFacts.{from_start, next_ok, err_next, at_end, numbered_at, numbered_below, numbered_end}
+use Rattle.binder.proofs.FirstFacts.{from_start, next_ok, err_next, at_end, numbered_at, numbered_below, numbered_end}
 use Rattle.binder.proofs.binding.refuse_kind.Goals as goal
 
 pub loop-place-init : goal.loop-place-init

@@ -2,7 +2,7 @@ use Rattle.std.proofs.Common.{◌≡◌}
 use Rattle.std.specs.List.{enumerate_from}
 use Rattle.binder.specs.Binding.{places_in_all}
 use Rattle.binder.specs.Refusing.{first, places}
-use Rattle.binder.proofs.TellsFacts.{first_from}
+use Rattle.binder.proofs.FirstFacts.{first_from}
 use Rattle.binder.proofs.binding.refuse_kind.Given as goal
 
 abbrev pub invariant-loop-place : goal.invariant-loop-place

@@ -2,7 +2,7 @@ use Rattle.std.proofs.Common.{◌≡◌}
 use Rattle.std.specs.List.{flat_map}
 use Rattle.binder.specs.Binding.{places_in_all}
 use Rattle.binder.specs.Refusing.{first}
-use Rattle.binder.proofs.TellsFacts.{first_from}
+use Rattle.binder.proofs.FirstFacts.{first_from}
 use Rattle.binder.proofs.binding.refuse_kinds.Given as goal
 
 abbrev pub invariant-loop-kind : goal.invariant-loop-kind

@@ -1,7 +1,7 @@
 use Rattle.std.proofs.Common.{◌≡◌}
 use Rattle.std.specs.List.{flat_map}
 use Rattle.binder.specs.Refusing.{first, unknown_tables}
-use Rattle.binder.proofs.TellsFacts.{first_from}
+use Rattle.binder.proofs.FirstFacts.{first_from}
 use Rattle.binder.proofs.binding.want_all_tables.Given as goal
 
 abbrev pub invariant-loop-block : goal.invariant-loop-block

@@ -5,7 +5,7 @@ use Rattle.binder.specs.declared.kinds.Flaw.TheVariants.{UnknownColumn}
 use Rattle.binder.specs.declared.kinds.Kind.{Kind}
 use Rattle.binder.specs.declared.kinds.Kind.TheVariants.{OfMeaning}
 use Rattle.binder.specs.Refusing.{places}
-use Rattle.binder.proofs.TellsFacts.{from_start, next_ok, err_next, at_end}
+use Rattle.binder.proofs.FirstFacts.{from_start, next_ok, err_next, at_end}
 use Rattle.binder.proofs.deleting.refuse_kinds.Goals as goal
 
 pub loop-kind-init : goal.loop-kind-init

@@ -1,7 +1,7 @@
 use Rattle.std.proofs.Common.{◌≡◌, []}
 use Rattle.binder.specs.Binding.{places_of_kinds}
 use Rattle.binder.specs.Refusing.{first, places}
-use Rattle.binder.proofs.TellsFacts.{first_from}
+use Rattle.binder.proofs.FirstFacts.{first_from}
 use Rattle.binder.proofs.deleting.refuse_kinds.Given as goal
 
 abbrev pub invariant-loop-kind : goal.invariant-loop-kind

@@ -2,7 +2,7 @@ use Rattle.std.proofs.Common.{sym, ◌∙◌, ap, arith}
 use Rattle.std.specs.List.{flat_map}
 use Rattle.std.proofs.lemmas.Result.{err_from_is_err_and}
 use Rattle.binder.specs.Refusing.{flaws, sides, first}
-use Rattle.binder.proofs.TellsFacts.{from_start, next_ok, err_next, at_end, flat_map_twice}
+use Rattle.binder.proofs.FirstFacts.{from_start, next_ok, err_next, at_end, flat_map_twice}
 use Rattle.binder.proofs.refusing.refuse_conditions.Goals as goal
 
 pub loop-condition-init : goal.loop-condition-init

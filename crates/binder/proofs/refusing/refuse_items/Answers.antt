@@ -1,7 +1,7 @@
 use Rattle.std.proofs.Common.{sym, ◌∙◌, arith}
 use Rattle.std.proofs.lemmas.Result.{err_from_is_err_and}
 use Rattle.binder.specs.Refusing.{flaws}
-use Rattle.binder.proofs.TellsFacts.{from_start, next_ok, err_next, at_end}
+use Rattle.binder.proofs.FirstFacts.{from_start, next_ok, err_next, at_end}
 use Rattle.binder.proofs.refusing.refuse_items.Goals as goal
 
 pub loop-item-init : goal.loop-item-init

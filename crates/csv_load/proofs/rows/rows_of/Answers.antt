@@ -1,12 +1,13 @@
-use Rattle.std.proofs.Common.{◌≡◌, ◌≤◌, ◌+◌, ◌∷◌, Bool, true, false, Option, Some, None, OnOk, IfOk, IfErr, MatchOption, Result, Ok, Err, List, length, sym, ◌∙◌, subst, arith}
+use Rattle.std.proofs.Common.{◌≡◌, ◌≤◌, ◌+◌, ◌∷◌, Bool, true, false, Option, Some, None, IfOk, MatchOption, Result, List, length, sym, ◌∙◌, subst, arith}
 use Rattle.std.specs.Bool.{MatchBool}
 use Rattle.beas_core.specs.declared.errors.Fail.{Fail}
 use Rattle.beas_core.specs.declared.value.Value.{Value}
 use Rattle.beas_core.specs.declared.refusal.Refusal.{Refusal}
+use Rattle.beas_core.specs.Results.{IsRefusedAs}
 use Rattle.csv.specs.Records.{fields_of}
 use Rattle.csv_load.specs.CsvRows.{is_header, records_of}
 use Rattle.csv_load.specs.Layouts.{IsLayout}
-use Rattle.csv_load.specs.Reading.{FailsAs, weight}
+use Rattle.csv_load.specs.Reading.{weight}
 use Rattle.csv_load.proofs.RowFacts.{no_header, other_header, fault_is, rows_are, room}
 use Rattle.csv_load.proofs.rows.rows_of.Goals as goal
 
@@ -27,15 +28,11 @@ at_none None P Q e h = h
 at_none (Some y) P Q e h = cc
 
 -- one fault for another, and one list of rows
-as_good : (r : Result (List (List Value)) Fail) (a b : Option Refusal) → b ≡ a → OnOk r (a ≡ None) → OnOk r (b ≡ None)
-as_good (Ok rows) a b e h = e ∙ h
-as_good (Err why) a b e h = h
-
 as_rows : (r : Result (List (List Value)) Fail) (a b : List (List Value)) → b ≡ a → IfOk r (λ rows. rows ≡ a) → IfOk r (λ rows. rows ≡ b)
 as_rows r a b e h = subst (λ x. IfOk r (λ rows. rows ≡ x)) (sym e) h
 
-as_refused : (r : Result (List (List Value)) Fail) (a b : Option Refusal) → b ≡ a → IfErr r (λ why. FailsAs a why) → IfErr r (λ why. FailsAs b why)
-as_refused r a b e h = subst (λ x. IfErr r (λ why. FailsAs x why)) (sym e) h
+as_refused : (r : Result (List (List Value)) Fail) (a b : Option Refusal) → b ≡ a → IsRefusedAs r a → IsRefusedAs r b
+as_refused r a b e h = subst (IsRefusedAs r) (sym e) h
 
 pub returns-then-not-branch-clause-refused : goal.returns-then-not-branch-clause-refused
 returns-then-not-branch-clause-refused c =
@@ -67,16 +64,6 @@ rows_left-requires-clause-room c =
       room c.args.limits.now.text c.args.columns.now c.args.bytes.now (fields_of c.read.new.fields) c.read.new.self all c.in-Some.layout
           l w,
     )
-
-pub returns-clause-good : goal.returns-clause-good
-returns-clause-good c =
-    let all : records_of c.args.bytes.now ≡ fields_of c.read.new.fields ∷ c.read.new.self =
-    sym c.of-records.ensures.all ∙ at_true c.in_ok-read.field-0 _ _ c.if-not-branch.false c.in_ok-read.ensures.ok in
-    let l : IsLayout c.args.columns.now (fields_of c.read.new.fields) c.in-Some.layout =
-    subst (λ columns. IsLayout columns (fields_of c.read.new.fields) c.in-Some.layout) c.as_slice.ensures
-    (at_some c.in_ok-layout.field-0 c.in-Some.layout _ _ c.in-Some.is c.in_ok-layout.ensures) in
-    as_good c.rows_left.result _ _ (fault_is c.args.limits.now.text c.args.columns.now c.args.bytes.now (fields_of c.read.new.fields) c.read.new.self all
-    c.in-Some.layout l) c.rows_left.ensures.good
 
 pub returns-clause-rows : goal.returns-clause-rows
 returns-clause-rows c =

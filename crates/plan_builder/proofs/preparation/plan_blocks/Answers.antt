@@ -1,13 +1,12 @@
-use Rattle.std.proofs.Common.{◌+◌, ◌∙◌, ◌++◌, ◌∷◌, [], Some, map, take, ap, sym}
-use Rattle.std.proofs.lemmas.List.{map-append, map_more}
+use Rattle.std.proofs.Common.{◌<◌, ◌+◌, ◌∙◌, ◌++◌, ◌∷◌, [], Some, length, map, take, ap, subst, sym}
+use Rattle.std.proofs.lemmas.List.{get_or-map, length-map, map-append, map_more}
 use Rattle.std.proofs.lemmas.Result.{err_from_is_err_and}
 use Rattle.beas_core.specs.declared.plan.Derivation.{Derivation}
-use Rattle.beas_core.specs.declared.plan.Normal.{Normal}
 use Rattle.beas_core.specs.Classes.{normal_of}
-use Rattle.beas_core.specs.Coverage.{own_reason}
-use Rattle.beas_core.specs.Derivations.{own_derivation}
+use Rattle.beas_core.specs.Guiding.{is_guided_task, task_reason, task_steps}
 use Rattle.beas_core.specs.Shapes.{BlockIsWellFormed}
 use Rattle.catalogue.specs.Queries.{BlockIsOver}
+use Rattle.plan_builder.specs.Parts.{blocks_at, task_at}
 use Rattle.plan_builder.specs.Preparation.{not_covered}
 use Rattle.plan_builder.proofs.PreparationFacts.{covered_next, lent_all, lent_below, lent_is, none_mapped, refused_here}
 use Rattle.plan_builder.proofs.preparation.plan_blocks.Goals as goal
@@ -25,35 +24,37 @@ plan_block-requires-clause-over c =
 pub returns-in_err-normal-clause-refused : goal.returns-in_err-normal-clause-refused
 returns-in_err-normal-clause-refused c =
     let p = err_from_is_err_and c.from_residual.result c.from_residual.ensures.1 in
-    let block = c.index-blocks-place.result in
-    rw (p.1, p.2) (refused_here c.args.catalogue.now (map (λ b. b.now) c.args.blocks.now) (Unit {0}) (Unit {0}) _ c.loop-place.place block.now
-    c.loop-place.invariant.covered
-    (lent_below c.args.blocks.now c.loop-place.place block c.loop-place-test.true c.index-blocks-place.is)
-    (lent_is c.args.blocks.now c.loop-place.place block c.loop-place-test.true c.index-blocks-place.is)
-    c.in_err-normal.ensures.refused)
+    rw (p.1, p.2) (refused_here c.args.catalogue.now c.args.blocks.now (Unit {0}) (Unit {0}) _ c.loop-place.place c.index-blocks-place.result
+    c.loop-place.invariant.covered c.loop-place-test.true c.index-blocks-place.is c.in_err-normal.ensures.refused)
 
 pub loop-place-preserved : goal.loop-place-preserved
 loop-place-preserved c =
     let i = c.loop-place.place in
     let lent = c.args.blocks.now in
-    let block = c.index-blocks-place.result in
+    let at = c.index-blocks-place.result in
     let schema = c.args.catalogue.now in
+    let tasks = map (task_at schema.accesses) lent in
     let normal = c.in_ok-normal.normal in
-    let derivation = c.in_ok-normal.derivation in
-    let below = lent_below lent i block c.loop-place-test.true c.index-blocks-place.is in
-    let is = lent_is lent i block c.loop-place-test.true c.index-blocks-place.is in
+    let plan = c.in_ok-normal.plan in
+    let below = lent_below lent i at c.loop-place-test.true c.index-blocks-place.is in
+    let is = lent_is lent i at c.loop-place-test.true c.index-blocks-place.is in
     let own = c.in_ok-normal.ensures in
     let steps : Derivation → _ = λ (d : Derivation). Some d.steps in
-    let made : Normal → _ = λ (n : Normal). own_derivation n schema.accesses in
+    let below_tasks : i < length tasks = subst (λ n. i < n) (sym (length-map lent (task_at schema.accesses))) c.loop-place-test.true in
+    let task_is = ap (task_at schema.accesses) c.index-blocks-place.is
+    ∙ sym (get_or-map (task_at schema.accesses) lent i at (task_at schema.accesses at) c.loop-place-test.true) in
     record {
       normals = c.in_ok-push.ensures.ok ∙ ap (λ ns. ns ++ normal ∷ []) c.loop-place.invariant.normals
-          ∙ ap (λ n. map normal_of (take i (map (λ b. b.now) lent)) ++ n ∷ []) (own.normal ∙ ap normal_of is)
-          ∙ sym (map_more normal_of (map (λ b. b.now) lent) i block.now below);
-      derivations = ap (map steps) c.in_ok-push-2.ensures.ok ∙ map-append steps c.loop-place.plans.derivations (derivation ∷ [])
-          ∙ ap (λ xs. xs ++ steps derivation ∷ []) c.loop-place.invariant.derivations
-          ∙ ap (λ o. map made c.loop-place.plans.normals ++ o ∷ []) (own.steps ∙ ap made (sym own.normal))
-          ∙ sym (map-append made c.loop-place.plans.normals (normal ∷ [])) ∙ ap (map made) (sym c.in_ok-push.ensures.ok);
+          ∙ ap (λ n. map normal_of (take i (blocks_at lent)) ++ n ∷ []) (own.normal ∙ ap normal_of is)
+          ∙ sym (map_more normal_of (blocks_at lent) i at.block.now below);
+      guided = c.in_ok-push-3.ensures.ok ∙ ap (λ gs. gs ++ plan.guided ∷ []) c.loop-place.invariant.guided
+          ∙ ap (λ g. map is_guided_task (take i tasks) ++ g ∷ []) (own.guided ∙ ap is_guided_task task_is)
+          ∙ sym (map_more is_guided_task tasks i (task_at schema.accesses at) below_tasks);
+      derivations = ap (map steps) c.in_ok-push-2.ensures.ok ∙ map-append steps c.loop-place.plans.derivations (plan.derivation ∷ [])
+          ∙ ap (λ xs. xs ++ steps plan.derivation ∷ []) c.loop-place.invariant.derivations
+          ∙ ap (λ o. map task_steps (take i tasks) ++ o ∷ []) (own.steps ∙ ap task_steps task_is)
+          ∙ sym (map_more task_steps tasks i (task_at schema.accesses at) below_tasks);
       covered = c.loop-place.invariant.covered
-          ∙ covered_next schema (map (λ b. b.now) lent) i block.now below is
-          (none_mapped (not_covered schema (i + 1) block.now) (own_reason (normal_of block.now) schema.accesses) own.refused);
+          ∙ covered_next schema lent i at c.loop-place-test.true c.index-blocks-place.is
+          (none_mapped (not_covered schema (i + 1) at.block.now) (task_reason (task_at schema.accesses at)) own.refused);
     }

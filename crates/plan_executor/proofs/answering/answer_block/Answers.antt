@@ -1,15 +1,14 @@
-use Rattle.std.proofs.Common.{◌≤◌, false, subst, arith, get_or, map}
+use Rattle.std.specs.Option.{option_copied}
+use Rattle.std.proofs.Common.{false, subst, arith, get_or, map}
 use Rattle.std.proofs.lemmas.List.{take_all}
 use Rattle.std.proofs.lemmas.Result.{err_from_is_err_and}
-use Rattle.beas_core.specs.declared.schema.Access.{Access}
 use Rattle.beas_core.specs.declared.plan.DStep.{DStep}
-use Rattle.beas_core.specs.Groups.{Holds}
 use Rattle.beas_core.specs.Order.{row_cmp}
 use Rattle.beas_core.specs.Sets.{distinct}
-use Rattle.beas_core.specs.Reads.{own_reads}
-use Rattle.beas_core.specs.Valuations.{output_row, own_answers}
+use Rattle.beas_core.specs.Reads.{reads_of}
+use Rattle.beas_core.specs.Valuations.{output_row, answers_of}
 use Rattle.plan_ops.specs.Over.{bound_set}
-use Rattle.plan_executor.proofs.FrontFacts.{Front, front_none, nothing_read, answered, next_key, next_over, next_room, next_reads, share_within, front_more, last_over, last_within, last_answers, at_error, on_ok}
+use Rattle.plan_executor.proofs.FrontFacts.{Front, front_none, nothing_read, answered, next_key, next_over, next_room, next_reads, share_within, front_more, last_over, last_answers, at_error}
 use Rattle.plan_executor.proofs.answering.answer_block.Goals as goal
 
 abbrev none : DStep
@@ -22,9 +21,9 @@ loop-step-init g c =
     let accesses = g.P.AccessPort.accesses c.args.port.now in
     let steps = c.args.plan.now in
     record {
-      front = front_none rows normal accesses c.in_ok-from.from c.in_ok-from.ensures.over c.in_ok-from.ensures.rows;
-      reads = nothing_read rows normal accesses c.args.reads.now;
-      steps = nothing_read rows normal accesses c.args.steps.now;
+      front = front_none rows normal accesses (option_copied c.args.guide) c.in_ok-from.from c.in_ok-from.ensures.over c.in_ok-from.ensures.rows;
+      reads = nothing_read rows normal accesses (option_copied c.args.guide) c.args.reads.now;
+      steps = nothing_read rows normal accesses (option_copied c.args.guide) c.args.steps.now;
     }
 
 pub take_step-requires-clause-key : goal.take_step-requires-clause-key
@@ -33,7 +32,7 @@ take_step-requires-clause-key g c =
     let normal = c.args.block.now in
     let accesses = g.P.AccessPort.accesses c.args.port.now in
     let steps = c.args.plan.now in
-    next_key rows normal accesses c.requires.classes c.requires.constants steps c.loop-step.step-index none c.loop-step-test.true c.requires.sound
+    next_key rows normal accesses (option_copied c.args.guide) c.requires.classes c.requires.constants c.requires.fits steps c.loop-step.step-index none c.loop-step-test.true c.requires.sound
     c.loop-step.from c.loop-step.invariant.front
 
 pub take_step-requires-clause-over : goal.take_step-requires-clause-over
@@ -42,7 +41,7 @@ take_step-requires-clause-over g c =
     let normal = c.args.block.now in
     let accesses = g.P.AccessPort.accesses c.args.port.now in
     let steps = c.args.plan.now in
-    next_over rows normal accesses c.requires.classes c.requires.constants steps c.loop-step.step-index none c.loop-step-test.true c.requires.sound
+    next_over rows normal accesses (option_copied c.args.guide) c.requires.classes c.requires.constants c.requires.fits steps c.loop-step.step-index none c.loop-step-test.true c.requires.sound
     c.loop-step.from c.loop-step.invariant.front
 
 pub take_step-requires-clause-room : goal.take_step-requires-clause-room
@@ -52,10 +51,8 @@ take_step-requires-clause-room g c =
     let accesses = g.P.AccessPort.accesses c.args.port.now in
     let steps = c.args.plan.now in
     let s = get_or steps c.loop-step.step-index none in
-    let holds = subst (λ (a : Access). Holds (rows a.table) a) c.access-access.ensures.access c.access-access.ensures.holds in
-    let bound = subst (λ (a : Access). 1 ≤ a.bound) c.access-access.ensures.access c.access-access.ensures.bound in
-    let room = next_room rows normal accesses c.requires.classes c.requires.constants steps c.loop-step.step-index none c.loop-step-test.true
-    c.requires.sound c.loop-step.from c.loop-step.invariant.front holds bound in
+    let room = next_room rows normal accesses (option_copied c.args.guide) c.requires.classes c.requires.constants c.requires.fits steps c.loop-step.step-index none c.loop-step-test.true
+    c.requires.sound c.loop-step.from c.loop-step.invariant.front c.requires.holds in
     let reads = c.loop-step.invariant.reads in
     let all = c.requires.room in
     omega (arith, room, reads, all)
@@ -67,12 +64,12 @@ returns-in_err-from-2-clause-reads g c =
     let accesses = g.P.AccessPort.accesses c.args.port.now in
     let steps = c.args.plan.now in
     let p = err_from_is_err_and c.from_residual-in_err-from-2.result c.from_residual-in_err-from-2.ensures.1 in
-    let within = share_within rows normal accesses c.requires.classes c.requires.constants steps c.loop-step.step-index none c.loop-step-test.true
+    let within = share_within rows normal accesses (option_copied c.args.guide) c.requires.classes c.requires.constants c.requires.fits steps c.loop-step.step-index none c.loop-step-test.true
     c.requires.sound c.loop-step.from c.loop-step.invariant.front in
     let so_far = c.loop-step.invariant.reads in
     let low = c.in_err-from-2.ensures.reads.0 in
     let high = c.in_err-from-2.ensures.reads.1 in
-    at_error c.from_residual-in_err-from-2.result p.0 c.args.reads.now c.take_step.new.reads (own_reads rows normal accesses steps) p.1
+    at_error c.from_residual-in_err-from-2.result p.0 c.args.reads.now c.take_step.new.reads (reads_of rows normal accesses (option_copied c.args.guide) steps) p.1
     (omega (arith, so_far, low)) (omega (arith, within, so_far, high))
 
 pub returns-in_err-from-2-clause-steps : goal.returns-in_err-from-2-clause-steps
@@ -82,12 +79,12 @@ returns-in_err-from-2-clause-steps g c =
     let accesses = g.P.AccessPort.accesses c.args.port.now in
     let steps = c.args.plan.now in
     let p = err_from_is_err_and c.from_residual-in_err-from-2.result c.from_residual-in_err-from-2.ensures.1 in
-    let within = share_within rows normal accesses c.requires.classes c.requires.constants steps c.loop-step.step-index none c.loop-step-test.true
+    let within = share_within rows normal accesses (option_copied c.args.guide) c.requires.classes c.requires.constants c.requires.fits steps c.loop-step.step-index none c.loop-step-test.true
     c.requires.sound c.loop-step.from c.loop-step.invariant.front in
     let so_far = c.loop-step.invariant.steps in
     let low = c.in_err-from-2.ensures.steps.0 in
     let high = c.in_err-from-2.ensures.steps.1 in
-    at_error c.from_residual-in_err-from-2.result p.0 c.args.steps.now c.take_step.new.steps (own_reads rows normal accesses steps) p.1
+    at_error c.from_residual-in_err-from-2.result p.0 c.args.steps.now c.take_step.new.steps (reads_of rows normal accesses (option_copied c.args.guide) steps) p.1
     (omega (arith, so_far, low)) (omega (arith, within, so_far, high))
 
 pub loop-step-preserved : goal.loop-step-preserved
@@ -97,17 +94,15 @@ loop-step-preserved g c =
     let accesses = g.P.AccessPort.accesses c.args.port.now in
     let steps = c.args.plan.now in
     let s = get_or steps c.loop-step.step-index none in
-    let holds = subst (λ (a : Access). Holds (rows a.table) a) c.access-access.ensures.access c.access-access.ensures.holds in
-    let bound = subst (λ (a : Access). 1 ≤ a.bound) c.access-access.ensures.access c.access-access.ensures.bound in
-    let share = next_reads rows normal accesses c.requires.classes c.requires.constants steps c.loop-step.step-index none c.loop-step-test.true
+    let share = next_reads rows normal accesses (option_copied c.args.guide) c.requires.classes c.requires.constants c.requires.fits steps c.loop-step.step-index none c.loop-step-test.true
     c.requires.sound c.loop-step.from c.loop-step.invariant.front in
     let reads_so_far = c.loop-step.invariant.reads in
     let steps_so_far = c.loop-step.invariant.steps in
     let reads_now = c.in_ok-from-2.ensures.reads in
     let steps_now = c.in_ok-from-2.ensures.steps in
     record {
-      front = front_more rows normal accesses c.requires.classes c.requires.constants steps c.loop-step.step-index none c.loop-step-test.true
-          c.requires.sound c.loop-step.from c.loop-step.invariant.front c.in_ok-from-2.from holds bound c.in_ok-from-2.ensures.over c.in_ok-from-2.ensures.rows;
+      front = front_more rows normal accesses (option_copied c.args.guide) c.requires.classes c.requires.constants c.requires.fits steps c.loop-step.step-index none c.loop-step-test.true
+          c.requires.sound c.loop-step.from c.loop-step.invariant.front c.in_ok-from-2.from c.in_ok-from-2.ensures.over c.in_ok-from-2.ensures.rows;
       reads = omega (arith, share, reads_so_far, reads_now);
       steps = omega (arith, share, steps_so_far, steps_now);
     }
@@ -118,9 +113,9 @@ project-requires g c =
     let normal = c.args.block.now in
     let accesses = g.P.AccessPort.accesses c.args.port.now in
     let steps = c.args.plan.now in
-    let front = subst (λ done. Front rows normal accesses done c.loop-step.from) (take_all c.loop-step.step-index steps c.loop-step-test.false)
+    let front = subst (λ done. Front rows normal accesses (option_copied c.args.guide) done c.loop-step.from) (take_all c.loop-step.step-index steps c.loop-step-test.false)
     c.loop-step.invariant.front in
-    last_over rows normal accesses c.requires.classes c.requires.constants steps c.requires.sound c.loop-step.from front
+    last_over rows normal accesses (option_copied c.args.guide) c.requires.classes c.requires.constants c.requires.fits steps c.requires.sound c.loop-step.from front
 
 pub returns-clause-rows : goal.returns-clause-rows
 returns-clause-rows g c =
@@ -128,18 +123,8 @@ returns-clause-rows g c =
     let normal = c.args.block.now in
     let accesses = g.P.AccessPort.accesses c.args.port.now in
     let steps = c.args.plan.now in
-    let front = subst (λ done. Front rows normal accesses done c.loop-step.from) (take_all c.loop-step.step-index steps c.loop-step-test.false)
+    let front = subst (λ done. Front rows normal accesses (option_copied c.args.guide) done c.loop-step.from) (take_all c.loop-step.step-index steps c.loop-step-test.false)
     c.loop-step.invariant.front in
     answered c.project.result (distinct row_cmp (map (output_row normal (bound_set normal c.loop-step.from)) c.loop-step.from.rows))
-    (own_answers rows normal accesses steps)
-    (last_answers rows normal accesses c.requires.classes c.requires.constants steps c.requires.sound c.loop-step.from front) c.project.ensures
-
-pub returns-clause-bound : goal.returns-clause-bound
-returns-clause-bound g c =
-    let rows = g.P.AccessPort.rows c.args.port.now in
-    let normal = c.args.block.now in
-    let accesses = g.P.AccessPort.accesses c.args.port.now in
-    let steps = c.args.plan.now in
-    let front = subst (λ done. Front rows normal accesses done c.loop-step.from) (take_all c.loop-step.step-index steps c.loop-step-test.false)
-    c.loop-step.invariant.front in
-    on_ok c.project.result (last_within rows normal accesses c.requires.classes c.requires.constants steps c.requires.sound c.loop-step.from front)
+    (answers_of rows normal accesses (option_copied c.args.guide) steps)
+    (last_answers rows normal accesses (option_copied c.args.guide) c.requires.classes c.requires.constants c.requires.fits steps c.requires.sound c.loop-step.from front) c.project.ensures

@@ -1,11 +1,45 @@
-use Rattle.plan_executor.proofs.StackFacts.{whole_stack, whole_taken}
+use Rattle.std.proofs.Common.{rules, ◌≡◌, ◌<◌, ◌^◌, ◌∙◌, true, All, sym, subst, arith}
+use Rattle.std.proofs.lemmas.List.Elements.{All-contains}
+use Rattle.beas_core.specs.declared.plan.Derivation.{Derivation}
+use Rattle.beas_core.specs.Derivations.{is_live}
+use Rattle.beas_core.proofs.Sets.{Contains-from_has}
+use Rattle.evaluation_facts.proofs.GuidedLaw.{guided_answers_are_full}
+use Rattle.evaluation_facts.proofs.QueryBounds.{prepared_is_live, prepared_few}
+use Rattle.plan_executor.specs.Held.{StepHolds, PlanHolds}
+use Rattle.plan_executor.proofs.TreeFacts.{all_hold, whole_fits}
 use Rattle.plan_executor.proofs.executing.execute.Goals as goal
 
-pub combine-requires : goal.combine-requires
-combine-requires g c =
-    whole_stack (g.P.AccessPort.rows c.args.port.now) c.args.prepared.now.query c.in_ok-answers.answers.items c.in_ok-answers.ensures.answers
+pub ask_for_all-requires : goal.ask_for_all-requires
+ask_for_all-requires g c =
+    let accesses = g.P.AccessPort.accesses c.args.port.now in
+    subst (All (λ (plan : Derivation). All (λ s. is_live accesses s.access ≡ true) plan.steps)) (sym c.as_slice.ensures)
+    (prepared_is_live accesses c.args.prepared.now c.requires.plan)
+
+pub answer_tree-requires-clause-fits : goal.answer_tree-requires-clause-fits
+answer_tree-requires-clause-fits g c =
+    let small : c.args.prepared.now.bound < 2 ^ 128 = search rules in
+    whole_fits (g.P.AccessPort.rows c.args.port.now) (g.P.AccessPort.accesses c.args.port.now) c.args.prepared.now c.requires small
+
+pub answer_tree-requires-clause-holds : goal.answer_tree-requires-clause-holds
+answer_tree-requires-clause-holds g c =
+    let rows = g.P.AccessPort.rows c.args.port.now in
+    let accesses = g.P.AccessPort.accesses c.args.port.now in
+    all_hold rows accesses c.args.prepared.now.derivations (subst (All (PlanHolds rows accesses)) c.as_slice.ensures c.ask_for_all.ensures)
 
 pub returns-clause-rows : goal.returns-clause-rows
 returns-clause-rows g c =
-    whole_taken (g.P.AccessPort.rows c.args.port.now) c.args.prepared.now.query c.in_ok-answers.answers.items c.combine.new.answers.items c.in_ok-rows.rows
-    c.in_ok-answers.ensures.answers c.in_ok-rows.ensures
+    c.in_ok-rows.ensures.rows
+    ∙ guided_answers_are_full (g.P.AccessPort.rows c.args.port.now) c.args.prepared.now.guided c.args.prepared.now.query
+
+pub returns-clause-bound : goal.returns-clause-bound
+returns-clause-bound g c =
+    let rows = g.P.AccessPort.rows c.args.port.now in
+    let accesses = g.P.AccessPort.accesses c.args.port.now in
+    let plans = c.args.prepared.now.derivations in
+    let held = subst (All (PlanHolds rows accesses)) c.as_slice.ensures c.ask_for_all.ensures in
+    let both = prepared_few rows accesses c.args.prepared.now c.requires.plan (λ plan m s member.
+    let steps = (All-contains (PlanHolds rows accesses) plans plan held (Contains-from_has plans plan m)).steps in
+    let step = All-contains (StepHolds rows accesses) plan.steps s steps member in
+    (step.holds, step.bound)) in
+    let reads = c.in_ok-rows.ensures.reads in
+    omega (arith, reads, both.1)

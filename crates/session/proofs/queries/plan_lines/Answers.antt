@@ -6,4 +6,4 @@ use Rattle.session.proofs.queries.plan_lines.Goals as goal
 
 pub returns : goal.returns
 returns c =
-    subst (λ s. IfOk c.plan_text.result (λ text. text ≡ plan_text s c.args.prepared.now)) (sym (schema_is_catalogue c.args.guarded.now)) c.plan_text.ensures
+    subst (λ s. IfOk c.plan_text.result (λ text. text ≡ plan_text s c.args.prepared.now)) (sym (schema_is_catalogue c.args.store.now)) c.plan_text.ensures

@@ -4,14 +4,14 @@ use Rattle.beas_core.specs.declared.schema.AccessId.{AccessId}
 use Rattle.catalogue.specs.Database.{rows_at, schema_of, with_access}
 use Rattle.catalogue.specs.Refusing.{admit_refusal, new_access, already_broken}
 use Rattle.report.specs.declared.reports.Report.TheVariants.{Done}
-use Rattle.update_guard.specs.Stored.{database_in}
+use Rattle.session.specs.Stores.{database_in}
 use Rattle.session.proofs.CarryFacts.{access_done, access_fails}
 use Rattle.session.proofs.tables.create_access.Goals as goal
 
 pub returns-in_err-create_access-clause-carried : goal.returns-in_err-create_access-clause-carried
 returns-in_err-create_access-clause-carried g c =
     let p = err_from_is_err_and c.from_residual.result c.from_residual.ensures.1 in
-    let db = database_in c.args.guarded.now in
+    let db = database_in c.args.store.now in
     let limits = c.args.limits.now in
     let spec = c.args.spec.now in
     let access = new_access (schema_of db) spec in
@@ -23,7 +23,7 @@ returns-in_err-create_access-clause-carried g c =
 
 pub returns-clause-carried : goal.returns-clause-carried
 returns-clause-carried g c =
-    let db = database_in c.args.guarded.now in
+    let db = database_in c.args.store.now in
     let limits = c.args.limits.now in
     let spec = c.args.spec.now in
     let access = new_access (schema_of db) spec in

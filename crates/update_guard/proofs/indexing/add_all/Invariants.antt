@@ -5,7 +5,8 @@ use Rattle.access_index.specs.Index.{Index}
 use Rattle.catalogue.specs.Kept.{ids_on}
 use Rattle.catalogue.specs.Refusing.{broken}
 use Rattle.catalogue.specs.Schema.{accesses_on}
-use Rattle.update_guard.specs.Guarding.{IndexesOf, HoldOver}
+use Rattle.update_guard.specs.Guarding.{IndexesOf}
+use Rattle.catalogue.specs.Stored.{HoldOver}
 use Rattle.update_guard.specs.Indexing.{AreIndexed, is_done}
 use Rattle.update_guard.proofs.BoundFacts.{broken_from}
 use Rattle.update_guard.proofs.indexing.add_all.Given as goal

@@ -2,7 +2,8 @@ use Rattle.std.proofs.Common.{◌≡◌, ◌<◌, ◌++◌, ◌∷◌, [], List,
 use Rattle.beas_core.specs.Types.{Row}
 use Rattle.catalogue.specs.Schema.{accesses_on}
 use Rattle.catalogue.specs.Refusing.{broken}
-use Rattle.update_guard.specs.Guarding.{IndexesOf, HoldOver}
+use Rattle.update_guard.specs.Guarding.{IndexesOf}
+use Rattle.catalogue.specs.Stored.{HoldOver}
 use Rattle.update_guard.proofs.BoundFacts.{broken_from}
 use Rattle.update_guard.proofs.indexing.first_broken.Given as goal
 

@@ -5,9 +5,11 @@ use Rattle.std.proofs.lemmas.List.{get_or-set_same, set-get_or, take_all}
 use Rattle.beas_core.specs.declared.refusal.Refusal.{Refusal}
 use Rattle.beas_core.specs.Types.{Row}
 use Rattle.catalogue.specs.Schema.{accesses_on}
-use Rattle.catalogue.specs.Refusing.{IsRefusedAs, broken, breaks_bound}
+use Rattle.catalogue.specs.Refusing.{broken, breaks_bound}
+use Rattle.beas_core.specs.Results.{IsRefusedAs}
 use Rattle.catalogue.proofs.ListFacts.{none_from_map}
-use Rattle.update_guard.specs.Guarding.{IndexesOf, HoldOver}
+use Rattle.update_guard.specs.Guarding.{IndexesOf}
+use Rattle.catalogue.specs.Stored.{HoldOver}
 use Rattle.update_guard.proofs.BoundFacts.{hold_after}
 use Rattle.update_guard.proofs.InsertFacts.{refused_head, refusals_from, one_more, bound_step, bound_end, room_of}
 use Rattle.update_guard.proofs.inserting.add_each.Goals as goal
@@ -33,7 +35,7 @@ returns-in-Err-clause-refused c all live is hold =
     let long : c.args.table.0 < length now = omega (arith, live, length-set all c.args.table.0 (own ++ take c.loop-i.i rows)) in
     let told = c.in-Err.ensures.refused now long indexed held in
     let read : get_or now c.args.table.0 [] ≡ own ++ take c.loop-i.i rows = get_or-set_same all c.args.table.0 (own ++ take c.loop-i.i rows) [] live in
-    let R : Option Refusal → Type 0 = λ r. IsRefusedAs {T = Unit {0}} (Err c.in-Err.why) r in
+    let R : Option Refusal → Type 0 = λ r. IsRefusedAs {A = Unit {0}} (Err c.in-Err.why) r in
     subst R (sym (c.loop-i.invariant.refused all live is hold ∙ bound_step mine own rows c.loop-i.i c.index-rows-i.result c.loop-i-test.true c.index-rows-i.is))
     (refused_head (Unit {0}) c.in-Err.why (option_map (breaks_bound (c.loop-i.i + 1, c.index-rows-i.result))
     (broken mine ((own ++ take c.loop-i.i rows) ++ c.index-rows-i.result ∷ []))) (refusals_from mine own rows (c.loop-i.i + 1))

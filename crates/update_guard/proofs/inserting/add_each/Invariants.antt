@@ -4,7 +4,8 @@ use Rattle.std.specs.List.{enumerate_from}
 use Rattle.beas_core.specs.Types.{Row}
 use Rattle.catalogue.specs.Schema.{accesses_on}
 use Rattle.catalogue.specs.Refusing.{broken_bound, first_of, broken, breaks_bound}
-use Rattle.update_guard.specs.Guarding.{IndexesOf, HoldOver}
+use Rattle.update_guard.specs.Guarding.{IndexesOf}
+use Rattle.catalogue.specs.Stored.{HoldOver}
 use Rattle.update_guard.proofs.inserting.add_each.Given as goal
 
 abbrev pub invariant-loop-i : goal.invariant-loop-i

@@ -8,8 +8,10 @@ use Rattle.beas_core.specs.declared.schema.Column.{Column}
 use Rattle.beas_core.specs.Types.{Row}
 use Rattle.catalogue.specs.Schema.{accesses_on, columns_at}
 use Rattle.catalogue.specs.Database.{RowFits}
-use Rattle.catalogue.specs.Refusing.{IsRefusedAs, wrong_width, wrong_type, refused_if, broken_bound}
-use Rattle.update_guard.specs.Guarding.{IndexesOf, HoldOver}
+use Rattle.catalogue.specs.Refusing.{wrong_width, wrong_type, broken_bound}
+use Rattle.beas_core.specs.Results.{IsRefusedAs, refused_if}
+use Rattle.update_guard.specs.Guarding.{IndexesOf}
+use Rattle.catalogue.specs.Stored.{HoldOver}
 use Rattle.update_guard.proofs.GuardFacts.{few_at, on_ok, on_err}
 use Rattle.update_guard.proofs.UpdateFacts.{after_insert}
 use Rattle.update_guard.proofs.inserting.insert_into.Goals as goal

@@ -1,6 +1,6 @@
 use Rattle.std.proofs.Common.{◌≡◌, ◌∙◌, ap, not, None, false}
 use Rattle.beas_core.specs.declared.refusal.Refusal.TheVariants.{UnknownAccess}
-use Rattle.catalogue.specs.Refusing.{refused_if}
+use Rattle.beas_core.specs.Results.{refused_if}
 use Rattle.update_guard.proofs.making.drop_index.Goals as goal
 
 pub unreachable-requires : goal.unreachable-requires

@@ -8,7 +8,8 @@ use Rattle.beas_core.specs.declared.schema.AccessId.{AccessId}
 use Rattle.beas_core.specs.Types.{Row}
 use Rattle.beas_core.specs.Groups.{Holds}
 use Rattle.access_index.specs.Index.{Index, IsIndexOf}
-use Rattle.catalogue.specs.Refusing.{IsRefusedAs, admit_refusal, new_access, already_broken}
+use Rattle.catalogue.specs.Refusing.{admit_refusal, new_access, already_broken}
+use Rattle.beas_core.specs.Results.{IsRefusedAs}
 use Rattle.catalogue.proofs.MayMake.{may_make_access}
 use Rattle.update_guard.proofs.GuardFacts.{on_ok}
 use Rattle.update_guard.proofs.InsertFacts.{refused_alike}
@@ -31,7 +32,7 @@ returns-in-Err-clause-refused g c =
     ≡ already_broken lent c.in_ok-access.access =
     ap (λ o. option_or o (already_broken rows a)) c.in_ok-access.ensures.refused ∙ ap (λ rs. already_broken rs a) (sym own)
     ∙ ap (already_broken lent) (sym same) in
-    let R : Option Refusal → Type 0 = λ r. IsRefusedAs {T = AccessId} (Err c.in-Err.why) r in
+    let R : Option Refusal → Type 0 = λ r. IsRefusedAs {A = AccessId} (Err c.in-Err.why) r in
     subst R (sym told) (refused_alike Index AccessId c.in-Err.why (already_broken lent c.in_ok-access.access) c.in-Err.ensures.refused)
 
 pub returns-in-Err-clause-cost : goal.returns-in-Err-clause-cost

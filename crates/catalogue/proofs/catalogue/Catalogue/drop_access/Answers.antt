@@ -1,6 +1,6 @@
 use Rattle.std.proofs.Common.{◌∙◌, ap, sym, not, Some, true≢false}
 use Rattle.beas_core.specs.declared.refusal.Refusal.TheVariants.{UnknownAccess}
-use Rattle.catalogue.specs.Refusing.{refused_if}
+use Rattle.beas_core.specs.Results.{refused_if}
 use Rattle.catalogue.proofs.catalogue.Catalogue.drop_access.Goals as goal
 
 pub returns-in_err-copy-in-None-clause-live : goal.returns-in_err-copy-in-None-clause-live

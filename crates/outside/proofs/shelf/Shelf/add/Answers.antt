@@ -1,5 +1,4 @@
 use Rattle.std.proofs.Common.{◌≡◌, Some, None, refl, arith}
-use Rattle.std.proofs.lemmas.Grind.{common_steps}
 use Rattle.outside.proofs.Contents.{place_of, content_set_other, content_pushed}
 use Rattle.outside.proofs.shelf.Shelf.add.Goals as goal
 

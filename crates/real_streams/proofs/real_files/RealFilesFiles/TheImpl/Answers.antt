@@ -7,12 +7,9 @@ untold : (r : Result (List ℕ) FilesError) → IfOk r (λ bytes. false ≡ true
 untold (Ok bytes) = λ told. cc
 untold (Err why) = tt
 
-pub read-tells : goal.read-tells
-read-tells g c = record {
-  told = refl;
-  content = refl;
-  faults = λ name. c.ensures.rise;
-  taken = c.ensures.least;
+pub load-tells : goal.load-tells
+load-tells g c = record {
+  later = record { told = refl; content = refl; faults = λ name. c.ensures.rise; taken = c.ensures.least };
   ok = untold c.result;
   fits = c.ensures.fits;
   failed = λ failed. omega (arith, c.ensures.failed failed);

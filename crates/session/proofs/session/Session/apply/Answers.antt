@@ -1,28 +1,35 @@
-use Rattle.std.proofs.Common.{refl}
-use Rattle.update_guard.specs.Stored.{database_in}
-use Rattle.session.specs.Applied.{settings_of}
-use Rattle.session.specs.Effects.{act_of}
-use Rattle.session.specs.Ties.{view}
-use Rattle.session.proofs.AppliedFacts.{at_once, did_at_once, later_same}
+use Rattle.std.proofs.Common.{◌≡◌, IfOk, OnErr, Result, subst, sym}
+use Rattle.beas_core.specs.declared.errors.NoMemory.{NoMemory}
+use Rattle.report.specs.declared.reports.Report.{Report}
+use Rattle.session.specs.Applying.{IsApplied, database_of, settings_of}
+use Rattle.session.specs.Effects.{action_of}
+use Rattle.session.specs.Turns.{IsWithin}
+use Rattle.session.proofs.AppliedFacts.{did, within_reported}
 use Rattle.session.proofs.session.Session.apply.Goals as goal
 
-pub returns-in_default : goal.returns-in_default
-returns-in_default g c =
+pub returns-clause-applied : goal.returns-clause-applied
+returns-clause-applied g c =
     let s = c.args.self.now in
-    let db = database_in s.guarded in
-    let statement = c.args.statement.now in
-    let files = view g.F.Files.told g.F.Files.content g.F.Files.faults g.F.Files.taken c.args.files.now in
-    let now = database_in c.carry_out.new.self.guarded in
-    let once = at_once (settings_of s) db statement c.in_default.not-Load in
-    let did = did_at_once s.limits.file (act_of (settings_of s) db statement) once.0 db c.report_of.result now c.args.steps.now c.carry_out.new.steps files
-    once.1 (c.report_of.ensures.carried once.0 db now c.args.steps.now c.carry_out.new.steps (c.carry_out.ensures.carried once.0 once.1)) in
-    record {
-      applied = did.applied;
-      within = c.report_of.ensures.within c.carry_out.ensures.within;
-      settings = c.carry_out.ensures.settings;
-      unchanged = did.unchanged;
-      at_most = did.at_most;
-      no_fewer = did.no_fewer;
-      unread = λ effect h. refl;
-      later = later_same files;
-    }
+    let db = database_of s in
+    let action = action_of (settings_of s) db c.args.statement.now in
+    let x = g.F.Files.seen c.args.files.now in
+    let y = g.F.Files.seen c.carry_out.new.files in
+    let now = database_of c.carry_out.new.self in
+    let e = c.carry_out.ensures in
+    subst (λ (r : Result Report NoMemory). IfOk r (λ report. IsApplied s.limits.file action report now c.args.steps.now c.carry_out.new.steps x y))
+    (sym c.report_of.ensures)
+    (did s.limits.file action db c.carry_out.result now c.args.steps.now c.carry_out.new.steps x y e.performed e.later).applied
+
+pub returns-clause-within : goal.returns-clause-within
+returns-clause-within g c =
+    subst (λ (r : Result Report NoMemory). IfOk r IsWithin) (sym c.report_of.ensures) (within_reported c.carry_out.result c.carry_out.ensures.within)
+
+pub returns-clause-unchanged : goal.returns-clause-unchanged
+returns-clause-unchanged g c =
+    let s = c.args.self.now in
+    let db = database_of s in
+    let now = database_of c.carry_out.new.self in
+    let e = c.carry_out.ensures in
+    subst (λ (r : Result Report NoMemory). OnErr r (now ≡ db)) (sym c.report_of.ensures)
+    (did s.limits.file (action_of (settings_of s) db c.args.statement.now) db c.carry_out.result now c.args.steps.now c.carry_out.new.steps
+    (g.F.Files.seen c.args.files.now) (g.F.Files.seen c.carry_out.new.files) e.performed e.later).unchanged

@@ -1,8 +1,10 @@
 use Rattle.std.proofs.Common.{◌∙◌, ◌+◌, ◌≤◌, ap, sym, subst}
 use Rattle.catalogue.specs.Database.{with_access}
-use Rattle.catalogue.specs.Refusing.{IsRefusedAs, new_access}
-use Rattle.update_guard.specs.Guarding.{database_of}
-use Rattle.update_guard.proofs.GuardFacts.{after_create_access, refusal_of_stored, reads_of_stored, schema_of_stored, on_ok}
+use Rattle.catalogue.specs.Refusing.{new_access}
+use Rattle.beas_core.specs.Results.{IsRefusedAs}
+use Rattle.catalogue.specs.Stored.{database_of}
+use Rattle.update_guard.proofs.GuardFacts.{after_create_access, on_ok}
+use Rattle.catalogue.proofs.StoredFacts.{refusal_of_stored, reads_of_stored, schema_of_stored}
 use Rattle.update_guard.proofs.guarded.Guarded.create_access.Goals as goal
 
 pub invariant_of-self : goal.invariant_of-self

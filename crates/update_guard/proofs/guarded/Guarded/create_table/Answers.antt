@@ -1,9 +1,11 @@
 use Rattle.std.proofs.Common.{◌≡◌, ◌∙◌, ◌++◌, ◌∷◌, [], ap, sym, subst}
 use Rattle.std.specs.Prelude.{IfOk}
 use Rattle.catalogue.specs.Schema.{schema_with_table}
-use Rattle.catalogue.specs.Refusing.{IsRefusedAs, add_table_refusal}
-use Rattle.update_guard.specs.Guarding.{database_of}
-use Rattle.update_guard.proofs.GuardFacts.{after_create_table, stored_with_table, schema_of_stored, length-joined, on_ok_both}
+use Rattle.catalogue.specs.Refusing.{add_table_refusal}
+use Rattle.beas_core.specs.Results.{IsRefusedAs}
+use Rattle.catalogue.specs.Stored.{database_of}
+use Rattle.update_guard.proofs.GuardFacts.{after_create_table, on_ok_both}
+use Rattle.catalogue.proofs.StoredFacts.{stored_with_table, schema_of_stored, length-joined}
 use Rattle.update_guard.proofs.guarded.Guarded.create_table.Goals as goal
 
 pub invariant_of-self : goal.invariant_of-self

@@ -3,8 +3,9 @@ use Rattle.beas_core.specs.declared.schema.TableId.{TableId}
 use Rattle.beas_core.specs.Types.{Row}
 use Rattle.catalogue.specs.Schema.{columns_at}
 use Rattle.catalogue.specs.Database.{with_rows, rows_at, kept_rows, block_table}
-use Rattle.update_guard.specs.Guarding.{database_of, IsGuarded}
-use Rattle.update_guard.proofs.GuardFacts.{length-joined, schema_of_stored, stored_with_rows, rows_at_stored}
+use Rattle.update_guard.specs.Guarding.{IsGuarded}
+use Rattle.catalogue.specs.Stored.{database_of}
+use Rattle.catalogue.proofs.StoredFacts.{length-joined, schema_of_stored, stored_with_rows, rows_at_stored}
 use Rattle.update_guard.proofs.guarded.Guarded.delete.Goals as goal
 
 pub delete_from-gone-requires-clause-kept : goal.delete_from-gone-requires-clause-kept

@@ -1,6 +1,10 @@
 use Rattle.std.proofs.Common.{◌∙◌, sym, subst}
-use Rattle.catalogue.specs.Refusing.{IsRefusedAs, drop_access_refusal}
-use Rattle.update_guard.proofs.GuardFacts.{after_drop_access, schema_of_stored}
+use Rattle.std.specs.Prelude.{IsTrue}
+use Rattle.catalogue.specs.Refusing.{drop_access_refusal}
+use Rattle.catalogue.specs.Schema.{has_access}
+use Rattle.beas_core.specs.Results.{IsRefusedAs}
+use Rattle.update_guard.proofs.GuardFacts.{after_drop_access}
+use Rattle.catalogue.proofs.StoredFacts.{schema_of_stored}
 use Rattle.update_guard.proofs.guarded.Guarded.drop_access.Goals as goal
 
 pub invariant_of-self : goal.invariant_of-self
@@ -17,3 +21,7 @@ pub returns-clause-refused : goal.returns-clause-refused
 returns-clause-refused c =
     subst (λ s. IsRefusedAs c.drop_index-outcome.result (drop_access_refusal s c.args.name.now))
     (sym (schema_of_stored c.args.self.now.catalogue c.args.self.now.rows c.args.self.now.kept.tables)) c.drop_index-outcome.ensures.refused
+
+pub returns-clause-live : goal.returns-clause-live
+returns-clause-live c = λ live. c.drop_index-outcome.ensures.live
+    (subst (λ s. IsTrue (has_access s c.args.name.now)) (schema_of_stored c.args.self.now.catalogue c.args.self.now.rows c.args.self.now.kept.tables) live)

@@ -7,10 +7,12 @@ use Rattle.beas_core.specs.declared.refusal.Counted.TheVariants.{Rows}
 use Rattle.beas_core.specs.Types.{Row}
 use Rattle.catalogue.specs.Schema.{accesses_on, columns_at}
 use Rattle.catalogue.specs.Database.{with_rows}
-use Rattle.catalogue.specs.Refusing.{IsRefusedAs, wrong_width, wrong_type, refused_if, broken_bound}
-use Rattle.update_guard.specs.Guarding.{database_of, IsGuarded}
+use Rattle.catalogue.specs.Refusing.{wrong_width, wrong_type, broken_bound}
+use Rattle.beas_core.specs.Results.{IsRefusedAs, refused_if}
+use Rattle.update_guard.specs.Guarding.{IsGuarded}
+use Rattle.catalogue.specs.Stored.{database_of}
 use Rattle.update_guard.proofs.InsertFacts.{refused_alike}
-use Rattle.update_guard.proofs.GuardFacts.{length-joined, insert_refusal_of_stored, stored_with_rows, rows_at_stored}
+use Rattle.catalogue.proofs.StoredFacts.{length-joined, insert_refusal_of_stored, stored_with_rows, rows_at_stored}
 use Rattle.update_guard.proofs.guarded.Guarded.insert.Goals as goal
 
 pub insert_into-outcome-requires-clause-live : goal.insert_into-outcome-requires-clause-live
@@ -50,7 +52,7 @@ returns-in-Err-clause-refused c =
     (broken_bound (accesses_on s.catalogue.accesses c.args.table) own c.args.rows))) in
     let e = insert_refusal_of_stored c.args.limits.now s.catalogue s.rows c.args.table c.args.rows s.kept.tables
     ∙ ap (λ ss. X (get_or ss c.args.table.0 [])) (sym (c.into_vec-stores.ensures ∙ c.replace.ensures.value)) in
-    let R : Option Refusal → Type 0 = λ r. IsRefusedAs {T = ℕ} (Err c.in-Err.why) r in
+    let R : Option Refusal → Type 0 = λ r. IsRefusedAs {A = ℕ} (Err c.in-Err.why) r in
     subst R (sym e) (refused_alike (Unit {0}) ℕ c.in-Err.why (X (get_or c.into_vec-stores.result.items c.args.table.0 [])) c.in-Err.ensures.refused)
 
 pub returns-in-Ok-clause-ok : goal.returns-in-Ok-clause-ok

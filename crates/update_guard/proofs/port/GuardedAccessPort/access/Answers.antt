@@ -2,7 +2,7 @@ use Rattle.std.proofs.Common.{◌≡◌, ◌∙◌, ◌≤◌, List, [], ap, sym
 use Rattle.beas_core.specs.declared.schema.Access.{Access}
 use Rattle.beas_core.specs.Types.{Row}
 use Rattle.beas_core.specs.Groups.{Holds}
-use Rattle.update_guard.proofs.GuardFacts.{rows_at_stored}
+use Rattle.catalogue.proofs.StoredFacts.{rows_at_stored}
 use Rattle.update_guard.proofs.PortFacts.{same_access}
 use Rattle.update_guard.proofs.port.GuardedAccessPort.access.Goals as goal
 

@@ -5,7 +5,7 @@ use Rattle.beas_core.specs.Groups.{Holds, group_of}
 use Rattle.access_index.specs.Index.{Index, IsIndexOf, members_at, stands_at}
 use Rattle.update_guard.specs.Indexing.{no_access}
 use Rattle.update_guard.specs.Stored.{index_with_id}
-use Rattle.update_guard.proofs.GuardFacts.{rows_at_stored}
+use Rattle.catalogue.proofs.StoredFacts.{rows_at_stored}
 use Rattle.update_guard.proofs.PortFacts.{index_found, same_access}
 use Rattle.update_guard.proofs.port.GuardedAccessPort.probe.Goals as goal
 

@@ -1,0 +1,2 @@
+pub mod GroupFacts
+pub mod RunFacts

@@ -1,0 +1,15 @@
+use Rattle.std.proofs.Common.{◌≡◌, ◌∙◌, List, ap, map, subst}
+use Rattle.std.specs.Result.{IfOk}
+use Rattle.beas_core.specs.declared.plan.DStep.{DStep}
+use Rattle.attribute_closure.specs.Uses.{as_use}
+use Rattle.plan_builder.specs.Trials.{steps_from, uses_pruned}
+use Rattle.plan_builder.proofs.Drops.{left_by_uses}
+use Rattle.plan_builder.proofs.pruning.needed_steps.Goals as goal
+
+pub returns : goal.returns
+returns c =
+    let normal = c.args.block.now in
+    let start = c.args.start.now in
+    subst (λ (ss : List DStep). IfOk c.steps_of.result (λ left. left ≡ ss))
+    (ap (steps_from normal start) (ap (map as_use) c.as_slice.ensures ∙ c.in_ok-left.ensures ∙ ap (uses_pruned normal start) c.in_ok-uses.ensures)
+    ∙ left_by_uses normal c.args.accesses.now start c.args.steps.now c.requires.sound) c.steps_of.ensures

@@ -1,0 +1,2 @@
+pub mod FilterFacts
+mod ScanFacts

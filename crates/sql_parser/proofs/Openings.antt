@@ -1,0 +1,28 @@
+-- The walk over the openings, step by step.
+use Rattle.std.proofs.Common.{◌≡◌, ◌≤◌, ◌<◌, ℕ, ◌+◌, true, false, List, ◌∷◌, get_or, drop, length, refl, ap, ◌∙◌}
+use Rattle.std.proofs.lemmas.List.{at_drop_more, drop_all}
+use Rattle.sql_tree.specs.Symbols.{Symbol}
+use Rattle.sql_parser.specs.declared.statements.Opening.{Opening}
+use Rattle.sql_parser.specs.Reading.{words_of, read_opened, begins_with, after_all, read_first, read_select}
+
+pub first-passes : (o : Opening) (os : List Opening) (tokens : List Symbol) → begins_with (words_of o) tokens ≡ false
+    → read_first (o ∷ os) tokens ≡ read_first os tokens
+unfolding read_first
+first-passes o os tokens e = rw e refl
+
+first-stands : (o : Opening) (os : List Opening) (tokens : List Symbol) → begins_with (words_of o) tokens ≡ true
+    → read_first (o ∷ os) tokens ≡ read_opened o (after_all (words_of o) tokens)
+unfolding read_first
+first-stands o os tokens e = rw e refl
+
+module _ (os : List Opening) (i : ℕ) (other : Opening) (tokens : List Symbol) (within : i < length os) where
+  pub passed : begins_with (words_of (get_or os i other)) tokens ≡ false → read_first (drop i os) tokens ≡ read_first (drop (i + 1) os) tokens
+  passed e = at_drop_more (λ ys. read_first ys tokens) os i other within ∙ first-passes (get_or os i other) (drop (i + 1) os) tokens e
+
+  pub taken : begins_with (words_of (get_or os i other)) tokens ≡ true
+      → read_first (drop i os) tokens ≡ read_opened (get_or os i other) (after_all (words_of (get_or os i other)) tokens)
+  taken e = at_drop_more (λ ys. read_first ys tokens) os i other within ∙ first-stands (get_or os i other) (drop (i + 1) os) tokens e
+
+pub none_left : (os : List Opening) (i : ℕ) (tokens : List Symbol) → length os ≤ i → read_first (drop i os) tokens ≡ read_select tokens
+unfolding read_first
+none_left os i tokens le = ap (λ ys. read_first ys tokens) (drop_all i os le)

@@ -1,0 +1,32 @@
+-- What never fails has no fault.
+use Rattle.std.proofs.Common.{◌≡◌, ℕ, List, Option, Some, None, arith}
+use Rattle.std.specs.Prelude.{IsSomeAnd}
+use Rattle.command_words.specs.declared.arguments.Args.{Args}
+use Rattle.command_words.specs.declared.arguments.Args.TheVariants.{Script, Demo}
+use Rattle.outside.specs.Counts.{Rose, RoseBy}
+use Rattle.session.specs.Effects.{Settings}
+use Rattle.session.specs.Ties.{failures}
+use Rattle.session.specs.Turns.{loads_of}
+use Rattle.beas_run.specs.Readings.{Reading}
+use Rattle.beas_run.specs.Runs.{WalkedFor, outcomes_in}
+use Rattle.beas_run.specs.Scripts.{turns}
+use Rattle.beas_run.specs.Walks.{Moment}
+
+pub none_rose : Rose 0 0 → ⊥
+none_rose h = omega arith
+
+pub no_fault : (named : Option (List ℕ)) → IsSomeAnd named (λ n. Rose 0 0) → ⊥
+no_fault None h = h
+no_fault (Some n) h = none_rose h
+
+pub none_at : (n : ℕ) → RoseBy n 0 0 → n ≡ 0
+none_at n h = omega arith
+
+-- whatever is asked for, the failures of a name are at most the rise of its count
+pub walked_failures : (asked : Option Args) (s : Settings) (readings : List Reading) (status : ℕ) (before after : Moment)
+    (walked : WalkedFor asked s readings status before after) (name : List ℕ)
+    → RoseBy (failures name (loads_of (turns s before.state readings (outcomes_in asked s readings status before after walked))))
+    (before.files.faults name) (after.files.faults name)
+walked_failures None s readings status before after walked name = walked.follows.tied.failed name
+walked_failures (Some (Script path budget explain)) s readings status before after walked name = walked.follows.tied.failed name
+walked_failures (Some (Demo seed budget explain)) s readings status before after walked name = walked.walked.follows.tied.failed name

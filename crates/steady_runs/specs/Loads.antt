@@ -1,0 +1,34 @@
+-- Runs over files that never fail.
+--     steady files           what is known of them
+--     steady_out out         what is known of an output that never fails
+--     NoneFailed ..          a run in which no load of a file failed, so that none was reported as unreadable
+use Rattle.std.specs.Prelude.{◌≡◌, ℕ, true, List, [], Some, unwrap_or}
+use Rattle.beas_core.specs.declared.limits.Limits.{Limits}
+use Rattle.outside.specs.declared.memory_files.SteadyFiles.{SteadyFiles}
+use Rattle.outside.specs.Contents.{content_of}
+use Rattle.outside.specs.declared.memory_sink.SteadySink.{SteadySink}
+use Rattle.outside.specs.Seen.{Seen, Sent}
+use Rattle.session.specs.Ties.{failures}
+use Rattle.session.specs.Turns.{loads_of}
+use Rattle.command_words.specs.Words.{args_of}
+use Rattle.beas_run.specs.Runs.{HasRun, outcomes_in, settings_of_words}
+use Rattle.beas_run.specs.Scripts.{turns}
+use Rattle.beas_run.specs.Walks.{Moment}
+
+abbrev pub steady : SteadyFiles → Seen
+steady files = record {
+  told = true;
+  content = λ name. Some (unwrap_or (content_of files.shelf name) []);
+  faults = λ _. 0;
+  taken = 0;
+}
+
+abbrev pub steady_out : SteadySink → Sent
+steady_out out = record { told = true; bytes = out.sent.items; faults = 0 }
+
+pub record NoneFailed (limits : Limits) (words : List (List ℕ)) (status : ℕ) (before after : Moment) : Type 0 where
+  pub run : HasRun limits words status before after
+  pub none : (name : List ℕ)
+      → failures name (loads_of
+      (turns (settings_of_words limits words) before.state run.readings
+      (outcomes_in (args_of words) (settings_of_words limits words) run.readings status before after run.walked))) ≡ 0
