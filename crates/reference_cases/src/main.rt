@@ -1,11 +1,15 @@
 //! Runs the reference programs on named cases of standard input, and prints what they give.
 //!
-//! For each case, in the words of `named_blocks`: of each block its classes and needed columns by atom, the covered
-//! classes, and the steps of its derivation with cost and size, or why it isn't covered; then of the query the
-//! announced number and the reads, where all blocks are covered, and in any case the rows of the full answer.
+//! For each case, in the words of `named_blocks`: of each block its classes and needed columns by atom, whether it is
+//! guided, the covered classes, and the steps of its derivation with cost and size, or why it isn't covered; then of
+//! the query, where all blocks are covered, its size, the announced number, the probes as block, step and key, and the
+//! reads; and in any case the rows of the full answer. Blocks and steps are numbered from 0 on. A line says so where
+//! the answers aren't the full answer.
 #![tactic(auto)]
 
+mod blocks;
 mod shown;
+mod starts;
 
 use named_blocks::{Wrong, cases_of};
 use shown::show_case;

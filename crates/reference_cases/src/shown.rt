@@ -1,39 +1,95 @@
 // What the reference programs give for a case, as text.
-use beas_core::{Access, ColumnId, DStep, List, Normal, NotCovered, Row, Value};
-use named_blocks::{NamedBlock, NamedCase, Wrong};
-use reference_coverage::{announced_number, constant_classes, covered_set, derivation, reason};
-use reference_evaluation::{full_of, reads_of};
-use reference_normal_form::{normal_of, places_of};
+ghost use Rattle.std.specs.Prelude.{◌≡◌, length, All};
+ghost use Rattle.beas_core.specs.Trees.{blocks_of};
+ghost use Rattle.reference_coverage.specs.Tasks.{HasFewAtoms};
+ghost use Rattle.reference_normal_form.specs.Few.{HasFewPlaces};
+
+use crate::blocks::show_block;
+use crate::starts::start_sizes;
+use beas_core::{List, Query, Row, Value};
+use named_blocks::{NamedCase, Wrong};
+use reference_coverage::{
+    BlockPlans, Task, block_tasks, blocks_have_few_places, first_uncovered, guided_flags, plans_of,
+    query_bound, query_size, steps_of,
+};
+use reference_evaluation::{
+    BlockProbe, PlansOnTables, full_of, query_answers, query_probes, query_reads,
+};
 use std::alloc::Global;
 use std::fmt::Write;
-
-// The number and the reads of the blocks so far; nothing once a block isn't covered, or past 2^128 - 1.
-#[derive(Clone, Copy)]
-struct Totals {
-    are_covered: bool,
-    number: Option<u128>,
-    reads: Option<u128>,
-}
 
 /// All that is printed of a case.
 pub fn show_case(alloc: Global, case: &NamedCase) -> Result<String, Wrong> {
     let mut shown = format!(in alloc; "case {}\n", case.name)?;
-    let mut totals = Totals {
-        are_covered: true,
-        number: Some(0),
-        reads: Some(0),
-    };
-    for named in &case.blocks {
-        totals = show_block(alloc, &mut shown, case, named, totals)?;
-    }
-    if totals.are_covered {
-        show_total(&mut shown, "number", totals.number)?;
-        show_total(&mut shown, "reads", totals.reads)?;
-    }
     let query = case.query(alloc)?;
-    let answer = full_of(alloc, &case.rows, &query)?;
-    show_rows(&mut shown, answer.as_slice())?;
+    if !blocks_have_few_places(alloc, &query)? {
+        return Err(Wrong::Line(0));
+    }
+    let tasks = block_tasks(alloc, case.accesses.as_slice(), &query)?;
+    let guided = guided_flags(alloc, tasks.as_slice())?;
+    let derivations = plans_of(alloc, tasks.as_slice())?;
+    let plans = BlockPlans {
+        accesses: case.accesses.as_slice(),
+        guided: guided.as_slice(),
+        derivations: derivations.as_slice(),
+    };
+    show_blocks(alloc, &mut shown, case, tasks.as_slice(), &plans, &query)?;
+    let full = full_of(alloc, &case.rows, &query)?;
+    match first_uncovered(alloc, tasks.as_slice())? {
+        Some(found) => writeln!(shown, "  the first uncovered block is {}", found.block)?,
+        None => show_run(alloc, &mut shown, case, &plans, &query, &full)?,
+    }
+    show_rows(&mut shown, full.as_slice())?;
     Ok(shown)
+}
+
+// The blocks from left to right.
+fn show_blocks(
+    alloc: Global,
+    shown: &mut String,
+    case: &NamedCase,
+    tasks: &[Task],
+    plans: &BlockPlans,
+    query: &Query,
+) -> Result<(), Wrong>
+    requires few { All HasFewAtoms tasks.now }
+    requires flags { length plans.now.guided.now ≡ length (blocks_of query.now) }
+{
+    let sizes = start_sizes(alloc, plans, query)?;
+    let parts = case.blocks.iter().zip(tasks).zip(&sizes);
+    for (number, ((named, task), size)) in parts.enumerate() {
+        let steps = steps_of(plans.derivations, number);
+        show_block(alloc, shown, case, named, task, *size, steps)?;
+    }
+    Ok(())
+}
+
+// What is announced of a covered query, its probes and its reads.
+fn show_run(
+    alloc: Global,
+    shown: &mut String,
+    case: &NamedCase,
+    plans: &BlockPlans,
+    query: &Query,
+    full: &List<Row>,
+) -> Result<(), Wrong>
+    requires flags { length plans.now.guided.now ≡ length (blocks_of query.now) }
+    requires few { All HasFewPlaces (blocks_of query.now) }
+{
+    show_total(shown, "size", query_size(plans, query))?;
+    show_total(shown, "number", query_bound(plans, query))?;
+    let over = PlansOnTables {
+        tables: &case.rows,
+        plans: *plans,
+    };
+    for probe in query_probes(alloc, &over, query)?.as_slice() {
+        show_probe(shown, probe)?;
+    }
+    writeln!(shown, "  reads {}", query_reads(alloc, &over, query)?)?;
+    if query_answers(alloc, &case.rows, plans.guided, query)? != *full {
+        writeln!(shown, "  the answers aren't the full answer")?;
+    }
+    Ok(())
 }
 
 fn show_total(shown: &mut String, word: &str, total: Option<u128>) -> Result<(), Wrong> {
@@ -44,8 +100,7 @@ fn show_total(shown: &mut String, word: &str, total: Option<u128>) -> Result<(),
     Ok(())
 }
 
-fn show_row(shown: &mut String, row: &[Value]) -> Result<(), Wrong> {
-    shown.push_str("  row")?;
+fn show_values(shown: &mut String, row: &[Value]) -> Result<(), Wrong> {
     for value in row {
         match value {
             Value::Int(number) => write!(shown, " {number}")?,
@@ -56,210 +111,15 @@ fn show_row(shown: &mut String, row: &[Value]) -> Result<(), Wrong> {
     Ok(())
 }
 
+fn show_probe(shown: &mut String, probe: &BlockProbe) -> Result<(), Wrong> {
+    write!(shown, "  probe {}.{}", probe.block, probe.probe.step)?;
+    show_values(shown, probe.probe.key.as_slice())
+}
+
 fn show_rows(shown: &mut String, rows: &[Row]) -> Result<(), Wrong> {
     for row in rows {
-        show_row(shown, row.as_slice())?;
-    }
-    Ok(())
-}
-
-// The normal form of a block of a few atoms.
-fn normal_form(alloc: Global, named: &NamedBlock) -> Result<Normal, Wrong> {
-    let atoms = named.block.atoms.as_slice();
-    if atoms.len() > 16 {
-        return Err(Wrong::Line(0));
-    }
-    let places = places_of(alloc, atoms)?;
-    if places.len() > 1024 {
-        return Err(Wrong::Line(0));
-    }
-    Ok(normal_of(alloc, &named.block)?)
-}
-
-fn show_block(
-    alloc: Global,
-    shown: &mut String,
-    case: &NamedCase,
-    named: &NamedBlock,
-    totals: Totals,
-) -> Result<Totals, Wrong> {
-    let normal = normal_form(alloc, named)?;
-    if normal.atoms.len() > 16 || normal.needed.len() > 16 {
-        return Err(Wrong::Line(0));
-    }
-    show_classes(shown, named, &normal)?;
-    show_needed(shown, case, named, &normal)?;
-    let accesses = case.accesses.as_slice();
-    let start = constant_classes(alloc, &normal)?;
-    let covered = covered_set(alloc, &normal, accesses, start.as_slice())?;
-    show_covered(shown, covered.as_slice())?;
-    match derivation(alloc, &normal, accesses, start.as_slice())? {
-        Some(steps) => {
-            show_steps(shown, case, named, steps.as_slice())?;
-            with_block(alloc, case, &normal, steps.as_slice(), totals)
-        }
-        None => {
-            let why = reason(alloc, &normal, accesses, covered.as_slice())?;
-            show_reason(shown, case, named, why)?;
-            Ok(Totals {
-                are_covered: false,
-                ..totals
-            })
-        }
-    }
-}
-
-fn sum(left: Option<u128>, right: Option<u128>) -> Option<u128> {
-    match (left, right) {
-        (Some(left), Some(right)) => left.checked_add(right),
-        _ => None,
-    }
-}
-
-fn with_block(
-    alloc: Global,
-    case: &NamedCase,
-    normal: &Normal,
-    steps: &[DStep],
-    totals: Totals,
-) -> Result<Totals, Wrong> {
-    let accesses = case.accesses.as_slice();
-    let reads = reads_of(alloc, &case.rows, normal, accesses, &None, steps)?;
-    Ok(Totals {
-        are_covered: totals.are_covered,
-        number: sum(totals.number, announced_number(accesses, 1, steps)),
-        reads: sum(totals.reads, reads),
-    })
-}
-
-fn atom_name(named: &NamedBlock, atom: u16) -> &str {
-    match named.atoms.get(usize::from(atom)) {
-        Some(name) => name.as_str(),
-        None => "?",
-    }
-}
-
-fn column_name<'a>(case: &'a NamedCase, named: &NamedBlock, atom: u16, column: u16) -> &'a str {
-    match named.block.atoms.as_slice().get(usize::from(atom)) {
-        Some(found) => match case.columns_of(found.table).get(usize::from(column)) {
-            Some(name) => name.as_str(),
-            None => "?",
-        },
-        None => "?",
-    }
-}
-
-fn show_numbers(shown: &mut String, numbers: &[u16]) -> Result<(), Wrong> {
-    for number in numbers {
-        write!(shown, " {number}")?;
-    }
-    shown.push('\n')?;
-    Ok(())
-}
-
-fn show_classes(shown: &mut String, named: &NamedBlock, normal: &Normal) -> Result<(), Wrong> {
-    for (name, classes) in named.atoms.iter().zip(normal.classes.as_slice()) {
-        write!(shown, "  classes of {name}:")?;
-        show_numbers(shown, classes.as_slice())?;
-    }
-    Ok(())
-}
-
-fn show_columns(
-    shown: &mut String,
-    case: &NamedCase,
-    named: &NamedBlock,
-    atom: u16,
-    columns: &[ColumnId],
-) -> Result<(), Wrong> {
-    write!(shown, "  needed of {}:", atom_name(named, atom))?;
-    for column in columns {
-        write!(shown, " {}", column_name(case, named, atom, column.0))?;
-    }
-    shown.push('\n')?;
-    Ok(())
-}
-
-fn show_needed(
-    shown: &mut String,
-    case: &NamedCase,
-    named: &NamedBlock,
-    normal: &Normal,
-) -> Result<(), Wrong> {
-    let mut atom: u16 = 0;
-    for columns in normal.needed.as_slice() {
-        show_columns(shown, case, named, atom, columns.as_slice())?;
-        atom = atom.saturating_add(1);
-    }
-    Ok(())
-}
-
-fn show_covered(shown: &mut String, covered: &[bool]) -> Result<(), Wrong> {
-    shown.push_str("  covered:")?;
-    for (class, held) in covered.iter().enumerate() {
-        if *held {
-            write!(shown, " {class}")?;
-        }
-    }
-    shown.push('\n')?;
-    Ok(())
-}
-
-fn show_steps(
-    shown: &mut String,
-    case: &NamedCase,
-    named: &NamedBlock,
-    steps: &[DStep],
-) -> Result<(), Wrong> {
-    let mut size = Some(1);
-    for step in steps {
-        let cost = cost_of(case.accesses.as_slice(), size, *step);
-        if step.adds {
-            size = cost;
-        }
-        let atom = atom_name(named, step.atom);
-        let access = case.access_name(step.access);
-        let word = if step.adds { "adds" } else { "checks" };
-        write!(shown, "  step {atom} by {access} {word}")?;
-        show_number(shown, "cost", cost)?;
-        show_number(shown, "size", size)?;
-        shown.push('\n')?;
-    }
-    Ok(())
-}
-
-fn show_number(shown: &mut String, word: &str, number: Option<u128>) -> Result<(), Wrong> {
-    match number {
-        Some(number) => write!(shown, " {word} {number}")?,
-        None => write!(shown, " {word} past")?,
-    }
-    Ok(())
-}
-
-// What one step costs, where so many valuations stand before it.
-fn cost_of(accesses: &[Access], size: Option<u128>, step: DStep) -> Option<u128> {
-    match size {
-        Some(size) => announced_number(accesses, size, &[step]),
-        None => None,
-    }
-}
-
-fn show_reason(
-    shown: &mut String,
-    case: &NamedCase,
-    named: &NamedBlock,
-    why: Option<NotCovered>,
-) -> Result<(), Wrong> {
-    match why {
-        Some(NotCovered::ColumnOpen { atom, column }) => {
-            let name = atom_name(named, atom);
-            let column = column_name(case, named, atom, column.0);
-            writeln!(shown, "  open column {name}.{column}")?;
-        }
-        Some(NotCovered::AtomUnindexed { atom }) => {
-            writeln!(shown, "  nothing serves {}", atom_name(named, atom))?;
-        }
-        None => writeln!(shown, "  covered without a derivation")?,
+        shown.push_str("  row")?;
+        show_values(shown, row.as_slice())?;
     }
     Ok(())
 }

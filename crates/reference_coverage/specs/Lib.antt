@@ -1,1 +1,3 @@
+pub mod Counts
+pub mod Tasks
 pub mod Turns

@@ -1,5 +1,6 @@
-//! What a block's constraints cover, by plain slow programs whose contracts are the definitions: the covered set,
-//! coverage and its reason, the canonical derivation, and the announced number.
+//! What the constraints of a query cover, by plain slow programs whose contracts are the definitions: the covered set
+//! of a block, coverage and its reason, the canonical derivation, which blocks start from the answers of their guide,
+//! and the announced number.
 //!
 //! They serve to compare. The layers that the program is built from do the same fast.
 #![tactic(auto)]
@@ -11,6 +12,8 @@ mod derivations;
 mod lists;
 mod numbers;
 mod pruning;
+mod sizes;
+mod tasks;
 
 pub use access_uses::{AccessUse, access_with};
 pub use classes::{
@@ -21,3 +24,10 @@ pub use derivations::{bound_after, columns_of};
 pub use lists::{append, with_first};
 pub use numbers::announced_number;
 pub use pruning::derivation;
+pub use sizes::{
+    BlockPlans, is_guided, number_after, query_bound, query_size, size_of, start_size, steps_of,
+};
+pub use tasks::{
+    Task, Uncovered, block_tasks, blocks_have_few_places, first_uncovered, guided_flags,
+    is_guided_task, plans_of, task_reason, task_start, task_steps,
+};

@@ -102,9 +102,7 @@ fn all_add_rightly(
 fn are_on_tables(normal: &Normal, accesses: &[Access], steps: &[DStep]) -> bool
     ensures { result ≡ list_all (is_on_table normal.now accesses.now) steps.now }
 {
-    steps
-        .iter()
-        .all(|step| is_on_table(normal, accesses, step))
+    steps.iter().all(|step| is_on_table(normal, accesses, step))
 }
 
 fn steps_are_sound(

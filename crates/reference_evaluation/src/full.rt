@@ -194,19 +194,19 @@ pub fn full_of_block(
     Ok(distinct_rows(found))
 }
 
-fn has_row(rows: &[Row], row: &Row) -> bool
+pub fn has_row(rows: &[Row], row: &Row) -> bool
     ensures { result ≡ list_any (same_row row.now) rows.now }
 {
     rows.iter().any(|other| compare_rows(row.as_slice(), other.as_slice()) == Ordering::Equal)
 }
 
-fn set_union(left: List<Row>, right: List<Row>) -> Result<List<Row>, NoMemory>
+pub fn set_union(left: List<Row>, right: List<Row>) -> Result<List<Row>, NoMemory>
     ensures { IfOk result (λ rows. rows ≡ set_union left right) }
 {
     Ok(distinct_rows(append(left, right)?))
 }
 
-fn set_difference(alloc: Global, left: List<Row>, right: &[Row]) -> Result<List<Row>, NoMemory>
+pub fn set_difference(alloc: Global, left: List<Row>, right: &[Row]) -> Result<List<Row>, NoMemory>
     ensures { IfOk result (λ rows. rows ≡ set_difference left right.now) }
 {
     let mut rows = List::new(alloc);

@@ -1,15 +1,22 @@
-//! What queries mean, by plain slow programs over small lists whose contracts are the definitions: the valuations and
-//! reads of a derivation, and the full answer of a query.
+//! What queries mean, by plain slow programs over small lists whose contracts are the definitions: the valuations of a
+//! derivation, the full answer of a query, and its answers, its probes and its reads by the plans of its blocks.
 //!
 //! They serve to compare. The layers that the program is built from do the same fast.
 #![tactic(auto)]
 
+mod answers;
 mod bindings;
 mod block_on_tables;
 mod full;
+mod keys;
+mod plans_on_tables;
+mod probes;
 mod reads;
 mod rows;
 
+pub use answers::query_answers;
 pub use bindings::{Bindings, valuations};
 pub use full::{full_of, full_of_block};
-pub use reads::reads_of;
+pub use plans_on_tables::PlansOnTables;
+pub use probes::{BlockProbe, StepProbe, query_probes};
+pub use reads::query_reads;

@@ -9,4 +9,4 @@ mod normal;
 mod places;
 
 pub use normal::normal_of;
-pub use places::places_of;
+pub use places::{has_few_places, places_of};

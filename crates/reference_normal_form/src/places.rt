@@ -1,10 +1,11 @@
 // Places, and those that equalities join.
-ghost use Rattle.std.specs.Prelude.{◌≡◌, ◌<◌, ◌++◌, not, map, filter, length, IfOk, OnOk};
+ghost use Rattle.std.specs.Prelude.{◌≡◌, ◌<◌, ◌++◌, ◌↔◌, not, map, filter, length, IfOk, IsTrue, OnOk};
 ghost use Rattle.std.specs.List.{list_any, range_with_len};
 ghost use Rattle.beas_core.specs.Classes.{same_place, is_joined, places_of, firsts};
+ghost use Rattle.reference_normal_form.specs.Few.{HasFewPlaces};
 ghost use Rattle.reference_normal_form.specs.Joined.{has_place, joined_with};
 
-use beas_core::{Atom, ColumnId, List, NoMemory, Place};
+use beas_core::{Atom, Block, ColumnId, List, NoMemory, Place};
 use std::alloc::Global;
 
 /// Whether two places are one.
@@ -48,6 +49,14 @@ pub fn places_of(alloc: Global, atoms: &[Atom]) -> Result<List<Place>, NoMemory>
         append(&mut places, more.as_slice())?;
     }
     Ok(places)
+}
+
+/// Whether a block has fewer than 65536 atoms and fewer than 65536 places.
+pub fn has_few_places(alloc: Global, block: &Block) -> Result<bool, NoMemory>
+    ensures { IfOk result (λ few. IsTrue few ↔ HasFewPlaces block.now) }
+{
+    let atoms = block.atoms.as_slice();
+    Ok(atoms.len() < 65536 && places_of(alloc, atoms)?.len() < 65536)
 }
 
 // Adds the places of another list at the end.

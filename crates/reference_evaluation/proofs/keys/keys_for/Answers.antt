@@ -1,6 +1,6 @@
 use Rattle.std.proofs.Common.{◌∙◌}
 use Rattle.reference_evaluation.proofs.Keys.{keys_are}
-use Rattle.reference_evaluation.proofs.reads.keys_for.Goals as goal
+use Rattle.reference_evaluation.proofs.keys.keys_for.Goals as goal
 
 pub returns : goal.returns
 returns c =

@@ -1,0 +1,201 @@
+// The probes of a derivation and of a query over tables, in the order in which they are made.
+ghost use Rattle.std.specs.Prelude.{◌≡◌, ◌<◌, ◌+◌, ◌++◌, ◌∷◌, [], ◌^◌, length, map, All, IfOk};
+ghost use Rattle.beas_core.specs.Queries.{probes_in, query_probes};
+ghost use Rattle.beas_core.specs.Reads.{keys_after, probes, probes_after};
+ghost use Rattle.beas_core.specs.Classes.{normal_of};
+ghost use Rattle.beas_core.specs.Trees.{blocks_of};
+ghost use Rattle.reference_normal_form.specs.Few.{HasFewPlaces};
+ghost use Rattle.reference_evaluation.specs.Tables.{rows_in};
+
+use crate::answers::{answers, guide_of};
+use crate::bindings::{classes_after, valuations_of};
+use crate::block_on_tables::BlockOnTables;
+use crate::keys::keys_for;
+use crate::plans_on_tables::PlansOnTables;
+use beas_core::{Block, DStep, List, NoMemory, Query, QueryNode, Row};
+use reference_coverage::{append, number_after, steps_of};
+use reference_normal_form::normal_of;
+use std::alloc::Global;
+use std::marker::Model;
+
+/// A key that a step looks up. Steps are numbered from 0 on.
+#[derive(Drop)]
+pub struct StepProbe {
+    pub step: usize,
+    pub key: Row,
+}
+
+impl Model for StepProbe {
+    ghost use Rattle.beas_core.specs.Reads.{Probe};
+
+    ghost Value = { Probe };
+
+    ghost view = { λ p. record { step = p.step; key = p.key } };
+}
+
+/// A probe of a block, by its number from 0 on.
+#[derive(Drop)]
+pub struct BlockProbe {
+    pub block: usize,
+    pub probe: StepProbe,
+}
+
+impl Model for BlockProbe {
+    ghost use Rattle.beas_core.specs.Queries.{BlockProbe as ProbeOfBlock};
+
+    ghost Value = { ProbeOfBlock };
+
+    ghost view = { λ p. record { block = p.block; probe = p.probe.now } };
+}
+
+// The keys of a step that follows those that are done.
+fn keys_after(
+    alloc: Global,
+    block: &BlockOnTables,
+    guide: &Option<List<Row>>,
+    done: &[DStep],
+    step: &DStep,
+) -> Result<List<Row>, NoMemory>
+    ensures { IfOk result (λ keys. keys ≡ keys_after (rows_in block.now.tables.now) block.now.normal.now
+        block.now.accesses.now guide.now done.now step.now) }
+{
+    // Read for what its type tells: there are fewer than 65536 classes, as `keys_for` asks of the set.
+    let _count = block.normal.count;
+    let set = classes_after(alloc, block, guide, done)?;
+    let found = valuations_of(alloc, block, guide, done)?;
+    keys_for(alloc, block, step, set.as_slice(), found.as_slice())
+}
+
+// The probes of the step with this number.
+fn probes_of_keys(alloc: Global, step: usize, keys: List<Row>) -> Result<List<StepProbe>, NoMemory>
+    ensures { IfOk result (λ found. found ≡ map (λ key. record { step = step; key = key }) keys) }
+{
+    let mut found = List::new(alloc);
+    for key in keys.into_vec() {
+        found.push(StepProbe { step, key })?;
+    }
+    Ok(found)
+}
+
+fn one_more(alloc: Global, done: &[DStep], step: &DStep) -> Result<List<DStep>, NoMemory>
+    ensures { IfOk result (λ more. more ≡ done.now ++ step.now ∷ []) }
+{
+    let mut more = List::new(alloc);
+    for before in done {
+        more.push(*before)?;
+    }
+    more.push(*step)?;
+    Ok(more)
+}
+
+// The probes of further steps, after those that are done.
+fn probes_after(
+    alloc: Global,
+    block: &BlockOnTables,
+    guide: &Option<List<Row>>,
+    done: &[DStep],
+    steps: &[DStep],
+) -> Result<List<StepProbe>, NoMemory>
+    ensures { IfOk result (λ found. found ≡ probes_after (rows_in block.now.tables.now) block.now.normal.now
+        block.now.accesses.now guide.now done.now steps.now) }
+{
+    match steps {
+        [] => Ok(List::new(alloc)),
+        [first, rest @ ..] => {
+            let keys = keys_after(alloc, block, guide, done, first)?;
+            let here = probes_of_keys(alloc, done.len(), keys)?;
+            let more = one_more(alloc, done, first)?;
+            append(
+                here,
+                probes_after(alloc, block, guide, more.as_slice(), rest)?,
+            )
+        }
+    }
+}
+
+/// The probes of a derivation: for each step its distinct keys in order.
+pub fn probes(
+    alloc: Global,
+    block: &BlockOnTables,
+    guide: &Option<List<Row>>,
+    steps: &[DStep],
+) -> Result<List<StepProbe>, NoMemory>
+    ensures { IfOk result (λ found. found ≡ probes (rows_in block.now.tables.now) block.now.normal.now
+        block.now.accesses.now guide.now steps.now) }
+{
+    probes_after(alloc, block, guide, &[], steps)
+}
+
+// The probes of the block with this number.
+fn with_block(
+    alloc: Global,
+    block: usize,
+    found: List<StepProbe>,
+) -> Result<List<BlockProbe>, NoMemory>
+    ensures { IfOk result (λ all. all ≡ map (λ p. record { block = block; probe = p }) found) }
+{
+    let mut all = List::new(alloc);
+    for probe in found.into_vec() {
+        all.push(BlockProbe { block, probe })?;
+    }
+    Ok(all)
+}
+
+fn probes_of_block(
+    alloc: Global,
+    over: &PlansOnTables,
+    number: usize,
+    guide: &Option<List<Row>>,
+    block: &Block,
+) -> Result<List<BlockProbe>, NoMemory>
+    requires { HasFewPlaces block.now }
+{
+    let normal = normal_of(alloc, block)?;
+    let own = guide_of(alloc, over.plans.guided, number, guide)?;
+    let on_tables = BlockOnTables {
+        tables: over.tables,
+        normal: &normal,
+        accesses: over.plans.accesses,
+    };
+    let steps = steps_of(over.plans.derivations, number);
+    with_block(alloc, number, probes(alloc, &on_tables, &own, steps)?)
+}
+
+/// The probes of a tree whose first block has this number: block by block, step by step, keys in order.
+pub fn probes_in(
+    alloc: Global,
+    over: &PlansOnTables,
+    first: usize,
+    guide: &Option<List<Row>>,
+    query: &Query,
+) -> Result<List<BlockProbe>, NoMemory> {
+    match &query.node {
+        QueryNode::Block(block) => probes_of_block(alloc, over, first, guide, block),
+        QueryNode::Union(left, right) => append(
+            probes_in(alloc, over, first, guide, left)?,
+            probes_in(alloc, over, number_after(left, first), guide, right)?,
+        ),
+        QueryNode::Except(left, right) => {
+            let guided = over.plans.guided;
+            let own = Some(answers(alloc, over.tables, guided, first, guide, left)?);
+            append(
+                probes_in(alloc, over, first, guide, left)?,
+                probes_in(alloc, over, number_after(left, first), &own, right)?,
+            )
+        }
+    }
+}
+
+/// The probes of a query by the plans of its blocks.
+pub fn query_probes(
+    alloc: Global,
+    over: &PlansOnTables,
+    query: &Query,
+) -> Result<List<BlockProbe>, NoMemory>
+    requires flags { length over.now.plans.guided.now ≡ length (blocks_of query.now) }
+    requires few { All HasFewPlaces (blocks_of query.now) }
+    ensures { IfOk result (λ found. found ≡ query_probes (rows_in over.now.tables.now) over.now.plans.accesses.now
+        over.now.plans.guided.now over.now.plans.derivations.now query.now) }
+{
+    probes_in(alloc, over, 0, &None, query)
+}
