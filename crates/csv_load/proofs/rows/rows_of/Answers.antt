@@ -1,8 +1,5 @@
-use Rattle.std.proofs.Common.{◌≡◌, ◌≤◌, ◌+◌, ◌∷◌, Bool, true, false, Option, Some, None, IfOk, MatchOption, Result, List, length, sym, ◌∙◌, subst, arith}
+use Rattle.std.proofs.Common.{◌≡◌, ◌≤◌, ◌+◌, ◌∷◌, Bool, true, false, Option, Some, None, IfOk, MatchOption, length, sym, ◌∙◌, subst, arith}
 use Rattle.std.specs.Bool.{MatchBool}
-use Rattle.beas_core.specs.declared.errors.Fail.{Fail}
-use Rattle.beas_core.specs.declared.value.Value.{Value}
-use Rattle.beas_core.specs.declared.refusal.Refusal.{Refusal}
 use Rattle.beas_core.specs.Results.{IsRefusedAs}
 use Rattle.csv.specs.Records.{fields_of}
 use Rattle.csv_load.specs.CsvRows.{is_header, records_of}
@@ -26,13 +23,6 @@ at_some {X} (Some y) x P Q e h = let same : y ≡ x = cc in subst Q same h
 at_none : {X : Type 0} (o : Option X) (P : Type 0) (Q : X → Type 0) → o ≡ None → MatchOption o P Q → P
 at_none None P Q e h = h
 at_none (Some y) P Q e h = cc
-
--- one fault for another, and one list of rows
-as_rows : (r : Result (List (List Value)) Fail) (a b : List (List Value)) → b ≡ a → IfOk r (λ rows. rows ≡ a) → IfOk r (λ rows. rows ≡ b)
-as_rows r a b e h = subst (λ x. IfOk r (λ rows. rows ≡ x)) (sym e) h
-
-as_refused : (r : Result (List (List Value)) Fail) (a b : Option Refusal) → b ≡ a → IsRefusedAs r a → IsRefusedAs r b
-as_refused r a b e h = subst (IsRefusedAs r) (sym e) h
 
 pub returns-then-not-branch-clause-refused : goal.returns-then-not-branch-clause-refused
 returns-then-not-branch-clause-refused c =
@@ -72,8 +62,8 @@ returns-clause-rows c =
     let l : IsLayout c.args.columns.now (fields_of c.read.new.fields) c.in-Some.layout =
     subst (λ columns. IsLayout columns (fields_of c.read.new.fields) c.in-Some.layout) c.as_slice.ensures
     (at_some c.in_ok-layout.field-0 c.in-Some.layout _ _ c.in-Some.is c.in_ok-layout.ensures) in
-    as_rows c.rows_left.result _ _ (rows_are c.args.limits.now.text c.args.columns.now c.args.bytes.now (fields_of c.read.new.fields) c.read.new.self all
-    c.in-Some.layout l) c.rows_left.ensures.rows
+    subst (λ wanted. IfOk c.rows_left.result (λ rows. rows ≡ wanted)) (sym (rows_are c.args.limits.now.text c.args.columns.now c.args.bytes.now
+    (fields_of c.read.new.fields) c.read.new.self all c.in-Some.layout l)) c.rows_left.ensures.rows
 
 pub returns-clause-refused : goal.returns-clause-refused
 returns-clause-refused c =
@@ -82,5 +72,5 @@ returns-clause-refused c =
     let l : IsLayout c.args.columns.now (fields_of c.read.new.fields) c.in-Some.layout =
     subst (λ columns. IsLayout columns (fields_of c.read.new.fields) c.in-Some.layout) c.as_slice.ensures
     (at_some c.in_ok-layout.field-0 c.in-Some.layout _ _ c.in-Some.is c.in_ok-layout.ensures) in
-    as_refused c.rows_left.result _ _ (fault_is c.args.limits.now.text c.args.columns.now c.args.bytes.now (fields_of c.read.new.fields) c.read.new.self all
-    c.in-Some.layout l) c.rows_left.ensures.refused
+    subst (IsRefusedAs c.rows_left.result) (sym (fault_is c.args.limits.now.text c.args.columns.now c.args.bytes.now (fields_of c.read.new.fields)
+    c.read.new.self all c.in-Some.layout l)) c.rows_left.ensures.refused
