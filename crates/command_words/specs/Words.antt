@@ -2,9 +2,9 @@
 --     beas              the command, over clap's own words for a simple command
 --     args_of words     the run, or None where the words are refused
 --     usage_line        the line that says how the words are to be written
-use Rattle.std.specs.Prelude.{◌&&◌, ◌^◌, if◌then◌else◌, ℕ, Bool, true, false, List, [], ◌∷◌, length, nat_lt, codes, find, Option, Some, None, option_and_then, option_map}
-use Rattle.std.specs.Str.{all_ascii_digits, bytes_eq}
-use Rattle.std.specs.Str.Parse.{digits_value}
+use Rattle.std.specs.Prelude.{◌-◌, ◌^◌, ℕ, Bool, true, false, List, [], ◌∷◌, codes, find, Option, Some, None, option_and_then, option_map}
+use Rattle.std.specs.Str.{bytes_eq}
+use Rattle.beas_core.specs.Spelling.{number_within}
 use Rattle.clap.specs.declared.builder.action.ArgAction.TheVariants.{SetTrue}
 use Rattle.clap.specs.Faults.{fault_of}
 use Rattle.clap.specs.Kinds.{Kinds}
@@ -34,16 +34,10 @@ unfoldable pub beas : App
 beas = with_rule (with_rule (with_rule (with_rule (nameless (new_app (codes "beas")))
     script_rule) (option_rule (codes "budget"))) (option_rule (codes "demo"))) (flag_rule (codes "explain"))
 
--- decimal digits whose value is below the limit
-abbrev pub number_below : ℕ → Text → Option ℕ
-number_below limit text =
-    if all_ascii_digits text && nat_lt 0 (length text) && nat_lt (digits_value 10 text) limit
-    then Some (digits_value 10 text) else None
-
--- the number that an option is given, if it is given one: None where its value is no such number
+-- the number that an option is given, if it is given one: None where its value is no number up to the greatest
 abbrev pub number_given : ℕ → Option Text → Option (Option ℕ)
-number_given limit None = Some None
-number_given limit (Some text) = option_map (λ n. Some n) (number_below limit text)
+number_given greatest None = Some None
+number_given greatest (Some text) = option_map (λ n. Some n) (number_within 0 greatest text)
 
 abbrev pub is_from_words : Option ValueSource → Bool
 is_from_words None = false
@@ -58,7 +52,7 @@ is_given id rows = is_from_words (option_and_then (λ r. r.source) (find (λ r. 
 abbrev pub run_asked : Option Text → Option Text → Option ℕ → Bool → Option Args
 run_asked (Some path) None budget explain = Some (Script path budget explain)
 run_asked None (Some digits) budget explain =
-    option_map (λ seed. Demo seed budget explain) (number_below (2 ^ 32) digits)
+    option_map (λ seed. Demo seed budget explain) (number_within 0 (2 ^ 32 - 1) digits)
 run_asked None None budget explain = None
 run_asked (Some path) (Some digits) budget explain = None
 
@@ -66,7 +60,7 @@ run_asked (Some path) (Some digits) budget explain = None
 abbrev pub args_in : List Row → Option Args
 args_in rows = option_and_then
     (λ budget. run_asked (first_of (codes "SCRIPT") rows) (first_of (codes "demo") rows) budget (is_given (codes "explain") rows))
-    (number_given (2 ^ 64) (first_of (codes "budget") rows))
+    (number_given (2 ^ 64 - 1) (first_of (codes "budget") rows))
 
 -- what is asked for, where clap finds no fault. A request for help is a fault.
 abbrev pub unless_faulty : Kinds → Option Args → Option Args

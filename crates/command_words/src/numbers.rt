@@ -1,11 +1,12 @@
 // The numbers that options are given.
-ghost use Rattle.std.specs.Prelude.{◌≡◌, ◌^◌};
-ghost use Rattle.std.specs.Str.{all_ascii_digits};
-ghost use Rattle.command_words.specs.Words.{number_below};
+ghost use Rattle.std.specs.Char.{is_ascii_digit};
+ghost use Rattle.std.specs.List.{list_all};
+ghost use Rattle.std.specs.Prelude.{◌≡◌, ◌-◌, ◌^◌};
+ghost use Rattle.beas_core.specs.Spelling.{number_within};
 
 /// The value of decimal digits, where a `u64` has it. A sign is no digit.
 pub fn budget_of(text: &str) -> Option<u64>
-    ensures { result ≡ number_below (2 ^ 64) text.now }
+    ensures { result ≡ number_within 0 (2 ^ 64 - 1) text.now }
 {
     if !all_digits(text.as_bytes()) {
         return None;
@@ -15,7 +16,7 @@ pub fn budget_of(text: &str) -> Option<u64>
 
 /// The value of decimal digits, where a `u32` has it. A sign is no digit.
 pub fn seed_of(text: &str) -> Option<u32>
-    ensures { result ≡ number_below (2 ^ 32) text.now }
+    ensures { result ≡ number_within 0 (2 ^ 32 - 1) text.now }
 {
     if !all_digits(text.as_bytes()) {
         return None;
@@ -24,12 +25,7 @@ pub fn seed_of(text: &str) -> Option<u32>
 }
 
 fn all_digits(text: &[u8]) -> bool
-    ensures { result ≡ all_ascii_digits text.now }
+    ensures { result ≡ list_all is_ascii_digit text.now }
 {
-    for byte in text {
-        if !byte.is_ascii_digit() {
-            return false;
-        }
-    }
-    true
+    text.iter().all(|byte| byte.is_ascii_digit())
 }

@@ -1,7 +1,7 @@
 // The reading of the words.
 ghost use Rattle.clap.specs.Walk.{first_of, rows_of};
 ghost use Rattle.clap.specs.Matches.{found_of};
-ghost use Rattle.std.specs.Prelude.{◌≡◌, None, Some, IfOk, ◌^◌, map, option_map, string_bytes};
+ghost use Rattle.std.specs.Prelude.{◌≡◌, None, Some, IfOk, ◌-◌, ◌^◌, map, option_map, string_bytes};
 ghost use Rattle.command_words.specs.Words.{args_in, args_of, is_from_words, is_given, number_given, run_asked};
 
 use crate::arguments::{Args, Usage};
@@ -68,7 +68,7 @@ fn run_asked(
 
 /// The number that an option is given, if it is given one: none where its value is no number of 64 bits.
 fn budget_given(value: Option<&str>) -> Option<Option<u64>>
-    ensures { result ≡ number_given (2 ^ 64) (option_map (λ s. s.now) value.entry) }
+    ensures { result ≡ number_given (2 ^ 64 - 1) (option_map (λ s. s.now) value.entry) }
 {
     match value {
         Some(digits) => budget_of(digits).map(Some),

@@ -1,9 +1,10 @@
-use Rattle.std.proofs.Common.{◌∙◌, sym, ap}
-use Rattle.std.specs.Str.{all_ascii_digits}
+use Rattle.std.proofs.Common.{◌-◌, ◌^◌, ◌∙◌, refl, sym, ap}
+use Rattle.std.specs.Char.{is_ascii_digit}
+use Rattle.std.specs.List.{list_all}
 use Rattle.command_words.proofs.Decimals.{number_read}
 use Rattle.command_words.proofs.numbers.seed_of.Goals as goal
 
 pub returns : goal.returns
 returns c =
-    let digits = sym (ap all_ascii_digits c.as_bytes.ensures.value) ∙ sym c.all_digits.ensures ∙ c.if-not-all_digits.false in
-    c.ok.ensures.value ∙ number_read 32 c.args.text.now c.parse.result c.parse.ensures.value.0 digits
+    let digits = sym (ap (list_all is_ascii_digit) c.as_bytes.ensures.value) ∙ sym c.all_digits.ensures ∙ c.if-not-all_digits.false in
+    c.ok.ensures.value ∙ number_read 32 (2 ^ 32 - 1) c.args.text.now c.parse.result refl c.parse.ensures.value.0 digits
