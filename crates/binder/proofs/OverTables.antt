@@ -16,7 +16,7 @@ use Rattle.sql_tree.specs.Trees as tree
 use Rattle.binder.specs.Binding.{delete_block, blocks_of, bound_query}
 use Rattle.binder.specs.LookedUp.{atom_of, looked_up, bound_block}
 use Rattle.binder.specs.Meanings.{columns_named}
-use Rattle.binder.specs.Refusing.{first, no_such_table, unknown_tables}
+use Rattle.binder.specs.Refusing.{first, table_refusals, unknown_tables}
 use Rattle.binder.proofs.BindFacts.{all_of, none_each}
 use Rattle.binder.proofs.Ranges.{each_map}
 use Rattle.binder.proofs.WellFormed.{blocks_made, known}
@@ -27,8 +27,8 @@ over_named : (schema : Schema) (n : ℕ) (b : Bool) → ltb n (length schema.tab
 over_named schema n true below there = record { table = grind (arith, nat_tests); width = refl }
 over_named schema n false below there = cc
 
-atom_over : (schema : Schema) (item : FromItem) → first (no_such_table schema item.table) ≡ None → AtomIsOver schema (atom_of schema item)
-unfolding atom_of columns_named no_such_table
+atom_over : (schema : Schema) (item : FromItem) → first (table_refusals schema item.table) ≡ None → AtomIsOver schema (atom_of schema item)
+unfolding atom_of columns_named table_refusals
 atom_over schema item none =
     over_named schema (position_or_len (λ t. bytes_eq t.name item.table) schema.tables) (ltb (position_or_len (λ t. bytes_eq t.name item.table) schema.tables)
     (length schema.tables)) refl (known (is_none (table_named schema item.table)) _ none)
@@ -37,8 +37,8 @@ block_over : (schema : Schema) (block : BlockTree) → first (unknown_tables sch
 unfolding looked_up bound_block
 block_over schema block none =
     all_of (AtomIsOver schema) (map (atom_of schema) block.from_items)
-    (each_map (atom_of schema) (λ (item : FromItem). first (no_such_table schema item.table) ≡ None) (AtomIsOver schema)
-    (λ item known. atom_over schema item known) block.from_items (none_each (λ (item : FromItem). no_such_table schema item.table) block.from_items none))
+    (each_map (atom_of schema) (λ (item : FromItem). first (table_refusals schema item.table) ≡ None) (AtomIsOver schema)
+    (λ item known. atom_over schema item known) block.from_items (none_each (λ (item : FromItem). table_refusals schema item.table) block.from_items none))
 
 pub query_over : (schema : Schema) (t : tree.Tree) → first (flat_map (unknown_tables schema) (blocks_of t)) ≡ None → QueryIsOver schema (bound_query schema t)
 query_over schema t none =
@@ -51,10 +51,10 @@ pub as_many_blocks : (schema : Schema) (t : tree.Tree) → length (query.blocks_
 as_many_blocks schema t =
     ap length (blocks_made (λ b. bound_block (looked_up schema b)) t) ∙ length-map (blocks_of t) (λ b. bound_block (looked_up schema b))
 
-pub delete_over : (schema : Schema) (table : List ℕ) (conditions : List Cond) → first (no_such_table schema table) ≡ None
+pub delete_over : (schema : Schema) (table : List ℕ) (conditions : List Cond) → first (table_refusals schema table) ≡ None
     → BlockIsOver schema (bound_block (looked_up schema (delete_block table conditions)))
 delete_over schema table conditions none =
-    block_over schema (delete_block table conditions) (ap first (append-nil (no_such_table schema table)) ∙ none)
+    block_over schema (delete_block table conditions) (ap first (append-nil (table_refusals schema table)) ∙ none)
 
 pub delete_one : (schema : Schema) (table : List ℕ) (conditions : List Cond)
     → length (bound_block (looked_up schema (delete_block table conditions))).atoms ≡ 1

@@ -38,7 +38,7 @@ use Rattle.binder.specs.declared.meaning.Part.TheVariants as part
 use Rattle.binder.specs.Binding.{delete_block, blocks_of, with_blocks, bound_query, kinds, places_in_all, shape_of, looked_refusals}
 use Rattle.binder.specs.LookedUp.{atom_of, column_of, looked_up, output_kinds, place_of, mirrored_sign, with_column, with_value, part_of, parts, equality_of, constant_of, comparison_of, place_at, all_places, outputs, bound_block}
 use Rattle.binder.specs.Meanings.{Source, sources, columns_named, meaning, condition}
-use Rattle.binder.specs.Refusing.{first, refusals_if, no_such_table, unknown_tables, same_kind, same_kinds, places}
+use Rattle.binder.specs.Refusing.{first, refusals_if, table_refusals, unknown_tables, same_kind, same_kinds, places}
 use Rattle.binder.proofs.BindFacts.{all_of, each_of_all, none_each, each_unnumbered, few_atoms}
 use Rattle.binder.proofs.Ranges.{Each, all_of_each, each_weaker, each_append, each_map, each_mapped, each_flat_map, each_numbered, MeaningFits, ConditionFits, ref_fits, condition_fits, tables_sound, columns_few}
 
@@ -164,14 +164,14 @@ pub known : (b : Bool) (why : Refusal) → first (refusals_if b why) ≡ None �
 known true why none = cc
 known false why none = refl
 
-columns_wide : (schema : Schema) (name : List ℕ) → SchemaIsSound schema → first (no_such_table schema name) ≡ None → 1 ≤ length (columns_named schema name)
-unfolding columns_named no_such_table
+columns_wide : (schema : Schema) (name : List ℕ) → SchemaIsSound schema → first (table_refusals schema name) ≡ None → 1 ≤ length (columns_named schema name)
+unfolding columns_named table_refusals
 columns_wide schema name sound none =
     wide_named schema (position_or_len (λ t. bytes_eq t.name name) schema.tables) (ltb (position_or_len (λ t. bytes_eq t.name name) schema.tables)
     (length schema.tables)) refl (tables_sound schema sound)
     (known (is_none (table_named schema name)) _ none)
 
-atom_fits : (schema : Schema) (item : FromItem) → SchemaIsSound schema → first (no_such_table schema item.table) ≡ None
+atom_fits : (schema : Schema) (item : FromItem) → SchemaIsSound schema → first (table_refusals schema item.table) ≡ None
     → AtomIsWellFormed (atom_of schema item)
 unfolding atom_of
 atom_fits schema item sound none = record { wide = columns_wide schema item.table sound none; narrow = columns_few schema item.table sound }
@@ -190,9 +190,9 @@ block_fits schema block sound some none few =
     record {
       some_atom = omega (arith, some, length-map block.from_items (atom_of schema));
       few_atoms = few;
-      widths = all_of AtomIsWellFormed atoms (each_map (atom_of schema) (λ (item : FromItem). first (no_such_table schema item.table) ≡ None) AtomIsWellFormed
+      widths = all_of AtomIsWellFormed atoms (each_map (atom_of schema) (λ (item : FromItem). first (table_refusals schema item.table) ≡ None) AtomIsWellFormed
           (λ item known. atom_fits schema item sound known) block.from_items (none_each (λ
-          (item : FromItem). no_such_table schema item.table) block.from_items none));
+          (item : FromItem). table_refusals schema item.table) block.from_items none));
       equalities = all_of (λ e. IsPlace atoms e.0 × IsPlace atoms e.1) _ (each_some equality_of (PartFits atoms)
           (λ e. IsPlace atoms e.0 × IsPlace atoms e.1) (equality_fits atoms) _ all);
       constants = all_of (λ c. IsPlace atoms c.0) _ (each_some constant_of (PartFits atoms) (λ c. IsPlace atoms c.0) (constant_fits atoms) _ all);
@@ -202,11 +202,11 @@ block_fits schema block sound some none few =
           (each_mapped (meaning (sources schema block.from_items)) (MeaningFits atoms) (ref_fits schema block.from_items) block.items));
     }
 
-pub delete_fits : (schema : Schema) (table : List ℕ) (conditions : List Cond) → SchemaIsSound schema → first (no_such_table schema table) ≡ None
+pub delete_fits : (schema : Schema) (table : List ℕ) (conditions : List Cond) → SchemaIsSound schema → first (table_refusals schema table) ≡ None
     → BlockIsWellFormed (bound_block (looked_up schema (delete_block table conditions)))
 unfolding looked_up
 delete_fits schema table conditions sound none =
-    block_fits schema (delete_block table conditions) sound (omega arith) (ap first (append-nil (no_such_table schema table)) ∙ none) (omega arith)
+    block_fits schema (delete_block table conditions) sound (omega arith) (ap first (append-nil (table_refusals schema table)) ∙ none) (omega arith)
 
 -- ---- shapes
 

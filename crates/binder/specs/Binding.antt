@@ -24,7 +24,7 @@ use Rattle.binder.specs.declared.meaning.Meaning.{Meaning}
 use Rattle.binder.specs.declared.meaning.Meaning.TheVariants.{Fixed}
 use Rattle.binder.specs.Meanings.{literal_meaning}
 use Rattle.binder.specs.LookedUp.{looked_up, bound_block}
-use Rattle.binder.specs.Refusing.{no_such_table, unknown_tables, repeated_aliases, number_range, text_too_long, places}
+use Rattle.binder.specs.Refusing.{table_refusals, unknown_tables, repeated_aliases, number_range, text_too_long, places}
 
 -- ---- queries
 
@@ -108,7 +108,7 @@ places_of_kinds limits block kinds = flat_map (λ kind. places kind limits [] (1
 
 unfoldable pub delete_refusals : Limits → Schema → List ℕ → List Cond → List Refusal
 delete_refusals limits schema table conditions =
-    no_such_table schema table
+    table_refusals schema table
     ++ places_of_kinds limits (looked_up schema (delete_block table conditions)) delete_kinds
 
 unfoldable pub bound_delete : Schema → List ℕ → List Cond → Block

@@ -5,7 +5,7 @@
 --                                       shape is the types of the outputs of the first block
 --     first refusals                    the first, if there is one
 use Rattle.std.specs.Prelude.{ℕ, if◌then◌else◌, Bool, true, false, not, nat_lt, List, [], ◌∷◌, ◌++◌, length, map, filter, take, Option, Some, None}
-use Rattle.std.specs.Option.{is_none}
+use Rattle.std.specs.Option.{option_to_list}
 use Rattle.std.specs.List.{enumerate_from, flat_map, list_any}
 use Rattle.std.specs.Str.{bytes_eq}
 use Rattle.beas_core.specs.declared.limits.Limits.{Limits}
@@ -15,7 +15,9 @@ use Rattle.beas_core.specs.declared.refusal.Refusal.TheVariants as refusal
 use Rattle.beas_core.specs.declared.schema.ColType.{ColType}
 use Rattle.beas_core.specs.declared.schema.ColType.TheVariants as type
 use Rattle.beas_core.specs.declared.value.Value.TheVariants.{Int, Str}
-use Rattle.catalogue.specs.Schema.{Schema, table_named}
+use Rattle.beas_core.specs.Results.{refused_if}
+use Rattle.catalogue.specs.Refusing.{unknown_table}
+use Rattle.catalogue.specs.Schema.{Schema}
 use Rattle.sql_tree.specs.declared.tree.BlockTree.{BlockTree}
 use Rattle.sql_tree.specs.declared.tree.FromItem.{FromItem}
 use Rattle.binder.specs.declared.kinds.Flaw.{Flaw}
@@ -28,16 +30,17 @@ use Rattle.binder.specs.declared.meaning.Meaning.{Meaning}
 use Rattle.binder.specs.declared.meaning.Meaning.TheVariants.{At, Fixed, Unknown, Ambiguous, OutOfRange}
 use Rattle.binder.specs.declared.meaning.LookedUp.{LookedUp}
 
+-- the refusal as a list, where a test fails
 abbrev pub refusals_if : Bool → Refusal → List Refusal
-refusals_if failing why = if failing then why ∷ [] else []
+refusals_if failing why = option_to_list (refused_if failing why)
 
 -- ---- tables and aliases
 
-unfoldable pub no_such_table : Schema → List ℕ → List Refusal
-no_such_table schema name = refusals_if (is_none (table_named schema name)) (refusal.UnknownTable name)
+unfoldable pub table_refusals : Schema → List ℕ → List Refusal
+table_refusals schema name = option_to_list (unknown_table schema name)
 
 abbrev pub unknown_tables : Schema → BlockTree → List Refusal
-unknown_tables schema block = flat_map (λ item. no_such_table schema item.table) block.from_items
+unknown_tables schema block = flat_map (λ item. table_refusals schema item.table) block.from_items
 
 -- the names that stand among those before them
 unfoldable pub repeated_names : List (List ℕ) → List (List ℕ)

@@ -5,7 +5,7 @@ ghost use Rattle.binder.specs.Binding.{blocks_of};
 ghost use Rattle.binder.specs.LookedUp.{atom_of, looked_up, output_kinds, column_of};
 ghost use Rattle.binder.specs.Meanings.{columns_named, condition, meaning, sources};
 ghost use Rattle.beas_core.specs.Results.{IsRefusedAs};
-ghost use Rattle.binder.specs.Refusing.{first, no_such_table, unknown_tables, repeated_aliases};
+ghost use Rattle.binder.specs.Refusing.{first, table_refusals, unknown_tables, repeated_aliases};
 ghost use Rattle.binder.specs.Scopes.{names_of};
 
 use crate::meaning::{BoundColumn, Condition, LookedUp, Meaning};
@@ -16,9 +16,9 @@ use sql_tree::{BlockTree, ColumnRef, Cond, FromItem};
 use std::alloc::Global;
 
 /// Refuses a name that no table has.
-#[tactic(auto, unfolding(crate::specs::Refusing::no_such_table))]
+#[tactic(auto, unfolding(crate::specs::Refusing::table_refusals))]
 pub fn want_table(alloc: Global, catalogue: &Catalogue, name: &Name) -> Result<(), Fail>
-    ensures { IsRefusedAs result (first (no_such_table catalogue.now name.now)) }
+    ensures { IsRefusedAs result (first (table_refusals catalogue.now name.now)) }
 {
     match catalogue.table(name) {
         Some(_) => Ok(()),
@@ -30,7 +30,7 @@ pub fn want_table(alloc: Global, catalogue: &Catalogue, name: &Name) -> Result<(
 
 /// Refuses the first of a block's table names that no table has.
 pub fn want_tables(alloc: Global, catalogue: &Catalogue, items: &[FromItem]) -> Result<(), Fail>
-    ensures { IsRefusedAs result (first (flat_map (λ item. no_such_table catalogue.now item.table) items.now)) }
+    ensures { IsRefusedAs result (first (flat_map (λ item. table_refusals catalogue.now item.table) items.now)) }
 {
     for item in items {
         want_table(alloc, catalogue, &item.table)?;

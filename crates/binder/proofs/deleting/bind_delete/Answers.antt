@@ -3,7 +3,7 @@ use Rattle.std.proofs.lemmas.Result.{err_from_is_err_and}
 use Rattle.binder.specs.declared.meaning.LookedUp.{LookedUp}
 use Rattle.binder.specs.Binding.{delete_block, delete_refusals, bound_delete, places_of_kinds, delete_kinds}
 use Rattle.binder.specs.LookedUp.{looked_up, bound_block, BlockIsSmall}
-use Rattle.binder.specs.Refusing.{first, no_such_table}
+use Rattle.binder.specs.Refusing.{first, table_refusals}
 use Rattle.binder.proofs.DeleteFacts.{delete_small, delete_few}
 use Rattle.beas_core.specs.Shapes.{BlockIsWellFormed}
 use Rattle.binder.proofs.WellFormed.{delete_fits}
@@ -16,7 +16,7 @@ use Rattle.binder.proofs.deleting.bind_delete.Goals as goal
 pub returns-in_err-want_table-clause-refused : goal.returns-in_err-want_table-clause-refused
 unfolding delete_refusals
 returns-in_err-want_table-clause-refused c = let p = err_from_is_err_and c.from_residual.result c.from_residual.ensures.1 in rw (p.1, p.2)
-    (err_first (Unit {0}) (Unit {0}) _ (no_such_table c.args.catalogue.now c.args.table.now) _ c.in_err-want_table.ensures)
+    (err_first (Unit {0}) (Unit {0}) _ (table_refusals c.args.catalogue.now c.args.table.now) _ c.in_err-want_table.ensures)
 
 pub refuse_kinds-requires : goal.refuse_kinds-requires
 refuse_kinds-requires c =
@@ -28,7 +28,7 @@ unfolding delete_refusals
 returns-in_err-refuse_kinds-clause-refused c =
     let p = err_from_is_err_and c.from_residual-in_err-refuse_kinds.result c.from_residual-in_err-refuse_kinds.ensures.1 in
     let is = c.in_ok-block.ensures.block ∙ ap (λ cs. looked_up c.args.catalogue.now (delete_block c.args.table.now cs)) c.as_slice.ensures in
-    rw (p.1, p.2) (err_second (Unit {0}) (Unit {0}) _ (no_such_table c.args.catalogue.now c.args.table.now) _ c.in_ok-want_table.ensures
+    rw (p.1, p.2) (err_second (Unit {0}) (Unit {0}) _ (table_refusals c.args.catalogue.now c.args.table.now) _ c.in_ok-want_table.ensures
     (rw is at c.in_err-refuse_kinds.ensures))
 
 pub bound_block-requires : goal.bound_block-requires
@@ -40,7 +40,7 @@ pub returns-clause-refused : goal.returns-clause-refused
 unfolding delete_refusals
 returns-clause-refused c =
     let is = c.in_ok-block.ensures.block ∙ ap (λ cs. looked_up c.args.catalogue.now (delete_block c.args.table.now cs)) c.as_slice.ensures in
-    first_none (no_such_table c.args.catalogue.now c.args.table.now) _ c.in_ok-want_table.ensures
+    first_none (table_refusals c.args.catalogue.now c.args.table.now) _ c.in_ok-want_table.ensures
     ∙ ap (λ block. first (places_of_kinds c.args.limits.now block delete_kinds)) (sym is) ∙ c.in_ok-refuse_kinds.ensures
 
 pub returns-clause-block : goal.returns-clause-block
