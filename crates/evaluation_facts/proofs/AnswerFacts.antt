@@ -479,16 +479,16 @@ module _ (rows : TableRows) (block : Block) (shape : BlockIsWellFormed block) (a
     unfolding normal_of
     from_place b h = elim (made_way.2 b h) [
       | inl start ↦ elim (made_start.2 b start) [
-      | inl k ↦ (
-          let m = Has-from_map (λ d. (class_of block d.0, d.1)) block.constants b k in
-          let same = same_from (choice_value choice m.0.0) m.0.1
-          (all_has (λ c. same_value (choice_value choice c.0) c.1) block.constants m.0 constants_met m.1) in
-          (m.0.0, constant_place m.0 m.1, ap (λ d. d.0) (sym m.2), ap (λ d. d.1) m.2 ∙ sym same))
-      | inr k ↦ (
-          let m = Has-from_map (λ p. (place_class normal p, choice_value choice p)) block.output b
-          (subst (λ bs. Has bs b) (zip-maps (place_class normal) (choice_value choice) block.output) k) in
-          let place = output_place m.0 m.1 in
-          (m.0, place, sym (place_class_is block m.0 place) ∙ ap (λ d. d.0) (sym m.2), ap (λ d. d.1) m.2))
+        | inl k ↦ (
+            let m = Has-from_map (λ d. (class_of block d.0, d.1)) block.constants b k in
+            let same = same_from (choice_value choice m.0.0) m.0.1
+            (all_has (λ c. same_value (choice_value choice c.0) c.1) block.constants m.0 constants_met m.1) in
+            (m.0.0, constant_place m.0 m.1, ap (λ d. d.0) (sym m.2), ap (λ d. d.1) m.2 ∙ sym same))
+        | inr k ↦ (
+            let m = Has-from_map (λ p. (place_class normal p, choice_value choice p)) block.output b
+            (subst (λ bs. Has bs b) (zip-maps (place_class normal) (choice_value choice) block.output) k) in
+            let place = output_place m.0 m.1 in
+            (m.0, place, sym (place_class_is block m.0 place) ∙ ap (λ d. d.0) (sym m.2), ap (λ d. d.1) m.2))
       ]
       | inr k ↦ (
           let s = k.0 in

@@ -135,9 +135,11 @@ module _ (accesses : List Access) (guided : List Bool) (plans : List Derivation)
       → Numbered SoundAt n (map normal_of (blocks_of l)) × Numbered SoundAt (after n l) (map normal_of (blocks_of r))
   halves n l r h =
       let both = numbered-append SoundAt n (map normal_of (blocks_of l)) (map normal_of (blocks_of r))
-      (subst (Numbered SoundAt n) (map-append normal_of (blocks_of l) (blocks_of r)) h) in
-      (both.0, numbered_at SoundAt (n + length (map normal_of (blocks_of l))) (after n l) (map normal_of (blocks_of r))
-      (ap (λ k. n + k) (length-map (blocks_of l) normal_of)) both.1)
+      (subst (Numbered SoundAt n) (map-append normal_of (blocks_of l) (blocks_of r)) h) in (
+        both.0,
+        numbered_at SoundAt (n + length (map normal_of (blocks_of l))) (after n l) (map normal_of (blocks_of r))
+            (ap (λ k. n + k) (length-map (blocks_of l) normal_of)) both.1,
+      )
 
   -- where the derivation of each block is sound, those of the tree are
   tree_is_sound : (n : ℕ) (t : QueryTree) → Numbered SoundAt n (map normal_of (blocks_of t)) → PlansAreSound accesses guided plans n t

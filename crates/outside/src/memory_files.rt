@@ -112,10 +112,10 @@ impl MemoryFiles {
 
 impl Files for MemoryFiles {
     ghost seen = { λ files. record {
-        told = true;
-        content = content_of files.shelf;
-        faults = times files.failed;
-        taken = 0
+      told = true;
+      content = content_of files.shelf;
+      faults = times files.failed;
+      taken = 0;
     } };
 
     fn load(&mut self, alloc: Global, name: &str, limit: u64) -> Result<Bytes, FilesError>
@@ -166,10 +166,10 @@ impl SteadyFiles {
 
 impl Files for SteadyFiles {
     ghost seen = { λ files. record {
-        told = true;
-        content = λ name. Some (unwrap_or (content_of files.shelf name) []);
-        faults = λ _. 0;
-        taken = 0
+      told = true;
+      content = λ name. Some (unwrap_or (content_of files.shelf name) []);
+      faults = λ _. 0;
+      taken = 0;
     } };
 
     fn load(&mut self, alloc: Global, name: &str, limit: u64) -> Result<Bytes, FilesError>

@@ -53,18 +53,22 @@ pub fn answer_tree<P: AccessPort, L: Ledger>(
             Ok((rows, first + 1))
         }
         QueryNode::Union(left, right) => {
-            let (found, next) =
-                answer_tree(alloc, port, prepared, left, first, guide, reads, steps)?;
-            let (others, next) =
-                answer_tree(alloc, port, prepared, right, next, guide, reads, steps)?;
+            let (found, next) = answer_tree(
+                alloc, port, prepared, left, first, guide, reads, steps,
+            )?;
+            let (others, next) = answer_tree(
+                alloc, port, prepared, right, next, guide, reads, steps,
+            )?;
             Ok((unite(alloc, found, others)?, next))
         }
         QueryNode::Except(left, right) => {
-            let (found, next) =
-                answer_tree(alloc, port, prepared, left, first, guide, reads, steps)?;
+            let (found, next) = answer_tree(
+                alloc, port, prepared, left, first, guide, reads, steps,
+            )?;
             let guide = Some(&found);
-            let (others, next) =
-                answer_tree(alloc, port, prepared, right, next, guide, reads, steps)?;
+            let (others, next) = answer_tree(
+                alloc, port, prepared, right, next, guide, reads, steps,
+            )?;
             Ok((subtract(alloc, found, others)?, next))
         }
     }

@@ -101,7 +101,7 @@ module _ (normal : Normal) where
     start_placed = subst (λ set. All (λ class. place_of (map (λ c. c.0) (start_of row)) class < length (start_of row)) (classes_in set))
         (ap (set_of normal) start_keys ∙ start_set) (classes_placed normal (start_of row))
 
--- ---- all starts
+  -- ---- all starts
 
   module _ (set : ClassSet) where
     abbrev values : Bindings → Row

@@ -271,10 +271,10 @@ impl<'a, R: rt::Files> RealFiles<'a, R> {
 
 impl<R: rt::Files> Files for RealFiles<'_, R> {
     ghost seen = { λ files. record {
-        told = false;
-        content = λ _. None;
-        faults = λ _. files.counts.faults;
-        taken = files.counts.taken
+      told = false;
+      content = λ _. None;
+      faults = λ _. files.counts.faults;
+      taken = files.counts.taken;
     } };
 
     fn load(&mut self, alloc: Global, name: &str, limit: u64) -> Result<Bytes, FilesError>

@@ -12,9 +12,7 @@ ghost use Rattle.std.specs.Option.{option_or};
 
 use crate::indexing::{add_all, add_row, first_broken, remove_rows};
 use access_index::AccessIndex;
-use beas_core::{
-    Counted, Fail, Limits, List, Refusal, Row, TableId,
-};
+use beas_core::{Counted, Fail, Limits, List, Refusal, Row, TableId};
 use catalogue::Catalogue;
 use row_checks::{broken_by, refuse_too_many, refuse_types, refuse_widths};
 use row_store::Rows;

@@ -259,9 +259,19 @@ answer_tree-requires g t c κs within =
     let right = c.in-Union.right.value in
     let whole = sym c.query.view_is ∙ ap query_tree c.in-Union.is in
     let fits = subst (λ tree. TreeFits accesses prepared first guide tree c.args.reads.now) whole c.requires.fits in
-    let asked = union_left rows accesses prepared c.requires.holds first guide left right c.args.reads.now fits in
-    (search rules, (search rules, (search rules, (
-    subst (λ tree. TreeFits accesses prepared first guide tree c.args.reads.now) (sym c.deref.ensures) asked, c.requires.holds))))
+    let asked = union_left rows accesses prepared c.requires.holds first guide left right c.args.reads.now fits in (
+      search rules,
+      (
+        search rules,
+        (
+          search rules,
+          (
+            subst (λ tree. TreeFits accesses prepared first guide tree c.args.reads.now) (sym c.deref.ensures) asked,
+            c.requires.holds,
+          ),
+        ),
+      ),
+    )
 
 pub answer_tree-requires-in-Union : goal.answer_tree-requires-in-Union
 answer_tree-requires-in-Union g t c κs within =
@@ -278,10 +288,19 @@ answer_tree-requires-in-Union g t c κs within =
     let now = c.in_ok-found-in-Union.ensures.reads
     ∙ ap (λ tree. c.args.reads.now + reads_in rows accesses prepared.guided prepared.derivations first guide tree) c.deref.ensures in
     let asked = union_right rows accesses prepared c.requires.holds first guide left right c.args.reads.now c.in_ok-found-in-Union.next next
-    c.answer_tree.new.reads now fits in
-    (search rules, (search rules, (search rules, (
-    subst (λ tree. TreeFits accesses prepared c.in_ok-found-in-Union.next guide tree c.answer_tree.new.reads) (sym c.deref-in-Union.ensures) asked,
-    c.requires.holds))))
+    c.answer_tree.new.reads now fits in (
+      search rules,
+      (
+        search rules,
+        (
+          search rules,
+          (
+            subst (λ tree. TreeFits accesses prepared c.in_ok-found-in-Union.next guide tree c.answer_tree.new.reads) (sym c.deref-in-Union.ensures) asked,
+            c.requires.holds,
+          ),
+        ),
+      ),
+    )
 
 pub unite-requires-clause-left : goal.unite-requires-clause-left
 unite-requires-clause-left g t c =
@@ -313,9 +332,19 @@ answer_tree-requires-in-Except g t c κs within =
     let right = c.in-Except.right.value in
     let whole = sym c.query.view_is ∙ ap query_tree c.in-Except.is in
     let fits = subst (λ tree. TreeFits accesses prepared first guide tree c.args.reads.now) whole c.requires.fits in
-    let asked = except_left rows accesses prepared c.requires.holds first guide left right c.args.reads.now fits in
-    (search rules, (search rules, (search rules, (
-    subst (λ tree. TreeFits accesses prepared first guide tree c.args.reads.now) (sym c.deref-in-Except.ensures) asked, c.requires.holds))))
+    let asked = except_left rows accesses prepared c.requires.holds first guide left right c.args.reads.now fits in (
+      search rules,
+      (
+        search rules,
+        (
+          search rules,
+          (
+            subst (λ tree. TreeFits accesses prepared first guide tree c.args.reads.now) (sym c.deref-in-Except.ensures) asked,
+            c.requires.holds,
+          ),
+        ),
+      ),
+    )
 
 pub answer_tree-requires-in-Except-2 : goal.answer_tree-requires-in-Except-2
 answer_tree-requires-in-Except-2 g t c κs within =
@@ -333,12 +362,21 @@ answer_tree-requires-in-Except-2 g t c κs within =
     ∙ ap (λ tree. c.args.reads.now + reads_in rows accesses prepared.guided prepared.derivations first guide tree) c.deref-in-Except.ensures in
     let rows_are = c.in_ok-found-in-Except.ensures.rows ∙ ap (answers rows prepared.guided first guide) c.deref-in-Except.ensures in
     let asked = except_right rows accesses prepared c.requires.holds first guide left right c.args.reads.now c.in_ok-found-in-Except.next next
-    c.answer_tree-in-Except.new.reads now fits in
-    (search rules, (search rules, (search rules, (
-    subst (λ tree. TreeFits accesses prepared c.in_ok-found-in-Except.next (Some c.in_ok-found-in-Except.found) tree c.answer_tree-in-Except.new.reads)
-    (sym c.deref-in-Except-2.ensures)
-    (subst (λ found. TreeFits accesses prepared c.in_ok-found-in-Except.next (Some found) right c.answer_tree-in-Except.new.reads) (sym rows_are) asked),
-    c.requires.holds))))
+    c.answer_tree-in-Except.new.reads now fits in (
+      search rules,
+      (
+        search rules,
+        (
+          search rules,
+          (
+            subst (λ tree. TreeFits accesses prepared c.in_ok-found-in-Except.next (Some c.in_ok-found-in-Except.found) tree c.answer_tree-in-Except.new.reads)
+                (sym c.deref-in-Except-2.ensures)
+                (subst (λ found. TreeFits accesses prepared c.in_ok-found-in-Except.next (Some found) right c.answer_tree-in-Except.new.reads) (sym rows_are) asked),
+            c.requires.holds,
+          ),
+        ),
+      ),
+    )
 
 pub subtract-requires-clause-left : goal.subtract-requires-clause-left
 subtract-requires-clause-left g t c =
