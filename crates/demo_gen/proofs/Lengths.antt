@@ -8,7 +8,7 @@ use Rattle.std.proofs.lemmas.Grind.{flat_map-append}
 use Rattle.std.proofs.lemmas.List.{length-append}
 use Rattle.demo_gen.specs.Draws.{draw_at, state_after}
 use Rattle.beas_core.specs.Texts.{concatenation}
-use Rattle.demo_gen.specs.Demo.{cafe_at, cafe_row, delete_text, demo_text, dine_at, dine_row, with_end, friend_at, friend_row, inserts, queries, query_at, query_text, round_at, rounds, rows_text, separator, tables}
+use Rattle.demo_gen.specs.Demo.{cafe_at, delete_text, demo_text, dine_at, with_end, friend_at, inserts, queries, query_at, query_text, round_at, rounds, rows_text, separator, tables}
 use Rattle.demo_gen.proofs.Rows.{no_rows, one_row}
 use Rattle.demo_gen.proofs.Written.{no_queries, no_rounds, one_query, one_round}
 
