@@ -16,7 +16,6 @@
 ghost use Rattle.std.specs.Prelude.{◌≡◌, ◌<◌};
 
 mod columnless;
-mod expected;
 mod named;
 mod outcomes;
 mod scripts;

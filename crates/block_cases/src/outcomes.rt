@@ -7,12 +7,13 @@ ghost use Rattle.catalogue.specs.Database.{rows_at};
 ghost use Rattle.catalogue.specs.Queries.{QueryIsOver};
 ghost use Rattle.update_guard.specs.Stored.{database_in};
 
-use crate::expected::{Numbers, numbers_of};
 use crate::shapes::is_right;
 use beas_core::{Fail, List, NoMemory, Prepared, Query, Refusal, Row, Steps};
 use plan_builder::prepare;
 use plan_executor::execute;
-use reference_evaluation::full_of;
+use reference_coverage::BlockPlans;
+use reference_evaluation::{PlansOnTables, full_of};
+use reference_queries::{Planned, QueryPlans, Run, plan_query, run_of};
 use std::alloc::Global;
 use std::sync::ledger::Ledger;
 use update_guard::Guarded;
@@ -48,20 +49,40 @@ fn prepared_over(alloc: Global, guarded: &Guarded, query: Query) -> Result<Prepa
     prepare(alloc, &guarded.catalogue, query)
 }
 
-/// What comes of a query that was prepared, and whose reads are to be these.
-fn outcome_by_reads<L: Ledger>(
+/// What the reference programs give for a query by these plans over tables.
+fn wanted_run(
+    alloc: Global,
+    guarded: &Guarded,
+    tables: &[List<Row>],
+    query: &Query,
+    plans: &QueryPlans,
+) -> Result<Option<Run>, NoMemory> {
+    let plans = BlockPlans {
+        accesses: guarded.catalogue.accesses().as_slice(),
+        guided: plans.guided.as_slice(),
+        derivations: plans.derivations.as_slice(),
+    };
+    run_of(alloc, &PlansOnTables { tables, plans }, query)
+}
+
+/// What comes of a query that was prepared, and that the reference programs plan so.
+fn outcome_by_plans<L: Ledger>(
     alloc: Global,
     guarded: &Guarded,
     tables: &[List<Row>],
     prepared: &Prepared,
-    reads: Option<u128>,
+    plans: &QueryPlans,
     steps: &mut Steps<L>,
 ) -> Result<Outcome, NoMemory>
     requires { Fits guarded.now.catalogue.accesses (rows_at (database_in guarded.now)) prepared.now }
 {
     let answer = execute(alloc, guarded, prepared, steps)?;
     let rows = full_of(alloc, tables, &prepared.query)?;
-    if reads == Some(answer.reads) && answer.reads <= prepared.bound && answer.rows == rows {
+    let Some(run) = wanted_run(alloc, guarded, tables, &prepared.query, plans)? else {
+        return Ok(Outcome::Differs);
+    };
+    let are_rows = answer.rows == rows && run.answer.rows == rows;
+    if are_rows && answer.reads == run.answer.reads && answer.reads <= prepared.bound {
         Ok(Outcome::Answered {
             bound: prepared.bound,
             reads: answer.reads,
@@ -78,28 +99,29 @@ fn outcome_within<L: Ledger>(
     guarded: &Guarded,
     tables: &[List<Row>],
     prepared: &Prepared,
-    wanted: Option<Numbers>,
+    wanted: &Planned,
     budget: u128,
     steps: &mut Steps<L>,
 ) -> Result<Outcome, NoMemory>
     requires { Fits guarded.now.catalogue.accesses (rows_at (database_in guarded.now)) prepared.now }
 {
-    match wanted {
-        Some(numbers) if numbers.bound == Some(prepared.bound) => {
-            if prepared.bound > budget {
-                return Ok(Outcome::Above);
-            }
-            outcome_by_reads(alloc, guarded, tables, prepared, numbers.reads, steps)
-        }
-        _ => Ok(Outcome::Differs),
+    let Planned::Covered(plans) = wanted else {
+        return Ok(Outcome::Differs);
+    };
+    if plans.bound != Some(prepared.bound) || prepared.guided != plans.guided {
+        return Ok(Outcome::Differs);
     }
+    if prepared.bound > budget {
+        return Ok(Outcome::Above);
+    }
+    outcome_by_plans(alloc, guarded, tables, prepared, plans, steps)
 }
 
 /// What comes of a query that was refused, and of which the reference programs say this.
-fn outcome_of_refusal(why: &Refusal, wanted: Option<Numbers>) -> Outcome {
-    match (why.number(), wanted) {
-        (19, None) => Outcome::Uncovered,
-        (20, Some(Numbers { bound: None, .. })) => Outcome::TooLarge,
+fn outcome_of_refusal(why: &Refusal, wanted: &Planned) -> Outcome {
+    match (why, wanted) {
+        (Refusal::NotCovered { .. }, Planned::Uncovered(_)) => Outcome::Uncovered,
+        (Refusal::TooLarge, Planned::Covered(plans)) if plans.bound.is_none() => Outcome::TooLarge,
         _ => Outcome::Differs,
     }
 }
@@ -116,11 +138,10 @@ pub fn outcome_of<L: Ledger>(
     if !is_right(alloc, guarded, &query)? {
         return Ok(Outcome::Misshapen);
     }
-    let accesses = guarded.catalogue.accesses().as_slice();
-    let wanted = numbers_of(alloc, tables, accesses, &query, budget)?;
+    let wanted = plan_query(alloc, guarded.catalogue.accesses().as_slice(), &query)?;
     match prepared_over(alloc, guarded, query) {
-        Ok(prepared) => outcome_within(alloc, guarded, tables, &prepared, wanted, budget, steps),
-        Err(Fail::Refused(why)) => Ok(outcome_of_refusal(&why, wanted)),
+        Ok(prepared) => outcome_within(alloc, guarded, tables, &prepared, &wanted, budget, steps),
+        Err(Fail::Refused(why)) => Ok(outcome_of_refusal(&why, &wanted)),
         Err(Fail::NoMemory) => Err(NoMemory),
     }
 }

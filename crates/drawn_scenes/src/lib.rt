@@ -4,7 +4,8 @@
 //! What is drawn depends on a seed alone, so that it is the same in each run. A `Twin` draws updates and carries them
 //! out on a plain list of rows by scans; a `Batch` has them as a script, with what a session is to report of it.
 //! `reports` has a session carry out such a script. `draw_query` draws the text of a query, `statement_of` reads
-//! it and `bound_query` binds it. Beside them stands what such programs need of their words and of folders of files.
+//! it, `bound_query` binds it, and `refusal_of_block` is its refusal where a block isn't covered. Beside them stands what
+//! such programs need of their words and of folders of files.
 //!
 //! It promises nothing but safety, and of `statement_of` that a statement has what a session asks for, of `bound_query`
 //! that a query is well-formed: what is drawn can be seen by what is printed of it.
@@ -16,6 +17,7 @@ mod draws;
 mod folders;
 mod plain;
 mod queries;
+mod refusals;
 mod scenes;
 mod statements;
 mod tables;
@@ -28,6 +30,7 @@ pub use draws::Draws;
 pub use folders::{files_in, names_in, text_in};
 pub use plain::{Plain, Rule};
 pub use queries::draw_query;
+pub use refusals::refusal_of_block;
 pub use scenes::{draw_scene, tables_of};
 pub use statements::{reports, reports_over, statement_of};
 pub use tables::{Fact, TABLES, column_name, table_name, value};

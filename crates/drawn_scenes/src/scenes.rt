@@ -5,17 +5,42 @@ use crate::updates::{Batch, Twin};
 use beas_core::{List, NoMemory, Row};
 use std::alloc::Global;
 
-/// Statements that add a few drawn rows and constraints to the tables of `creations`: 4 of INSERT, and 20 of CREATE
-/// ACCESS, of which some are refused. Each is to be reported under the number 0.
-pub fn draw_scene(alloc: Global, twin: &mut Twin) -> Result<Batch, NoMemory> {
-    let mut batch = Batch::new(alloc);
-    for turn in 0..24 {
-        let update = match turn {
-            0..4 => twin.insert(alloc)?,
-            _ => twin.create(alloc, 40, 30)?,
-        };
+/// Adds 8 statements of INSERT.
+fn add_rows(alloc: Global, twin: &mut Twin, batch: &mut Batch) -> Result<(), NoMemory> {
+    for _ in 0..8 {
+        let update = twin.insert(alloc)?;
         batch.add(alloc, 0, &update)?;
     }
+    Ok(())
+}
+
+/// Adds 20 statements of CREATE ACCESS. Where they are to have a key, those on s and t do.
+fn add_constraints(
+    alloc: Global,
+    twin: &mut Twin,
+    with_key: bool,
+    batch: &mut Batch,
+) -> Result<(), NoMemory> {
+    for number in 0..20 {
+        let name = format!(in alloc; "k{number}")?;
+        let update = twin.create(alloc, name, 16, 30, with_key)?;
+        batch.add(alloc, 0, &update)?;
+    }
+    Ok(())
+}
+
+/// Statements that add a few drawn rows and constraints to the tables of `creations`, some of which are refused. In most
+/// scenes a constraint without a key has all of r, and those on s and t have a key, so that a block over r guides one
+/// over s or t. Each statement is to be reported under the number 0.
+pub fn draw_scene(alloc: Global, twin: &mut Twin) -> Result<Batch, NoMemory> {
+    let mut batch = Batch::new(alloc);
+    let with_key = twin.draws.below(8) > 0;
+    add_rows(alloc, twin, &mut batch)?;
+    if with_key {
+        let update = twin.create_whole(alloc)?;
+        batch.add(alloc, 0, &update)?;
+    }
+    add_constraints(alloc, twin, with_key, &mut batch)?;
     Ok(batch)
 }
 

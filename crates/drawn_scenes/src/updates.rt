@@ -114,35 +114,65 @@ impl Twin {
         Ok(columns)
     }
 
-    /// Adds a constraint whose limit is below `most`, and which fetches fewer columns than `wide`, or one.
-    pub fn create(&mut self, alloc: Global, most: u8, wide: u8) -> Result<Update, NoMemory> {
-        let name = format!(in alloc; "k{}", self.draws.below(12))?;
-        let table = self.draws.below(TABLES);
-        let bound = self.draws.below(most.max(1));
-        let key_turns = self.draws.below(4).min(self.draws.below(4));
-        let fetched_turns = self.draws.below(wide.max(1)).max(1);
-        let key = self.columns(alloc, key_turns)?;
-        let fetched = self.columns(alloc, fetched_turns)?;
-        let on = format!(in alloc; "CREATE ACCESS {name} ON {} ", table_name(table))?;
+    /// A drawn name of a constraint, which may be live.
+    fn draw_name(&mut self, alloc: Global) -> Result<String, NoMemory> {
+        Ok(format!(in alloc; "k{}", self.draws.below(12))?)
+    }
+
+    /// Adds a constraint.
+    fn create_rule(&mut self, alloc: Global, rule: Rule) -> Result<Update, NoMemory> {
+        let name = rule.name.as_str();
+        let on = format!(in alloc; "CREATE ACCESS {name} ON {} ", table_name(rule.table))?;
         let mut source = Text::from_string(on);
-        push_columns(&mut source, &key)?;
+        push_columns(&mut source, &rule.key)?;
         source.push_str(" FETCH ")?;
-        push_columns(&mut source, &fetched)?;
-        source.push_str(format!(in alloc; " LIMIT {bound}")?.as_str())?;
-        let rule = Rule {
-            name,
-            table,
-            key,
-            fetched,
-            bound: usize::from(bound),
-        };
+        push_columns(&mut source, &rule.fetched)?;
+        source.push_str(format!(in alloc; " LIMIT {}", rule.bound)?.as_str())?;
         let report = self.plain.create(alloc, rule)?;
         Ok(Update { source, report })
     }
 
+    /// Adds a constraint with this name whose limit is below `most`, and which fetches fewer columns than `wide`, or one.
+    /// Where it is to have a key it has one, but on r it needn't.
+    pub fn create(
+        &mut self,
+        alloc: Global,
+        name: String,
+        most: u8,
+        wide: u8,
+        with_key: bool,
+    ) -> Result<Update, NoMemory> {
+        let table = self.draws.below(TABLES);
+        let bound = self.draws.below(most.max(1));
+        let key_turns = self.draws.below(4).min(self.draws.below(4));
+        let fetched_turns = self.draws.below(wide.max(1)).max(1);
+        let rule = Rule {
+            name,
+            table,
+            key: self.columns(alloc, key_turns.max(u8::from(with_key && table > 0)))?,
+            fetched: self.columns(alloc, fetched_turns)?,
+            bound: usize::from(bound),
+        };
+        self.create_rule(alloc, rule)
+    }
+
+    /// Adds a constraint without a key that fetches all columns of r, and that holds.
+    pub fn create_whole(&mut self, alloc: Global) -> Result<Update, NoMemory> {
+        let mut rule = Rule {
+            name: String::from_str(alloc, "whole")?,
+            table: 0,
+            key: Vec::new(alloc),
+            fetched: Vec::from_slice(alloc, &[0, 1, 2, 3])?,
+            bound: 0,
+        };
+        let most = rule.greatest(alloc, &self.plain.rows)?;
+        rule.bound = most.saturating_add(usize::from(self.draws.below(3) + 1));
+        self.create_rule(alloc, rule)
+    }
+
     /// Drops a constraint by its name.
     fn drop_rule(&mut self, alloc: Global) -> Result<Update, NoMemory> {
-        let name = format!(in alloc; "k{}", self.draws.below(12))?;
+        let name = self.draw_name(alloc)?;
         let source = Text::from_string(format!(in alloc; "DROP ACCESS {name}")?);
         let report = self.plain.drop_rule(alloc, name.as_str())?;
         Ok(Update { source, report })
@@ -153,7 +183,10 @@ impl Twin {
         match self.draws.below(100) {
             0..=64 => self.insert(alloc),
             65..=79 => self.delete(alloc),
-            80..=93 => self.create(alloc, 10, 6),
+            80..=93 => {
+                let name = self.draw_name(alloc)?;
+                self.create(alloc, name, 10, 6, false)
+            }
             _ => self.drop_rule(alloc),
         }
     }

@@ -1,103 +1,62 @@
-// What comes of a prepared query, compared with what plain programs give.
+// What comes of a prepared query, compared with what the reference programs give for its plans.
 ghost use Rattle.beas_core.specs.Fits.{Fits};
 ghost use Rattle.catalogue.specs.Database.{rows_at};
 ghost use Rattle.update_guard.specs.Stored.{database_in};
 
-use beas_core::{Access, DStep, List, NoMemory, Normal, Prepared, Row, Steps};
+use beas_core::{List, NoMemory, Prepared, Row, Steps};
 use plan_executor::execute;
-use reference_coverage::{announced_number, constant_classes, derivation};
-use reference_evaluation::{full_of, reads_of};
+use reference_coverage::BlockPlans;
+use reference_evaluation::{PlansOnTables, full_of};
+use reference_queries::{GuidedBlocks, Run, run_of};
 use std::alloc::Global;
 use std::sync::ledger::Ledger;
 use update_guard::Guarded;
 
-/// The reads of some blocks by their derivations, nothing where those of one pass 2^128 - 1.
-fn reads_of_all(
+/// What came of a prepared query: whether it is as by the reference programs, and what its guided blocks found.
+#[derive(Clone, Copy)]
+pub struct Outcome {
+    pub is_wanted: bool,
+    pub guided: GuidedBlocks,
+}
+
+/// What the reference programs give for a prepared query over tables.
+fn wanted_run(
     alloc: Global,
+    guarded: &Guarded,
     tables: &[List<Row>],
-    accesses: &[Access],
     prepared: &Prepared,
-) -> Result<Option<u128>, NoMemory> {
-    let mut reads: u128 = 0;
-    let plans = prepared.derivations.as_slice().iter();
-    for (normal, plan) in prepared.normals.as_slice().iter().zip(plans) {
-        let steps = plan.steps.as_slice();
-        let Some(more) = reads_of(alloc, tables, normal, accesses, &None, steps)? else {
-            return Ok(None);
-        };
-        reads = reads.saturating_add(more);
-    }
-    Ok(Some(reads))
+) -> Result<Option<Run>, NoMemory> {
+    let plans = BlockPlans {
+        accesses: guarded.catalogue.accesses().as_slice(),
+        guided: prepared.guided.as_slice(),
+        derivations: prepared.derivations.as_slice(),
+    };
+    run_of(alloc, &PlansOnTables { tables, plans }, &prepared.query)
 }
 
-/// The announced number of the derivations, nothing where that of one passes 2^128 - 1.
-fn announced_of_all(accesses: &[Access], prepared: &Prepared) -> Option<u128> {
-    let mut number: u128 = 0;
-    for plan in prepared.derivations.as_slice() {
-        number = number.saturating_add(announced_number(accesses, 1, plan.steps.as_slice())?);
-    }
-    Some(number)
-}
-
-/// Whether a prepared query has the answer, the reads and the bound that the plain programs give, and reads no more
-/// than its bound.
-pub fn comes_out<L: Ledger>(
+/// Executes a prepared query. Wanted are the rows, the reads and the number that the reference programs give, and rows
+/// that are the full answer; and no more reads than announced.
+pub fn outcome_of<L: Ledger>(
     alloc: Global,
     guarded: &Guarded,
     tables: &[List<Row>],
     prepared: &Prepared,
     steps: &mut Steps<L>,
-) -> Result<bool, NoMemory>
+) -> Result<Outcome, NoMemory>
     requires { Fits guarded.now.catalogue.accesses (rows_at (database_in guarded.now)) prepared.now }
 {
     let answer = execute(alloc, guarded, prepared, steps)?;
-    let accesses = guarded.catalogue.accesses().as_slice();
-    let reads = reads_of_all(alloc, tables, accesses, prepared)?;
-    let bound = announced_of_all(accesses, prepared);
-    let rows = full_of(alloc, tables, &prepared.query)?;
-    let is_counted = reads == Some(answer.reads) && bound == Some(prepared.bound);
-    Ok(is_counted && answer.reads <= prepared.bound && answer.rows == rows)
-}
-
-fn is_step(left: &DStep, right: &DStep) -> bool {
-    left.atom == right.atom && left.access.0 == right.access.0 && left.adds == right.adds
-}
-
-fn are_steps(left: &[DStep], right: &[DStep]) -> bool {
-    left.len() == right.len()
-        && left
-            .iter()
-            .zip(right)
-            .all(|(one, other)| is_step(one, other))
-}
-
-fn is_canonical(
-    alloc: Global,
-    normal: &Normal,
-    accesses: &[Access],
-    steps: &[DStep],
-) -> Result<bool, NoMemory> {
-    if normal.atoms.len() > 16 || normal.needed.len() > 16 {
-        return Ok(false);
-    }
-    let start = constant_classes(alloc, normal)?;
-    match derivation(alloc, normal, accesses, start.as_slice())? {
-        Some(canonical) => Ok(are_steps(canonical.as_slice(), steps)),
-        None => Ok(false),
-    }
-}
-
-/// Whether each derivation of a prepared query is the canonical one over these constraints.
-pub fn are_canonical(
-    alloc: Global,
-    accesses: &[Access],
-    prepared: &Prepared,
-) -> Result<bool, NoMemory> {
-    let plans = prepared.derivations.as_slice().iter();
-    for (normal, plan) in prepared.normals.as_slice().iter().zip(plans) {
-        if !is_canonical(alloc, normal, accesses, plan.steps.as_slice())? {
-            return Ok(false);
-        }
-    }
-    Ok(true)
+    let full = full_of(alloc, tables, &prepared.query)?;
+    let Some(run) = wanted_run(alloc, guarded, tables, prepared)? else {
+        return Ok(Outcome {
+            is_wanted: false,
+            guided: GuidedBlocks::none(),
+        });
+    };
+    let are_rows = answer.rows == full && answer.rows == run.answer.rows;
+    let is_counted = answer.reads == run.answer.reads && answer.reads <= prepared.bound;
+    Ok(Outcome {
+        is_wanted: are_rows && is_counted && run.bound == Some(prepared.bound),
+        guided: run.guided,
+    })
 }

@@ -5,10 +5,15 @@ ghost use Rattle.catalogue.specs.Database.{rows_at};
 ghost use Rattle.update_guard.specs.Stored.{database_in};
 
 use crate::additions::add_constraints;
+use crate::announced::{is_canonical, is_prepared_so, is_refused_so};
 use crate::constraints::draw_constraints;
-use crate::outcomes::{are_canonical, comes_out};
+use crate::outcomes::outcome_of;
+use crate::tallies::{BUDGET, Tally};
 use beas_core::{AccessSpec, Fail, Limits, List, NoMemory, Prepared, Refusal, Row, Steps, Text};
-use drawn_scenes::{Twin, creations, draw_query, draw_scene, reports, statement_of, tables_of};
+use drawn_scenes::{
+    Twin, bound_query, creations, draw_query, draw_scene, reports, statement_of, tables_of,
+};
+use reference_queries::{Planned, plan_query};
 use session::Session;
 use sql_tree::Statement;
 use std::alloc::Global;
@@ -16,60 +21,7 @@ use std::sync::ledger::Ledger;
 use update_guard::Guarded;
 
 /// So many queries are drawn for one session.
-const QUERIES: u32 = 10;
-
-/// A query with a greater number isn't executed: the plain programs take long over it.
-const BUDGET: u64 = 1000;
-
-/// How many queries were drawn, how many of them executed, and how many of these by other derivations than the
-/// canonical ones; and how many came out otherwise than by the plain programs.
-#[derive(Clone, Copy)]
-struct Tally {
-    drawn: u32,
-    executed: u32,
-    other: u32,
-    differing: u32,
-}
-
-/// What came of a query that was executed.
-#[derive(Clone, Copy)]
-struct Outcome {
-    is_wanted: bool,
-    is_canonical: bool,
-}
-
-impl Tally {
-    fn with(self, outcome: Outcome) -> Tally {
-        Tally {
-            drawn: self.drawn.saturating_add(1),
-            executed: self.executed.saturating_add(1),
-            other: self.other.saturating_add(u32::from(!outcome.is_canonical)),
-            differing: self.differing.saturating_add(u32::from(!outcome.is_wanted)),
-        }
-    }
-
-    /// With a query that wasn't executed. Only one that isn't covered or is above the budget is to be refused.
-    fn with_refusal(self, why: &Refusal) -> Tally {
-        let is_wanted = matches!(why.number(), 19 | 21);
-        Tally {
-            drawn: self.drawn.saturating_add(1),
-            differing: self.differing.saturating_add(u32::from(!is_wanted)),
-            ..self
-        }
-    }
-
-    fn said(self, alloc: Global) -> Result<String, NoMemory> {
-        let Tally {
-            drawn,
-            executed,
-            other,
-            differing,
-        } = self;
-        Ok(format!(in alloc;
-            "{drawn} queries, {executed} of them covered within {BUDGET} reads and executed, {other} by a derivation that isn't canonical, {differing} differences"
-        )?)
-    }
-}
+const QUERIES: u32 = 14;
 
 /// A query as it is announced over the constraints as they are.
 fn prepared_query(alloc: Global, session: &Session, spelled: &str) -> Result<Prepared, Fail>
@@ -81,24 +33,47 @@ fn prepared_query(alloc: Global, session: &Session, spelled: &str) -> Result<Pre
     }
 }
 
-/// Executes a prepared query after some constraints were made.
-fn outcome_of<L: Ledger>(
+/// How many derivations lost steps in what the reference programs plan.
+fn shortened_in(wanted: &Planned) -> u32 {
+    match wanted {
+        Planned::Covered(plans) => plans.shortened,
+        _ => 0,
+    }
+}
+
+/// Executes a prepared query after some constraints were made. It is to be prepared as the reference programs planned it
+/// before they were.
+fn executed<L: Ledger>(
     alloc: Global,
     guarded: &mut Guarded,
     specs: &[AccessSpec],
     tables: &[List<Row>],
     prepared: &Prepared,
+    wanted: &Planned,
     steps: &mut Steps<L>,
-) -> Result<Outcome, NoMemory>
+) -> Result<Tally, NoMemory>
     requires { Fits guarded.old.catalogue.accesses (rows_at (database_in guarded.old)) prepared.now }
 {
-    add_constraints(alloc, guarded, specs, prepared, steps)?;
-    let is_wanted = comes_out(alloc, guarded, tables, prepared, steps)?;
+    let made = add_constraints(alloc, guarded, specs, prepared, steps)?;
+    let outcome = outcome_of(alloc, guarded, tables, prepared, steps)?;
     let accesses = guarded.catalogue.accesses().as_slice();
-    Ok(Outcome {
-        is_wanted,
-        is_canonical: are_canonical(alloc, accesses, prepared)?,
+    let is_other = made > 0 && !is_canonical(alloc, accesses, prepared)?;
+    let is_wanted = outcome.is_wanted && is_prepared_so(prepared, wanted);
+    Ok(Tally {
+        drawn: 1,
+        executed: 1,
+        other: u32::from(is_other),
+        shortened: shortened_in(wanted),
+        guided: outcome.guided,
+        differing: u32::from(!is_wanted),
     })
+}
+
+/// What the reference programs plan for the query that a text spells, over the constraints as they are.
+fn planned_query(alloc: Global, guarded: &Guarded, spelled: &str) -> Result<Planned, Fail> {
+    let query = bound_query(alloc, &guarded.catalogue, spelled)?;
+    let accesses = guarded.catalogue.accesses().as_slice();
+    Ok(plan_query(alloc, accesses, &query)?)
 }
 
 fn try_query<L: Ledger>(
@@ -108,10 +83,16 @@ fn try_query<L: Ledger>(
     tables: &[List<Row>],
     spelled: &str,
     steps: &mut Steps<L>,
-) -> Result<Outcome, Fail> {
-    let prepared = prepared_query(alloc, session, spelled)?;
-    let guarded = &mut session.guarded;
-    Ok(outcome_of(alloc, guarded, specs, tables, &prepared, steps)?)
+) -> Result<Tally, Fail> {
+    let wanted = planned_query(alloc, &session.guarded, spelled)?;
+    match prepared_query(alloc, session, spelled) {
+        Ok(prepared) => {
+            let guarded = &mut session.guarded;
+            Ok(executed(alloc, guarded, specs, tables, &prepared, &wanted, steps)?)
+        }
+        Err(Fail::Refused(why)) => Ok(Tally::refused(is_refused_so(&why, &wanted, BUDGET))),
+        Err(Fail::NoMemory) => Err(Fail::NoMemory),
+    }
 }
 
 /// Tries drawn queries over a session with these rows, half of them with one to three constraints that are made in
@@ -131,8 +112,8 @@ fn try_drawn<L: Ledger>(
         let specs = draw_constraints(alloc, twin, 100 + 3 * nth, count)?;
         let specs = specs.as_slice();
         tally = match try_query(alloc, session, specs, tables, query.as_str(), steps) {
-            Ok(outcome) => tally.with(outcome),
-            Err(Fail::Refused(why)) => tally.with_refusal(&why),
+            Ok(more) => tally.with(more),
+            Err(Fail::Refused(_)) => tally.with(Tally::refused(false)),
             Err(Fail::NoMemory) => return Err(NoMemory),
         };
     }
@@ -177,12 +158,7 @@ pub fn try_plans<L: Ledger>(
     sessions: u32,
     steps: &mut Steps<L>,
 ) -> Result<String, NoMemory> {
-    let mut tally = Tally {
-        drawn: 0,
-        executed: 0,
-        other: 0,
-        differing: 0,
-    };
+    let mut tally = Tally::none();
     for seed in 0..sessions {
         tally = try_session(alloc, u64::from(seed), tally, steps)?;
     }

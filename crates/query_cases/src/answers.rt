@@ -1,18 +1,34 @@
-// What is announced and answered of a query by the plain programs.
+// What is announced and answered of a query by the reference programs.
 ghost use Rattle.std.specs.Prelude.{IfOk};
 ghost use Rattle.beas_core.specs.Shapes.{QueryIsWellFormed};
 
 use crate::coverage::is_agreed;
-use crate::numbers::{Numbers, numbers_of};
 use beas_core::{Block, Fail, List, Name, NoMemory, Query, Refusal, Row, Steps, Text};
-use drawn_scenes::{bound_query, column_name};
+use drawn_scenes::{bound_query, column_name, refusal_of_block};
 use full_meaning::evaluate;
 use normal_form::blocks;
-use reference_evaluation::full_of;
+use reference_coverage::BlockPlans;
+use reference_evaluation::{PlansOnTables, full_of};
+use reference_queries::{GuidedBlocks, Planned, QueryPlans, Run, plan_query, run_of};
 use report::Report;
 use std::alloc::Global;
 use std::sync::ledger::Ledger;
 use update_guard::Guarded;
+
+/// What is to be reported of a query, and what its guided blocks find.
+#[derive(Drop)]
+pub struct Wanted {
+    pub report: Report,
+    pub guided: GuidedBlocks,
+}
+
+/// The report of a refusal.
+fn refused(why: Refusal) -> Wanted {
+    Wanted {
+        report: Report::Refused { why },
+        guided: GuidedBlocks::none(),
+    }
+}
 
 /// The names of a block's output.
 fn header_of(alloc: Global, block: &Block) -> Result<List<Name>, NoMemory> {
@@ -25,9 +41,9 @@ fn header_of(alloc: Global, block: &Block) -> Result<List<Name>, NoMemory> {
     Ok(header)
 }
 
-/// The names of the output of the first of some blocks.
-fn first_header(alloc: Global, blocks: &[&Block]) -> Result<List<Name>, NoMemory> {
-    match blocks.first() {
+/// The names of the output of a query's first block.
+fn first_header(alloc: Global, query: &Query) -> Result<List<Name>, NoMemory> {
+    match blocks(alloc, query)?.as_slice().first() {
         Some(block) => header_of(alloc, block),
         None => Ok(List::new(alloc)),
     }
@@ -50,39 +66,74 @@ fn answer_of<L: Ledger>(
     }
 }
 
-/// What is to be reported of a query with these rows.
-fn answer_report(
+/// What is to be reported of a query with these plans, where its number is this and its full answer are these rows.
+fn answered(
+    alloc: Global,
+    over: &PlansOnTables,
+    query: &Query,
+    bound: u128,
+    rows: List<Row>,
+) -> Result<Wanted, Fail> {
+    match run_of(alloc, over, query)? {
+        Some(run) if run.answer.rows == rows => Ok(Wanted {
+            report: Report::Answered {
+                bound,
+                plan: Text::new(alloc),
+                header: first_header(alloc, query)?,
+                rows,
+                reads: run.answer.reads,
+            },
+            guided: run.guided,
+        }),
+        _ => Err(Fail::Refused(Refusal::Syntax)),
+    }
+}
+
+/// What is to be reported of a covered query within a budget.
+fn wanted_by<L: Ledger>(
     alloc: Global,
     guarded: &Guarded,
     tables: &[List<Row>],
     query: &Query,
-    rows: List<Row>,
-) -> Result<Report, Fail> {
-    let found = blocks(alloc, query)?;
-    let accesses = guarded.catalogue.accesses().as_slice();
-    let Numbers { announced, reads } = numbers_of(alloc, tables, accesses, found.as_slice())?;
-    Ok(Report::Answered {
-        bound: announced,
-        plan: Text::new(alloc),
-        header: first_header(alloc, found.as_slice())?,
-        rows,
-        reads,
-    })
+    plans: &QueryPlans,
+    budget: u64,
+    steps: &mut Steps<L>,
+) -> Result<Wanted, Fail> {
+    let Some(bound) = plans.bound else {
+        return Ok(refused(Refusal::TooLarge));
+    };
+    if bound > u128::from(budget) {
+        return Ok(refused(Refusal::OverBudget { bound, budget }));
+    }
+    let rows = answer_of(alloc, guarded, tables, query, steps)?;
+    let plans = BlockPlans {
+        accesses: guarded.catalogue.accesses().as_slice(),
+        guided: plans.guided.as_slice(),
+        derivations: plans.derivations.as_slice(),
+    };
+    answered(alloc, &PlansOnTables { tables, plans }, query, bound, rows)
 }
 
-/// What is to be reported of a query by the plain programs, with no budget. A query that they don't agree on is refused
+/// What is to be reported of a query within a budget by the reference programs. A query that they don't agree on is refused
 /// as 1.
-pub fn wanted_report<L: Ledger>(
+pub fn wanted_of<L: Ledger>(
     alloc: Global,
     guarded: &Guarded,
     tables: &[List<Row>],
     spelled: &str,
+    budget: u64,
     steps: &mut Steps<L>,
-) -> Result<Report, Fail> {
+) -> Result<Wanted, Fail> {
     let query = bound_query(alloc, &guarded.catalogue, spelled)?;
-    if !is_agreed(alloc, guarded.catalogue.accesses(), &query)? {
-        return Err(Fail::Refused(Refusal::Syntax));
+    let planned = plan_query(alloc, guarded.catalogue.accesses().as_slice(), &query)?;
+    if !is_agreed(alloc, guarded.catalogue.accesses(), &query, &planned)? {
+        return Ok(refused(Refusal::Syntax));
     }
-    let rows = answer_of(alloc, guarded, tables, &query, steps)?;
-    answer_report(alloc, guarded, tables, &query, rows)
+    match planned {
+        Planned::Covered(plans) => {
+            wanted_by(alloc, guarded, tables, &query, &plans, budget, steps)
+        }
+        Planned::Uncovered(found) => Ok(refused(refusal_of_block(alloc, found.block, found.why)?)),
+        Planned::TooWide => Ok(refused(Refusal::Syntax)),
+    }
 }

@@ -1,4 +1,4 @@
-//! Compares what sessions announce and answer of queries with what plain programs give.
+//! Compares what sessions announce and answer of queries with what reference programs give.
 //!
 //! Drawn queries over drawn rows and constraints are announced, answered and refused by sessions as by the plain
 //! programs of `reference_coverage`, `reference_evaluation` and `full_meaning`. Those of one block are also handed to
@@ -9,7 +9,6 @@ ghost use Rattle.std.specs.Prelude.{◌≡◌, ◌<◌};
 
 mod answers;
 mod coverage;
-mod numbers;
 mod queries;
 
 use beas_core::Steps;

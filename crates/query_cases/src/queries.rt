@@ -1,7 +1,8 @@
 // Drawn queries over small drawn tables.
-use crate::answers::wanted_report;
-use beas_core::{Fail, Limits, List, NoMemory, Refusal, Row, Steps, Text};
+use crate::answers::{Wanted, wanted_of};
+use beas_core::{Fail, Limits, List, NoMemory, Row, Steps, Text};
 use drawn_scenes::{Draws, Twin, creations, draw_query, draw_scene, reports, tables_of};
+use reference_queries::GuidedBlocks;
 use report::{Report, text};
 use session::Session;
 use std::alloc::Global;
@@ -13,12 +14,14 @@ const QUERIES: u32 = 25;
 
 const BUDGET: u64 = 1000;
 
-/// How many queries are answered, not covered and above the budget, and how many scripts of them weren't reported so.
+/// How many queries are answered, not covered and above the budget; what the guided blocks find of those that are
+/// answered; and how many scripts of queries weren't reported so.
 #[derive(Clone, Copy)]
 struct Tally {
     answered: u32,
     open: u32,
     above: u32,
+    guided: GuidedBlocks,
     differing: u32,
 }
 
@@ -31,12 +34,13 @@ fn number_of(report: &Report) -> u32 {
 }
 
 impl Tally {
-    fn with(self, report: &Report) -> Tally {
-        let number = number_of(report);
+    fn with(self, wanted: &Wanted) -> Tally {
+        let number = number_of(&wanted.report);
         Tally {
             answered: self.answered.saturating_add(u32::from(number == 0)),
             open: self.open.saturating_add(u32::from(number == 19)),
             above: self.above.saturating_add(u32::from(number == 21)),
+            guided: self.guided.with(wanted.guided),
             differing: self
                 .differing
                 .saturating_add(u32::from(!matches!(number, 0 | 19 | 21))),
@@ -44,30 +48,40 @@ impl Tally {
     }
 }
 
-/// The report where its number is within the budget, and else the refusal.
-fn within_budget(report: Report) -> Report {
-    match report {
-        Report::Answered { bound, .. } if bound > u128::from(BUDGET) => {
-            let budget = BUDGET;
-            Report::Refused {
-                why: Refusal::OverBudget { bound, budget },
-            }
-        }
-        report => report,
+impl Tally {
+    fn said(self, alloc: Global, sessions: u32) -> Result<String, NoMemory> {
+        let Tally {
+            answered,
+            open,
+            above,
+            differing,
+            ..
+        } = self;
+        let GuidedBlocks {
+            guided,
+            finding,
+            ..
+        } = self.guided;
+        Ok(format!(in alloc;
+            "{sessions} sessions with {QUERIES} queries each: {answered} answered, {open} not covered, {above} above the budget, {guided} guided blocks of which {finding} find something, {differing} differences"
+        )?)
     }
 }
 
-/// What is to be reported of a query.
-fn report_of<L: Ledger>(
+/// What is to be reported of a query. One that the reference programs don't agree on is refused as 1.
+fn wanted_report<L: Ledger>(
     alloc: Global,
     guarded: &Guarded,
     tables: &[List<Row>],
     spelled: &str,
     steps: &mut Steps<L>,
-) -> Result<Report, NoMemory> {
-    match wanted_report(alloc, guarded, tables, spelled, steps) {
-        Ok(report) => Ok(within_budget(report)),
-        Err(Fail::Refused(why)) => Ok(Report::Refused { why }),
+) -> Result<Wanted, NoMemory> {
+    match wanted_of(alloc, guarded, tables, spelled, BUDGET, steps) {
+        Ok(wanted) => Ok(wanted),
+        Err(Fail::Refused(why)) => Ok(Wanted {
+            report: Report::Refused { why },
+            guided: GuidedBlocks::none(),
+        }),
         Err(Fail::NoMemory) => Err(NoMemory),
     }
 }
@@ -87,12 +101,13 @@ impl Queries {
         alloc: Global,
         number: u32,
         query: &Text,
-        report: &Report,
+        wanted: &Wanted,
     ) -> Result<(), NoMemory> {
-        self.tally = self.tally.with(report);
+        self.tally = self.tally.with(wanted);
         self.script.push_str(query.as_str())?;
         self.script.push_str(";")?;
-        self.wanted.push_str(text(alloc, number, report)?.as_str())
+        let report = text(alloc, number, &wanted.report)?;
+        self.wanted.push_str(report.as_str())
     }
 }
 
@@ -114,8 +129,8 @@ impl Queries {
         steps: &mut Steps<L>,
     ) -> Result<(), NoMemory> {
         let query = draw_query(alloc, draws)?;
-        let report = report_of(alloc, scene.guarded, scene.tables, query.as_str(), steps)?;
-        self.add(alloc, number, &query, &report)
+        let wanted = wanted_report(alloc, scene.guarded, scene.tables, query.as_str(), steps)?;
+        self.add(alloc, number, &query, &wanted)
     }
 }
 
@@ -218,19 +233,12 @@ pub fn try_queries<L: Ledger>(
         answered: 0,
         open: 0,
         above: 0,
+        guided: GuidedBlocks::none(),
         differing: 0,
     };
     let tables = creations(alloc)?;
     for seed in 0..sessions {
         tally = try_session(alloc, tables.as_str(), u64::from(seed), tally, steps)?;
     }
-    let Tally {
-        answered,
-        open,
-        above,
-        differing,
-    } = tally;
-    Ok(format!(in alloc;
-        "{sessions} sessions with {QUERIES} queries each: {answered} answered, {open} not covered, {above} above the budget, {differing} differences"
-    )?)
+    tally.said(alloc, sessions)
 }

@@ -20,7 +20,7 @@ pub use classes::{
     class_at, classes_at, classes_in, constant_classes, has_class, output_classes, start_classes,
 };
 pub use coverage::{covered_set, is_covered, reason};
-pub use derivations::{bound_after, columns_of};
+pub use derivations::{bound_after, columns_of, greedy_steps};
 pub use lists::{append, with_first};
 pub use numbers::announced_number;
 pub use pruning::derivation;
