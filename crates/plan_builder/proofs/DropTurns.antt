@@ -1,21 +1,19 @@
 -- A pass over the uses of a derivation, one at a time.
-use Rattle.std.proofs.Common.{◌≡◌, ◌&&◌, ◌+◌, ◌*◌, ◌<◌, ◌≤◌, ◌^◌, ℕ, Bool, true, false, not, cond, nat_lt, List, [], ◌∷◌, length, map, drop, get_or, Option, Some, None, ap, sym, ◌∙◌, arith}
-use Rattle.std.specs.List.{find, list_all}
-use Rattle.std.specs.Prelude.{MatchOption}
+use Rattle.std.proofs.Common.{◌≡◌, ◌&&◌, ◌+◌, ◌<◌, ◌≤◌, ℕ, Bool, true, false, not, cond, nat_lt, List, [], ◌∷◌, length, map, drop, get_or, Option, Some, None, ap, sym, ◌∙◌, arith}
+use Rattle.std.specs.List.{find}
 use Rattle.std.proofs.lemmas.List.{drop_more, drop_all}
 use Rattle.std.proofs.lemmas.Bool.Decides.{nat_tests}
 use Rattle.beas_core.specs.declared.plan.Normal.{Normal}
+use Rattle.beas_core.specs.declared.plan.Sizes.{Sizes}
 use Rattle.beas_core.specs.declared.query.Place.{Place}
 use Rattle.beas_core.specs.Types.{ClassSet, Use}
-use Rattle.beas_core.specs.Coverage.{atoms_of, holds_classes, is_open, key_classes, needed_places}
+use Rattle.beas_core.specs.Coverage.{holds_classes, is_open, key_classes, needed_places}
 use Rattle.beas_core.specs.Derivations.{step_of, with_use}
-use Rattle.beas_core.specs.Numbers.{cap}
 use Rattle.attribute_closure.specs.declared.uses.UseAt.{UseAt}
 use Rattle.attribute_closure.specs.Uses.{as_use}
-use Rattle.plan_builder.specs.Plans.{served_among}
-use Rattle.plan_builder.specs.Trials.{all_are_served, are_sound, binds_needed, capped_uses, keys_are_bound, more_size, number_from, number_or_cap, set_after, steps_from, uses_pruned_at, uses_without}
+use Rattle.plan_builder.specs.Fronts.{SizesAre, reads_or_cap}
+use Rattle.plan_builder.specs.Trials.{all_are_served, are_sound, binds_needed, capped_uses, keys_are_bound, set_after, steps_from, uses_pruned_at, uses_without}
 use Rattle.plan_builder.proofs.CandidateFacts.{none_open, some_open}
-use Rattle.plan_builder.proofs.Turns.{atoms_more, atoms_end}
 
 abbrev pub uses_left : ℕ → List UseAt → List Use
 uses_left i us = map as_use (drop i us)
@@ -34,14 +32,6 @@ module _ (normal : Normal) (set : ClassSet) (us : List UseAt) (i : ℕ) where
     keys_go_on h = ap (keys_are_bound normal set) one_more
         ∙ ap (λ b. b && keys_are_bound normal (with_use normal set (as_use (get_or us i d))) (uses_left (i + 1) us)) h
 
-    pub set_goes_on : set_after normal set (uses_left i us) ≡ set_after normal (with_use normal set (as_use (get_or us i d))) (uses_left (i + 1) us)
-    set_goes_on = ap (set_after normal set) one_more
-
-    pub number_goes_on : (b : ℕ) → number_from normal set b (uses_left i us)
-        ≡ b * (get_or us i d).access.now.bound + number_from normal (with_use normal set (as_use (get_or us i d)))
-        (more_size normal set b (as_use (get_or us i d))) (uses_left (i + 1) us)
-    number_goes_on b = ap (number_from normal set b) one_more
-
     pub steps_go_on : steps_from normal set (uses_left i us)
         ≡ step_of normal set (as_use (get_or us i d)) ∷ steps_from normal (with_use normal set (as_use (get_or us i d))) (uses_left (i + 1) us)
     steps_go_on = ap (steps_from normal set) one_more
@@ -53,35 +43,16 @@ module _ (normal : Normal) (set : ClassSet) (us : List UseAt) (i : ℕ) where
     pub keys_end : keys_are_bound normal set (uses_left i us) ≡ true
     keys_end = ap (keys_are_bound normal set) none_left
 
-    pub set_end : set_after normal set (uses_left i us) ≡ set
-    set_end = ap (set_after normal set) none_left
-
-    pub number_end : (b : ℕ) → number_from normal set b (uses_left i us) ≡ 0
-    number_end b = ap (number_from normal set b) none_left
-
     pub steps_end : steps_from normal set (uses_left i us) ≡ []
     steps_end = ap (steps_from normal set) none_left
 
-module _ (normal : Normal) (us : List Use) (i : ℕ) where
-  abbrev pub served_left : Bool
-  served_left = list_all (λ atom. served_among normal atom us) (drop i (atoms_of normal))
-
-  pub served_broken : i < length normal.atoms → served_among normal i us ≡ false → served_left ≡ false
-  served_broken l h = ap (list_all (λ atom. served_among normal atom us)) (atoms_more normal i l)
-      ∙ ap (λ b. b && list_all (λ atom. served_among normal atom us) (drop (i + 1) (atoms_of normal))) h
-
-  pub served_goes_on : i < length normal.atoms → served_among normal i us ≡ true
-      → served_left ≡ list_all (λ atom. served_among normal atom us) (drop (i + 1) (atoms_of normal))
-  served_goes_on l h = ap (list_all (λ atom. served_among normal atom us)) (atoms_more normal i l)
-      ∙ ap (λ b. b && list_all (λ atom. served_among normal atom us) (drop (i + 1) (atoms_of normal))) h
-
-  pub served_end : length normal.atoms ≤ i → served_left ≡ true
-  served_end l = ap (list_all (λ atom. served_among normal atom us)) (atoms_end normal i l)
-
-pub number_is_capped : (o : Option ℕ) (n : ℕ) → MatchOption o (2 ^ 128 ≤ n) (λ r. r ≡ n) → MatchOption o (Unit {0}) (λ r. r < 2 ^ 128)
-    → number_or_cap o ≡ cap n
-number_is_capped None n h g = grind (arith, nat_tests, h)
-number_is_capped (Some r) n h g = grind (arith, nat_tests, h, g)
+pub reads_are_capped : (normal : Normal) (start : ClassSet) (us : List Use) (sizes : Option Sizes) → SizesAre normal start us sizes
+    → reads_or_cap sizes ≡ capped_uses normal start us
+reads_are_capped normal start us None h = let past = h.are in grind (arith, nat_tests, past)
+reads_are_capped normal start us (Some sizes) h =
+    let is = ap (λ (s : Sizes). s.reads) h.are in
+    let small = h.small in
+    grind (arith, nat_tests, is, small)
 
 module _ (normal : Normal) (start : ClassSet) (us : List Use) where
   pub unbound_key : keys_are_bound normal start us ≡ false → false ≡ are_sound normal start us

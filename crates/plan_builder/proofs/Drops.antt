@@ -1,7 +1,7 @@
 -- Dropping steps, by their uses alone.
 use Rattle.std.proofs.Common.{◌≡◌, ◌&&◌, ◌+◌, ◌*◌, ◌==◌, ℕ, zero, suc, Bool, true, false, not, cond, nat_lt, List, [], ◌∷◌, ◌++◌, length, map, take, drop, refl, ap, sym, ◌∙◌, subst}
 use Rattle.std.specs.List.{list_all, list_any}
-use Rattle.std.proofs.lemmas.List.{map-append, length-map}
+use Rattle.std.proofs.lemmas.List.{map-append, length-map, take-map, drop-map}
 use Rattle.std.proofs.lemmas.Bool.{eqb-true}
 use Rattle.beas_core.specs.declared.schema.Access.{Access}
 use Rattle.beas_core.specs.declared.schema.AccessId.{AccessId}
@@ -39,19 +39,9 @@ all-both p (x ∷ xs) ys h g =
 all-without : {A : Type 0} (p : A → Bool) (n : ℕ) (xs : List A) → list_all p xs ≡ true → list_all p (uses_without n xs) ≡ true
 all-without p n xs h = all-both p (take n xs) (drop (n + 1) xs) (all-take p n xs h) (all-drop p (n + 1) xs h)
 
-map-taken : {A B : Type 0} (f : A → B) (n : ℕ) (xs : List A) → map f (take n xs) ≡ take n (map f xs)
-map-taken f zero xs = refl
-map-taken f (suc n) [] = refl
-map-taken f (suc n) (x ∷ xs) = ap (λ ys. f x ∷ ys) (map-taken f n xs)
-
-map-dropped : {A B : Type 0} (f : A → B) (n : ℕ) (xs : List A) → map f (drop n xs) ≡ drop n (map f xs)
-map-dropped f zero xs = refl
-map-dropped f (suc n) [] = refl
-map-dropped f (suc n) (x ∷ xs) = map-dropped f n xs
-
 pub map-without : {A B : Type 0} (f : A → B) (n : ℕ) (xs : List A) → map f (uses_without n xs) ≡ uses_without n (map f xs)
-map-without f n xs = map-append f (take n xs) (drop (n + 1) xs) ∙ ap (λ ys. ys ++ map f (drop (n + 1) xs)) (map-taken f n xs)
-    ∙ ap (λ ys. take n (map f xs) ++ ys) (map-dropped f (n + 1) xs)
+map-without f n xs = map-append f (take n xs) (drop (n + 1) xs) ∙ ap (λ ys. ys ++ map f (drop (n + 1) xs)) (sym (take-map f n xs))
+    ∙ ap (λ ys. take n (map f xs) ++ ys) (sym (drop-map f (n + 1) xs))
 
 all-same : {A : Type 0} (p q : A → Bool) → ((x : A) → p x ≡ q x) → (xs : List A) → list_all p xs ≡ list_all q xs
 all-same p q e [] = refl
@@ -110,8 +100,9 @@ module _ (normal : Normal) (accesses : List Access) where
   pub with_adds_steps : (set : ClassSet) (steps : List DStep) → with_adds normal accesses set steps ≡ steps_from normal set (uses_in steps)
   with_adds_steps set [] = refl
   with_adds_steps set (s ∷ steps) =
-      ap (λ ss. record s { adds = adds_class normal set (use_of accesses s) } ∷ ss) (with_adds_steps (bound_by normal accesses set s) steps)
-      ∙ ap (λ i. record s { access = i; adds = adds_class normal set (use_of accesses s) } ∷ steps_from normal (bound_by normal accesses set s) (uses_in steps))
+      let adds = adds_class normal set (use_of accesses s) in
+      ap (λ ss. record s { adds = adds } ∷ ss) (with_adds_steps (bound_by normal accesses set s) steps)
+      ∙ ap (λ i. record s { access = i; adds = adds } ∷ steps_from normal (bound_by normal accesses set s) (uses_in steps))
       (sym (id_found accesses s.access))
 
   number_same : (set : ClassSet) (b : ℕ) (steps : List DStep)
@@ -201,6 +192,12 @@ module _ (normal : Normal) (accesses : List Access) where
     as_uses_below zero steps us h = h
     as_uses_below (suc n) steps us h =
         as_uses_below n (pruned_at normal accesses start n steps) (uses_pruned_at normal start n us) (as_uses_at n steps us h)
+
+    -- sound steps are so by their uses
+    pub sound_by_uses : (steps : List DStep) → IsSound normal accesses start steps → are_sound normal start (uses_in steps) ≡ true
+    sound_by_uses steps sound =
+        let parts = sound_parts normal accesses start steps sound.sound in
+        sym (ap (is_sound normal accesses start) (nothing_new start steps parts.each.adds) ∙ sound_same steps parts.each.tables) ∙ sound.sound
 
     -- the steps that are left are those of the uses that are left
     pub left_by_uses : (steps : List DStep) → IsSound normal accesses start steps

@@ -1,8 +1,9 @@
 -- Sets of classes, grown column by column.
-use Rattle.std.proofs.Common.{◌≡◌, ◌<◌, ◌≤◌, ◌+◌, ℕ, true, List, [], ◌∷◌, ◌++◌, length, map, take, get_or, refl, ap, sym, ◌∙◌, add-one}
+use Rattle.std.proofs.Common.{◌≡◌, ◌<◌, ◌≤◌, ◌+◌, ℕ, true, List, [], ◌∷◌, length, map, take, get_or, ap, sym, ◌∙◌, add-one}
 use Rattle.std.specs.List.{slice_set}
 use Rattle.std.proofs.Math.Seq.{take-suc}
 use Rattle.std.proofs.lemmas.List.{map-append}
+use Rattle.std.proofs.lemmas.List.Sums.{fold-append}
 use Rattle.beas_core.specs.declared.schema.ColumnId.{ColumnId}
 use Rattle.beas_core.specs.declared.query.Place.{Place}
 use Rattle.beas_core.specs.declared.plan.Normal.{Normal}
@@ -43,11 +44,7 @@ pub places_past : (normal : Normal) (set : ClassSet) (places : List Place) (i : 
     → with_classes set (map (place_class normal) (take (i + 1) places)) ≡ with_classes set (map (place_class normal) (take i places))
 places_past normal set places i d l past = classes_past (place_class normal) set places i d l past
 
-with_append : (set : ClassSet) (xs ys : List ℕ) → with_classes set (xs ++ ys) ≡ with_classes (with_classes set xs) ys
-with_append set [] ys = refl
-with_append set (x ∷ xs) ys = with_append (slice_set set x true) xs ys
-
 pub with_members : (normal : Normal) (set : ClassSet) (u : Use)
     → with_classes (with_classes set (map (class_at normal u.atom) u.access.key)) (map (class_at normal u.atom) u.access.fetched) ≡ with_use normal set u
-with_members normal set u = sym (with_append set (key_classes normal u) (fetched_classes normal u))
+with_members normal set u = sym (fold-append (λ s c. slice_set s c true) set (key_classes normal u) (fetched_classes normal u))
     ∙ ap (with_classes set) (sym (map-append (class_at normal u.atom) u.access.key u.access.fetched))

@@ -1,5 +1,6 @@
 pub mod Candidates
 pub mod Choices
+pub mod Fronts
 pub mod Parts
 pub mod Plans
 pub mod Preparation

@@ -4,7 +4,7 @@
 --     number_from normal set b us       the reads of its steps at most, where b valuations stand before the first
 --     are_sound normal start us         the keys are bound, and after the last use all that the block needs is, and each atom is served
 --     uses_pruned normal start us       those that are left after each, from the last to the first, has gone where it may
-use Rattle.std.specs.Prelude.{◌&&◌, ◌+◌, ◌*◌, ◌^◌, if◌then◌else◌, Bool, true, not, nat_lt, ℕ, zero, suc, List, [], ◌∷◌, ◌++◌, length, fold, take, drop, Option, Some, None}
+use Rattle.std.specs.Prelude.{◌&&◌, ◌+◌, ◌*◌, if◌then◌else◌, Bool, true, not, nat_lt, ℕ, zero, suc, List, [], ◌∷◌, ◌++◌, length, fold, take, drop}
 use Rattle.std.specs.List.{list_any, list_all}
 use Rattle.beas_core.specs.declared.plan.DStep.{DStep}
 use Rattle.beas_core.specs.declared.plan.Normal.{Normal}
@@ -44,11 +44,6 @@ are_sound normal start us =
 
 abbrev pub capped_uses : Normal → ClassSet → List Use → ℕ
 capped_uses normal start us = cap (number_from normal start 1 us)
-
--- nothing stands for a number past 2^128 - 1
-abbrev pub number_or_cap : Option ℕ → ℕ
-number_or_cap None = 2 ^ 128
-number_or_cap (Some number) = number
 
 abbrev pub uses_without : {A : Type 0} → ℕ → List A → List A
 uses_without n us = take n us ++ drop (n + 1) us

@@ -4,6 +4,7 @@
 mod candidates;
 mod choices;
 mod derivations;
+mod fronts;
 mod preparation;
 mod pruning;
 mod sets;

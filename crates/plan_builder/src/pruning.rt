@@ -1,19 +1,27 @@
 // Steps that a derivation does without: each is tried, from the last to the first, by the uses of constraints alone.
-ghost use Rattle.std.specs.Prelude.{◌≡◌, ◌≤◌, ◌<◌, ◌^◌, All, IfOk, IfSome, IsTrue, MatchOption, length, map, nat_lt, not};
+ghost use Rattle.std.specs.Prelude.{◌≡◌, ◌≤◌, ◌<◌, All, IfOk, IsTrue, length, map, nat_lt, not, take};
 ghost use Rattle.std.specs.Bool.{OnTrue};
 ghost use Rattle.beas_core.specs.Derivations.{IsSound, is_live, use_of};
 ghost use Rattle.beas_core.specs.Pruning.{pruned};
 ghost use Rattle.beas_core.specs.Shapes.{EachIdOnce};
+ghost use Rattle.beas_core.specs.Types.{ClassSet};
 ghost use Rattle.attribute_closure.specs.Uses.{as_use};
-ghost use Rattle.plan_builder.specs.Plans.{served_among};
-ghost use Rattle.plan_builder.specs.Trials.{all_are_served, are_sound, capped_uses, keys_are_bound as all_keys_are_bound, number_from, number_or_cap, set_after, steps_from, uses_pruned, uses_pruned_at, uses_without};
+ghost use Rattle.plan_builder.specs.Fronts.{IsFront, IsKept, reads_or_cap};
+ghost use Rattle.plan_builder.specs.Trials.{all_are_served, are_sound, steps_from, uses_pruned, uses_pruned_at, uses_without};
 
 use crate::derivations::{Plan, is_served_among, take_step};
-use crate::sets::{add_use, adds};
-use attribute_closure::{UseAt, holds_columns, open_place};
+use crate::fronts::{Front, fronts_of, take_uses};
+use attribute_closure::{UseAt, open_place};
 use beas_core::{Access, DStep, List, NoMemory, Normal, Sizes};
-use bound_calculator::{access_with, with_step};
+use bound_calculator::access_with;
 use std::alloc::Global;
+
+/// The uses that are left of a derivation, and the sizes of their steps.
+#[derive(Drop)]
+pub struct Kept<'a> {
+    pub uses: List<UseAt<'a>>,
+    pub sizes: Option<Sizes>,
+}
 
 // The use of each step, its constraint looked up once.
 fn uses_of_steps<'a>(
@@ -38,139 +46,83 @@ fn uses_of_steps<'a>(
     Ok(found)
 }
 
-// Adds the classes of each use to the set. False where the set doesn't hold the key of one when it comes up.
-#[tactic(auto, using(crate::proofs::DropTurns::keys_broken, crate::proofs::DropTurns::keys_go_on, crate::proofs::DropTurns::set_goes_on, crate::proofs::DropTurns::keys_end, crate::proofs::DropTurns::set_end))]
-fn keys_are_bound(block: &Normal, uses: &[UseAt<'_>], set: &mut [bool]) -> bool
-    ensures keys { result ≡ all_keys_are_bound block.now set.old (map as_use uses.now) }
-    ensures set { OnTrue result (set.new ≡ set_after block.now set.old (map as_use uses.now)) }
+// Whether uses that serve all atoms do so without the one at a place: only the atom of that one is looked at.
+fn is_served_besides(block: &Normal, uses: &[UseAt<'_>], place: usize) -> bool
+    requires { place < length uses.now }
+    ensures { IsTrue (all_are_served block.now (map as_use uses.now))
+        → result ≡ all_are_served block.now (uses_without place (map as_use uses.now)) }
 {
-    for found in uses {
-        if !holds_columns(block, set, found.atom, found.access.key.as_slice()) {
-            return false;
-        }
-        add_use(block, found, set);
+    let atom = uses[place].atom;
+    if usize::from(atom) >= block.atoms.len() {
+        return true;
     }
-    true
+    is_served_among(block, &uses[..place], atom) || is_served_among(block, &uses[place + 1..], atom)
 }
 
-#[tactic(auto, using(crate::proofs::DropTurns::served_broken, crate::proofs::DropTurns::served_goes_on, crate::proofs::DropTurns::served_end))]
-fn all_served(block: &Normal, uses: &[UseAt<'_>]) -> bool
-    requires { length block.now.atoms < 65536 }
-    ensures { result ≡ all_are_served block.now (map as_use uses.now) }
-{
-    for atom in 0..block.atoms.len() as u16 {
-        if !is_served_among(block, uses, atom) {
-            return false;
-        }
-    }
-    true
-}
-
-fn bind_all(block: &Normal, uses: &[UseAt<'_>], set: &mut [bool]) -> bool
-    requires atoms { length block.now.atoms < 65536 }
+// Whether uses that are sound are so without the one at a place. `front` is what stands before it, and what the others
+// come to where they are sound.
+fn is_sound_without(block: &Normal, uses: &[UseAt<'_>], place: usize, front: &mut Front) -> bool
     requires needed { length block.now.needed ≤ 65536 }
-    ensures { result ≡ are_sound block.now set.old (map as_use uses.now) }
+    requires place { place < length uses.now }
+    ensures sound { (start : ClassSet) → IsFront block.now start (take place (map as_use uses.now)) front.old
+        → IsTrue (are_sound block.now start (map as_use uses.now))
+        → result ≡ are_sound block.now start (uses_without place (map as_use uses.now)) }
+    ensures front { (start : ClassSet) → IsFront block.now start (take place (map as_use uses.now)) front.old
+        → OnTrue result (IsFront block.now start (uses_without place (map as_use uses.now)) front.new) }
 {
-    if !keys_are_bound(block, uses, set) {
+    if !take_uses(block, &uses[place + 1..], front) {
         return false;
     }
-    match open_place(block, set) {
+    match open_place(block, &front.set) {
         Some(_place) => false,
-        None => all_served(block, uses),
+        None => is_served_besides(block, uses, place),
     }
 }
 
-fn is_sound(
-    alloc: Global,
-    block: &Normal,
-    start: &[bool],
-    uses: &[UseAt<'_>],
-) -> Result<bool, NoMemory>
-    requires atoms { length block.now.atoms < 65536 }
-    requires needed { length block.now.needed ≤ 65536 }
-    ensures { IfOk result (λ sound. sound ≡ are_sound block.now start.now (map as_use uses.now)) }
-{
-    let mut set = Vec::from_slice(alloc, start)?;
-    Ok(bind_all(block, uses, &mut set))
-}
-
-// The reads of the steps at most, where one valuation stands before the first. Nothing where they pass 2^128 - 1.
-#[tactic(auto, using(crate::proofs::DropTurns::number_goes_on, crate::proofs::DropTurns::number_end))]
-fn reads_of(block: &Normal, uses: &[UseAt<'_>], set: &mut [bool]) -> Option<u128>
-    ensures reads { MatchOption result (2 ^ 128 ≤ number_from block.now set.old 1 (map as_use uses.now))
-        (λ reads. reads ≡ number_from block.now set.old 1 (map as_use uses.now)) }
-    ensures small { IfSome result (λ reads. reads < 2 ^ 128) }
-{
-    let mut sizes = Sizes { reads: 0, last: 1 };
-    for found in uses {
-        let adds = adds(block, set, found);
-        sizes = with_step(sizes, adds, found.access.bound)?;
-        add_use(block, found, set);
-    }
-    Some(sizes.reads)
-}
-
-#[tactic(auto, using(crate::proofs::DropTurns::number_is_capped))]
-fn number_of(
-    alloc: Global,
-    block: &Normal,
-    start: &[bool],
-    uses: &[UseAt<'_>],
-) -> Result<Option<u128>, NoMemory>
-    ensures { IfOk result (λ number. number_or_cap number ≡ capped_uses block.now start.now (map as_use uses.now)) }
-{
-    let mut set = Vec::from_slice(alloc, start)?;
-    Ok(reads_of(block, uses, &mut set))
-}
-
-// Nothing stands for a number past all others.
-fn is_no_greater(number: Option<u128>, most: Option<u128>) -> bool
-    ensures { result ≡ not (nat_lt (number_or_cap most) (number_or_cap number)) }
+// Whether the reads are no more. No sizes stand for a number past all others.
+fn is_no_greater(sizes: Option<Sizes>, most: Option<Sizes>) -> bool
+    ensures { result ≡ not (nat_lt (reads_or_cap most) (reads_or_cap sizes)) }
 {
     match most {
         None => true,
-        Some(most) => match number {
+        Some(most) => match sizes {
             None => false,
-            Some(number) => number <= most,
+            Some(sizes) => sizes.reads <= most.reads,
         },
     }
 }
 
-fn without<'a>(alloc: Global, place: usize, uses: &[UseAt<'a>]) -> Result<List<UseAt<'a>>, NoMemory>
-    requires { place < length uses.now }
-    ensures { IfOk result (λ less. less ≡ uses_without place uses.now) }
-{
-    let mut less = Vec::from_slice(alloc, &uses[..place])?;
-    less.extend_from_slice(&uses[place + 1..])?;
-    Ok(List::from_vec(less))
-}
-
-// The uses without the one at a place, where it may go.
+// The uses without the one at a place, where it may go. `front` is what stands before it, so that a trial reads the
+// later uses alone.
 fn pruned_at<'a>(
     alloc: Global,
     block: &Normal,
-    start: &[bool],
+    front: &Front,
     place: usize,
-    kept: List<UseAt<'a>>,
-) -> Result<List<UseAt<'a>>, NoMemory>
-    requires atoms { length block.now.atoms < 65536 }
+    kept: Kept<'a>,
+) -> Result<Kept<'a>, NoMemory>
     requires needed { length block.now.needed ≤ 65536 }
-    requires place { place < length kept }
-    ensures left { IfOk result (λ left.
-        map as_use left ≡ uses_pruned_at block.now start.now place (map as_use kept.entry)) }
-    ensures length { IfOk result (λ left. place ≤ length left) }
+    requires place { place < length kept.uses }
+    ensures before { IfOk result (λ left. take place (map as_use left.uses) ≡ take place (map as_use kept.entry.uses)) }
+    ensures length { IfOk result (λ left. place ≤ length left.uses) }
+    ensures pruned { IfOk result (λ left. (start : ClassSet)
+        → IsFront block.now start (take place (map as_use kept.entry.uses)) front.now → IsKept block.now start kept.entry
+        → IsKept block.now start left
+        × (map as_use left.uses ≡ uses_pruned_at block.now start place (map as_use kept.entry.uses))) }
 {
-    let less = without(alloc, place, kept.as_slice())?;
-    if !is_sound(alloc, block, start, less.as_slice())? {
+    let mut front = front.copy(alloc)?;
+    if !is_sound_without(block, kept.uses.as_slice(), place, &mut front) {
         return Ok(kept);
     }
-    let most = number_of(alloc, block, start, kept.as_slice())?;
-    let number = number_of(alloc, block, start, less.as_slice())?;
-    if is_no_greater(number, most) {
-        Ok(less)
-    } else {
-        Ok(kept)
+    if !is_no_greater(front.sizes, kept.sizes) {
+        return Ok(kept);
     }
+    let mut uses = kept.uses.into_vec();
+    uses.remove(place);
+    Ok(Kept {
+        uses: List::from_vec(uses),
+        sizes: front.sizes,
+    })
 }
 
 fn prune<'a>(
@@ -179,17 +131,21 @@ fn prune<'a>(
     start: &[bool],
     uses: List<UseAt<'a>>,
 ) -> Result<List<UseAt<'a>>, NoMemory>
-    requires atoms { length block.now.atoms < 65536 }
     requires needed { length block.now.needed ≤ 65536 }
+    requires sound { IsTrue (are_sound block.now start.now (map as_use uses)) }
     ensures { IfOk result (λ left. map as_use left ≡ uses_pruned block.now start.now (map as_use uses.entry)) }
 {
-    let mut kept = uses;
-    let mut place = kept.len();
+    let fronts = fronts_of(alloc, block, start, uses.as_slice())?;
+    let mut place = uses.len();
+    let mut kept = Kept {
+        uses,
+        sizes: fronts[place].sizes,
+    };
     while place > 0 {
         place -= 1;
-        kept = pruned_at(alloc, block, start, place, kept)?;
+        kept = pruned_at(alloc, block, &fronts[place], place, kept)?;
     }
-    Ok(kept)
+    Ok(kept.uses)
 }
 
 #[tactic(auto, using(crate::proofs::DropTurns::steps_go_on, crate::proofs::DropTurns::steps_end))]
@@ -219,7 +175,6 @@ pub fn needed_steps(
     start: &[bool],
     steps: &[DStep],
 ) -> Result<List<DStep>, NoMemory>
-    requires atoms { length block.now.atoms < 65536 }
     requires needed { length block.now.needed ≤ 65536 }
     requires ids { EachIdOnce accesses.now }
     requires sound { IsSound block.now accesses.now start.now steps.now }

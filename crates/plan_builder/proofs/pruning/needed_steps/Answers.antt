@@ -2,9 +2,14 @@ use Rattle.std.proofs.Common.{◌≡◌, ◌∙◌, List, ap, map, subst}
 use Rattle.std.specs.Result.{IfOk}
 use Rattle.beas_core.specs.declared.plan.DStep.{DStep}
 use Rattle.attribute_closure.specs.Uses.{as_use}
-use Rattle.plan_builder.specs.Trials.{steps_from, uses_pruned}
-use Rattle.plan_builder.proofs.Drops.{left_by_uses}
+use Rattle.plan_builder.specs.Trials.{are_sound, steps_from, uses_pruned}
+use Rattle.plan_builder.proofs.Drops.{left_by_uses, sound_by_uses}
 use Rattle.plan_builder.proofs.pruning.needed_steps.Goals as goal
+
+pub prune-requires-clause-sound : goal.prune-requires-clause-sound
+prune-requires-clause-sound c =
+    ap (are_sound c.args.block.now c.args.start.now) c.in_ok-uses.ensures
+    ∙ sound_by_uses c.args.block.now c.args.accesses.now c.args.start.now c.args.steps.now c.requires.sound
 
 pub returns : goal.returns
 returns c =

@@ -1,36 +1,49 @@
-use Rattle.std.proofs.Common.{◌∙◌, ap, map, sym}
+use Rattle.std.proofs.Common.{◌≡◌, ◌++◌, ◌∙◌, List, true, add-one, ap, arith, drop, map, subst, sym, take}
+use Rattle.std.specs.List.{remove}
+use Rattle.std.proofs.lemmas.List.{length-map}
+use Rattle.beas_core.specs.Types.{Use}
+use Rattle.attribute_closure.specs.declared.uses.UseAt.{UseAt}
 use Rattle.attribute_closure.specs.Uses.{as_use}
-use Rattle.plan_builder.specs.Trials.{are_sound, capped_uses, number_or_cap, uses_without}
+use Rattle.plan_builder.specs.Fronts.{IsFront, SizesAre, reads_or_cap}
+use Rattle.plan_builder.specs.Trials.{are_sound, uses_without}
 use Rattle.plan_builder.proofs.Drops.{map-without}
-use Rattle.plan_builder.proofs.DropTurns.{costs_more, may_go, not_sound}
+use Rattle.plan_builder.proofs.DropTurns.{may_go, reads_are_capped}
+use Rattle.plan_builder.proofs.FrontFacts.{copied, take-without}
 use Rattle.plan_builder.proofs.pruning.pruned_at.Goals as goal
 
-pub returns-then-not-branch-clause-left : goal.returns-then-not-branch-clause-left
-returns-then-not-branch-clause-left c =
-    let us = map as_use c.args.kept in
-    let less = ap (map as_use) (c.in_ok-less.ensures ∙ ap (uses_without c.args.place) c.as_slice.ensures) ∙ map-without as_use c.args.place c.args.kept in
-    not_sound c.args.block.now c.args.start.now us c.args.place
-    (ap (are_sound c.args.block.now c.args.start.now) (sym (ap (map as_use) c.as_slice-2.ensures ∙ less)) ∙ sym c.in_ok-is_sound.ensures
-    ∙ c.if-not-branch.true)
+pub returns-clause-before : goal.returns-clause-before
+returns-clause-before c =
+    let place = c.args.place in
+    let kept = c.args.kept.uses in
+    let gone = c.from_vec.ensures ∙ c.remove.ensures.items ∙ ap (λ (xs : List UseAt). remove xs place) c.into_vec-uses.ensures
+    ∙ ap (λ n. take place kept ++ drop n kept) (sym (add-one place)) in
+    let there = c.requires.place in
+    let long = length-map kept as_use in
+    ap (take place) (ap (map as_use) gone ∙ map-without as_use place kept)
+    ∙ take-without place place (map as_use kept) (omega arith) (omega (arith, there, long))
 
-pub returns-then-is_no_greater-clause-left : goal.returns-then-is_no_greater-clause-left
-returns-then-is_no_greater-clause-left c =
-    let us = map as_use c.args.kept in
-    let less = ap (map as_use) (c.in_ok-less.ensures ∙ ap (uses_without c.args.place) c.as_slice.ensures) ∙ map-without as_use c.args.place c.args.kept in
-    less ∙ may_go c.args.block.now c.args.start.now us c.args.place (number_or_cap c.in_ok-most.most) (number_or_cap c.in_ok-number.number)
-    (c.in_ok-most.ensures ∙ ap (λ xs. capped_uses c.args.block.now c.args.start.now (map as_use xs)) c.as_slice-3.ensures)
-    (c.in_ok-number.ensures ∙ ap (capped_uses c.args.block.now c.args.start.now) (ap (map as_use) c.as_slice-4.ensures ∙ less))
-    (ap (are_sound c.args.block.now c.args.start.now) (sym (ap (map as_use) c.as_slice-2.ensures ∙ less)) ∙ sym c.in_ok-is_sound.ensures
-    ∙ c.if-not-branch.false)
-    (sym c.is_no_greater.ensures ∙ c.if-is_no_greater.true)
-
-pub returns-clause-left : goal.returns-clause-left
-returns-clause-left c =
-    let us = map as_use c.args.kept in
-    let less = ap (map as_use) (c.in_ok-less.ensures ∙ ap (uses_without c.args.place) c.as_slice.ensures) ∙ map-without as_use c.args.place c.args.kept in
-    costs_more c.args.block.now c.args.start.now us c.args.place (number_or_cap c.in_ok-most.most) (number_or_cap c.in_ok-number.number)
-    (c.in_ok-most.ensures ∙ ap (λ xs. capped_uses c.args.block.now c.args.start.now (map as_use xs)) c.as_slice-3.ensures)
-    (c.in_ok-number.ensures ∙ ap (capped_uses c.args.block.now c.args.start.now) (ap (map as_use) c.as_slice-4.ensures ∙ less))
-    (ap (are_sound c.args.block.now c.args.start.now) (sym (ap (map as_use) c.as_slice-2.ensures ∙ less)) ∙ sym c.in_ok-is_sound.ensures
-    ∙ c.if-not-branch.false)
-    (sym c.is_no_greater.ensures ∙ c.if-is_no_greater.false)
+pub returns-clause-pruned : goal.returns-clause-pruned
+returns-clause-pruned c = λ start front kept.
+    let block = c.args.block.now in
+    let place = c.args.place in
+    let us = map as_use c.args.kept.uses in
+    let same = c.as_slice.ensures in
+    let gone = c.from_vec.ensures ∙ c.remove.ensures.items ∙ ap (λ (xs : List UseAt). remove xs place) c.into_vec-uses.ensures
+    ∙ ap (λ n. take place c.args.kept.uses ++ drop n c.args.kept.uses) (sym (add-one place)) in
+    let left = ap (map as_use) gone ∙ map-without as_use place c.args.kept.uses in
+    let before = subst (λ (xs : List UseAt). IsFront block start (take place (map as_use xs)) c.in_ok-front.front) (sym same)
+    (copied block start (take place us) c.args.front.now c.in_ok-front.front front c.in_ok-front.ensures.set c.in_ok-front.ensures.sizes) in
+    let told = c.is_sound_without.ensures.sound start before (subst (λ (xs : List UseAt). are_sound block start (map as_use xs) ≡ true) (sym same) kept.sound)
+    ∙ ap (λ (xs : List UseAt). are_sound block start (uses_without place (map as_use xs))) same in
+    let sound = sym told ∙ c.if-not-is_sound_without.false in
+    let come = subst (λ (xs : List UseAt). IsFront block start (uses_without place (map as_use xs)) c.is_sound_without.new.front) same
+    (c.if-not-is_sound_without.ensures.front start before) in
+    let most = reads_are_capped block start us c.args.kept.sizes kept.sizes in
+    let less = reads_are_capped block start (uses_without place us) c.is_sound_without.new.front.sizes come.sizes in (
+      record {
+        sound = subst (λ (vs : List Use). are_sound block start vs ≡ true) (sym left) sound;
+        sizes = subst (λ (vs : List Use). SizesAre block start vs c.is_sound_without.new.front.sizes) (sym left) come.sizes;
+      },
+      left ∙ may_go block start us place (reads_or_cap c.args.kept.sizes) (reads_or_cap c.is_sound_without.new.front.sizes) most less sound
+          (sym c.is_no_greater.ensures ∙ c.if-not-is_no_greater.false),
+    )
