@@ -158,7 +158,7 @@ plain-body items conditions =
     ap (λ is. as_body is (flat_map (λ s. s.1) (map lone items) ++ conditions)) (lone-items items)
     ∙ ap (λ cs. as_body items (cs ++ conditions)) (lone-conditions items)
 
-pub body-again : (a : List Symbol) (body : Body) → IsBody a body → AreLexical a → Again IsBody body_lexemes body
+body-again : (a : List Symbol) (body : Body) → IsBody a body → AreLexical a → Again IsBody body_lexemes body
 body-again a body (from_sources {a = z} {b = v} {ss = ss} {cs = cs} s w) l =
     let sources = sources-again s (front IsLexical (FROM ∷ z) v l).1 in
     let f_again : Again (Commas (λ s i. IsSource s (lone i))) (comma_list item_of) (sources.first ∷ sources.others) =
