@@ -48,11 +48,7 @@ impl Puts {
 }
 
 impl Sink for Puts {
-    ghost told = { λ _. false };
-
-    ghost sent = { λ _. [] };
-
-    ghost faults = { λ _. 0 };
+    ghost seen = { λ _. record { told = false; bytes = []; faults = 0 } };
 
     fn put(&mut self, bytes: &[u8]) -> Result<(), SinkError> {
         let Ok(copy) = bytes.to_vec(self.alloc) else {
