@@ -15,8 +15,8 @@ ghost use Rattle.session.specs.Effects.{answer_effect, explain_effect, plan_show
 ghost use Rattle.session.specs.Statements.{TreeIsWellFormed};
 ghost use Rattle.session.specs.Turns.{IsWithin};
 
-use crate::stored::Store;
 use crate::settings::Settings;
+use crate::stored::Store;
 use beas_core::{Answer, Fail, NoMemory, Prepared, Refusal, Steps, Text};
 use binder::bind;
 use catalogue::Catalogue;

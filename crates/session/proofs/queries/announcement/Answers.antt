@@ -2,7 +2,7 @@ use Rattle.std.proofs.Common.{sym, subst, Ok}
 use Rattle.std.proofs.lemmas.Result.{err_from_is_err_and}
 use Rattle.beas_core.specs.declared.errors.Fail.TheVariants.{Refused}
 use Rattle.beas_core.specs.declared.plan.Prepared.{Prepared}
-use Rattle.beas_core.specs.Fits.{Fits}
+use Rattle.beas_core.specs.Fits.{Fits, PlanFits}
 use Rattle.session.proofs.AnnouncedFacts.{announced, announced_unbound, announced_unprepared, within_same}
 use Rattle.session.proofs.CarryFacts.{failed}
 use Rattle.session.proofs.queries.announcement.Goals as goal
@@ -41,6 +41,13 @@ returns-clause-announced c =
     announced c.args.settings.now.limits.now c.args.settings.now.budget c.args.catalogue.now c.args.tree.now query
     c.in_ok-query.ensures.refused c.in_ok-query.ensures.query prepared
     (Ok c.in_ok-refuse_above.field-0) c.in_ok-prepared.ensures.prepared (sym c.in_ok-refuse_above.ensures)
+
+pub returns-clause-plan : goal.returns-clause-plan
+returns-clause-plan c =
+    let prepared = c.in_ok-prepared.prepared in
+    let kept = c.in_ok-refuse_above.field-0 in
+    subst (PlanFits c.args.catalogue.now.accesses) (sym (within_same c.args.settings.now.budget prepared kept (sym c.in_ok-refuse_above.ensures)))
+    c.in_ok-prepared.ensures.plan
 
 pub returns-clause-fits : goal.returns-clause-fits
 returns-clause-fits c =
