@@ -49,23 +49,24 @@ at_end f xs i all = ap (λ ys. first (flat_map f ys)) (drop_all i xs all)
 -- ---- calls that are refused by the first
 
 pub err_first : (T U : Type 0) (e : Fail) (xs ys : List Refusal) → IsRefusedAs {A = T} (Err e) (first xs) → IsRefusedAs {A = U} (Err e) (first (xs ++ ys))
-err_first T U NoMemory xs ys tells = tt
-err_first T U (Refused why) xs ys tells = first_some xs ys why tells
+err_first T U NoMemory xs ys refused = tt
+err_first T U (Refused why) xs ys refused = first_some xs ys why refused
 
-pub err_second : (T U : Type 0) (e : Fail) (xs ys : List Refusal) → first xs ≡ None → IsRefusedAs {A = T} (Err e) (first ys) → IsRefusedAs {A = U} (Err e) (first (xs ++ ys))
-err_second T U NoMemory xs ys none tells = tt
-err_second T U (Refused why) xs ys none tells = first_none xs ys none ∙ tells
+pub err_second : (T U : Type 0) (e : Fail) (xs ys : List Refusal) → first xs ≡ None → IsRefusedAs {A = T} (Err e) (first ys)
+    → IsRefusedAs {A = U} (Err e) (first (xs ++ ys))
+err_second T U NoMemory xs ys none refused = tt
+err_second T U (Refused why) xs ys none refused = first_none xs ys none ∙ refused
 
 pub err_next : (T U : Type 0) {X : Type 0} (e : Fail) (f : X → List Refusal) (xs : List X) (i : ℕ) (x : X) → first_from f xs i ≡ first (flat_map f xs)
     → i < length xs → x ≡ get_or xs i x
     → IsRefusedAs {A = T} (Err e) (first (f x)) → IsRefusedAs {A = U} (Err e) (first (flat_map f xs))
-err_next T U NoMemory f xs i x so_far below is tells = tt
-err_next T U (Refused why) f xs i x so_far below is tells = sym so_far ∙ next_err f xs i x why below is tells
+err_next T U NoMemory f xs i x so_far below is refused = tt
+err_next T U (Refused why) f xs i x so_far below is refused = sym so_far ∙ next_err f xs i x why below is refused
 
 -- a last call, after a list without refusals
 pub last_call : (T : Type 0) (r : Result T Fail) (xs ys : List Refusal) → first xs ≡ None → IsRefusedAs r (first ys) → IsRefusedAs r (first (xs ++ ys))
-last_call T (Ok x) xs ys none tells = first_none xs ys none ∙ tells
-last_call T (Err e) xs ys none tells = err_second T T e xs ys none tells
+last_call T (Ok x) xs ys none refused = first_none xs ys none ∙ refused
+last_call T (Err e) xs ys none refused = err_second T T e xs ys none refused
 
 pub flat_map_twice : {X Y : Type 0} (f : Y → List Refusal) (g : X → List Y) (xs : List X) → flat_map (λ x. flat_map f (g x)) xs ≡ flat_map f (flat_map g xs)
 flat_map_twice f g [] = refl
