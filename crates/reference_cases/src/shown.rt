@@ -1,8 +1,7 @@
 // What the reference programs give for a case, as text.
 ghost use Rattle.std.specs.Prelude.{◌≡◌, length, All};
 ghost use Rattle.beas_core.specs.Trees.{blocks_of};
-ghost use Rattle.reference_coverage.specs.Tasks.{HasFewAtoms};
-ghost use Rattle.reference_normal_form.specs.Few.{HasFewPlaces};
+ghost use Rattle.reference_coverage.specs.Tasks.{BlocksHaveFewPlaces, HasFewAtoms};
 
 use crate::blocks::show_block;
 use crate::starts::start_sizes;
@@ -74,7 +73,7 @@ fn show_run(
     full: &List<Row>,
 ) -> Result<(), Wrong>
     requires flags { length plans.now.guided.now ≡ length (blocks_of query.now) }
-    requires few { All HasFewPlaces (blocks_of query.now) }
+    requires few { BlocksHaveFewPlaces query.now }
 {
     show_total(shown, "size", query_size(plans, query))?;
     show_total(shown, "number", query_bound(plans, query))?;

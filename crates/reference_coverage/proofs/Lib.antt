@@ -1,2 +1,5 @@
+pub mod NumberFacts
+pub mod PruningFacts
 pub mod SetLengths
+pub mod TaskFacts
 pub mod Turns

@@ -220,7 +220,7 @@ fn pruned_at(
     requires atoms { length normal.now.atoms < 65536 }
     requires needed { length normal.now.needed < 65536 }
     requires place { place < length steps }
-    ensures steps { IfOk result (λ left. left ≡ pruned_at normal.now accesses.now start.now place steps.entry) }
+    ensures steps { IfOk result (λ left. left ≡ pruned_at normal.now accesses.now start.now place steps) }
     ensures len { IfOk result (λ left. place ≤ length left) }
 {
     let less = shorter(alloc, normal, accesses, start, place, steps.as_slice())?;
@@ -232,6 +232,7 @@ fn pruned_at(
     }
 }
 
+#[tactic(auto, using(crate::proofs::PruningFacts::last_tried))]
 fn pruned_below(
     alloc: Global,
     normal: &Normal,
@@ -243,13 +244,14 @@ fn pruned_below(
     requires atoms { length normal.now.atoms < 65536 }
     requires needed { length normal.now.needed < 65536 }
     requires count { count ≤ length steps }
-    ensures { IfOk result (λ left. left ≡ pruned_below normal.now accesses.now start.now count steps.entry) }
+    ensures { IfOk result (λ left. left ≡ pruned_below normal.now accesses.now start.now count steps) }
 {
     if count == 0 {
         return Ok(steps);
     }
     let left = pruned_at(alloc, normal, accesses, start, count - 1, steps)?;
-    pruned_below(alloc, normal, accesses, start, count - 1, left)
+    let all = pruned_below(alloc, normal, accesses, start, count - 1, left)?;
+    Ok(all)
 }
 
 /// The canonical derivation from a start set of classes, nothing where the block isn't covered.

@@ -1,9 +1,10 @@
 // The blocks of a query as they are to be planned: which have a guide, which are guided, and which aren't covered.
-ghost use Rattle.std.specs.Prelude.{◌≡◌, ◌<◌, ◌+◌, ◌^◌, ◌↔◌, length, map, unwrap_or, All, IfOk, IsTrue};
-ghost use Rattle.beas_core.specs.Guiding.{block_tasks, first_uncovered, first_uncovered_from, is_guided_task, task_reason, task_start, task_steps, tasks_from};
+ghost use Rattle.std.specs.Prelude.{◌≡◌, ◌<◌, ◌+◌, ◌^◌, ◌↔◌, [], ℕ, length, map, unwrap_or, All, IfOk, IsTrue};
+ghost use Rattle.beas_core.specs.Guiding.{block_tasks, first_uncovered, first_uncovered_from, is_guided_task, task_reason, task_start, task_steps};
+ghost use Rattle.beas_core.specs.Classes.{normal_of};
 ghost use Rattle.beas_core.specs.Coverage.{own_is_covered};
 ghost use Rattle.beas_core.specs.Trees.{blocks_of};
-ghost use Rattle.reference_coverage.specs.Tasks.{HasFewAtoms};
+ghost use Rattle.reference_coverage.specs.Tasks.{BlocksHaveFewPlaces, HasFewAtoms, tasks_with};
 ghost use Rattle.reference_normal_form.specs.Few.{HasFewPlaces};
 
 use crate::classes::{constant_classes, start_classes};
@@ -49,13 +50,17 @@ impl Model for Uncovered {
 }
 
 /// Whether each block of a query has fewer than 65536 atoms and fewer than 65536 places.
+#[tactic(auto, using(crate::proofs::TaskFacts::both_few))]
 pub fn blocks_have_few_places(alloc: Global, query: &Query) -> Result<bool, NoMemory>
-    ensures { IfOk result (λ few. IsTrue few ↔ All HasFewPlaces (blocks_of query.now)) }
+    ensures { IfOk result (λ few. IsTrue few ↔ BlocksHaveFewPlaces query.now) }
 {
     match &query.node {
         QueryNode::Block(block) => has_few_places(alloc, block),
         QueryNode::Union(left, right) | QueryNode::Except(left, right) => {
-            Ok(blocks_have_few_places(alloc, left)? && blocks_have_few_places(alloc, right)?)
+            let left_have = blocks_have_few_places(alloc, left)?;
+            let right_have = blocks_have_few_places(alloc, right)?;
+            // Both are worked out before they are joined: `&&` would part the proof in cases.
+            Ok(left_have & right_have)
         }
     }
 }
@@ -65,24 +70,34 @@ fn task_of<'a>(
     accesses: &'a [Access],
     has_guide: bool,
     block: &Block,
-) -> Result<List<Task<'a>>, NoMemory> {
-    let mut tasks = List::new(alloc);
-    tasks.push(Task {
+) -> Result<Task<'a>, NoMemory>
+    requires { HasFewPlaces block.now }
+    ensures { IfOk result (λ task. task
+        ≡ record { normal = normal_of block.now; accesses = accesses.now; has_guide = has_guide }) }
+{
+    Ok(Task {
         normal: normal_of(alloc, block)?,
         accesses,
         has_guide,
-    })?;
-    Ok(tasks)
+    })
 }
 
+// The tasks of a tree, where `has_guide` says whether it has a guide as a whole.
 fn tasks_from<'a>(
     alloc: Global,
     accesses: &'a [Access],
     has_guide: bool,
     query: &Query,
-) -> Result<List<Task<'a>>, NoMemory> {
+) -> Result<List<Task<'a>>, NoMemory>
+    requires { BlocksHaveFewPlaces query.now }
+    ensures { IfOk result (λ tasks. tasks ≡ tasks_with accesses.now has_guide query.now) }
+{
     match &query.node {
-        QueryNode::Block(block) => task_of(alloc, accesses, has_guide, block),
+        QueryNode::Block(block) => {
+            let mut tasks = List::new(alloc);
+            tasks.push(task_of(alloc, accesses, has_guide, block)?)?;
+            Ok(tasks)
+        }
         QueryNode::Union(left, right) => append(
             tasks_from(alloc, accesses, has_guide, left)?,
             tasks_from(alloc, accesses, has_guide, right)?,
@@ -100,12 +115,13 @@ pub fn block_tasks<'a>(
     accesses: &'a [Access],
     query: &Query,
 ) -> Result<List<Task<'a>>, NoMemory>
-    requires { All HasFewPlaces (blocks_of query.now) }
+    requires { BlocksHaveFewPlaces query.now }
     ensures tasks { IfOk result (λ tasks. tasks ≡ block_tasks (λ n. accesses.now) query.now) }
     ensures few { IfOk result (λ tasks. All HasFewAtoms tasks) }
     ensures len { IfOk result (λ tasks. length tasks ≡ length (blocks_of query.now)) }
 {
-    tasks_from(alloc, accesses, false, query)
+    let tasks = tasks_from(alloc, accesses, false, query)?;
+    Ok(tasks)
 }
 
 fn own_is_covered(alloc: Global, normal: &Normal, accesses: &[Access]) -> Result<bool, NoMemory>

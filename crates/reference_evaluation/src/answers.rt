@@ -20,9 +20,12 @@ pub fn guide_of(
 ) -> Result<Option<List<Row>>, NoMemory>
     ensures { IfOk result (λ own. own ≡ guide_of guided.now number guide.now) }
 {
+    if !is_guided(guided, number) {
+        return Ok(None);
+    }
     match guide {
-        Some(answers) if is_guided(guided, number) => Ok(Some(answers.copy(alloc)?)),
-        _ => Ok(None),
+        None => Ok(None),
+        Some(answers) => Ok(Some(answers.copy(alloc)?)),
     }
 }
 
@@ -48,7 +51,7 @@ fn inside(alloc: Global, guide: &Option<List<Row>>, found: List<Row>) -> Result<
 }
 
 /// The answers of a tree whose first block has this number.
-pub fn answers(
+fn answers(
     alloc: Global,
     tables: &[List<Row>],
     guided: &[bool],

@@ -1,9 +1,9 @@
 // The probes of a derivation and of a query over tables, in the order in which they are made.
-ghost use Rattle.std.specs.Prelude.{◌≡◌, ◌<◌, ◌+◌, ◌++◌, ◌∷◌, [], ◌^◌, length, map, All, IfOk};
+ghost use Rattle.std.specs.Prelude.{◌≡◌, ◌<◌, ◌+◌, ◌++◌, ◌∷◌, [], ◌^◌, length, map, IfOk};
 ghost use Rattle.beas_core.specs.Queries.{probes_in, query_probes};
 ghost use Rattle.beas_core.specs.Reads.{keys_after, probes, probes_after};
-ghost use Rattle.beas_core.specs.Classes.{normal_of};
-ghost use Rattle.beas_core.specs.Trees.{blocks_of};
+ghost use Rattle.beas_core.specs.Trees.{Single, blocks_of};
+ghost use Rattle.reference_coverage.specs.Tasks.{BlocksHaveFewPlaces};
 ghost use Rattle.reference_normal_form.specs.Few.{HasFewPlaces};
 ghost use Rattle.reference_evaluation.specs.Tables.{rows_in};
 
@@ -113,8 +113,8 @@ fn probes_after(
     }
 }
 
-/// The probes of a derivation: for each step its distinct keys in order.
-pub fn probes(
+// The probes of a derivation: for each step its distinct keys in order.
+fn probes(
     alloc: Global,
     block: &BlockOnTables,
     guide: &Option<List<Row>>,
@@ -126,7 +126,7 @@ pub fn probes(
     probes_after(alloc, block, guide, &[], steps)
 }
 
-// The probes of the block with this number.
+// Each probe with the number of its block.
 fn with_block(
     alloc: Global,
     block: usize,
@@ -141,6 +141,7 @@ fn with_block(
     Ok(all)
 }
 
+// The probes of the block with this number.
 fn probes_of_block(
     alloc: Global,
     over: &PlansOnTables,
@@ -149,6 +150,8 @@ fn probes_of_block(
     block: &Block,
 ) -> Result<List<BlockProbe>, NoMemory>
     requires { HasFewPlaces block.now }
+    ensures { IfOk result (λ found. found ≡ probes_in (rows_in over.now.tables.now) over.now.plans.accesses.now
+        over.now.plans.guided.now over.now.plans.derivations.now number guide.now (Single block.now)) }
 {
     let normal = normal_of(alloc, block)?;
     let own = guide_of(alloc, over.plans.guided, number, guide)?;
@@ -161,27 +164,34 @@ fn probes_of_block(
     with_block(alloc, number, probes(alloc, &on_tables, &own, steps)?)
 }
 
-/// The probes of a tree whose first block has this number: block by block, step by step, keys in order.
-pub fn probes_in(
+// The probes of a tree whose first block has this number: block by block, step by step, keys in order.
+fn probes_in(
     alloc: Global,
     over: &PlansOnTables,
     first: usize,
     guide: &Option<List<Row>>,
     query: &Query,
-) -> Result<List<BlockProbe>, NoMemory> {
+) -> Result<List<BlockProbe>, NoMemory>
+    requires numbers { first + length (blocks_of query.now) < 2 ^ 64 }
+    requires few { BlocksHaveFewPlaces query.now }
+    ensures { IfOk result (λ found. found ≡ probes_in (rows_in over.now.tables.now) over.now.plans.accesses.now
+        over.now.plans.guided.now over.now.plans.derivations.now first guide.now query.now) }
+{
     match &query.node {
         QueryNode::Block(block) => probes_of_block(alloc, over, first, guide, block),
-        QueryNode::Union(left, right) => append(
-            probes_in(alloc, over, first, guide, left)?,
-            probes_in(alloc, over, number_after(left, first), guide, right)?,
-        ),
+        QueryNode::Union(left, right) => {
+            let one = probes_in(alloc, over, first, guide, left)?;
+            let next = number_after(left, first);
+            let other = probes_in(alloc, over, next, guide, right)?;
+            Ok(append(one, other)?)
+        }
         QueryNode::Except(left, right) => {
+            let one = probes_in(alloc, over, first, guide, left)?;
             let guided = over.plans.guided;
             let own = Some(answers(alloc, over.tables, guided, first, guide, left)?);
-            append(
-                probes_in(alloc, over, first, guide, left)?,
-                probes_in(alloc, over, number_after(left, first), &own, right)?,
-            )
+            let next = number_after(left, first);
+            let other = probes_in(alloc, over, next, &own, right)?;
+            Ok(append(one, other)?)
         }
     }
 }
@@ -193,7 +203,7 @@ pub fn query_probes(
     query: &Query,
 ) -> Result<List<BlockProbe>, NoMemory>
     requires flags { length over.now.plans.guided.now ≡ length (blocks_of query.now) }
-    requires few { All HasFewPlaces (blocks_of query.now) }
+    requires few { BlocksHaveFewPlaces query.now }
     ensures { IfOk result (λ found. found ≡ query_probes (rows_in over.now.tables.now) over.now.plans.accesses.now
         over.now.plans.guided.now over.now.plans.derivations.now query.now) }
 {

@@ -1,11 +1,11 @@
 // The reads of a query over tables.
-ghost use Rattle.std.specs.Prelude.{◌≡◌, map, filter, length, slice_index_or, sum_by, All, IfOk};
+ghost use Rattle.std.specs.Prelude.{◌≡◌, map, filter, length, slice_index_or, sum_by, IfOk};
 ghost use Rattle.beas_core.specs.Groups.{project, same_row};
 ghost use Rattle.beas_core.specs.Derivations.{access_in};
 ghost use Rattle.beas_core.specs.Queries.{query_reads, reads_at};
 ghost use Rattle.beas_core.specs.Reads.{access_of_step, probe_reads};
 ghost use Rattle.beas_core.specs.Trees.{blocks_of};
-ghost use Rattle.reference_normal_form.specs.Few.{HasFewPlaces};
+ghost use Rattle.reference_coverage.specs.Tasks.{BlocksHaveFewPlaces};
 ghost use Rattle.reference_evaluation.specs.Tables.{rows_in};
 
 use crate::keys::key_columns;
@@ -123,7 +123,7 @@ fn reads_of_probes(
 /// The reads of a query by the plans of its blocks.
 pub fn query_reads(alloc: Global, over: &PlansOnTables, query: &Query) -> Result<u128, NoMemory>
     requires flags { length over.now.plans.guided.now ≡ length (blocks_of query.now) }
-    requires few { All HasFewPlaces (blocks_of query.now) }
+    requires few { BlocksHaveFewPlaces query.now }
     ensures { IfOk result (λ reads. reads ≡ query_reads (rows_in over.now.tables.now) over.now.plans.accesses.now
         over.now.plans.guided.now over.now.plans.derivations.now query.now) }
 {
