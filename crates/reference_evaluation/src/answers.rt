@@ -51,7 +51,7 @@ fn inside(alloc: Global, guide: &Option<List<Row>>, found: List<Row>) -> Result<
 }
 
 /// The answers of a tree whose first block has this number.
-fn answers(
+pub fn answers(
     alloc: Global,
     tables: &[List<Row>],
     guided: &[bool],

@@ -1,7 +1,7 @@
 // What a query answers and reads.
-ghost use Rattle.std.specs.Prelude.{◌≡◌, All, length};
+ghost use Rattle.std.specs.Prelude.{◌≡◌, length};
 ghost use Rattle.beas_core.specs.Trees.{blocks_of};
-ghost use Rattle.reference_normal_form.specs.Few.{HasFewPlaces};
+ghost use Rattle.reference_coverage.specs.Tasks.{BlocksHaveFewPlaces};
 
 use crate::guides::{GuidedBlocks, guided_blocks};
 use beas_core::{Answer, List, NoMemory, Query};
@@ -24,7 +24,7 @@ fn run_by(
     tasks: &[Task],
     query: &Query,
 ) -> Result<Run, NoMemory>
-    requires few { All HasFewPlaces (blocks_of query.now) }
+    requires few { BlocksHaveFewPlaces query.now }
     requires flags { length over.now.plans.guided.now ≡ length (blocks_of query.now) }
 {
     let reads = query_reads(alloc, over, query)?;
