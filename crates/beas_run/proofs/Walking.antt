@@ -138,8 +138,10 @@ module _ (s : Settings) (readings : List Reading) (sum : Totals) (before after :
       record {
         ended = status_of (Ok refused);
         walked = counted.walked;
-        whole = λ below. (whole_ended status (status_of (Ok refused)) below ended,
-            λ on. put.whole below on ∙ ap (λ (t : Totals). before.out.bytes ++ summary_text t) same);
+        whole = λ below. (
+          whole_ended status (status_of (Ok refused)) below ended,
+          λ on. put.whole below on ∙ ap (λ (t : Totals). before.out.bytes ++ summary_text t) same,
+        );
         part = λ on. subst (λ (t : Totals). SentPart before.out.bytes after.out.bytes (summary_text t)) same (put.part on);
         unsent = λ early fault. put.unsent (out_of_memory status (status_of (Ok refused)) late early fault ended);
         early = λ early. absurd (omega arith);

@@ -131,7 +131,9 @@ fn carry_out_all<A: Audience, F: Files, O: Sink, L: Ledger>(
     for (place, piece) in pieces.iter().enumerate() {
         let statement = &tokens[piece.from as usize..piece.to as usize];
         let number = place as u32 + 1;
-        refused |= carry_out(alloc, session, statement, number, audience, files, out, steps)?;
+        refused |= carry_out(
+            alloc, session, statement, number, audience, files, out, steps,
+        )?;
     }
     Ok(refused)
 }
