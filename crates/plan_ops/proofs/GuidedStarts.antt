@@ -3,6 +3,9 @@ use Rattle.std.proofs.Common.{◌≡◌, ◌&&◌, ◌+◌, ◌<◌, ℕ, zero, 
 use Rattle.std.specs.List.{All, filter, flat_map, list_all, slice_set, zip}
 use Rattle.std.proofs.Math.Seq.{take-suc}
 use Rattle.std.proofs.lemmas.List.{length-map, map-append, append-nil}
+use Rattle.std.proofs.lemmas.List.Concat.{flat_map-append}
+use Rattle.std.proofs.lemmas.List.Sums.{fold-append}
+use Rattle.std.proofs.lemmas.Slice.Zip.{firsts-zip}
 use Rattle.std.proofs.lemmas.List.Elements.{All-contains, All-from_recursion, filter-append}
 use Rattle.beas_core.specs.declared.value.Value.{Value}
 use Rattle.beas_core.specs.declared.query.Place.{Place}
@@ -10,7 +13,7 @@ use Rattle.beas_core.specs.declared.plan.Normal.{Normal}
 use Rattle.beas_core.specs.Types.{Row, Binding, Bindings, ClassSet}
 use Rattle.beas_core.specs.Order.{row_cmp, row_cmp_total}
 use Rattle.beas_core.specs.Sets.{distinct}
-use Rattle.beas_core.specs.Coverage.{place_class, output_classes, start_classes, with_classes, ClassesInRange, ConstantsInRange}
+use Rattle.beas_core.specs.Coverage.{place_class, output_classes, start_classes, ClassesInRange, ConstantsInRange}
 use Rattle.beas_core.specs.Valuations.{starts, value_of, agrees, is_consistent, classes_in, comparison_is_met}
 use Rattle.beas_core.proofs.Sets.{Has, Has-append_cases, Has-from_map, Has-from_distinct, Contains-from_has, all_from}
 use Rattle.beas_core.proofs.ValueOrder.{row_cmp_tells}
@@ -45,27 +48,18 @@ equated_more normal own row i d e l m class v is_class is_value before after b a
 
 -- ---- the bindings of one start
 
-keys-zip : (cs : List ℕ) (row : Row) → length row ≡ length cs → map (λ b. b.0) (zip cs row) ≡ cs
-keys-zip [] row e = refl
-keys-zip (c ∷ cs) [] e = absurd (omega (arith, e))
-keys-zip (c ∷ cs) (v ∷ row) e = ap (λ ks. c ∷ ks) (keys-zip cs row (omega (arith, e)))
-
 zip_key : (ks : List ℕ) (row : Row) (b : Binding) → Has (zip ks row) b → Has ks b.0
 zip_key [] row b h = absurd h
 zip_key (k ∷ ks) [] b h = absurd h
 zip_key (k ∷ ks) (v ∷ row) b (inl e) = inl (ap (λ x. x.0) e)
 zip_key (k ∷ ks) (v ∷ row) b (inr h) = inr (zip_key ks row b h)
 
-with-append : (xs ys : List ℕ) (set : ClassSet) → with_classes set (xs ++ ys) ≡ with_classes (with_classes set xs) ys
-with-append [] ys set = refl
-with-append (x ∷ xs) ys set = with-append xs ys (slice_set set x true)
-
 module _ (normal : Normal) where
   abbrev pub keys : List ℕ
   keys = map (λ (b : Binding). b.0) normal.constants ++ output_classes normal
 
   pub start_set : set_of normal keys ≡ start_classes normal true
-  start_set = with-append (map (λ (b : Binding). b.0) normal.constants) (output_classes normal) (replicate normal.count false)
+  start_set = fold-append (λ s c. slice_set s c true) (replicate normal.count false) (map (λ (b : Binding). b.0) normal.constants) (output_classes normal)
 
   pub keys_small : ConstantsInRange normal → ClassesInRange normal → All (λ class. class < normal.count) keys
   keys_small inside ranges = All-from_recursion (λ class. class < normal.count) keys (all_from (λ class. class < normal.count) keys (λ k h.
@@ -86,7 +80,7 @@ module _ (normal : Normal) where
     pub start_keys : map (λ (b : Binding). b.0) (start_of row) ≡ keys
     start_keys = map-append (λ (b : Binding). b.0) normal.constants (zip (output_classes normal) row)
         ∙ ap (λ ks. map (λ (b : Binding). b.0) normal.constants ++ ks)
-        (keys-zip (output_classes normal) row (wide ∙ sym (length-map normal.output (place_class normal))))
+        (firsts-zip (output_classes normal) row (wide ∙ sym (length-map normal.output (place_class normal))))
 
     pub start_small : ConstantsInRange normal → ClassesInRange normal → All (λ b. b.0 < normal.count) (start_of row)
     start_small inside ranges = All-from_recursion (λ b. b.0 < normal.count) (start_of row) (all_from (λ b. b.0 < normal.count) (start_of row) (λ b h.
@@ -146,14 +140,6 @@ distinct_wide n rows wide = All-from_recursion (λ row. length row ≡ n) (disti
 
 -- ---- one row more of the guide
 
-pub take_own : (own more : Bindings) → take (length own) (own ++ more) ≡ own
-take_own [] more = refl
-take_own (b ∷ own) more = ap (λ bs. b ∷ bs) (take_own own more)
-
-flat-push : (f : Bindings → List Row) (xs : List Bindings) (y : Bindings) → flat_map f (xs ++ y ∷ []) ≡ flat_map f xs ++ f y
-flat-push f [] y = append-nil (f y)
-flat-push f (x ∷ xs) y = ap (λ zs. f x ++ zs) (flat-push f xs y) ∙ sym (append_assoc (f x) (flat_map f xs) (f y))
-
 pub started_more : (normal : Normal) (set : ClassSet) (answers : List Row) (i : ℕ) (row : Row) → i < length answers → row ≡ get_or answers i row
     → flat_map (one_row set) (starts normal (Some (take i answers))) ++ one_row set (start_of normal row)
     ≡ flat_map (one_row set) (starts normal (Some (take (i + 1) answers)))
@@ -162,4 +148,5 @@ started_more normal set answers i row l is =
     sym (ap (λ k. flat_map (one_row set) (map (start_of normal) (take k answers))) (add-one i)
     ∙ ap (λ rs. flat_map (one_row set) (map (start_of normal) rs)) (take-suc answers i row l ∙ ap (λ r. take i answers ++ r ∷ []) (sym is))
     ∙ ap (flat_map (one_row set)) (map-append (start_of normal) (take i answers) (row ∷ []))
-    ∙ flat-push (one_row set) front (start_of normal row))
+    ∙ flat_map-append (one_row set) front (start_of normal row ∷ [])
+    ∙ ap (λ rs. flat_map (one_row set) front ++ rs) (append-nil (one_row set (start_of normal row))))

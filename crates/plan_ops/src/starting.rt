@@ -1,5 +1,5 @@
 // The valuations before the first step, of a block by itself and of a guided one.
-ghost use Rattle.std.specs.Prelude.{◌≡◌, ◌<◌, ◌∷◌, ◌++◌, [], length, map, flat_map, zip, All, IfOk, None, Some, if◌then◌else◌, is_some, true};
+ghost use Rattle.std.specs.Prelude.{◌≡◌, ◌<◌, ◌∷◌, ◌++◌, [], length, map, flat_map, zip, All, IfOk, OnOk, None, Some, if◌then◌else◌, is_some, true};
 ghost use Rattle.std.specs.Option.{option_copied};
 ghost use Rattle.beas_core.specs.Coverage.{ClassesInRange, ConstantsInRange, constant_classes, output_classes, start_classes};
 ghost use Rattle.beas_core.specs.Valuations.{agrees, classes_in, starts, value_of, valued_rows};
@@ -62,26 +62,26 @@ fn constant_row(
     Ok(List::from_vec(row))
 }
 
-// The row of the constants, and none where they contradict each other.
-fn constant_rows(
+// Adds the row of the constants, unless they contradict each other.
+fn push_constant_row(
     alloc: Global,
     constants: &[(u16, Value)],
     count: u16,
     places: &[usize],
     classes: &[u16],
-) -> Result<List<Row>, NoMemory>
+    rows: &mut Vec<Row>,
+) -> Result<(), NoMemory>
     requires constants { All (λ c. c.0 < count) constants.now }
     requires places { places.now ≡ places_in count (map (λ c. c.0) constants.now) }
     requires classes { All (λ class. class < count) classes.now }
     requires equated { All (λ class. place_of (map (λ c. c.0) constants.now) class < length constants.now) classes.now }
-    ensures { IfOk result (λ rows. rows
-        ≡ (if agrees constants.now then map (value_of constants.now) classes.now ∷ [] else [])) }
+    ensures { OnOk result (rows.new.items ≡ rows.old.items
+        ++ (if agrees constants.now then map (value_of constants.now) classes.now ∷ [] else [])) }
 {
-    let mut rows = List::new(alloc);
     if constants_agree(constants, count, places) {
         rows.push(constant_row(alloc, constants, count, places, classes)?)?;
     }
-    Ok(rows)
+    Ok(())
 }
 
 /// The valuations of the constant classes of a block by itself: one, or none where constants contradict each other or
@@ -96,8 +96,19 @@ pub fn start(alloc: Global, block: &Normal) -> Result<Valuations, NoMemory>
     let equated = classes_equated(alloc, constants)?;
     let places = first_places(alloc, block.count, &equated)?;
     let classes = classes_of(alloc, block, &places, &equated)?;
-    let rows = constant_rows(alloc, constants, block.count, &places, classes.as_slice())?;
-    let mut found = Valuations { classes, rows };
+    let mut rows = Vec::new(alloc);
+    push_constant_row(
+        alloc,
+        constants,
+        block.count,
+        &places,
+        classes.as_slice(),
+        &mut rows,
+    )?;
+    let mut found = Valuations {
+        classes,
+        rows: List::from_vec(rows),
+    };
     keep(alloc, block, &mut found);
     Ok(found)
 }
@@ -155,8 +166,7 @@ fn guided_rows(
     for answer in answers {
         constants.truncate(own);
         equate_output(alloc, block, answer.as_slice(), &mut constants)?;
-        let started = constant_rows(alloc, &constants, block.count, places, classes)?;
-        rows.append(&mut started.into_vec())?;
+        push_constant_row(alloc, &constants, block.count, places, classes, &mut rows)?;
     }
     Ok(rows)
 }
