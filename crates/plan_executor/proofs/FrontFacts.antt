@@ -1,11 +1,10 @@
 -- What is known after each front of a block's steps.
 --     Front done from      the valuations are those after these steps
-use Rattle.std.proofs.Common.{◌≡◌, ◌≤◌, ◌<◌, ◌+◌, ◌*◌, ℕ, zero, suc, true, List, [], ◌∷◌, ◌++◌, length, map, Result, Ok, Err, IfOk, inl, refl, ap, sym, ◌∙◌, subst, arith, append_assoc, add-one, take, drop, get_or}
+use Rattle.std.proofs.Common.{◌≡◌, ◌≤◌, ◌<◌, ◌+◌, ◌*◌, ℕ, suc, true, List, [], ◌∷◌, ◌++◌, length, map, Result, Ok, Err, IfOk, ap, sym, ◌∙◌, subst, arith, append_assoc, add-one, take, drop, get_or}
 use Rattle.std.specs.Option.{is_some}
 use Rattle.evaluation_facts.specs.Guides.{GuideFits}
-use Rattle.std.proofs.Math.Seq.{take-suc}
+use Rattle.std.proofs.Math.Seq.{split_at, take-suc}
 use Rattle.std.proofs.lemmas.List.{append-nil}
-use Rattle.std.proofs.lemmas.List.Elements.{All-contains}
 use Rattle.beas_core.specs.declared.schema.Access.{Access}
 use Rattle.beas_core.specs.declared.plan.DStep.{DStep}
 use Rattle.beas_core.specs.declared.plan.Normal.{Normal}
@@ -13,12 +12,12 @@ use Rattle.beas_core.specs.Types.{Row, TableRows, ClassSet, Guide}
 use Rattle.beas_core.specs.Order.{row_cmp}
 use Rattle.beas_core.specs.Sets.{distinct}
 use Rattle.beas_core.specs.Coverage.{ClassesInRange, ConstantsInRange, start_classes}
-use Rattle.beas_core.specs.Derivations.{access_in, bound_by, bound_after, is_live, key_is_bound, steps_are_sound, IsSound}
+use Rattle.beas_core.specs.Derivations.{access_in, bound_by, bound_after, key_is_bound, steps_are_sound, IsSound}
 use Rattle.beas_core.specs.Valuations.{starts, valued_rows, valuations, answers_of, output_row}
 use Rattle.beas_core.specs.Reads.{reads_of, step_reads}
 use Rattle.beas_core.specs.Numbers.{announced_from}
 use Rattle.beas_core.specs.Fits.{StepsHold}
-use Rattle.beas_core.proofs.Sets.{Has, Has-append_left, Has-append_right, Has-from_contains, Contains-from_has}
+use Rattle.beas_core.proofs.Sets.{Has, Has-append_left, Has-from_contains, Contains-from_has}
 use Rattle.evaluation_facts.specs.Extensions.{extensions, keep_met}
 use Rattle.evaluation_facts.specs.StepReads.{reads_at}
 use Rattle.evaluation_facts.proofs.SoundDerivations.{bound-append}
@@ -44,11 +43,6 @@ pub answered : {X E : Type 0} (result : Result X E) (a b : X) → a ≡ b → If
 answered (Ok value) a b e h = h ∙ e
 answered (Err error) a b e h = h
 
-split_at : {A : Type 0} (xs : List A) (i : ℕ) (d : A) → i < length xs → xs ≡ take i xs ++ get_or xs i d ∷ drop (suc i) xs
-split_at [] i d l = absurd (omega (arith, l))
-split_at (x ∷ xs) zero d l = refl
-split_at (x ∷ xs) (suc i) d l = ap (λ ys. x ∷ ys) (split_at xs i d (omega arith))
-
 module _ (rows : TableRows) (normal : Normal) (accesses : List Access) (guide : Guide) where
   -- the classes that are bound after some steps
   abbrev pub set_after : List DStep → ClassSet
@@ -58,14 +52,25 @@ module _ (rows : TableRows) (normal : Normal) (accesses : List Access) (guide : 
     pub over : IsOver (set_after done) from
     pub found : from.rows ≡ valuations rows normal accesses guide done
 
-  pub front_none : (from : Valuations) → IsOver (start_classes normal (is_some guide)) from → from.rows ≡ valued_rows normal (start_classes normal (is_some guide)) (starts normal guide)
-      → Front [] from
+  pub front_none : (from : Valuations) → IsOver (start_classes normal (is_some guide)) from
+      → from.rows ≡ valued_rows normal (start_classes normal (is_some guide)) (starts normal guide) → Front [] from
   unfolding valuations
   front_none from over found = record { over = over; found = found }
 
   pub nothing_read : (n : ℕ) → n ≡ n + reads_of rows normal accesses guide []
   unfolding reads_of
   nothing_read n = omega arith
+
+  -- what is known before the step at a place
+  pub record IsNext (steps : List DStep) (i : ℕ) (d : DStep) (from : Valuations) : Type 0 where
+    pub key : key_is_bound normal accesses (bound_set normal from) (get_or steps i d) ≡ true
+    pub over : IsOver (bound_set normal from) from
+    pub room : StepsHold rows accesses steps → reads_of rows normal accesses guide (take i steps)
+        + length from.rows * (access_in accesses (get_or steps i d).access).bound ≤ announced_from accesses (length (starts normal guide)) steps
+    pub reads : reads_of rows normal accesses guide (take (i + 1) steps)
+        ≡ reads_of rows normal accesses guide (take i steps) + step_reads rows normal accesses (get_or steps i d) (bound_set normal from) from.rows
+    pub within : reads_of rows normal accesses guide (take i steps)
+        + step_reads rows normal accesses (get_or steps i d) (bound_set normal from) from.rows ≤ reads_of rows normal accesses guide steps
 
   module _ (ranges : ClassesInRange normal) (inside : ConstantsInRange normal) (fit : GuideFits normal guide) where
     abbrev first : ℕ
@@ -104,17 +109,13 @@ module _ (rows : TableRows) (normal : Normal) (accesses : List Access) (guide : 
       counted : length (set_after done) ≡ normal.count
       counted = front_counted rows normal accesses guide ranges inside fit done (s ∷ later) all_sound
 
-      pub same_set : bound_set normal from ≡ set_after done
+      same_set : bound_set normal from ≡ set_after done
       same_set = bound_set_is normal (set_after done) from counted front.over
 
-      pub next_over : IsOver (bound_set normal from) from
+      next_over : IsOver (bound_set normal from) from
       next_over = subst (λ set. IsOver set from) (sym same_set) front.over
 
-      pub next_live : is_live accesses s.access ≡ true
-      next_live = All-contains (λ t. is_live accesses t.access ≡ true) steps s sound.live
-          (Contains-from_has steps s (subst (λ all. Has all s) (sym split) (Has-append_right done (s ∷ later) s (inl refl))))
-
-      pub next_key : key_is_bound normal accesses (bound_set normal from) s ≡ true
+      next_key : key_is_bound normal accesses (bound_set normal from) s ≡ true
       next_key = subst (λ set. key_is_bound normal accesses set s ≡ true) (sym same_set)
           (next_step normal accesses (start_classes normal (is_some guide)) done later s all_sound).key
 
@@ -123,9 +124,11 @@ module _ (rows : TableRows) (normal : Normal) (accesses : List Access) (guide : 
           (subst (λ all. steps_are_sound normal accesses (start_classes normal (is_some guide)) all ≡ true) (sym (append_assoc done (s ∷ []) later)) all_sound)
 
       -- what the next step may read stays within the announced number
-      pub next_room : StepsHold rows accesses steps → reads_of rows normal accesses guide done + length from.rows * (access_in accesses s.access).bound ≤ announced_from accesses first steps
+      next_room : StepsHold rows accesses steps
+          → reads_of rows normal accesses guide done + length from.rows * (access_in accesses s.access).bound ≤ announced_from accesses first steps
       next_room hold =
-          let held : StepsHold rows accesses (done ++ s ∷ []) = λ t m. hold t (Contains-from_has steps t (subst (λ all. Has all t) (append_assoc done (s ∷ []) later ∙ sym split)
+          let held : StepsHold rows accesses (done ++ s ∷ []) = λ t m. hold t (Contains-from_has steps t
+          (subst (λ all. Has all t) (append_assoc done (s ∷ []) later ∙ sym split)
           (Has-append_left (done ++ s ∷ []) later t (Has-from_contains (done ++ s ∷ []) t m)))) in
           let room = reads_room rows normal accesses guide ranges inside fit first one_start done [] s front_of_next held in
           let whole = announced-append accesses (done ++ s ∷ []) later first in
@@ -139,11 +142,11 @@ module _ (rows : TableRows) (normal : Normal) (accesses : List Access) (guide : 
       share_is : share ≡ reads_at rows normal accesses guide done s
       share_is = ap (λ set. step_reads rows normal accesses s set from.rows) same_set ∙ ap (step_reads rows normal accesses s (set_after done)) front.found
 
-      pub next_reads : reads_of rows normal accesses guide (take (i + 1) steps) ≡ reads_of rows normal accesses guide done + share
+      next_reads : reads_of rows normal accesses guide (take (i + 1) steps) ≡ reads_of rows normal accesses guide done + share
       next_reads = ap (reads_of rows normal accesses guide) more ∙ reads-snoc rows normal accesses guide done s ∙ ap
           (λ n. reads_of rows normal accesses guide done + n) (sym share_is)
 
-      pub share_within : reads_of rows normal accesses guide done + share ≤ reads_of rows normal accesses guide steps
+      share_within : reads_of rows normal accesses guide done + share ≤ reads_of rows normal accesses guide steps
       share_within =
           let whole = reads-append rows normal accesses guide (done ++ s ∷ []) later in
           let same = ap (reads_of rows normal accesses guide) (append_assoc done (s ∷ []) later ∙ sym split) in
@@ -151,20 +154,25 @@ module _ (rows : TableRows) (normal : Normal) (accesses : List Access) (guide : 
           let m = ap (reads_of rows normal accesses guide) more in
           omega (arith, whole, same, n, m)
 
+      pub is_next : IsNext steps i d from
+      is_next = record { key = next_key; over = next_over; room = next_room; reads = next_reads; within = share_within }
+
       pub front_more : (found : Valuations) → IsOver (bound_by normal accesses (bound_set normal from) s) found
           → found.rows ≡ keep_met normal (bound_by normal accesses (bound_set normal from) s)
           (extensions rows normal accesses s (bound_set normal from) from.rows)
           → Front (take (i + 1) steps) found
       front_more found over is = subst (λ front. Front front found) (sym more) (record {
         over = subst (λ set. IsOver set found)
-            (ap (λ set. bound_by normal accesses set s) same_set ∙ sym (bound-append normal accesses done (s ∷ []) (start_classes normal (is_some guide)))) over;
+            (ap (λ set. bound_by normal accesses set s) same_set
+            ∙ sym (bound-append normal accesses done (s ∷ []) (start_classes normal (is_some guide)))) over;
         found = is ∙ ap (λ set. keep_met normal (bound_by normal accesses set s) (extensions rows normal accesses s set from.rows)) same_set
             ∙ ap (λ before. keep_met normal (bound_by normal accesses (set_after done) s)
             (extensions rows normal accesses s (set_after done) before)) front.found
             ∙ sym (next_valuations rows normal accesses guide ranges inside fit done later s all_sound);
       })
 
-    module _ (steps : List DStep) (sound : IsSound normal accesses (start_classes normal (is_some guide)) steps) (from : Valuations) (front : Front steps from) where
+    module _ (steps : List DStep) (sound : IsSound normal accesses (start_classes normal (is_some guide)) steps)
+        (from : Valuations) (front : Front steps from) where
       last_set : bound_set normal from ≡ set_after steps
       last_set = bound_set_is normal (set_after steps) from
           (front_counted rows normal accesses guide ranges inside fit steps []

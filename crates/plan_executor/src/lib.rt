@@ -6,4 +6,5 @@ mod asking;
 mod executing;
 mod trees;
 
+pub use asking::ask_for_all;
 pub use executing::execute;

@@ -1,5 +1,5 @@
 use Rattle.std.specs.Option.{option_copied}
-use Rattle.std.proofs.Common.{false, subst, arith, get_or, map}
+use Rattle.std.proofs.Common.{false, subst, arith, map}
 use Rattle.std.proofs.lemmas.List.{take_all}
 use Rattle.std.proofs.lemmas.Result.{err_from_is_err_and}
 use Rattle.beas_core.specs.declared.plan.DStep.{DStep}
@@ -8,7 +8,7 @@ use Rattle.beas_core.specs.Sets.{distinct}
 use Rattle.beas_core.specs.Reads.{reads_of}
 use Rattle.beas_core.specs.Valuations.{output_row, answers_of}
 use Rattle.plan_ops.specs.Over.{bound_set}
-use Rattle.plan_executor.proofs.FrontFacts.{Front, front_none, nothing_read, answered, next_key, next_over, next_room, next_reads, share_within, front_more, last_over, last_answers, at_error}
+use Rattle.plan_executor.proofs.FrontFacts.{Front, front_none, nothing_read, answered, is_next, front_more, last_over, last_answers, at_error}
 use Rattle.plan_executor.proofs.answering.answer_block.Goals as goal
 
 abbrev none : DStep
@@ -19,40 +19,30 @@ loop-step-init g c =
     let rows = g.P.AccessPort.rows c.args.port.now in
     let normal = c.args.block.now in
     let accesses = g.P.AccessPort.accesses c.args.port.now in
-    let steps = c.args.plan.now in
+    let guide = option_copied c.args.guide in
     record {
-      front = front_none rows normal accesses (option_copied c.args.guide) c.in_ok-from.from c.in_ok-from.ensures.over c.in_ok-from.ensures.rows;
-      reads = nothing_read rows normal accesses (option_copied c.args.guide) c.args.reads.now;
-      steps = nothing_read rows normal accesses (option_copied c.args.guide) c.args.steps.now;
+      front = front_none rows normal accesses guide c.in_ok-from.from c.in_ok-from.ensures.over c.in_ok-from.ensures.rows;
+      reads = nothing_read rows normal accesses guide c.args.reads.now;
+      steps = nothing_read rows normal accesses guide c.args.steps.now;
     }
 
 pub take_step-requires-clause-key : goal.take_step-requires-clause-key
 take_step-requires-clause-key g c =
-    let rows = g.P.AccessPort.rows c.args.port.now in
-    let normal = c.args.block.now in
-    let accesses = g.P.AccessPort.accesses c.args.port.now in
-    let steps = c.args.plan.now in
-    next_key rows normal accesses (option_copied c.args.guide) c.requires.classes c.requires.constants c.requires.fits steps c.loop-step.step-index none c.loop-step-test.true c.requires.sound
-    c.loop-step.from c.loop-step.invariant.front
+    (is_next (g.P.AccessPort.rows c.args.port.now) c.args.block.now (g.P.AccessPort.accesses c.args.port.now) (option_copied c.args.guide)
+    c.requires.classes c.requires.constants c.requires.fits c.args.plan.now c.loop-step.step-index none c.loop-step-test.true c.requires.sound
+    c.loop-step.from c.loop-step.invariant.front).key
 
 pub take_step-requires-clause-over : goal.take_step-requires-clause-over
 take_step-requires-clause-over g c =
-    let rows = g.P.AccessPort.rows c.args.port.now in
-    let normal = c.args.block.now in
-    let accesses = g.P.AccessPort.accesses c.args.port.now in
-    let steps = c.args.plan.now in
-    next_over rows normal accesses (option_copied c.args.guide) c.requires.classes c.requires.constants c.requires.fits steps c.loop-step.step-index none c.loop-step-test.true c.requires.sound
-    c.loop-step.from c.loop-step.invariant.front
+    (is_next (g.P.AccessPort.rows c.args.port.now) c.args.block.now (g.P.AccessPort.accesses c.args.port.now) (option_copied c.args.guide)
+    c.requires.classes c.requires.constants c.requires.fits c.args.plan.now c.loop-step.step-index none c.loop-step-test.true c.requires.sound
+    c.loop-step.from c.loop-step.invariant.front).over
 
 pub take_step-requires-clause-room : goal.take_step-requires-clause-room
 take_step-requires-clause-room g c =
-    let rows = g.P.AccessPort.rows c.args.port.now in
-    let normal = c.args.block.now in
-    let accesses = g.P.AccessPort.accesses c.args.port.now in
-    let steps = c.args.plan.now in
-    let s = get_or steps c.loop-step.step-index none in
-    let room = next_room rows normal accesses (option_copied c.args.guide) c.requires.classes c.requires.constants c.requires.fits steps c.loop-step.step-index none c.loop-step-test.true
-    c.requires.sound c.loop-step.from c.loop-step.invariant.front c.requires.holds in
+    let room = (is_next (g.P.AccessPort.rows c.args.port.now) c.args.block.now (g.P.AccessPort.accesses c.args.port.now) (option_copied c.args.guide)
+    c.requires.classes c.requires.constants c.requires.fits c.args.plan.now c.loop-step.step-index none c.loop-step-test.true c.requires.sound
+    c.loop-step.from c.loop-step.invariant.front).room c.requires.holds in
     let reads = c.loop-step.invariant.reads in
     let all = c.requires.room in
     omega (arith, room, reads, all)
@@ -62,47 +52,47 @@ returns-in_err-from-2-clause-reads g c =
     let rows = g.P.AccessPort.rows c.args.port.now in
     let normal = c.args.block.now in
     let accesses = g.P.AccessPort.accesses c.args.port.now in
-    let steps = c.args.plan.now in
+    let guide = option_copied c.args.guide in
     let p = err_from_is_err_and c.from_residual-in_err-from-2.result c.from_residual-in_err-from-2.ensures.1 in
-    let within = share_within rows normal accesses (option_copied c.args.guide) c.requires.classes c.requires.constants c.requires.fits steps c.loop-step.step-index none c.loop-step-test.true
-    c.requires.sound c.loop-step.from c.loop-step.invariant.front in
+    let within = (is_next rows normal accesses guide c.requires.classes c.requires.constants c.requires.fits c.args.plan.now c.loop-step.step-index none
+    c.loop-step-test.true c.requires.sound c.loop-step.from c.loop-step.invariant.front).within in
     let so_far = c.loop-step.invariant.reads in
     let low = c.in_err-from-2.ensures.reads.0 in
     let high = c.in_err-from-2.ensures.reads.1 in
-    at_error c.from_residual-in_err-from-2.result p.0 c.args.reads.now c.take_step.new.reads (reads_of rows normal accesses (option_copied c.args.guide) steps) p.1
-    (omega (arith, so_far, low)) (omega (arith, within, so_far, high))
+    at_error c.from_residual-in_err-from-2.result p.0 c.args.reads.now c.take_step.new.reads
+    (reads_of rows normal accesses guide c.args.plan.now) p.1 (omega (arith, so_far, low)) (omega (arith, within, so_far, high))
 
 pub returns-in_err-from-2-clause-steps : goal.returns-in_err-from-2-clause-steps
 returns-in_err-from-2-clause-steps g c =
     let rows = g.P.AccessPort.rows c.args.port.now in
     let normal = c.args.block.now in
     let accesses = g.P.AccessPort.accesses c.args.port.now in
-    let steps = c.args.plan.now in
+    let guide = option_copied c.args.guide in
     let p = err_from_is_err_and c.from_residual-in_err-from-2.result c.from_residual-in_err-from-2.ensures.1 in
-    let within = share_within rows normal accesses (option_copied c.args.guide) c.requires.classes c.requires.constants c.requires.fits steps c.loop-step.step-index none c.loop-step-test.true
-    c.requires.sound c.loop-step.from c.loop-step.invariant.front in
+    let within = (is_next rows normal accesses guide c.requires.classes c.requires.constants c.requires.fits c.args.plan.now c.loop-step.step-index none
+    c.loop-step-test.true c.requires.sound c.loop-step.from c.loop-step.invariant.front).within in
     let so_far = c.loop-step.invariant.steps in
     let low = c.in_err-from-2.ensures.steps.0 in
     let high = c.in_err-from-2.ensures.steps.1 in
-    at_error c.from_residual-in_err-from-2.result p.0 c.args.steps.now c.take_step.new.steps (reads_of rows normal accesses (option_copied c.args.guide) steps) p.1
-    (omega (arith, so_far, low)) (omega (arith, within, so_far, high))
+    at_error c.from_residual-in_err-from-2.result p.0 c.args.steps.now c.take_step.new.steps
+    (reads_of rows normal accesses guide c.args.plan.now) p.1 (omega (arith, so_far, low)) (omega (arith, within, so_far, high))
 
 pub loop-step-preserved : goal.loop-step-preserved
 loop-step-preserved g c =
     let rows = g.P.AccessPort.rows c.args.port.now in
     let normal = c.args.block.now in
     let accesses = g.P.AccessPort.accesses c.args.port.now in
-    let steps = c.args.plan.now in
-    let s = get_or steps c.loop-step.step-index none in
-    let share = next_reads rows normal accesses (option_copied c.args.guide) c.requires.classes c.requires.constants c.requires.fits steps c.loop-step.step-index none c.loop-step-test.true
-    c.requires.sound c.loop-step.from c.loop-step.invariant.front in
+    let guide = option_copied c.args.guide in
+    let share = (is_next rows normal accesses guide c.requires.classes c.requires.constants c.requires.fits c.args.plan.now c.loop-step.step-index none
+    c.loop-step-test.true c.requires.sound c.loop-step.from c.loop-step.invariant.front).reads in
     let reads_so_far = c.loop-step.invariant.reads in
     let steps_so_far = c.loop-step.invariant.steps in
     let reads_now = c.in_ok-from-2.ensures.reads in
     let steps_now = c.in_ok-from-2.ensures.steps in
     record {
-      front = front_more rows normal accesses (option_copied c.args.guide) c.requires.classes c.requires.constants c.requires.fits steps c.loop-step.step-index none c.loop-step-test.true
-          c.requires.sound c.loop-step.from c.loop-step.invariant.front c.in_ok-from-2.from c.in_ok-from-2.ensures.over c.in_ok-from-2.ensures.rows;
+      front = front_more rows normal accesses guide c.requires.classes c.requires.constants c.requires.fits c.args.plan.now c.loop-step.step-index none
+          c.loop-step-test.true c.requires.sound c.loop-step.from c.loop-step.invariant.front c.in_ok-from-2.from c.in_ok-from-2.ensures.over
+          c.in_ok-from-2.ensures.rows;
       reads = omega (arith, share, reads_so_far, reads_now);
       steps = omega (arith, share, steps_so_far, steps_now);
     }
@@ -110,21 +100,22 @@ loop-step-preserved g c =
 pub project-requires : goal.project-requires
 project-requires g c =
     let rows = g.P.AccessPort.rows c.args.port.now in
-    let normal = c.args.block.now in
     let accesses = g.P.AccessPort.accesses c.args.port.now in
-    let steps = c.args.plan.now in
-    let front = subst (λ done. Front rows normal accesses (option_copied c.args.guide) done c.loop-step.from) (take_all c.loop-step.step-index steps c.loop-step-test.false)
-    c.loop-step.invariant.front in
-    last_over rows normal accesses (option_copied c.args.guide) c.requires.classes c.requires.constants c.requires.fits steps c.requires.sound c.loop-step.from front
+    let guide = option_copied c.args.guide in
+    let front = subst (λ done. Front rows c.args.block.now accesses guide done c.loop-step.from)
+    (take_all c.loop-step.step-index c.args.plan.now c.loop-step-test.false) c.loop-step.invariant.front in
+    last_over rows c.args.block.now accesses guide c.requires.classes c.requires.constants c.requires.fits c.args.plan.now c.requires.sound
+    c.loop-step.from front
 
 pub returns-clause-rows : goal.returns-clause-rows
 returns-clause-rows g c =
     let rows = g.P.AccessPort.rows c.args.port.now in
     let normal = c.args.block.now in
     let accesses = g.P.AccessPort.accesses c.args.port.now in
-    let steps = c.args.plan.now in
-    let front = subst (λ done. Front rows normal accesses (option_copied c.args.guide) done c.loop-step.from) (take_all c.loop-step.step-index steps c.loop-step-test.false)
-    c.loop-step.invariant.front in
+    let guide = option_copied c.args.guide in
+    let front = subst (λ done. Front rows normal accesses guide done c.loop-step.from)
+    (take_all c.loop-step.step-index c.args.plan.now c.loop-step-test.false) c.loop-step.invariant.front in
     answered c.project.result (distinct row_cmp (map (output_row normal (bound_set normal c.loop-step.from)) c.loop-step.from.rows))
-    (answers_of rows normal accesses (option_copied c.args.guide) steps)
-    (last_answers rows normal accesses (option_copied c.args.guide) c.requires.classes c.requires.constants c.requires.fits steps c.requires.sound c.loop-step.from front) c.project.ensures
+    (answers_of rows normal accesses guide c.args.plan.now)
+    (last_answers rows normal accesses guide c.requires.classes c.requires.constants c.requires.fits c.args.plan.now c.requires.sound c.loop-step.from front)
+    c.project.ensures
