@@ -1,5 +1,4 @@
 pub mod Clean
-pub mod HeldFacts
 pub mod Leading
 pub mod Lexicals
 pub mod MoreConstraints

@@ -1,14 +1,14 @@
 // Laws on what is announced: it bounds the valuations and the reads.
-ghost use Rattle.std.specs.Prelude.{◌≤◌, ℕ, All, IsTrue, length, is_some};
+ghost use Rattle.std.specs.Prelude.{◌≤◌, ℕ, IsTrue, length, is_some};
 ghost use Rattle.beas_core.specs.Coverage.{ClassesInRange, ConstantsInRange, start_classes};
-ghost use Rattle.beas_core.specs.Derivations.{is_live, steps_are_sound};
+ghost use Rattle.beas_core.specs.Derivations.{steps_are_sound};
 ghost use Rattle.beas_core.specs.Fits.{Fits, StepsHold};
 ghost use Rattle.beas_core.specs.Queries.{announced_in, query_answers, query_reads, query_size};
 ghost use Rattle.evaluation_facts.specs.Fronts.{FrontsAreBounded};
 ghost use Rattle.evaluation_facts.specs.Guides.{BlockStart, StartFits};
-ghost use Rattle.beas_laws.specs.Held.{PlanHolds, StepHolds};
 
 use beas_core::{Access, AccessPort, DStep, Derivation, List, Normal, Prepared, Query};
+use plan_executor::ask_for_all;
 
 /// Where the constraints hold, the valuations after each front of the steps are at most its last size; and the reads
 /// of each front, with what the next step may read, are at most the announced number, as are those of all steps.
@@ -21,26 +21,6 @@ pub fn law_block_bound<P: AccessPort>(port: &P, normal: &Normal, steps: &List<DS
         steps.now)
         → FrontsAreBounded (P.rows port.now) normal.now (P.accesses port.now) start steps.now }
 {}
-
-// Asks for the constraint of each step, and so learns that it holds.
-fn ask_for_steps<P: AccessPort>(port: &P, steps: &[DStep])
-    requires { All (λ s. IsTrue (is_live (P.accesses port.now) s.access)) steps.now }
-    ensures { All (StepHolds (P.rows port.now) (P.accesses port.now)) steps.now }
-{
-    for step in steps {
-        // Asked for what it tells: the constraint holds.
-        let _access = port.access(step.access);
-    }
-}
-
-fn ask_for_all<P: AccessPort>(port: &P, derivations: &[Derivation])
-    requires { All (λ plan. All (λ s. IsTrue (is_live (P.accesses port.now) s.access)) plan.steps) derivations.now }
-    ensures { All (PlanHolds (P.rows port.now) (P.accesses port.now)) derivations.now }
-{
-    for derivation in derivations {
-        ask_for_steps(port, derivation.steps.as_slice());
-    }
-}
 
 /// A prepared query that fits has at most as many answers as its size says, and takes at most as many reads as its
 /// bound says.

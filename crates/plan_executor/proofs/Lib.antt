@@ -1,3 +1,3 @@
 mod FrontFacts
-mod HeldFacts
+pub mod HeldFacts
 mod TreeFacts

@@ -1,10 +1,9 @@
 use Rattle.std.proofs.Common.{◌≡◌, true, All, sym, subst}
-use Rattle.std.proofs.lemmas.List.Elements.{All-contains}
 use Rattle.beas_core.specs.declared.plan.Derivation.{Derivation}
 use Rattle.beas_core.specs.Derivations.{is_live}
-use Rattle.beas_core.proofs.Sets.{Contains-from_has}
 use Rattle.evaluation_facts.proofs.QueryBounds.{prepared_is_live, prepared_few}
-use Rattle.beas_laws.specs.Held.{StepHolds, PlanHolds}
+use Rattle.plan_executor.specs.Held.{PlanHolds}
+use Rattle.plan_executor.proofs.HeldFacts.{plans_hold}
 use Rattle.beas_laws.proofs.bounds.law_bound.Goals as goal
 
 pub ask_for_all-requires : goal.ask_for_all-requires
@@ -19,8 +18,5 @@ returns g c =
     let accesses = g.P.AccessPort.accesses c.args.port.now in
     let plans = c.args.prepared.now.derivations in
     let held = subst (All (PlanHolds rows accesses)) c.as_slice.ensures c.ask_for_all.ensures in
-    let both = prepared_few rows accesses c.args.prepared.now c.requires.plan (λ plan m s member.
-    let steps = (All-contains (PlanHolds rows accesses) plans plan held (Contains-from_has plans plan m)).steps in
-    let step = All-contains (StepHolds rows accesses) plan.steps s steps member in
-    (step.holds, step.bound)) in
+    let both = prepared_few rows accesses c.args.prepared.now c.requires.plan (plans_hold rows accesses plans held) in
     record { answers = both.0; reads = both.1 }

@@ -1,6 +1,0 @@
-use Rattle.std.proofs.Common.{All, take}
-use Rattle.beas_laws.specs.Held.{StepHolds}
-use Rattle.beas_laws.proofs.bounds.ask_for_steps.Given as goal
-
-abbrev pub invariant-loop-step : goal.invariant-loop-step
-invariant-loop-step g l = All (StepHolds (g.P.AccessPort.rows l.port) (g.P.AccessPort.accesses l.port)) (take l.step-index l.steps)
