@@ -1,3 +1,4 @@
-pub mod Keys
+pub mod KeyFacts
 pub mod ListSteps
+pub mod StepFacts
 pub mod Ways

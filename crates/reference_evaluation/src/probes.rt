@@ -45,7 +45,7 @@ impl Model for BlockProbe {
 
     ghost Value = { ProbeOfBlock };
 
-    ghost view = { λ p. record { block = p.block; probe = p.probe.now } };
+    ghost view = { λ p. record { block = p.block; probe = p.probe } };
 }
 
 // The keys of a step that follows those that are done.

@@ -1,5 +1,5 @@
 use Rattle.std.proofs.Common.{◌∙◌}
-use Rattle.reference_evaluation.proofs.Keys.{keys_are}
+use Rattle.reference_evaluation.proofs.KeyFacts.{keys_are}
 use Rattle.reference_evaluation.proofs.keys.keys_for.Goals as goal
 
 pub returns : goal.returns
