@@ -135,7 +135,8 @@ module _ (normal : Normal) (accesses : List Access) where
     sound_same steps tables =
         let anew = with_adds normal accesses start steps in
         let us = uses_in steps in
-        ap (λ t. (t && each_step normal accesses (key_is_bound normal accesses) start anew && each_step normal accesses (adds_rightly normal accesses) start anew)
+        ap (λ t. (t && each_step normal accesses (key_is_bound normal accesses) start anew
+        && each_step normal accesses (adds_rightly normal accesses) start anew)
         && not (list_any (is_open normal (bound_after normal accesses start anew)) (needed_places normal))
         && list_all (is_served_by normal accesses anew) (atoms_of normal)) (with_adds_tables start steps ∙ tables)
         ∙ ap (λ k. (true && k && each_step normal accesses (adds_rightly normal accesses) start anew)

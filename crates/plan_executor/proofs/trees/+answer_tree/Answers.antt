@@ -371,7 +371,8 @@ answer_tree-requires-in-Except-2 g t c κs within =
           (
             subst (λ tree. TreeFits accesses prepared c.in_ok-found-in-Except.next (Some c.in_ok-found-in-Except.found) tree c.answer_tree-in-Except.new.reads)
                 (sym c.deref-in-Except-2.ensures)
-                (subst (λ found. TreeFits accesses prepared c.in_ok-found-in-Except.next (Some found) right c.answer_tree-in-Except.new.reads) (sym rows_are) asked),
+                (subst (λ found. TreeFits accesses prepared c.in_ok-found-in-Except.next (Some found) right c.answer_tree-in-Except.new.reads)
+                (sym rows_are) asked),
             c.requires.holds,
           ),
         ),
