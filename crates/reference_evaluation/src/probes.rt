@@ -207,5 +207,7 @@ pub fn query_probes(
     ensures { IfOk result (λ found. found ≡ query_probes (rows_in over.now.tables.now) over.now.plans.accesses.now
         over.now.plans.guided.now over.now.plans.derivations.now query.now) }
 {
+    // Read for what its type tells: there are fewer than 2^64 flags, as `probes_in` asks of the blocks.
+    let _count = over.plans.guided.len();
     probes_in(alloc, over, 0, &None, query)
 }

@@ -96,7 +96,6 @@ fn id_of_step(steps: &[DStep], number: usize) -> AccessId
     }
 }
 
-#[tactic(auto, using(crate::proofs::StepFacts::step_access))]
 fn reads_at(alloc: Global, over: &PlansOnTables, probe: &BlockProbe) -> Result<u64, NoMemory>
     ensures { IfOk result (λ reads. reads ≡ reads_at (rows_in over.now.tables.now) over.now.plans.accesses.now
         over.now.plans.derivations.now probe.now) }
