@@ -1,10 +1,10 @@
 // A run over files and outputs that never fail.
-use steady_runs::run_steady;
 use beas_core::{Limits, NoMemory, Steps};
 use outside::{SteadyFiles, SteadySink};
 use session::Session;
 use std::alloc::Global;
 use std::sync::ledger::Ledger;
+use steady_runs::run_steady;
 
 /// How a run of the script with a name ends, and what it sends.
 pub fn run_of<L: Ledger>(
