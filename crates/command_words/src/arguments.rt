@@ -1,7 +1,7 @@
 // What the words may ask for, and why they may fail to.
-ghost use Rattle.command_words.specs.declared.arguments.Usage.TheVariants.{NoMemory as OutOfMemory};
+ghost use Rattle.command_words.specs.declared.arguments.Usage.TheVariants.{NoMemory};
 ghost use Rattle.clap.specs.Values.{kind_of};
-ghost use Rattle.clap.specs.declared.error.kind.ErrorKind.TheVariants.{OutOfMemory as NoMemoryLeft};
+ghost use Rattle.clap.specs.declared.error.kind.ErrorKind.TheVariants.{OutOfMemory};
 ghost use Rattle.std.specs.Prelude.{◌≡◌, ◌↔◌};
 ghost use Rattle.command_words.specs.Words.{usage_line};
 
@@ -41,7 +41,7 @@ pub enum Usage {
 }
 
 impl From<NoMemory> for Usage {
-    ghost from_gives = { λ _ e. e ≡ OutOfMemory };
+    ghost from_gives = { λ _ e. e ≡ NoMemory };
 
     fn from(_: NoMemory) -> Usage {
         Usage::NoMemory
@@ -49,7 +49,7 @@ impl From<NoMemory> for Usage {
 }
 
 impl From<AllocError> for Usage {
-    ghost from_gives = { λ _ e. e ≡ OutOfMemory };
+    ghost from_gives = { λ _ e. e ≡ NoMemory };
 
     fn from(_: AllocError) -> Usage {
         Usage::NoMemory
@@ -58,7 +58,7 @@ impl From<AllocError> for Usage {
 
 // A request for help is refused like a word that is unknown.
 impl From<Error> for Usage {
-    ghost from_gives = { λ why e. e ≡ OutOfMemory ↔ kind_of why ≡ NoMemoryLeft };
+    ghost from_gives = { λ why e. e ≡ NoMemory ↔ kind_of why ≡ OutOfMemory };
 
     fn from(why: Error) -> Usage {
         match why.kind() {

@@ -1,6 +1,6 @@
 // The summary of a demonstration: one line of totals.
 ghost use Rattle.std.specs.Prelude.{◌≡◌, ◌+◌, ◌<◌, ◌^◌, ◌∷◌, ◌++◌, [], List, IfOk};
-ghost use Rattle.demo_gen.specs.declared.summary.Outcome.{Outcome as Counted};
+ghost use Rattle.demo_gen.specs.declared.summary.Outcome.{Outcome};
 ghost use Rattle.demo_gen.specs.Summaries.{summary_text, totals_of};
 
 use crate::texts::text;
@@ -65,7 +65,7 @@ impl Summary {
     /// Counts one more statement.
     pub fn add(&mut self, outcome: Outcome)
         requires { self.old.statements + 1 < 2 ^ 32 }
-        ensures { (outcomes : List Counted) → self.old ≡ totals_of outcomes
+        ensures { (outcomes : List Outcome) → self.old ≡ totals_of outcomes
             → self.new ≡ totals_of (outcomes ++ outcome ∷ []) }
     {
         self.statements += 1;

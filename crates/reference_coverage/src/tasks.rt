@@ -42,9 +42,9 @@ pub struct Uncovered {
 }
 
 impl Model for Uncovered {
-    ghost use Rattle.beas_core.specs.Guiding.{Uncovered as UncoveredBlock};
+    ghost use Rattle.beas_core.specs.Guiding.{Uncovered};
 
-    ghost Value = { UncoveredBlock };
+    ghost Value = { Uncovered };
 
     ghost view = { λ u. record { block = u.block; why = u.why } };
 }

@@ -1,7 +1,6 @@
 // Valuations by choice of rows.
 ghost use Rattle.std.specs.Prelude.{◌≡◌, ◌<◌, ◌++◌, ◌∷◌, [], if◌then◌else◌, OnOk, pos, map, filter, flat_map, zip, length, is_some, IfOk};
 ghost use Rattle.std.specs.List.{list_all, range_with_len};
-ghost use Rattle.beas_core.specs.declared.value.Value.TheVariants.{Int as Number};
 ghost use Rattle.beas_core.specs.Groups.{value_at};
 ghost use Rattle.beas_core.specs.Full.{same_value, comparison_holds};
 ghost use Rattle.beas_core.specs.Coverage.{has, class_at, place_class, start_classes};
@@ -27,7 +26,7 @@ pub type Bindings = List<(u16, Value)>;
 
 /// The value of a class by its first binding. `zero` stands where it has none.
 fn value_of<'a>(bindings: &'a [(u16, Value)], class: u16, zero: &'a Value) -> &'a Value
-    requires { zero.now ≡ Number (pos 0) }
+    requires { zero.now ≡ Value.Int (pos 0) }
     ensures { result.now ≡ value_of bindings.now class }
 {
     match bindings {
@@ -44,7 +43,7 @@ fn value_of<'a>(bindings: &'a [(u16, Value)], class: u16, zero: &'a Value) -> &'
 
 /// Whether no class has two values.
 fn agrees(bindings: &[(u16, Value)], zero: &Value) -> bool
-    requires { zero.now ≡ Number (pos 0) }
+    requires { zero.now ≡ Value.Int (pos 0) }
     ensures { result ≡ agrees bindings.now }
 {
     bindings.iter().all(|binding| binding.1 == *value_of(bindings, binding.0, zero))
@@ -201,7 +200,7 @@ fn holds_in(
     comparison: &Comparison,
     zero: &Value,
 ) -> bool
-    requires { zero.now ≡ Number (pos 0) }
+    requires { zero.now ≡ Value.Int (pos 0) }
     ensures { result ≡ comparison_holds (λ p. value_of bindings.now (place_class normal.now p)) comparison.now }
 {
     let place = comparison.left;
@@ -224,7 +223,7 @@ fn is_met(
     comparison: &Comparison,
     zero: &Value,
 ) -> bool
-    requires { zero.now ≡ Number (pos 0) }
+    requires { zero.now ≡ Value.Int (pos 0) }
     ensures { result ≡ comparison_is_met normal.now set.now bindings.now comparison.now }
 {
     let open = !comparison_is_bound(normal, set, comparison);
@@ -234,7 +233,7 @@ fn is_met(
 }
 
 fn all_met(normal: &Normal, set: &[bool], bindings: &[(u16, Value)], zero: &Value) -> bool
-    requires { zero.now ≡ Number (pos 0) }
+    requires { zero.now ≡ Value.Int (pos 0) }
     ensures { result ≡ list_all (comparison_is_met normal.now set.now bindings.now) normal.now.comparisons }
 {
     let comparisons = normal.comparisons.as_slice();
@@ -242,7 +241,7 @@ fn all_met(normal: &Normal, set: &[bool], bindings: &[(u16, Value)], zero: &Valu
 }
 
 fn is_consistent(normal: &Normal, set: &[bool], bindings: &[(u16, Value)], zero: &Value) -> bool
-    requires { zero.now ≡ Number (pos 0) }
+    requires { zero.now ≡ Value.Int (pos 0) }
     ensures { result ≡ is_consistent normal.now set.now bindings.now }
 {
     let same = agrees(bindings, zero);
@@ -258,7 +257,7 @@ pub fn values_of(
     classes: &[u16],
     zero: &Value,
 ) -> Result<Row, NoMemory>
-    requires { zero.now ≡ Number (pos 0) }
+    requires { zero.now ≡ Value.Int (pos 0) }
     ensures { IfOk result (λ row. row ≡ map (value_of bindings.now) classes.now) }
 {
     let mut row = List::new(alloc);
@@ -369,7 +368,7 @@ fn rows_on(
     found: &[Bindings],
     zero: &Value,
 ) -> Result<List<Row>, NoMemory>
-    requires { zero.now ≡ Number (pos 0) }
+    requires { zero.now ≡ Value.Int (pos 0) }
     ensures { IfOk result (λ rows. rows ≡ map (λ w. map (value_of w) classes.now)
         (filter (is_consistent normal.now set.now) found.now)) }
 {

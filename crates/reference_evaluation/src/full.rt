@@ -2,7 +2,6 @@
 ghost use Rattle.std.specs.Prelude.{◌≡◌, ◌++◌, ◌∷◌, [], pos, map, filter, flat_map, IfOk, OnOk, slice_index_or};
 ghost use Rattle.std.specs.List.{list_all, list_any};
 ghost use Rattle.beas_core.specs.Groups.{same_row};
-ghost use Rattle.beas_core.specs.declared.value.Value.TheVariants.{Int as Number};
 ghost use Rattle.beas_core.specs.Order.{value_cmp};
 ghost use Rattle.beas_core.specs.Full.{choices, choice_value, comparison_holds, meets, same_value, sign_holds, set_union, set_difference, full_of, full_of_block};
 ghost use Rattle.reference_evaluation.specs.Tables.{rows_in};
@@ -84,7 +83,7 @@ pub fn choices(
 }
 
 fn choice_value<'a>(choice: &'a [Row], place: Place, zero: &'a Value) -> &'a Value
-    requires { zero.now ≡ Number (pos 0) }
+    requires { zero.now ≡ Value.Int (pos 0) }
     ensures { result.now ≡ choice_value choice.now place }
 {
     match choice.get(place.atom as usize) {
@@ -94,7 +93,7 @@ fn choice_value<'a>(choice: &'a [Row], place: Place, zero: &'a Value) -> &'a Val
 }
 
 fn equalities_hold(equalities: &[(Place, Place)], choice: &[Row], zero: &Value) -> bool
-    requires { zero.now ≡ Number (pos 0) }
+    requires { zero.now ≡ Value.Int (pos 0) }
     ensures { result ≡ list_all (λ e. same_value (choice_value choice.now e.0) (choice_value choice.now e.1))
         equalities.now }
 {
@@ -106,14 +105,14 @@ fn equalities_hold(equalities: &[(Place, Place)], choice: &[Row], zero: &Value) 
 }
 
 fn constants_hold(constants: &[(Place, Value)], choice: &[Row], zero: &Value) -> bool
-    requires { zero.now ≡ Number (pos 0) }
+    requires { zero.now ≡ Value.Int (pos 0) }
     ensures { result ≡ list_all (λ c. same_value (choice_value choice.now c.0) c.1) constants.now }
 {
     constants.iter().all(|constant| *choice_value(choice, constant.0, zero) == constant.1)
 }
 
 fn comparison_holds(comparison: &Comparison, choice: &[Row], zero: &Value) -> bool
-    requires { zero.now ≡ Number (pos 0) }
+    requires { zero.now ≡ Value.Int (pos 0) }
     ensures { result ≡ comparison_holds (choice_value choice.now) comparison.now }
 {
     let left = choice_value(choice, comparison.left, zero);
@@ -124,7 +123,7 @@ fn comparison_holds(comparison: &Comparison, choice: &[Row], zero: &Value) -> bo
 }
 
 fn comparisons_hold(comparisons: &[Comparison], choice: &[Row], zero: &Value) -> bool
-    requires { zero.now ≡ Number (pos 0) }
+    requires { zero.now ≡ Value.Int (pos 0) }
     ensures { result ≡ list_all (comparison_holds (choice_value choice.now)) comparisons.now }
 {
     comparisons
@@ -133,7 +132,7 @@ fn comparisons_hold(comparisons: &[Comparison], choice: &[Row], zero: &Value) ->
 }
 
 fn meets(block: &Block, choice: &[Row], zero: &Value) -> bool
-    requires { zero.now ≡ Number (pos 0) }
+    requires { zero.now ≡ Value.Int (pos 0) }
     ensures { result ≡ meets block.now choice.now }
 {
     let equal = equalities_hold(block.equalities.as_slice(), choice, zero);
@@ -149,7 +148,7 @@ fn project_choice(
     output: &[Place],
     zero: &Value,
 ) -> Result<Row, NoMemory>
-    requires { zero.now ≡ Number (pos 0) }
+    requires { zero.now ≡ Value.Int (pos 0) }
     ensures { IfOk result (λ row. row ≡ map (choice_value choice.now) output.now) }
 {
     let mut row = List::new(alloc);
@@ -166,7 +165,7 @@ fn outputs(
     all: &[List<Row>],
     zero: &Value,
 ) -> Result<List<Row>, NoMemory>
-    requires { zero.now ≡ Number (pos 0) }
+    requires { zero.now ≡ Value.Int (pos 0) }
     ensures { IfOk result (λ found. found ≡ map (λ choice. map (choice_value choice) block.now.output)
         (filter (meets block.now) all.now)) }
 {

@@ -1,6 +1,5 @@
 // The keys that valuations give to a step.
 ghost use Rattle.std.specs.Prelude.{◌≡◌, ◌<◌, pos, map, zip, length, IfOk};
-ghost use Rattle.beas_core.specs.declared.value.Value.TheVariants.{Int as Number};
 ghost use Rattle.beas_core.specs.Derivations.{access_in};
 ghost use Rattle.beas_core.specs.Valuations.{value_of};
 ghost use Rattle.beas_core.specs.Reads.{keys_for};
@@ -31,7 +30,7 @@ fn key_of(
     valuation: &[Value],
     zero: &Value,
 ) -> Result<Row, NoMemory>
-    requires { zero.now ≡ Number (pos 0) }
+    requires { zero.now ≡ Value.Int (pos 0) }
     ensures { IfOk result (λ key. key ≡ map (value_of (zip classes.now valuation.now)) key_classes.now) }
 {
     let bindings = bindings_between(alloc, classes, valuation)?;
@@ -45,7 +44,7 @@ fn keys_in(
     found: &[Row],
     zero: &Value,
 ) -> Result<List<Row>, NoMemory>
-    requires { zero.now ≡ Number (pos 0) }
+    requires { zero.now ≡ Value.Int (pos 0) }
     ensures { IfOk result (λ keys. keys
         ≡ map (λ valuation. map (value_of (zip classes.now valuation)) key_classes.now) found.now) }
 {

@@ -41,9 +41,9 @@ pub struct BlockProbe {
 }
 
 impl Model for BlockProbe {
-    ghost use Rattle.beas_core.specs.Queries.{BlockProbe as ProbeOfBlock};
+    ghost use Rattle.beas_core.specs.Queries.{BlockProbe};
 
-    ghost Value = { ProbeOfBlock };
+    ghost Value = { BlockProbe };
 
     ghost view = { λ p. record { block = p.block; probe = p.probe } };
 }

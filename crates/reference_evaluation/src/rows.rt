@@ -1,6 +1,5 @@
 // Rows, tables and sets in order.
 ghost use Rattle.std.specs.Prelude.{◌≡◌, pos, map, slice_index_or, IfOk};
-ghost use Rattle.beas_core.specs.declared.value.Value.TheVariants.{Int as Number};
 ghost use Rattle.beas_core.specs.Order.{row_cmp};
 ghost use Rattle.beas_core.specs.Sets.{distinct};
 ghost use Rattle.beas_core.specs.Groups.{project, value_at};
@@ -28,7 +27,7 @@ pub fn rows_of(tables: &[List<Row>], id: TableId) -> &[Row]
 
 /// A column's value in a row. `zero` stands where the row has no such column.
 pub fn value_or<'a>(row: &'a [Value], column: ColumnId, zero: &'a Value) -> &'a Value
-    requires { zero.now ≡ Number (pos 0) }
+    requires { zero.now ≡ Value.Int (pos 0) }
     ensures { result.now ≡ value_at row.now column }
 {
     match row.get(column.0 as usize) {

@@ -1,13 +1,13 @@
 // Laws of the grammar.
 ghost use Rattle.std.specs.Prelude.{◌≡◌, List};
-ghost use Rattle.sql_tree.specs.declared.tree.Statement.{Statement as Tree};
+ghost use Rattle.sql_tree.specs.declared.tree.Statement.{Statement};
 ghost use Rattle.sql_tree.specs.Symbols.{Symbol};
 ghost use Rattle.sql_tree.specs.Grammar.{Spells};
 ghost use Rattle.sql_parser.specs.Outcome.{Parses, Reading, found_reading};
 
 /// Tokens spell at most one statement.
 pub fn law_one_statement()
-    ensures { (tokens : List Symbol) (s t : Tree) → Spells tokens s → Spells tokens t → s ≡ t }
+    ensures { (tokens : List Symbol) (s t : Statement) → Spells tokens s → Spells tokens t → s ≡ t }
 {}
 
 /// Tokens have a reading, and no other: a statement that they spell, or why they spell none.

@@ -16,10 +16,10 @@ pub enum ReadError {
 }
 
 impl From<NoMemory> for ReadError {
-    ghost use Rattle.sql_parser.specs.declared.reader.ReadError.TheVariants.{NoMemory as Want};
+    ghost use Rattle.sql_parser.specs.declared.reader.ReadError.TheVariants.{NoMemory};
     ghost use Rattle.std.specs.Prelude.{◌≡◌};
 
-    ghost from_gives = { λ _ e. e ≡ Want };
+    ghost from_gives = { λ _ e. e ≡ NoMemory };
 
     fn from(_: NoMemory) -> ReadError {
         ReadError::NoMemory

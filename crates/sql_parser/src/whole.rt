@@ -1,10 +1,10 @@
 // All of the tokens of a piece.
 ghost use Rattle.std.specs.Prelude.{◌≡◌, [], IfOk, IsErrOf};
-ghost use Rattle.beas_core.specs.declared.refusal.Refusal.{Refusal as Why};
+ghost use Rattle.beas_core.specs.declared.refusal.Refusal.{Refusal};
 ghost use Rattle.beas_core.specs.Results.{Gives};
 ghost use Rattle.sql_tree.specs.Grammar.{wants_distinct};
 ghost use Rattle.sql_tree.specs.Symbols.{symbols};
-ghost use Rattle.sql_tree.specs.declared.tree.Statement.{Statement as Tree};
+ghost use Rattle.sql_tree.specs.declared.tree.Statement.{Statement};
 ghost use Rattle.sql_parser.specs.Outcome.{Parses, Reading, lacks_distinct, found_reading};
 ghost use Rattle.sql_parser.specs.Reading.{read_statement};
 
@@ -19,7 +19,7 @@ use std::alloc::Global;
 /// Reads a statement from all of the tokens, or a query that lacks its DISTINCT.
 fn all_of(tokens: &[Token], alloc: Global) -> Result<Statement, ReadError>
     ensures ok { IfOk result (λ s. read_statement (symbols tokens.now) ≡ Some (s, [])) }
-    ensures syntax { IsErrOf result ReadError.Syntax → (s : Tree) → read_statement (symbols tokens.now) ≡ Some (s, [])
+    ensures syntax { IsErrOf result ReadError.Syntax → (s : Statement) → read_statement (symbols tokens.now) ≡ Some (s, [])
         → ⊥ }
 {
     let mut reader = Reader::new(tokens);
@@ -80,7 +80,7 @@ fn reading(alloc: Global, tokens: &[Token]) -> Result<Statement, Fail>
 pub fn parse(alloc: Global, tokens: &[Token]) -> Result<Statement, Fail>
     // What is answered is so by the grammar.
     ensures spelled { IfOk result (λ s. Parses (symbols tokens.now) (Ok s)) }
-    ensures refused { (why : Why) → IsErrOf result (Fail.Refused why) → Parses (symbols tokens.now) (Err why) }
+    ensures refused { (why : Refusal) → IsErrOf result (Fail.Refused why) → Parses (symbols tokens.now) (Err why) }
     // What is so by the grammar is answered, unless memory runs out.
     ensures answered { (reading : Reading) → Parses (symbols tokens.now) reading → Gives result reading }
     ensures parsed { Gives result (found_reading (symbols tokens.now)) }
