@@ -3,6 +3,7 @@ pub mod ChoiceFacts
 pub mod DropTurns
 pub mod Drops
 pub mod FrontFacts
+pub mod Extras
 pub mod PreparationFacts
 pub mod SetFacts
 pub mod Turns

@@ -3,8 +3,8 @@ ghost use Rattle.std.specs.Prelude.{◌≡◌, ◌<◌, ◌≤◌, ◌++◌, if�
 ghost use Rattle.std.specs.List.{list_all};
 ghost use Rattle.std.specs.List.Sorted.{IsPermutation};
 ghost use Rattle.std.specs.BinaryHeap.{IsHeap, heap_items};
-ghost use Rattle.beas_core.specs.declared.schema.Access.{Access as Constraint};
-ghost use Rattle.beas_core.specs.Coverage.{ClassesInRange, holds_needed as needed_are_held, is_covered, uses as uses_in, with_classes};
+ghost use Rattle.beas_core.specs.declared.schema.Access.{Access};
+ghost use Rattle.beas_core.specs.Coverage.{ClassesInRange, holds_needed, is_covered, uses, with_classes};
 ghost use Rattle.beas_core.specs.Derivations.{least_bound, with_use};
 ghost use Rattle.attribute_closure.specs.Uses.{as_use};
 ghost use Rattle.plan_builder.specs.Candidates.{AreCandidates, AreLeft, AreOthers, AreWaiting, atoms_served, entry_of, later};
@@ -45,7 +45,7 @@ fn push_all(uses: &[UseAt<'_>], numbers: &[usize], waiting: &mut Queue) -> Resul
 
 #[tactic(auto, using(attribute_closure::proofs::Sets::set_past))]
 fn note_atom(block: &Normal, found: &UseAt<'_>, served: &mut [bool])
-    ensures { served.new ≡ (if needed_are_held block.now (as_use found.now)
+    ensures { served.new ≡ (if holds_needed block.now (as_use found.now)
         then slice_set served.old found.now.atom true
         else served.old) }
 {
@@ -115,7 +115,7 @@ impl<'a> Candidates<'a> {
         requires atoms { length block.now.atoms < 65536 }
         requires classes { length start.now ≡ block.now.count }
         ensures are { IfOk result (AreCandidates block.now) }
-        ensures uses { IfOk result (λ c. map as_use c.keys.uses ≡ uses_in block.now accesses.now) }
+        ensures uses { IfOk result (λ c. map as_use c.keys.uses ≡ uses block.now accesses.now) }
         ensures set { IfOk result (λ c. c.keys.set.items ≡ start.now) }
     {
         let mut keys = Keys::of(alloc, block, accesses)?;
@@ -174,7 +174,7 @@ impl<'a> Candidates<'a> {
     pub fn cover(&self, block: &Normal) -> bool
         requires are { AreCandidates block.now self.now }
         requires needed { length block.now.needed ≤ 65536 }
-        ensures { (accesses : List Constraint) → map as_use self.now.keys.uses ≡ uses_in block.now accesses
+        ensures { (accesses : List Access) → map as_use self.now.keys.uses ≡ uses block.now accesses
             → result ≡ is_covered block.now accesses self.now.keys.set.items }
     {
         match open_place(block, &self.keys.set) {

@@ -1,9 +1,8 @@
 // The best of the uses that may come next.
-ghost use Rattle.std.specs.Prelude.{◌≡◌, ◌&&◌, ◌==◌, filter, map, nat_lt, option_map, true};
-ghost use Rattle.beas_core.specs.Coverage.{holds_classes, key_classes, serves as serves_atom};
-ghost use Rattle.beas_core.specs.Derivations.{adds_class, least_bound};
+ghost use Rattle.std.specs.Prelude.{◌≡◌, filter, map, option_map};
+ghost use Rattle.beas_core.specs.Derivations.{least_bound};
 ghost use Rattle.attribute_closure.specs.Uses.{as_use};
-ghost use Rattle.plan_builder.specs.Choices.{is_better, may_add, may_serve};
+ghost use Rattle.plan_builder.specs.Choices.{is_better, may_serve};
 
 use crate::sets::adds;
 use attribute_closure::{UseAt, holds_columns, serves};

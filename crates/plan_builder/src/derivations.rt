@@ -1,10 +1,10 @@
 // Derivations: steps that add classes while the block isn't covered, then steps that serve its atoms.
-ghost use Rattle.std.specs.Prelude.{◌≡◌, ◌≤◌, ◌<◌, ◌++◌, ◌∷◌, [], IfOk, List as Several, OnOk, MatchBool, MatchResult, None, Some, length, map, take};
+ghost use Rattle.std.specs.Prelude.{◌≡◌, ◌≤◌, ◌<◌, ◌++◌, ◌∷◌, [], IfOk, OnOk, MatchBool, MatchResult, None, Some, length, map, take};
 ghost use Rattle.std.specs.List.{list_any};
-ghost use Rattle.beas_core.specs.declared.schema.Access.{Access as Constraint};
+ghost use Rattle.beas_core.specs.declared.schema.Access.{Access};
 ghost use Rattle.beas_core.specs.Coverage.{ClassesInRange, atoms_of, covered_set, own_reason, reason, uses as uses_in};
 ghost use Rattle.beas_core.specs.Derivations.{adding_steps, greedy_steps, serving_steps, step_of, use_of, with_use};
-ghost use Rattle.beas_core.specs.Pruning.{derivation as derivation_of, own_derivation};
+ghost use Rattle.beas_core.specs.Pruning.{derivation, own_derivation};
 ghost use Rattle.beas_core.specs.Shapes.{EachIdOnce};
 ghost use Rattle.attribute_closure.specs.Uses.{as_use};
 ghost use Rattle.plan_builder.specs.Candidates.{AreCandidates};
@@ -55,7 +55,7 @@ fn add_steps<'a>(
     requires steps { plan.old.steps ≡ [] }
     requires taken { taken.old ≡ [] }
     ensures uses { candidates.new.keys.uses ≡ candidates.old.keys.uses }
-    ensures come { IfOk result (λ whole. (accesses : Several Constraint)
+    ensures come { IfOk result (λ whole. (accesses : List Access)
         → EachIdOnce accesses → map as_use candidates.old.keys.uses ≡ uses_in block.now accesses
         → MatchBool whole
         (HasCome block.now accesses plan.old.set.items plan.new taken.new
@@ -164,8 +164,8 @@ pub fn derive_from(
     requires needed { length block.now.needed ≤ 65536 }
     requires ids { EachIdOnce accesses.now }
     ensures { IfOk result (λ found. MatchResult found
-        (λ derivation. derivation_of block.now accesses.now start.now ≡ Some derivation.steps)
-        (λ why. (derivation_of block.now accesses.now start.now ≡ None)
+        (λ plan. derivation block.now accesses.now start.now ≡ Some plan.steps)
+        (λ why. (derivation block.now accesses.now start.now ≡ None)
         × (reason block.now accesses.now (covered_set block.now accesses.now start.now) ≡ Some why))) }
 {
     if let Some(steps) = greedy(alloc, accesses, block, start)? {

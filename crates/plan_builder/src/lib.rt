@@ -1,6 +1,7 @@
 //! Derivations of blocks, the steps by which their rows are fetched, and what is announced of a query by them.
 #![tactic(auto)]
 
+mod blocks;
 mod candidates;
 mod choices;
 mod derivations;
@@ -8,6 +9,9 @@ mod fronts;
 mod preparation;
 mod pruning;
 mod sets;
+mod uncovered;
 
+pub use blocks::{BlockAt, push_blocks};
 pub use derivations::{derive, greedy};
-pub use preparation::prepare;
+pub use preparation::{prepare, prepare_over};
+pub use uncovered::{block_reason, lacking};

@@ -1,20 +1,20 @@
 // What is announced of a query: for each block its normal form and derivation, and the greatest number of reads.
-ghost use Rattle.std.specs.Prelude.{◌≡◌, ◌<◌, ◌≤◌, ◌+◌, ◌++◌, ◌^◌, All, IfErr, IfOk, List as Several, MatchResult, None, OnOk, Some, Ok as Answer, Err as Failure, true, ℕ, length, map, option_map};
+ghost use Rattle.std.specs.Prelude.{◌≡◌, ◌<◌, ◌≤◌, ◌+◌, ◌++◌, ◌^◌, All, Err, IfErr, IfOk, MatchResult, None, Ok, Some, length, map, option_map};
 ghost use Rattle.beas_core.specs.declared.refusal.Refusal.TheVariants.{TooLarge};
-ghost use Rattle.beas_core.specs.declared.schema.Access.{Access as Constraint};
 ghost use Rattle.beas_core.specs.Classes.{normal_of};
 ghost use Rattle.beas_core.specs.Coverage.{ClassesInRange};
 ghost use Rattle.beas_core.specs.Fits.{Fits, PlanFits};
-ghost use Rattle.beas_core.specs.Guiding.{after, first_uncovered, is_guided_task, task_reason, task_steps, tasks_from};
-ghost use Rattle.beas_core.specs.Queries.{announced_in, size_of};
+ghost use Rattle.beas_core.specs.Guiding.{after, first_uncovered, is_guided_task, task_reason, task_steps};
+ghost use Rattle.beas_core.specs.Queries.{announced_in, query_bound, size_of};
 ghost use Rattle.beas_core.specs.Results.{Gives, IsRefusedAs};
 ghost use Rattle.beas_core.specs.Shapes.{BlockIsWellFormed, EachIdOnce, IsPlace, QueryIsWellFormed};
 ghost use Rattle.beas_core.specs.Trees.{blocks_of};
 ghost use Rattle.beas_core.specs.Types.{TableRows};
 ghost use Rattle.catalogue.specs.Queries.{BlockIsOver, QueryIsOver, RowsAreWide};
-ghost use Rattle.plan_builder.specs.Parts.{Grows, block_reads, block_size, blocks_at, normal_task, task_at, whole};
-ghost use Rattle.plan_builder.specs.Preparation.{block_header as header_in, header_of, not_covered as refusal_in, place_name, preparation, refusal_of};
+ghost use Rattle.plan_builder.specs.Parts.{Grows, block_reads, block_size, blocks_at, normal_task, task_at, unless_too_large, whole};
+ghost use Rattle.plan_builder.specs.Preparation.{IsWellFormedIn, block_header, header_of, not_covered, place_name, preparation, preparation_over, refusal_of, with_lists};
 
+use crate::blocks::{BlockAt, joined, joined_all, push_blocks};
 use crate::derivations::{derive, derive_from};
 use crate::sets::guided_start;
 use beas_core::{
@@ -25,13 +25,6 @@ use bound_calculator::block_bound;
 use catalogue::Catalogue;
 use normal_form::normalise;
 use std::alloc::Global;
-
-/// A block of a query, and whether it has a guide.
-#[derive(Clone, Copy)]
-pub struct BlockAt<'a> {
-    pub block: &'a Block,
-    pub has_guide: bool,
-}
 
 /// The derivation of a block, and whether it is guided.
 #[derive(Drop)]
@@ -83,7 +76,7 @@ fn column_name(
 fn block_header(alloc: Global, catalogue: &Catalogue, block: &Block) -> Result<List<Name>, NoMemory>
     requires places { All (IsPlace block.now.atoms) block.now.output }
     requires over { BlockIsOver catalogue.now block.now }
-    ensures { IfOk result (λ header. header ≡ header_in catalogue.now block.now) }
+    ensures { IfOk result (λ header. header ≡ block_header catalogue.now block.now) }
 {
     let mut header = List::new(alloc);
     for place in block.output.as_slice() {
@@ -118,7 +111,7 @@ fn not_covered(
 ) -> Result<Refusal, NoMemory>
     requires over { BlockIsOver catalogue.now at.block.now }
     requires why { task_reason (task_at catalogue.now.accesses at) ≡ Some why }
-    ensures { IfOk result (λ refusal. refusal ≡ refusal_in catalogue.now number at.entry.block.now why) }
+    ensures { IfOk result (λ refusal. refusal ≡ not_covered catalogue.now number at.entry.block.now why) }
 {
     match why {
         NotCovered::ColumnOpen { atom, column } => {
@@ -177,6 +170,31 @@ fn plan_normal(
     }
 }
 
+// The derivation of a block over the live constraints followed by its own.
+fn plan_over(
+    alloc: Global,
+    accesses: &List<Access>,
+    extra: &[Access],
+    normal: &Normal,
+    has_guide: bool,
+) -> Result<Result<TaskPlan, NotCovered>, NoMemory>
+    requires ranges { ClassesInRange normal.now }
+    requires atoms { length normal.now.atoms < 65536 }
+    requires needed { length normal.now.needed ≤ 65536 }
+    requires ids { EachIdOnce (accesses.now ++ extra.now) }
+    ensures { IfOk result (λ found. MatchResult found
+        (λ plan. (plan.guided ≡ is_guided_task (normal_task normal.now (accesses.now ++ extra.now) has_guide))
+        × (task_steps (normal_task normal.now (accesses.now ++ extra.now) has_guide) ≡ Some plan.derivation.steps)
+        × (task_reason (normal_task normal.now (accesses.now ++ extra.now) has_guide) ≡ None))
+        (λ why. task_reason (normal_task normal.now (accesses.now ++ extra.now) has_guide) ≡ Some why)) }
+{
+    if extra.is_empty() {
+        return plan_normal(alloc, accesses, normal, has_guide);
+    }
+    let all = joined(alloc, accesses, extra)?;
+    plan_normal(alloc, &all, normal, has_guide)
+}
+
 // The normal form of the block with this number, and its derivation.
 fn plan_block(
     alloc: Global,
@@ -186,8 +204,9 @@ fn plan_block(
 ) -> Result<(Normal, TaskPlan), Fail>
     requires shape { BlockIsWellFormed at.block.now }
     requires over { BlockIsOver catalogue.now at.block.now }
+    requires ids { EachIdOnce (catalogue.now.accesses ++ at.extra.now) }
     ensures refused { IsRefusedAs result (option_map
-        (refusal_in catalogue.now number at.entry.block.now)
+        (not_covered catalogue.now number at.entry.block.now)
         (task_reason (task_at catalogue.now.accesses at.entry))) }
     ensures normal { IfOk result (λ plan. plan.0 ≡ normal_of at.entry.block.now) }
     ensures guided { IfOk result (λ plan. plan.1.guided ≡ is_guided_task (task_at catalogue.now.accesses at.entry)) }
@@ -195,7 +214,7 @@ fn plan_block(
         ≡ task_steps (task_at catalogue.now.accesses at.entry)) }
 {
     let normal = normalise(alloc, at.block)?;
-    match plan_normal(alloc, catalogue.accesses(), &normal, at.has_guide)? {
+    match plan_over(alloc, catalogue.accesses(), at.extra, &normal, at.has_guide)? {
         Ok(plan) => Ok((normal, plan)),
         Err(why) => Err(Fail::Refused(not_covered(alloc, catalogue, number, at, why)?)),
     }
@@ -204,6 +223,7 @@ fn plan_block(
 fn plan_blocks(alloc: Global, catalogue: &Catalogue, blocks: &[BlockAt<'_>]) -> Result<Plans, Fail>
     requires shapes { All BlockIsWellFormed (blocks_at blocks.now) }
     requires over { All (BlockIsOver catalogue.now) (blocks_at blocks.now) }
+    requires ids { All (λ at. EachIdOnce (catalogue.now.accesses ++ at.extra.now)) blocks.now }
     requires few { length blocks.now < 2 ^ 32 }
     ensures refused { IsRefusedAs result
         (option_map (refusal_of catalogue.now (blocks_at blocks.now))
@@ -226,28 +246,6 @@ fn plan_blocks(alloc: Global, catalogue: &Catalogue, blocks: &[BlockAt<'_>]) -> 
         plans.guided.push(plan.guided)?;
     }
     Ok(plans)
-}
-
-fn push_blocks<'a>(
-    query: &'a Query,
-    has_guide: bool,
-    found: &mut List<BlockAt<'a>>,
-) -> Result<(), NoMemory>
-    ensures blocks { OnOk result (blocks_at found.new ≡ blocks_at found.old ++ blocks_of query.now) }
-    ensures tasks { OnOk result ((accesses : Several Constraint) (n : ℕ) → map (task_at accesses) found.new
-        ≡ map (task_at accesses) found.old ++ tasks_from (λ k. accesses) n has_guide query.now) }
-{
-    match &query.node {
-        QueryNode::Block(block) => found.push(BlockAt { block, has_guide }),
-        QueryNode::Union(left, right) => {
-            push_blocks(left, has_guide, found)?;
-            push_blocks(right, has_guide, found)
-        }
-        QueryNode::Except(left, right) => {
-            push_blocks(left, has_guide, found)?;
-            push_blocks(right, true, found)
-        }
-    }
 }
 
 // What is announced of two parts together, where both sides of the sum give rows. `TooLarge` exactly where their reads
@@ -369,24 +367,83 @@ fn announce(
     }
 }
 
-fn parts_of(alloc: Global, catalogue: &Catalogue, query: &Query) -> Result<Parts, Fail>
+// What is announced of a whole query over the live constraints and those of the lists.
+fn announce_over(
+    alloc: Global,
+    accesses: &List<Access>,
+    extra: &[List<Access>],
+    query: &Query,
+    plans: &Plans,
+) -> Result<u128, Fail>
+    requires ids { EachIdOnce (with_lists accesses.now extra.now) }
+    requires grow { All (Grows (with_lists accesses.now extra.now)) plans.now.derivations }
+    requires derivations { length (blocks_of query.now) ≤ length plans.now.derivations }
+    requires guided { length (blocks_of query.now) ≤ length plans.now.guided }
+    ensures { Gives result (unless_too_large
+        (query_bound (with_lists accesses.now extra.now) plans.now.guided plans.now.derivations query.now)) }
+{
+    if extra.is_empty() {
+        return Ok(announce(query, plans, accesses, 0, 1)?.reads);
+    }
+    let all = joined_all(alloc, accesses, extra)?;
+    Ok(announce(query, plans, &all, 0, 1)?.reads)
+}
+
+fn parts_of(
+    alloc: Global,
+    catalogue: &Catalogue,
+    extra: &[List<Access>],
+    query: &Query,
+) -> Result<Parts, Fail>
     requires well_formed { QueryIsWellFormed query.now }
     requires over { QueryIsOver catalogue.now query.now }
     requires few { length (blocks_of query.now) < 2 ^ 32 }
-    ensures refused { IfErr result (λ why. Gives (Failure why) (preparation catalogue.now query.now)) }
+    requires ids { EachIdOnce (with_lists catalogue.now.accesses extra.now) }
+    requires extra { All (All (IsWellFormedIn catalogue.now)) extra.now }
+    ensures refused { IfErr result (λ why. Gives (Err why) (preparation_over catalogue.now extra.now query.now)) }
     ensures prepared { IfOk result (λ parts.
-        Gives (Answer (whole query.now parts)) (preparation catalogue.now query.now)) }
-    ensures plan { IfOk result (λ parts. PlanFits catalogue.now.accesses (whole query.now parts)) }
+        Gives (Ok (whole query.now parts)) (preparation_over catalogue.now extra.now query.now)) }
+    ensures plan { IfOk result (λ parts. PlanFits (with_lists catalogue.now.accesses extra.now) (whole query.now parts)) }
 {
     let mut found = List::new(alloc);
-    push_blocks(query, false, &mut found)?;
+    push_blocks(query, extra, false, &mut found)?;
     let plans = plan_blocks(alloc, catalogue, found.as_slice())?;
-    let announced = announce(query, &plans, catalogue.accesses(), 0, 1)?;
+    let bound = announce_over(alloc, catalogue.accesses(), extra, query, &plans)?;
     let header = header_of(alloc, catalogue, found.as_slice())?;
     Ok(Parts {
         header,
         plans,
-        bound: announced.reads,
+        bound,
+    })
+}
+
+/// A query with all that is announced of it where its blocks may use more constraints than the live ones: block i those
+/// of list i besides, which follow the live ones in the order of choice. A list that isn't there is an empty one. Refused
+/// as `prepare` refuses, over these constraints; what it gives fits every port that has all of them.
+pub fn prepare_over(
+    alloc: Global,
+    catalogue: &Catalogue,
+    extra: &List<List<Access>>,
+    query: Query,
+) -> Result<Prepared, Fail>
+    requires well_formed { QueryIsWellFormed query }
+    requires over { QueryIsOver catalogue.now query }
+    requires few { length (blocks_of query) < 2 ^ 32 }
+    requires ids { EachIdOnce (with_lists catalogue.now.accesses extra.now) }
+    requires extra { All (All (IsWellFormedIn catalogue.now)) extra.now }
+    ensures prepared { Gives result (preparation_over catalogue.now extra.now query) }
+    ensures plan { IfOk result (PlanFits (with_lists catalogue.now.accesses extra.now)) }
+    ensures fits { IfOk result (λ prepared. (rows : TableRows) → RowsAreWide catalogue.now rows
+        → Fits (with_lists catalogue.now.accesses extra.now) rows prepared) }
+{
+    let parts = parts_of(alloc, catalogue, extra.as_slice(), &query)?;
+    Ok(Prepared {
+        query,
+        header: parts.header,
+        normals: parts.plans.normals,
+        derivations: parts.plans.derivations,
+        bound: parts.bound,
+        guided: parts.plans.guided,
     })
 }
 
@@ -402,13 +459,7 @@ pub fn prepare(alloc: Global, catalogue: &Catalogue, query: Query) -> Result<Pre
     ensures fits { IfOk result (λ prepared. (rows : TableRows) → RowsAreWide catalogue.now rows
         → Fits catalogue.now.accesses rows prepared) }
 {
-    let parts = parts_of(alloc, catalogue, &query)?;
-    Ok(Prepared {
-        query,
-        header: parts.header,
-        normals: parts.plans.normals,
-        derivations: parts.plans.derivations,
-        bound: parts.bound,
-        guided: parts.plans.guided,
-    })
+    // Read for what it shows: no id stands twice among the live constraints.
+    let _live = catalogue.accesses();
+    prepare_over(alloc, catalogue, &List::new(alloc), query)
 }

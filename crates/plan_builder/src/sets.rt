@@ -1,6 +1,6 @@
 // Sets of classes that grow by the columns of a use.
 ghost use Rattle.std.specs.Prelude.{◌≡◌, IfOk, map, true};
-ghost use Rattle.beas_core.specs.Coverage.{class_at as class_of_column, place_class, start_classes, with_classes};
+ghost use Rattle.beas_core.specs.Coverage.{class_at, place_class, start_classes, with_classes};
 ghost use Rattle.beas_core.specs.Derivations.{adds_class, with_use};
 ghost use Rattle.attribute_closure.specs.Uses.{as_use};
 
@@ -17,7 +17,7 @@ pub fn adds(block: &Normal, set: &[bool], found: &UseAt<'_>) -> bool
 
 #[tactic(auto, using(crate::proofs::SetFacts::columns_more, crate::proofs::SetFacts::columns_past))]
 fn add_columns(block: &Normal, atom: u16, columns: &[ColumnId], set: &mut [bool])
-    ensures { set.new ≡ with_classes set.old (map (class_of_column block.now atom) columns.now) }
+    ensures { set.new ≡ with_classes set.old (map (class_at block.now atom) columns.now) }
 {
     for column in columns {
         let class = usize::from(class_at(block, atom, *column));

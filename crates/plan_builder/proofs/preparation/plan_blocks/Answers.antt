@@ -24,7 +24,7 @@ plan_block-requires-clause-over c =
 pub returns-in_err-normal-clause-refused : goal.returns-in_err-normal-clause-refused
 returns-in_err-normal-clause-refused c =
     let p = err_from_is_err_and c.from_residual.result c.from_residual.ensures.1 in
-    rw (p.1, p.2) (refused_here c.args.catalogue.now c.args.blocks.now (Unit {0}) (Unit {0}) _ c.loop-place.place c.index-blocks-place.result
+    rw (p.1, p.2) (refused_here c.args.catalogue.now.accesses c.args.blocks.now c.args.catalogue.now (Unit {0}) (Unit {0}) _ c.loop-place.place c.index-blocks-place.result
     c.loop-place.invariant.covered c.loop-place-test.true c.index-blocks-place.is c.in_err-normal.ensures.refused)
 
 pub loop-place-preserved : goal.loop-place-preserved
@@ -55,6 +55,10 @@ loop-place-preserved c =
           ∙ ap (λ o. map task_steps (take i tasks) ++ o ∷ []) (own.steps ∙ ap task_steps task_is)
           ∙ sym (map_more task_steps tasks i (task_at schema.accesses at) below_tasks);
       covered = c.loop-place.invariant.covered
-          ∙ covered_next schema lent i at c.loop-place-test.true c.index-blocks-place.is
+          ∙ covered_next schema.accesses lent i at c.loop-place-test.true c.index-blocks-place.is
           (none_mapped (not_covered schema (i + 1) at.block.now) (task_reason (task_at schema.accesses at)) own.refused);
     }
+
+pub plan_block-requires-clause-ids : goal.plan_block-requires-clause-ids
+plan_block-requires-clause-ids c =
+    rw c.index-blocks-place.is (c.requires.ids c.loop-place.place c.index-blocks-place.result c.loop-place-test.true)

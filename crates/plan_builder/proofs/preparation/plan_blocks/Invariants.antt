@@ -10,5 +10,5 @@ invariant-loop-place l = record {
   normals : l.plans.normals ≡ map normal_of (take l.place (blocks_at l.blocks));
   guided : l.plans.guided ≡ map is_guided_task (take l.place (map (task_at l.catalogue.accesses) l.blocks));
   derivations : map (λ d. Some d.steps) l.plans.derivations ≡ map task_steps (take l.place (map (task_at l.catalogue.accesses) l.blocks));
-  covered : uncovered_from l.catalogue l.blocks 0 ≡ uncovered_from l.catalogue l.blocks l.place;
+  covered : uncovered_from l.catalogue.accesses l.blocks 0 ≡ uncovered_from l.catalogue.accesses l.blocks l.place;
 }

@@ -1,0 +1,22 @@
+use Rattle.std.proofs.Common.{◌<◌, ◌≤◌, length, ap, sym, subst, arith}
+use Rattle.beas_core.specs.declared.plan.Normal.{Normal}
+use Rattle.beas_core.specs.Coverage.{ClassesInRange}
+use Rattle.evaluation_facts.proofs.ClassFacts.{classes_in_range}
+use Rattle.plan_builder.proofs.PreparationFacts.{as_many_needed, atoms_are}
+use Rattle.plan_builder.proofs.uncovered.reason_at.Goals as goal
+
+pub reason_over-requires-clause-ranges : goal.reason_over-requires-clause-ranges
+reason_over-requires-clause-ranges c =
+    subst ClassesInRange (sym c.in_ok-normal.ensures) (classes_in_range c.args.at.block.now c.requires)
+
+pub reason_over-requires-clause-atoms : goal.reason_over-requires-clause-atoms
+reason_over-requires-clause-atoms c =
+    let few = c.requires.few_atoms in
+    let many = ap length (atoms_are c.args.at.block.now) in
+    subst (λ (n : Normal). length n.atoms < 65536) (sym c.in_ok-normal.ensures) (omega arith)
+
+pub reason_over-requires-clause-needed : goal.reason_over-requires-clause-needed
+reason_over-requires-clause-needed c =
+    let few = c.requires.few_atoms in
+    let many = as_many_needed c.args.at.block.now in
+    subst (λ (n : Normal). length n.needed ≤ 65536) (sym c.in_ok-normal.ensures) (omega arith)
