@@ -1,0 +1,15 @@
+pub mod Changing
+pub mod CodeFacts
+pub mod Greatest
+pub mod GroupFacts
+pub mod Growth
+pub mod Holding
+pub mod Indexing
+pub mod Keys
+pub mod Members
+pub mod Ordering
+pub mod Past
+pub mod ReadFacts
+pub mod Steps
+pub mod Storing
+pub mod WordFacts

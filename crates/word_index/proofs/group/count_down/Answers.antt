@@ -1,0 +1,20 @@
+use Rattle.std.proofs.Common.{get_or, ap, sym, ◌∙◌, subst, refl, arith}
+use Rattle.std.proofs.lemmas.List.{get_or_default}
+use Rattle.access_index.specs.Buckets.{IsOneMore}
+use Rattle.word_index.specs.Reading.{read, read_group}
+use Rattle.word_index.proofs.GroupFacts.{group_lowered, group_taken, member_counted}
+use Rattle.word_index.proofs.group.count_down.Goals as goal
+
+pub returns-then-count-gt1-clause-less : goal.returns-then-count-gt1-clause-less
+returns-then-count-gt1-clause-less c codes d o a =
+    let g = c.args.group.now in
+    subst (λ new. IsOneMore (read_group codes new) (read_group codes g) (read codes (get_or g c.args.at d).words)) (sym (c.recount.ensures d))
+    (group_lowered codes g c.args.at d o a c.requires.within _ refl (omega (arith, c.if-count-gt1.true))
+    (omega (arith, c.if-count-gt1.true, ap (λ x. x.count) (c.get.ensures ∙ get_or_default g c.args.at c.get.result.now d c.requires.within))))
+
+pub returns-else-count-gt1-clause-less : goal.returns-else-count-gt1-clause-less
+returns-else-count-gt1-clause-less c codes d o a =
+    let g = c.args.group.now in
+    subst (λ new. IsOneMore (read_group codes new) (read_group codes g) (read codes (get_or g c.args.at d).words)) (sym c.remove.ensures)
+    (group_taken codes g c.args.at d o a c.requires.within
+    (omega (arith, c.if-count-gt1.false, member_counted codes g c.args.at d a c.requires.within, ap (λ x. x.count) (c.get.ensures ∙ get_or_default g c.args.at c.get.result.now d c.requires.within))))

@@ -1,0 +1,50 @@
+use Rattle.std.proofs.Common.{◌+◌, ap, sym, ◌∙◌, subst, refl, arith}
+use Rattle.std.specs.List.{insert}
+use Rattle.std.proofs.lemmas.Result.{on_ok_weaker}
+use Rattle.access_index.specs.declared.tally.Tally.{Tally}
+use Rattle.access_index.specs.Buckets.{IsOneMore}
+use Rattle.access_index.proofs.Counting.{tuples_within, count_within}
+use Rattle.beas_core.specs.Groups.{member_columns}
+use Rattle.word_index.specs.declared.coded.Coded.{Coded}
+use Rattle.word_index.specs.Reading.{read, read_group, read_tally, pick}
+use Rattle.word_index.proofs.GroupFacts.{read_at, length_group, group_raised, group_put}
+use Rattle.word_index.proofs.group.count_up.Goals as goal
+
+pub overflow_add-count : goal.overflow_add-count
+overflow_add-count c =
+    let codes = c.args.codes.now in
+    let g = c.args.group.now in
+    let d = c.get.result.now in
+    let l = c.in-Ok.ensures.0 in
+    omega (
+      arith,
+      c.requires.room,
+      l,
+      length_group codes g,
+      count_within (read_group codes g) c.in-Ok.at (read_tally codes d) (omega (arith, l, length_group codes g)),
+      ap (λ (t : Tally). t.count) (read_at codes g c.in-Ok.at d (read_tally codes d) l),
+      ap (λ (t : Coded). t.count) c.get.ensures,
+    )
+
+pub insert-requires-clause-room : goal.insert-requires-clause-room
+insert-requires-clause-room c =
+    omega (arith, c.requires.room, tuples_within (read_group c.args.codes.now c.args.group.now) c.requires.counted, length_group c.args.codes.now c.args.group.now)
+
+pub returns-in-Ok-clause-ok : goal.returns-in-Ok-clause-ok
+returns-in-Ok-clause-ok c =
+    let codes = c.args.codes.now in
+    let g = c.args.group.now in
+    let x = read codes (pick (member_columns c.args.access.now) c.args.words.now) in
+    let d = c.get.result.now in
+    subst (λ new. IsOneMore (read_group codes g) (read_group codes new) x) (sym (c.recount.ensures d))
+    (group_raised codes g c.in-Ok.at d c.requires.ordered c.requires.counted c.in-Ok.ensures.0 _ x (c.in-Ok.ensures.1 d) refl
+    (ap (λ (t : Coded). t.count + 1) c.get.ensures))
+
+pub returns-in_ok-words-in-Err-clause-ok : goal.returns-in_ok-words-in-Err-clause-ok
+returns-in_ok-words-in-Err-clause-ok c =
+    let codes = c.args.codes.now in
+    let g = c.args.group.now in
+    let tuple = pick (member_columns c.args.access.now) c.args.words.now in
+    on_ok_weaker c.insert.result (λ e. subst (λ new. IsOneMore (read_group codes g) (read_group codes new) (read codes tuple))
+    (sym (e ∙ ap (λ w. insert g c.in-Err.at (record { words = w; count = 1 })) c.in_ok-words-in-Err.ensures))
+    (group_put codes g c.in-Err.at tuple c.requires.ordered c.requires.counted c.in-Err.ensures)) c.insert.ensures.ok

@@ -1,0 +1,4 @@
+pub mod Codes
+pub mod Hashing
+pub mod Reading
+pub mod Widths

@@ -1,0 +1,18 @@
+// A tuple of codes and how many rows have it.
+use beas_core::List;
+use blocked_list::Counted;
+
+/// The codes of a tuple over a constraint's columns, and how many rows have it.
+#[derive(Drop)]
+pub struct Coded {
+    pub words: List<u64>,
+    pub count: u32,
+}
+
+impl Counted for Coded {
+    ghost recounted = { λ coded count. record coded { count = count } };
+
+    fn set_count(&mut self, count: u32) {
+        self.count = count;
+    }
+}

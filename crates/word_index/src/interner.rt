@@ -1,0 +1,92 @@
+// Values in the order in which they were first interned.
+ghost use Rattle.std.specs.Prelude.{◌≡◌, ◌↔◌, ◌<◌, [], length, slice_index_or, Some, IsSome, IfOk, OnOk, OnErr};
+ghost use Rattle.std.specs.Option.{option_copied};
+ghost use Rattle.access_index.specs.Hashing.{or_zero};
+ghost use Rattle.word_index.specs.Codes.{code_of, extended, value_of, AreDistinct};
+ghost use Rattle.word_index.specs.Reading.{KeepsCodes};
+
+use beas_core::{Duplicate, NoMemory, Value};
+use indexmap::IndexSet;
+use std::alloc::Global;
+use std::marker::Model;
+
+/// Values, each with a code: its place in the order in which they were first interned. A code that was given stays. Its
+/// values are those of rows, which are handed out after a probe alone, so it isn't `Debug`.
+#[derive(Drop)]
+pub struct Interner {
+    values: IndexSet<Value>,
+}
+
+impl Model for Interner {
+    ghost use Rattle.std.specs.Prelude.{List};
+    ghost use Rattle.std.specs.List.{IsDistinct};
+    ghost use Rattle.beas_core.specs.declared.value.Value.{Value as Cell};
+    ghost use Rattle.word_index.specs.Codes.{same_value};
+
+    ghost Value = { List Cell };
+
+    ghost view = { λ s. s.values.keys };
+
+    ghost invariant = { λ s. IsDistinct same_value s.values.keys };
+}
+
+impl Interner {
+    /// No values, which takes no memory.
+    pub fn new(alloc: Global) -> Interner
+        ensures { result ≡ [] }
+    {
+        Interner {
+            values: IndexSet::new(alloc),
+        }
+    }
+
+    /// The code of a value, or none where it was never interned. It takes no memory.
+    pub fn code(&self, value: &Value) -> Option<u64>
+        ensures { result ≡ code_of self.now value.now }
+    {
+        match self.values.get_index_of(value) {
+            Some(index) => Some(index as u64),
+            None => None,
+        }
+    }
+
+    /// The code of a value, which is interned where it wasn't yet. All other values keep their codes. After an error
+    /// the interner is as it was.
+    pub fn intern(&mut self, value: Value) -> Result<u64, NoMemory>
+        ensures grows { OnOk result (self.new ≡ extended self.old value) }
+        ensures code { IfOk result (λ code. code_of self.new value ≡ Some code) }
+        ensures distinct { AreDistinct self.new }
+        ensures kept { KeepsCodes self.old self.new }
+        ensures err { OnErr result (self.new ≡ self.old) }
+    {
+        let (index, _) = self.values.insert_full(value)?;
+        Ok(index as u64)
+    }
+
+    /// The value of a code. It takes no memory.
+    pub fn value(&self, code: u64) -> &Value
+        requires { code < length self.now }
+        ensures { result.now ≡ slice_index_or self.now code result.now }
+    {
+        &self.values[code as usize]
+    }
+
+    /// The value of a code, or none for a number that is no code. It takes no memory.
+    pub fn get(&self, code: u64) -> Option<&Value>
+        ensures value { or_zero (option_copied result) ≡ value_of self.now code }
+        ensures found { IsSome result ↔ (code < length self.now) }
+    {
+        self.values.get_index(code as usize)
+    }
+
+    /// An equal interner: each value has the same code there.
+    pub fn copy(&self, alloc: Global) -> Result<Interner, NoMemory>
+        ensures { IfOk result (λ copy. copy ≡ self.now) }
+    {
+        let mut values = IndexSet::with_capacity(alloc, self.values.len())?;
+        for i in 0..self.values.len() {
+            values.insert(self.values[i].copy(alloc)?)?;
+        }
+        Ok(Interner { values })
+    }
+}

@@ -1,0 +1,187 @@
+// The index of one access constraint with a long key over codes.
+ghost use Rattle.std.specs.Prelude.{◌≡◌, ◌+◌, ◌<◌, ◌≤◌, ◌^◌, ◌⊎◌, ◌↔◌, ◌++◌, ◌∷◌, [], ℕ, List, length, map, slice_index_or, IsTrue, IfOk, IfSome, MatchOption, OnOk, OnErr};
+ghost use Rattle.beas_core.specs.declared.value.Value.{Value};
+ghost use Rattle.beas_core.specs.Groups.{Holds, greatest, group_of, member_columns, has_column};
+ghost use Rattle.access_index.specs.Index.{IsIndexOf, WouldHold};
+ghost use Rattle.word_index.specs.Codes.{AreDistinct};
+ghost use Rattle.word_index.specs.Reading.{read, read_index, pick, AllKnown, Spells, IsInOrderFor, words_at, word_in};
+
+use crate::group::{Group, count_down, count_up, of_one, position_of};
+use crate::interner::Interner;
+use crate::key::{KeyWords, LongKey};
+use crate::words::word_of;
+use beas_core::{Access, ColumnId, List, NoMemory};
+use indexmap::IndexMap;
+use std::alloc::Global;
+use std::marker::Model;
+
+/// The index of one access constraint whose key has up to 64 columns, over rows of codes.
+#[derive(Drop)]
+pub struct LongIndex {
+    access: Access,
+    total: u32,
+    groups: IndexMap<LongKey, Group>,
+}
+
+impl Model for LongIndex {
+    ghost use Rattle.std.specs.Prelude.{◌≡◌, ◌≤◌, length};
+    ghost use Rattle.word_index.specs.Reading.{WordIndex, IsOrdered};
+
+    ghost Value = { WordIndex };
+
+    ghost view = { λ s. record { access = s.access; total = s.total; groups = s.groups.entries } };
+
+    ghost invariant = { λ s. (length s.access.key ≤ 64)
+        × IsOrdered (record { access = s.access; total = s.total; groups = s.groups.entries }) };
+}
+
+impl LongIndex {
+    /// An index of no rows.
+    pub fn new(alloc: Global, access: Access) -> LongIndex
+        requires { length access.key ≤ 64 }
+        ensures access { result.access ≡ access }
+        ensures none { result.groups ≡ [] }
+        ensures total { result.total ≡ 0 }
+        ensures in_order { (codes : List Value) → AreDistinct codes → IsInOrderFor codes result }
+        ensures index { (codes : List Value) → IsIndexOf (read_index codes result) [] }
+    {
+        LongIndex {
+            access,
+            total: 0,
+            groups: IndexMap::new(alloc),
+        }
+    }
+
+    /// The constraint. It takes no memory.
+    pub fn access(&self) -> &Access
+        ensures { result.now ≡ self.now.access }
+    {
+        &self.access
+    }
+
+    /// Counts one row more, wherever among the rows it stands. After an error the index is as it was.
+    pub fn add(&mut self, alloc: Global, codes: &Interner, words: &[u64]) -> Result<(), NoMemory>
+        requires in_order { IsInOrderFor codes.now self.old }
+        requires known { AllKnown codes.now (pick (member_columns self.old.access) words.now) }
+        requires room { self.old.total + 1 < 2 ^ 32 }
+        ensures access { self.new.access ≡ self.old.access }
+        ensures total { OnOk result (self.new.total ≡ self.old.total + 1) }
+        ensures in_order { IsInOrderFor codes.now self.new }
+        ensures ok { OnOk result ((row : List Value) (front back : List (List Value))
+            → Spells codes.now (member_columns self.old.access) words.now row
+            → IsIndexOf (read_index codes.now self.old) (front ++ back)
+            → IsIndexOf (read_index codes.now self.new) (front ++ row ∷ back)) }
+        ensures err { OnErr result (self.new ≡ self.old) }
+    {
+        let buffer = KeyWords::of(self.access.key.as_slice(), words);
+        let key = buffer.as_slice();
+        if let Some(group) = self.groups.get_mut(key) {
+            count_up(alloc, codes, group, &self.access, words)?;
+            self.total += 1;
+            return Ok(());
+        }
+        let group = of_one(alloc, &self.access, words)?;
+        let own = LongKey::of(alloc, key)?;
+        self.groups.insert(own, group)?;
+        self.total += 1;
+        Ok(())
+    }
+
+    /// Whether the row's tuple is there or its group has fewer members than the bound. It takes no memory.
+    pub fn would_hold(&self, words: &[u64]) -> bool
+        ensures exactly { (codes row : List Value) → IsInOrderFor codes self.now
+            → Spells codes (member_columns self.now.access) words.now row
+            → (IsTrue result ↔ WouldHold (read_index codes self.now) row) }
+        ensures holds { (codes row : List Value) (rows : List (List Value)) → IsInOrderFor codes self.now
+            → Spells codes (member_columns self.now.access) words.now row
+            → IsIndexOf (read_index codes self.now) rows → Holds rows self.now.access
+            → (IsTrue result ↔ Holds (rows ++ row ∷ []) self.now.access) }
+    {
+        let buffer = KeyWords::of(self.access.key.as_slice(), words);
+        let key = buffer.as_slice();
+        match self.groups.get(key) {
+            None => self.access.bound > 0,
+            Some(group) => {
+                if group.len() < self.access.bound as usize {
+                    return true;
+                }
+                position_of(group, &self.access, words).is_some()
+            }
+        }
+    }
+
+    /// Counts one row fewer, wherever among the rows it stood. The tuple goes with its last row. It takes no memory.
+    pub fn remove(&mut self, words: &[u64])
+        ensures access { self.new.access ≡ self.old.access }
+        ensures total { self.new.total ≤ self.old.total }
+        ensures in_order { (codes : List Value) → IsInOrderFor codes self.old → IsInOrderFor codes self.new }
+        ensures rest { (codes row : List Value) (front back : List (List Value)) → IsInOrderFor codes self.old
+            → Spells codes (member_columns self.old.access) words.now row
+            → IsIndexOf (read_index codes self.old) (front ++ row ∷ back)
+            → IsIndexOf (read_index codes self.new) (front ++ back) }
+    {
+        let buffer = KeyWords::of(self.access.key.as_slice(), words);
+        let key = buffer.as_slice();
+        let group = match self.groups.get_mut(key) {
+            Some(group) => group,
+            None => return,
+        };
+        let at = match position_of(group, &self.access, words) {
+            Some(at) => at,
+            None => return,
+        };
+        let rows = group.get(at).count as usize;
+        if group.len().max(rows) > 1 {
+            count_down(group, at);
+            self.total -= 1;
+            return;
+        }
+        self.groups.swap_remove(key);
+        self.total -= 1;
+    }
+
+    /// The place and the length of a key's group, or none where it is empty. It takes no memory.
+    pub fn find(&self, key: &[u64]) -> Option<(u64, u32)>
+        requires { length key.now ≡ length self.now.access.key }
+        ensures len { IfSome result (λ found. found.1 ≡ length (words_at self.now found.0)) }
+        ensures group { (codes : List Value) (rows : List (List Value)) → IsInOrderFor codes self.now
+            → AllKnown codes key.now → IsIndexOf (read_index codes self.now) rows
+            → MatchOption result (group_of rows self.now.access (read codes key.now) ≡ [])
+            (λ found. map (read codes) (words_at self.now found.0) ≡ group_of rows self.now.access (read codes key.now)) }
+        ensures some { IfSome result (λ found. 0 < found.1) }
+        ensures stands { IfSome result (λ found. found.0 < length self.now.groups) }
+    {
+        // Read for what its type tells: there are fewer than 2^32 rows, and so fewer tuples in each group.
+        let _in_range = self.total;
+        match self.groups.get_index_of(key) {
+            None => None,
+            Some(index) => Some((index as u64, self.groups[index].len() as u32)),
+        }
+    }
+
+    /// A column's word of a tuple that `find` found, while the index is as it was. It takes no memory.
+    pub fn word(&self, place: u64, i: u32, column: ColumnId) -> u64
+        requires stands { place < length self.now.groups }
+        requires member { i < length (words_at self.now place) }
+        requires column { IsTrue (has_column (member_columns self.now.access) column) }
+        ensures { result ≡ word_in (member_columns self.now.access) (slice_index_or (words_at self.now place) i []) column }
+    {
+        let group = &self.groups[place as usize];
+        word_of(&self.access, group.get(i as usize).words.as_slice(), column)
+    }
+
+    /// The size of the greatest group, 0 where there is none. It takes no memory.
+    pub fn greatest(&self) -> u32
+        ensures { (codes : List Value) (rows : List (List Value)) → IsInOrderFor codes self.now
+            → IsIndexOf (read_index codes self.now) rows
+            → result ≡ greatest rows self.now.access.key self.now.access.fetched }
+    {
+        // Read for what its type tells: there are fewer than 2^32 rows, and so fewer tuples in each group.
+        let _in_range = self.total;
+        let mut best = 0;
+        for i in 0..self.groups.len() {
+            best = (self.groups[i].len() as u32).max(best);
+        }
+        best
+    }
+}
