@@ -1,11 +1,11 @@
-mod Complete
-mod Counting
-mod Empty
-mod Pieces
-mod Reached
-mod Reading
-mod Sources
-mod Ties
-mod Turns
-mod Walking
-pub mod WellFormed
+mod CompleteFacts
+mod CountingFacts
+mod PieceFacts
+mod ReachedFacts
+mod ReadingFacts
+mod SourceFacts
+mod SourcelessFacts
+mod TieFacts
+mod TurnFacts
+mod WalkFacts
+pub mod WellFormedFacts

@@ -4,7 +4,7 @@
 --     HasTaken took count         so many reports were taken, one fewer than this number
 --     counted report              what is counted of a report
 --     totals_in turns             the totals of these turns' reports
-use Rattle.std.specs.Prelude.{◌≡◌, ◌+◌, ℕ, false, List, [], length, map}
+use Rattle.std.specs.Prelude.{◌≡◌, ◌+◌, ◌-◌, ◌^◌, ℕ, false, List, [], length, map}
 use Rattle.demo_gen.specs.declared.summary.Outcome.{Outcome as Counted}
 use Rattle.demo_gen.specs.declared.summary.Outcome.TheVariants.{Answered as AnsweredQuery, Other, Refused as Refusal}
 use Rattle.demo_gen.specs.Summaries.{Totals, totals_of}
@@ -16,8 +16,9 @@ use Rattle.session.specs.Turns.{Turn}
 abbrev pub reports_in : List Turn → List Report
 reports_in turns = map (λ t. t.effect.report) turns
 
+-- its count of puts stands at its last value, which tells nothing of them
 abbrev pub unshown : Sent
-unshown = record { told = false; bytes = []; faults = 0 }
+unshown = record { told = false; bytes = []; faults = 0; puts = 2 ^ 64 - 1 }
 
 pub record HasTaken (took : List Report → Type 0) (number : ℕ) : Type 0 where
   pub reports : List Report

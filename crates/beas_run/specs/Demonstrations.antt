@@ -2,7 +2,8 @@
 --     summary_of turns         the line of the totals
 --     without_output moment    a moment, with no word on what the output was sent
 --     Demonstrated ..          all statements were carried out and the line was written, or as far as that went
-use Rattle.std.specs.Prelude.{◌≡◌, ◌≢◌, ◌<◌, ◌≤◌, ◌++◌, ℕ, true, List}
+use Rattle.std.specs.Prelude.{◌≡◌, ◌≢◌, ◌<◌, ◌≤◌, ◌++◌, ◌⊎◌, ℕ, true, List}
+use Rattle.outside.specs.Counts.{raised}
 use Rattle.outside.specs.Parts.{SentPart}
 use Rattle.demo_gen.specs.Summaries.{summary_text}
 use Rattle.session.specs.Effects.{Settings}
@@ -31,4 +32,6 @@ pub record Demonstrated (settings : Settings) (readings : List Reading) (status 
       → SentPart before.out.bytes after.out.bytes (summary_of (turns settings before.state readings walked.outcomes))
   -- a run that isn't whole sent nothing, unless the output failed
   pub unsent : 2 ≤ status → status ≢ 4 → before.out.told ≡ true → after.out.bytes ≡ before.out.bytes
+  -- the line was put once, or out of memory perhaps not at all
+  pub puts : (after.out.puts ≡ raised 1 before.out.puts) ⊎ ((status ≡ 5) × (after.out.puts ≡ before.out.puts))
   pub early : 2 ≤ ended → (ended ≡ 5) × (status ≡ 5)

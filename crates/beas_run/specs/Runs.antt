@@ -4,6 +4,7 @@
 --     settings_of_words ..   what the statements are then decided by
 --     line status            what is said where a run has no script
 --     HasScript ..           which script a run has: a file's, or a demonstration's
+--     HasLoaded ..           whether it loaded the file of its script
 --     HasRun ..              what it did: its script's turns, or as far as it came
 --     outcomes_in ..         what the loads of its files gave
 --     IsTooLong, IsNoText    why it has no script
@@ -20,7 +21,7 @@ use Rattle.command_words.specs.declared.arguments.Args.{Args}
 use Rattle.command_words.specs.declared.arguments.Args.TheVariants.{Script, Demo}
 use Rattle.command_words.specs.Words.{args_of, usage_line}
 use Rattle.demo_gen.specs.Demo.{demo_text}
-use Rattle.outside.specs.Counts.{Rose, RoseBy}
+use Rattle.outside.specs.Counts.{Rose, RoseBy, raised}
 use Rattle.outside.specs.Parts.{SentPart}
 use Rattle.outside.specs.Seen.{IsLater, IsLaterSink, Seen, Sent}
 use Rattle.session.specs.declared.loading.LoadOutcome.{LoadOutcome}
@@ -101,14 +102,30 @@ outcomes_in None s readings status before after walked = walked.outcomes
 outcomes_in (Some (Script path budget explain)) s readings status before after walked = walked.outcomes
 outcomes_in (Some (Demo seed budget explain)) s readings status before after walked = walked.walked.outcomes
 
+-- the file of the script that is asked for is loaded once, or out of memory perhaps not at all; a demonstration has none
+abbrev pub HasLoaded : Option Args → ℕ → Seen → Seen → Type 0
+HasLoaded None status before after = after.loads ≡ before.loads
+HasLoaded (Some (Script path budget explain)) status before after =
+    (after.loads ≡ raised 1 before.loads) ⊎ ((status ≡ 5) × (after.loads ≡ before.loads))
+HasLoaded (Some (Demo seed budget explain)) status before after = after.loads ≡ before.loads
+
+-- a run where its script is there, with the files as they are then
+abbrev pub with_files : Moment → Seen → Moment
+with_files moment files = record moment { files = files }
+
 pub record HasRun (limits : Limits) (words : List (List ℕ)) (status : ℕ) (before after : Moment) : Type 0 where
   pub script : List ℕ
   pub readings : List Reading
+  -- the files where the script is there, before its first statement
+  pub begun : Seen
+  pub loaded : HasLoaded (args_of words) status before.files begun
+  -- without a script no other file is loaded
+  pub unread : IsWithout status → after.files ≡ begun
   pub has : HasScript script status (args_of words) before.files
   pub read_as : Readings script readings
   -- where it ended before it had its script, not even the totals of no statements were sent
   pub silent : script ≡ [] → before.out.told ≡ true → after.out.bytes ≡ before.out.bytes
-  pub walked : WalkedFor (args_of words) (settings_of_words limits words) readings status before after
+  pub walked : WalkedFor (args_of words) (settings_of_words limits words) readings status (with_files before begun) after
 
 -- the script is longer than a script may be; where contents aren't told, one byte more was taken
 pub record IsTooLong (before after : Seen) (name : List ℕ) : Type 0 where

@@ -1,5 +1,5 @@
 -- What the statements of a run come from, and what is done with them.
---     DemoReadsNothing args before after     a demonstration reads no file
+--     LoadsScript args before after     a script's file is loaded once, and for a demonstration none
 --     IsSource asked ..              this is asked for, and this is its text
 --     HasNoScript asked why ..       why there is none
 --     RanOver args text ..           the statements of the text were carried out, or as far as the run came
@@ -7,25 +7,26 @@ use Rattle.std.specs.Prelude.{◌≡◌, ◌≢◌, ◌<◌, ◌≤◌, ◌⊎�
 use Rattle.beas_core.specs.declared.limits.Limits.{Limits}
 use Rattle.command_words.specs.declared.arguments.Args.{Args}
 use Rattle.command_words.specs.declared.arguments.Args.TheVariants.{Script, Demo}
-use Rattle.outside.specs.Counts.{Rose}
+use Rattle.outside.specs.Counts.{Rose, raised}
 use Rattle.outside.specs.Seen.{IsLater, IsLaterSink, Seen}
 use Rattle.session.specs.Effects.{Settings}
 use Rattle.beas_run.specs.declared.no_script.NoScript.{NoScript}
 use Rattle.beas_run.specs.declared.no_script.NoScript.TheVariants.{Words, Unread, TooLong, NotText, NoMemory}
 use Rattle.beas_run.specs.declared.script_source.Source.{Source}
-use Rattle.beas_run.specs.Runs.{path_of, seed_of, settings_for, longest_script, IsNoText, IsScriptOf, IsTooLong, WalkedFor}
+use Rattle.beas_run.specs.NoScripts.{status_of}
+use Rattle.beas_run.specs.Runs.{path_of, seed_of, settings_for, longest_script, HasLoaded, IsNoText, IsScriptOf, IsTooLong, WalkedFor}
 use Rattle.beas_run.specs.Readings.{readings_of}
 use Rattle.beas_run.specs.Walks.{Moment}
 
-abbrev pub DemoReadsNothing : Args → Seen → Seen → Type 0
-DemoReadsNothing (Script path budget explain) before after = Unit {0}
-DemoReadsNothing (Demo seed budget explain) before after = after ≡ before
+abbrev pub LoadsScript : Args → Seen → Seen → Type 0
+LoadsScript (Script path budget explain) before after = after.loads ≡ raised 1 before.loads
+LoadsScript (Demo seed budget explain) before after = after ≡ before
 
 pub record IsSource (asked : Option Args) (before after : Seen) (source : Source) : Type 0 where
   pub asked_is : asked ≡ Some source.args
   pub fits : length source.text ≤ longest_script
   pub is : IsScriptOf (Some source.args) before source.text
-  pub unread : DemoReadsNothing source.args before after
+  pub loaded : LoadsScript source.args before after
   pub later : IsLater before after
 
 pub record HasNoScript (asked : Option Args) (why : NoScript) (before after : Seen) : Type 0 where
@@ -35,6 +36,7 @@ pub record HasNoScript (asked : Option Args) (why : NoScript) (before after : Se
       (λ name. Rose (before.faults name) (after.faults name))
   pub too_long : why ≡ TooLong → IsSomeAnd (option_and_then path_of asked) (IsTooLong before after)
   pub not_text : why ≡ NotText → IsSomeAnd (option_and_then path_of asked) (IsNoText before)
+  pub loaded : HasLoaded asked (status_of why) before after
   -- a demonstration lacks its text out of memory alone
   pub seedless : (option_and_then seed_of asked ≡ None) ⊎ (why ≡ NoMemory)
   pub later : IsLater before after

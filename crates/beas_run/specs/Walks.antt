@@ -6,6 +6,7 @@
 --     Walked settings readings ..        so for the turns of these readings and some outcomes of the loads of files
 --     WalkedBefore took ..               the same, before one that takes the reports
 use Rattle.std.specs.Prelude.{◌≡◌, ◌≢◌, ◌<◌, ◌≤◌, ◌+◌, ◌++◌, ◌⊎◌, if◌then◌else◌, ℕ, true, List, [], ◌∷◌, length, take, All}
+use Rattle.outside.specs.Counts.{raised}
 use Rattle.outside.specs.Parts.{SentPart}
 use Rattle.outside.specs.Seen.{Seen, Sent}
 use Rattle.report.specs.declared.reports.Report.{Report}
@@ -39,6 +40,9 @@ pub record Did (turns : List Turn) (before after : Moment) : Type 0 where
   pub steps : after.steps ≡ before.steps + cost_of turns
   pub db : after.state ≡ state_after before.state turns
   pub within : AreWithin turns
+  -- one put for each report, and one load for each LOAD that has a file
+  pub puts : after.out.puts ≡ raised (length turns) before.out.puts
+  pub loads : after.files.loads ≡ raised (length (loads_of turns)) before.files.loads
 
 -- in the statement after those that were done, or before the first: the database is as it was before that statement
 pub record StoppedInStatement (turns : List Turn) (status : ℕ) (before after : Moment) : Type 0 where
@@ -52,6 +56,10 @@ pub record StoppedInStatement (turns : List Turn) (status : ℕ) (before after :
   pub at_most : after.steps ≤ before.steps + cost_of (done ++ take 1 left)
   pub db : after.state ≡ state_after before.state done
   pub within : AreWithin done
+  pub puts : after.out.puts ≡ raised (length done) before.out.puts
+  -- once more where the statement is a LOAD, which has no turn then
+  pub loads : (after.files.loads ≡ raised (length (loads_of done)) before.files.loads)
+      ⊎ ((left ≡ []) × (after.files.loads ≡ raised (length (loads_of done) + 1) before.files.loads))
 
 -- in the report of a statement that was carried out
 pub record StoppedInReport (turns : List Turn) (status : ℕ) (before after : Moment) : Type 0 where
@@ -66,6 +74,10 @@ pub record StoppedInReport (turns : List Turn) (status : ℕ) (before after : Mo
   pub steps : after.steps ≡ before.steps + cost_of (done ++ turn ∷ [])
   pub db : after.state ≡ turn.effect.db
   pub within : AreWithin (done ++ turn ∷ [])
+  -- the report was put once, or out of memory perhaps not at all
+  pub puts : (after.out.puts ≡ raised (length done + 1) before.out.puts)
+      ⊎ ((status ≢ 4) × (after.out.puts ≡ raised (length done) before.out.puts))
+  pub loads : after.files.loads ≡ raised (length (loads_of (done ++ turn ∷ []))) before.files.loads
 
 abbrev pub Stopped : List Turn → ℕ → Moment → Moment → Type 0
 Stopped turns status before after =

@@ -1,6 +1,6 @@
 // Who takes the reports of a script: the output that they are written to, or totals that they are counted in.
-ghost use Rattle.std.specs.Prelude.{◌≡◌, ◌++◌, ◌∷◌, [], true, List, OnOk, IsErrOf};
-ghost use Rattle.outside.specs.Counts.{Rose};
+ghost use Rattle.std.specs.Prelude.{◌≡◌, ◌⊎◌, ◌++◌, ◌∷◌, [], true, List, OnOk, IsErrOf};
+ghost use Rattle.outside.specs.Counts.{Rose, raised};
 ghost use Rattle.outside.specs.Parts.{SentPart};
 ghost use Rattle.outside.specs.Seen.{IsLaterSink, Sent};
 ghost use Rattle.report.specs.declared.reports.Report.{Report};
@@ -45,6 +45,11 @@ pub trait Audience {
         ensures fault { IsErrOf result Ending.Fault
             → Rose (shown (O.seen out.old)).faults (shown (O.seen out.new)).faults }
         ensures later { IsLaterSink (shown (O.seen out.old)) (shown (O.seen out.new)) }
+        ensures put { OnOk result ((shown (O.seen out.new)).puts ≡ raised 1 (shown (O.seen out.old)).puts) }
+        ensures put_fault { IsErrOf result Ending.Fault
+            → (shown (O.seen out.new)).puts ≡ raised 1 (shown (O.seen out.old)).puts }
+        ensures put_once { ((shown (O.seen out.new)).puts ≡ (shown (O.seen out.old)).puts)
+            ⊎ ((shown (O.seen out.new)).puts ≡ raised 1 (shown (O.seen out.old)).puts) }
         ensures unused { ((sent : Sent) → shown sent ≡ unshown) → out.new ≡ out.old };
 }
 
@@ -74,6 +79,10 @@ impl Audience for Writer {
         ensures no_memory { IsErrOf result Ending.NoMemory → (O.seen out.new).faults ≡ (O.seen out.old).faults }
         ensures fault { IsErrOf result Ending.Fault → Rose (O.seen out.old).faults (O.seen out.new).faults }
         ensures later { IsLaterSink (O.seen out.old) (O.seen out.new) }
+        ensures put { OnOk result ((O.seen out.new).puts ≡ raised 1 (O.seen out.old).puts) }
+        ensures put_fault { IsErrOf result Ending.Fault → (O.seen out.new).puts ≡ raised 1 (O.seen out.old).puts }
+        ensures put_once { ((O.seen out.new).puts ≡ (O.seen out.old).puts)
+            ⊎ ((O.seen out.new).puts ≡ raised 1 (O.seen out.old).puts) }
     {
         let lines = text(alloc, number, report)?;
         out.put(lines.as_str().as_bytes())?;

@@ -1,7 +1,7 @@
 // The run of a demonstration: its statements, and one line of their totals.
 ghost use Rattle.std.specs.Prelude.{◌≡◌, ◌≢◌, ◌<◌, ◌≤◌, ◌++◌, ◌⊎◌, true, length, Ok};
 ghost use Rattle.demo_gen.specs.Summaries.{summary_text};
-ghost use Rattle.outside.specs.Counts.{Rose};
+ghost use Rattle.outside.specs.Counts.{Rose, raised};
 ghost use Rattle.outside.specs.Parts.{SentPart};
 ghost use Rattle.outside.specs.Seen.{IsLater, IsLaterSink};
 ghost use Rattle.session.specs.Applying.{settings_of};
@@ -30,6 +30,8 @@ fn put_summary<O: Sink>(alloc: Global, refused: bool, summary: &Summary, out: &m
     ensures out { IsLaterSink (O.seen out.old) (O.seen out.new) }
     ensures no_fault { result ≢ 4 → (O.seen out.new).faults ≡ (O.seen out.old).faults }
     ensures fault { result ≡ 4 → Rose (O.seen out.old).faults (O.seen out.new).faults }
+    ensures puts { ((O.seen out.new).puts ≡ raised 1 (O.seen out.old).puts)
+        ⊎ ((result ≡ 5) × ((O.seen out.new).puts ≡ (O.seen out.old).puts)) }
 {
     let Ok(line) = summary.text(alloc) else {
         return 5;

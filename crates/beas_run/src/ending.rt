@@ -13,9 +13,9 @@ pub enum Ending {
 
 impl From<NoMemory> for Ending {
     ghost use Rattle.std.specs.Prelude.{◌≡◌};
-    ghost use Rattle.beas_run.specs.declared.ending.Ending.TheVariants.{NoMemory as Want};
+    ghost use Rattle.beas_run.specs.declared.ending.Ending.TheVariants.{NoMemory};
 
-    ghost from_gives = { λ _ e. e ≡ Want };
+    ghost from_gives = { λ _ e. e ≡ NoMemory };
 
     fn from(_: NoMemory) -> Ending {
         Ending::NoMemory

@@ -2,7 +2,7 @@
 ghost use Rattle.std.specs.Prelude.{◌≡◌, ◌≢◌, ◌<◌, ◌≤◌, ◌+◌, ◌-◌, ◌^◌, ◌⊎◌, [], length, All, IfOk, IfErr, OnOk, OnErr, IsErrOf};
 ghost use Rattle.outside.specs.Counts.{Rose};
 ghost use Rattle.outside.specs.Seen.{IsLater, IsLaterSink, Sent};
-ghost use Rattle.session.specs.Applying.{IsApplied, MayCost, settings_of};
+ghost use Rattle.session.specs.Applying.{IsApplied, MayCost, MayLoad, settings_of};
 ghost use Rattle.session.specs.Turns.{is_refusal, IsWithin};
 ghost use Rattle.beas_run.specs.Audiences.{HasTaken, unshown};
 ghost use Rattle.beas_run.specs.Endings.{status_of};
@@ -48,6 +48,8 @@ fn report_on<F: Files, L: Ledger>(
     ensures no_fewer { steps.old ≤ steps.new }
     ensures at_most { MayCost (action_for (settings_of session.old) (state_of session.old) (reading_of tokens.now))
         steps.old steps.new }
+    ensures loaded { MayLoad (action_for (settings_of session.old) (state_of session.old) (reading_of tokens.now))
+        (F.seen files.old) (F.seen files.new) }
     ensures later { IsLater (F.seen files.old) (F.seen files.new) }
 {
     match parse(alloc, tokens) {

@@ -3,10 +3,10 @@ ghost use Rattle.std.specs.Prelude.{◌≡◌, ◌≤◌, Some, length, map, IfO
 ghost use Rattle.std.specs.Str.{IsUtf8};
 ghost use Rattle.std.specs.String.{string_bytes};
 ghost use Rattle.command_words.specs.Words.{args_of};
-ghost use Rattle.outside.specs.Counts.{Rose};
+ghost use Rattle.outside.specs.Counts.{Rose, raised};
 ghost use Rattle.outside.specs.Seen.{IsLater};
 ghost use Rattle.beas_run.specs.Runs.{longest_script, IsContent, IsNoText, IsScriptOf, IsTooLong};
-ghost use Rattle.beas_run.specs.Sources.{HasNoScript, IsSource, DemoReadsNothing};
+ghost use Rattle.beas_run.specs.Sources.{HasNoScript, IsSource, LoadsScript};
 
 use crate::no_script::NoScript;
 use beas_core::{Bytes, NoMemory, Text};
@@ -37,6 +37,7 @@ fn load_named<F: Files>(alloc: Global, name: &str, files: &mut F) -> Result<Text
         (F.seen files.old) (F.seen files.new) name.now }
     ensures not_text { IsErrOf result NoScript.NotText
         → IsNoText (F.seen files.old) name.now }
+    ensures loaded { (F.seen files.new).loads ≡ raised 1 (F.seen files.old).loads }
     ensures later { IsLater (F.seen files.old) (F.seen files.new) }
 {
     match files.load(alloc, name, LONGEST_SCRIPT) {
@@ -64,8 +65,7 @@ fn text_for<F: Files>(alloc: Global, args: &Args, files: &mut F) -> Result<Text,
     ensures asked { IfOk result (IsScriptOf (Some args.now) (F.seen files.old)) }
     ensures none { IfErr result (λ why. HasNoScript (Some args.now) why
         (F.seen files.old) (F.seen files.new)) }
-    ensures unread { DemoReadsNothing args.now
-        (F.seen files.old) (F.seen files.new) }
+    ensures loaded { LoadsScript args.now (F.seen files.old) (F.seen files.new) }
     ensures later { IsLater (F.seen files.old) (F.seen files.new) }
 {
     match args {

@@ -16,7 +16,7 @@ use std::sync::ledger::Ledger;
 const LONGEST: usize = 16_777_216;
 
 /// The statement that some tokens spell.
-#[tactic(auto, using(beas_run::proofs::WellFormed::parsed_well))]
+#[tactic(auto, using(beas_run::proofs::WellFormedFacts::parsed_well))]
 fn parse_well(alloc: Global, tokens: &[Token]) -> Result<Statement, Fail>
     requires { length tokens.now < 2 ^ 32 - 1 }
     ensures { IfOk result StatementIsWellFormed }

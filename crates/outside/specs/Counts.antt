@@ -2,7 +2,8 @@
 --     RoseBy n before now      the count rose by at least n, or stands at its last value
 --     Rose before now          it rose, or stands at its last value
 --     NoneFell before now      no name's count fell
-use Rattle.std.specs.Prelude.{◌+◌, ◌-◌, ◌^◌, ◌≤◌, ℕ, List, min}
+--     raised n count           the count, raised by exactly n, or as far as its last value
+use Rattle.std.specs.Prelude.{◌+◌, ◌-◌, ◌^◌, ◌≤◌, ℕ, List, max, min}
 
 abbrev pub RoseBy : ℕ → ℕ → ℕ → Type 0
 RoseBy n before now = min (before + n) (2 ^ 64 - 1) ≤ now
@@ -12,3 +13,6 @@ Rose before now = RoseBy 1 before now
 
 abbrev pub NoneFell : (List ℕ → ℕ) → (List ℕ → ℕ) → Type 0
 NoneFell before now = (name : List ℕ) → before name ≤ now name
+
+abbrev pub raised : ℕ → ℕ → ℕ
+raised n count = max count (min (count + n) (2 ^ 64 - 1))

@@ -1,7 +1,7 @@
 -- What is known of files, and of a sink, at a moment.
 --     Seen                     of files: their contents, where they are told, and counts
 --     IsLater before after     contents stay, and no count falls
---     Sent                     of a sink: the bytes that it took, where they are told, and a count
+--     Sent                     of a sink: the bytes that it took, where they are told, and counts
 --     IsLaterSink ..           what is told stays told, and the count doesn't fall
 use Rattle.std.specs.Prelude.{◌≡◌, ◌≤◌, ℕ, Bool, List, Option}
 use Rattle.outside.specs.Counts.{NoneFell}
@@ -15,6 +15,8 @@ pub record Seen : Type 0 where
   pub faults : List ℕ → ℕ
   -- how many bytes were taken; a kind that tells its contents may leave it at 0
   pub taken : ℕ
+  -- how many loads there were, of all names and whatever they gave
+  pub loads : ℕ
 
 pub record IsLater (before after : Seen) : Type 0 where
   pub told : after.told ≡ before.told
@@ -29,6 +31,8 @@ pub record Sent : Type 0 where
   pub bytes : List ℕ
   -- how many puts failed
   pub faults : ℕ
+  -- how many there were, whatever they gave
+  pub puts : ℕ
 
 pub record IsLaterSink (before after : Sent) : Type 0 where
   pub told : after.told ≡ before.told

@@ -1,6 +1,6 @@
 // Files that are loaded whole, by name.
 ghost use Rattle.std.specs.Prelude.{◌≡◌, ◌≢◌, ◌+◌, ◌-◌, ◌^◌, ◌<◌, ◌≤◌, ℕ, true, Some, length, IfOk, IsErrOf, IsSomeAnd};
-ghost use Rattle.outside.specs.Counts.{Rose, RoseBy};
+ghost use Rattle.outside.specs.Counts.{Rose, RoseBy, raised};
 ghost use Rattle.outside.specs.Seen.{IsLater, Seen};
 
 use beas_core::Bytes;
@@ -26,6 +26,7 @@ pub trait Files {
     fn load(&mut self, alloc: Global, name: &str, limit: u64) -> Result<Bytes, FilesError>
         requires { limit < 2 ^ 64 - 1 }
         ensures later { IsLater (seen self.old) (seen self.new) }
+        ensures counted { (seen self.new).loads ≡ raised 1 (seen self.old).loads }
         ensures ok { IfOk result (λ bytes. (seen self.old).told ≡ true
             → (seen self.old).content name.now ≡ Some bytes) }
         ensures fits { IfOk result (λ bytes. length bytes ≤ limit) }

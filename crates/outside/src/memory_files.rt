@@ -1,6 +1,6 @@
 // Files in memory, which tell their contents.
-ghost use Rattle.std.specs.Prelude.{◌≡◌, ◌≢◌, ◌⊎◌, ◌+◌, ◌-◌, ◌^◌, ◌++◌, ◌∷◌, [], ℕ, true, List, Some, min, unwrap_or, OnOk, OnErr, IsErrOf};
-ghost use Rattle.outside.specs.Counts.{Rose};
+ghost use Rattle.std.specs.Prelude.{◌≡◌, ◌≢◌, ◌⊎◌, ◌++◌, ◌∷◌, [], ℕ, true, List, Some, unwrap_or, OnOk, OnErr, IsErrOf};
+ghost use Rattle.outside.specs.Counts.{Rose, raised};
 ghost use Rattle.outside.specs.Contents.{content_of, times, is_due, next_answer, answer_within};
 
 use crate::files::{Files, FilesError};
@@ -116,6 +116,7 @@ impl Files for MemoryFiles {
       content = content_of files.shelf;
       faults = times files.failed;
       taken = 0;
+      loads = files.loads;
     } };
 
     fn load(&mut self, alloc: Global, name: &str, limit: u64) -> Result<Bytes, FilesError>
@@ -124,7 +125,7 @@ impl Files for MemoryFiles {
         ensures rose { IsErrOf result FilesError.Failed → Rose (times self.old.failed name.now)
             (times self.new.failed name.now) }
         ensures same { (IsErrOf result FilesError.Failed → ⊥) → self.new.failed ≡ self.old.failed }
-        ensures loads { self.new.loads ≡ min (self.old.loads + 1) (2 ^ 64 - 1) }
+        ensures loads { self.new.loads ≡ raised 1 self.old.loads }
         ensures failing { self.new.failing ≡ self.old.failing }
         ensures shelf { self.new.shelf ≡ self.old.shelf }
     {
@@ -141,15 +142,18 @@ impl Files for MemoryFiles {
 #[derive(Debug, Drop)]
 pub struct SteadyFiles {
     shelf: Shelf,
+    loads: u64,
 }
 
 impl SteadyFiles {
     /// No files.
     pub fn new(alloc: Global) -> SteadyFiles
-        ensures { result.shelf ≡ [] }
+        ensures shelf { result.shelf ≡ [] }
+        ensures loads { result.loads ≡ 0 }
     {
         SteadyFiles {
             shelf: Shelf::new(alloc),
+            loads: 0,
         }
     }
 
@@ -159,6 +163,7 @@ impl SteadyFiles {
         ensures others { (other : List ℕ) → other ≢ name → content_of self.new.shelf other
             ≡ content_of self.old.shelf other }
         ensures err { OnErr result (self.new ≡ self.old) }
+        ensures loads { self.new.loads ≡ self.old.loads }
     {
         self.shelf.add(name, bytes)
     }
@@ -170,13 +175,16 @@ impl Files for SteadyFiles {
       content = λ name. Some (unwrap_or (content_of files.shelf name) []);
       faults = λ _. 0;
       taken = 0;
+      loads = files.loads;
     } };
 
     fn load(&mut self, alloc: Global, name: &str, limit: u64) -> Result<Bytes, FilesError>
         ensures answer { IsErrOf result FilesError.NoMemory ⊎ (result
             ≡ answer_within (unwrap_or (content_of self.old.shelf name.now) []) limit) }
         ensures shelf { self.new.shelf ≡ self.old.shelf }
+        ensures loads { self.new.loads ≡ raised 1 self.old.loads }
     {
+        self.loads = self.loads.saturating_add(1);
         match self.shelf.get(name) {
             Some(bytes) => copy_within(alloc, bytes.as_slice(), limit),
             None => Ok(Bytes::from_vec(Vec::new(alloc))),

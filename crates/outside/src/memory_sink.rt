@@ -1,5 +1,6 @@
 // Sinks in memory, which tell their bytes.
 ghost use Rattle.std.specs.Prelude.{◌≡◌, ◌⊎◌, ◌+◌, ◌-◌, ◌^◌, ◌≤◌, ◌++◌, [], true, None, Some, min, take, IsOk, IsErrOf};
+ghost use Rattle.outside.specs.Counts.{raised};
 ghost use Rattle.outside.specs.Parts.{SentPart};
 ghost use Rattle.outside.specs.Room.{part_taken, put_answer};
 
@@ -12,6 +13,7 @@ pub struct MemorySink {
     sent: Vec<u8>,
     total: Option<u64>,
     faults: u64,
+    puts: u64,
 }
 
 impl MemorySink {
@@ -20,11 +22,13 @@ impl MemorySink {
         ensures sent { result.sent.items ≡ [] }
         ensures total { result.total ≡ None }
         ensures faults { result.faults ≡ 0 }
+        ensures puts { result.puts ≡ 0 }
     {
         MemorySink {
             sent: Vec::new(alloc),
             total: None,
             faults: 0,
+            puts: 0,
         }
     }
 
@@ -33,6 +37,7 @@ impl MemorySink {
         ensures total { self.new.total ≡ Some total }
         ensures sent { self.new.sent.items ≡ self.old.sent.items }
         ensures faults { self.new.faults ≡ self.old.faults }
+        ensures puts { self.new.puts ≡ self.old.puts }
     {
         self.total = Some(total);
     }
@@ -74,7 +79,7 @@ fn first(bytes: &[u8], count: u64) -> &[u8]
 }
 
 impl Sink for MemorySink {
-    ghost seen = { λ sink. record { told = true; bytes = sink.sent.items; faults = sink.faults } };
+    ghost seen = { λ sink. record { told = true; bytes = sink.sent.items; faults = sink.faults; puts = sink.puts } };
 
     #[tactic(auto, using(crate::proofs::Room::part_sent, crate::proofs::Room::none_sent))]
     fn put(&mut self, bytes: &[u8]) -> Result<(), SinkError>
@@ -88,7 +93,9 @@ impl Sink for MemorySink {
         ensures failed { IsErrOf result SinkError.Failed → self.new.faults ≡ min (self.old.faults + 1) (2 ^ 64 - 1) }
         ensures no_fault { (IsErrOf result SinkError.Failed → ⊥) → self.new.faults ≡ self.old.faults }
         ensures total { self.new.total ≡ self.old.total }
+        ensures puts { self.new.puts ≡ raised 1 self.old.puts }
     {
+        self.puts = self.puts.saturating_add(1);
         let part = self.part(bytes);
         if self.sent.extend_from_slice(part).is_err() {
             return Err(SinkError::NoMemory);
@@ -105,15 +112,18 @@ impl Sink for MemorySink {
 #[derive(Debug, Drop)]
 pub struct SteadySink {
     sent: Vec<u8>,
+    puts: u64,
 }
 
 impl SteadySink {
     /// An empty sink.
     pub fn new(alloc: Global) -> SteadySink
-        ensures { result.sent.items ≡ [] }
+        ensures sent { result.sent.items ≡ [] }
+        ensures puts { result.puts ≡ 0 }
     {
         SteadySink {
             sent: Vec::new(alloc),
+            puts: 0,
         }
     }
 
@@ -126,13 +136,15 @@ impl SteadySink {
 }
 
 impl Sink for SteadySink {
-    ghost seen = { λ sink. record { told = true; bytes = sink.sent.items; faults = 0 } };
+    ghost seen = { λ sink. record { told = true; bytes = sink.sent.items; faults = 0; puts = sink.puts } };
 
     fn put(&mut self, bytes: &[u8]) -> Result<(), SinkError>
         ensures answer { IsErrOf result SinkError.NoMemory ⊎ IsOk result }
         ensures sent { IsOk result → self.new.sent.items ≡ self.old.sent.items ++ bytes.now }
         ensures kept { IsErrOf result SinkError.NoMemory → self.new.sent.items ≡ self.old.sent.items }
+        ensures puts { self.new.puts ≡ raised 1 self.old.puts }
     {
+        self.puts = self.puts.saturating_add(1);
         match self.sent.extend_from_slice(bytes) {
             Ok(()) => Ok(()),
             Err(_) => Err(SinkError::NoMemory),

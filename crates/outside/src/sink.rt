@@ -1,6 +1,6 @@
 // Where bytes go.
 ghost use Rattle.std.specs.Prelude.{◌≡◌, ◌++◌, true, OnOk, IsErrOf};
-ghost use Rattle.outside.specs.Counts.{Rose};
+ghost use Rattle.outside.specs.Counts.{Rose, raised};
 ghost use Rattle.outside.specs.Parts.{SentPart};
 ghost use Rattle.outside.specs.Seen.{IsLaterSink, Sent};
 
@@ -21,6 +21,7 @@ pub trait Sink {
     /// Sends all of the bytes.
     fn put(&mut self, bytes: &[u8]) -> Result<(), SinkError>
         ensures later { IsLaterSink (seen self.old) (seen self.new) }
+        ensures counted { (seen self.new).puts ≡ raised 1 (seen self.old).puts }
         ensures part { (seen self.old).told ≡ true
             → SentPart (seen self.old).bytes (seen self.new).bytes bytes.now }
         ensures ok { OnOk result ((seen self.old).told ≡ true

@@ -1,2 +1,2 @@
-pub mod Given
-pub mod Taken
+pub mod GivenFacts
+pub mod TakenFacts

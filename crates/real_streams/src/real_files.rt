@@ -3,6 +3,7 @@ ghost use Rattle.std.specs.Prelude.{◌≡◌, ◌≢◌, ◌⊎◌, ◌+◌, �
 ghost use Rattle.std.specs.IoError.{error_kind};
 ghost use Rattle.std.specs.Io.KnownBytes.{IsAtEnd, ReadConsumes};
 ghost use Rattle.std.specs.Io.{ReadsAtMost};
+ghost use Rattle.outside.specs.Counts.{raised};
 ghost use Rattle.real_streams.specs.Taken.{Took, TooLongFor};
 
 use crate::interrupted::is_interrupted;
@@ -191,7 +192,7 @@ impl ReadCounts {
 }
 
 /// Reads a part. A read that was interrupted is tried again.
-#[tactic(auto, using(crate::proofs::Taken::keeps_same, crate::proofs::Taken::keeps_both, crate::proofs::Taken::keeps_consumes))]
+#[tactic(auto, using(crate::proofs::TakenFacts::keeps_same, crate::proofs::TakenFacts::keeps_both, crate::proofs::TakenFacts::keeps_consumes))]
 fn read_some<S: Read>(source: &mut S, room: &mut [u8]) -> io::Result<usize>
     ensures bound { ReadsAtMost result room.new }
     ensures bytes { ReadConsumes (S.remaining source.old) (S.remaining source.new) result room.new }
@@ -240,6 +241,7 @@ fn add_piece(bytes: &mut Vec<u8>, piece: &[u8], limit: u64) -> Result<Progress, 
 pub struct RealFiles<'a, R: rt::Files> {
     runtime: &'a R,
     counts: ReadCounts,
+    loads: u64,
 }
 
 impl<'a, R: rt::Files> RealFiles<'a, R> {
@@ -247,10 +249,12 @@ impl<'a, R: rt::Files> RealFiles<'a, R> {
     pub fn new(runtime: &'a R) -> RealFiles<'a, R>
         ensures faults { result.counts.faults ≡ 0 }
         ensures taken { result.counts.taken ≡ 0 }
+        ensures loads { result.loads ≡ 0 }
     {
         RealFiles {
             runtime,
             counts: ReadCounts::new(),
+            loads: 0,
         }
     }
 
@@ -275,6 +279,7 @@ impl<R: rt::Files> Files for RealFiles<'_, R> {
       content = λ _. None;
       faults = λ _. files.counts.faults;
       taken = files.counts.taken;
+      loads = files.loads;
     } };
 
     fn load(&mut self, alloc: Global, name: &str, limit: u64) -> Result<Bytes, FilesError>
@@ -291,7 +296,9 @@ impl<R: rt::Files> Files for RealFiles<'_, R> {
             ≡ min (self.old.counts.faults + 1) (2 ^ 64 - 1) }
         ensures same { (IsErrOf result FilesError.Failed → ⊥) → self.new.counts.faults ≡ self.old.counts.faults }
         ensures rise { self.old.counts.faults ≤ self.new.counts.faults }
+        ensures loads { self.new.loads ≡ raised 1 self.old.loads }
     {
+        self.loads = self.loads.saturating_add(1);
         let opened = fs::open(self.runtime, name);
         self.counts.read_opened(alloc, opened, limit)
     }

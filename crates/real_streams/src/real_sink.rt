@@ -2,6 +2,7 @@
 ghost use Rattle.std.specs.Prelude.{◌≡◌, ◌+◌, ◌-◌, ◌^◌, ◌<◌, ◌≤◌, [], false, Err, length, min, take, IfOk, OnOk, OnErr, IsErrOf};
 ghost use Rattle.std.specs.Io.KnownBytes.{Appends, Keeps, WriteAppends};
 ghost use Rattle.std.specs.Io.{WritesAtMost};
+ghost use Rattle.outside.specs.Counts.{raised};
 ghost use Rattle.real_streams.specs.Given.{GavePart};
 
 use crate::interrupted::is_interrupted;
@@ -13,6 +14,7 @@ use std::io::{self, ErrorKind, Write};
 pub struct RealSink<W> {
     writer: W,
     faults: u64,
+    puts: u64,
 }
 
 impl<W: Write> RealSink<W> {
@@ -20,8 +22,13 @@ impl<W: Write> RealSink<W> {
     pub fn new(writer: W) -> RealSink<W>
         ensures writer { result.writer ≡ writer }
         ensures faults { result.faults ≡ 0 }
+        ensures puts { result.puts ≡ 0 }
     {
-        RealSink { writer, faults: 0 }
+        RealSink {
+            writer,
+            faults: 0,
+            puts: 0,
+        }
     }
 
     /// The writer, as it is after the puts so far.
@@ -43,6 +50,7 @@ impl<W: Write> RealSink<W> {
         ensures failed { result ≡ SinkError.Failed }
         ensures faults { self.new.faults ≡ min (self.old.faults + 1) (2 ^ 64 - 1) }
         ensures writer { self.new.writer ≡ self.old.writer }
+        ensures puts { self.new.puts ≡ self.old.puts }
     {
         self.faults = self.faults.saturating_add(1);
         SinkError::Failed
@@ -59,6 +67,7 @@ impl<W: Write> RealSink<W> {
         ensures no_fault { OnOk result (self.new.faults ≡ self.old.faults) }
         ensures failed { OnErr result ((result ≡ Err SinkError.Failed)
             × (self.new.faults ≡ min (self.old.faults + 1) (2 ^ 64 - 1))) }
+        ensures puts { self.new.puts ≡ self.old.puts }
     {
         match write_some(&mut self.writer, bytes) {
             Ok(0) => Err(self.fail()),
@@ -69,7 +78,7 @@ impl<W: Write> RealSink<W> {
 }
 
 /// Writes a part of the bytes, or none. A write that was interrupted is tried again.
-#[tactic(auto, using(crate::proofs::Given::keeps_same, crate::proofs::Given::keeps_both, crate::proofs::Given::keeps_appends))]
+#[tactic(auto, using(crate::proofs::GivenFacts::keeps_same, crate::proofs::GivenFacts::keeps_both, crate::proofs::GivenFacts::keeps_appends))]
 fn write_some<W: Write>(writer: &mut W, bytes: &[u8]) -> io::Result<usize>
     ensures bound { WritesAtMost result bytes.now }
     ensures bytes { WriteAppends (W.contents writer.old) (W.contents writer.new) result bytes.now }
@@ -86,7 +95,7 @@ fn write_some<W: Write>(writer: &mut W, bytes: &[u8]) -> io::Result<usize>
 }
 
 impl<W: Write> Sink for RealSink<W> {
-    ghost seen = { λ sink. record { told = false; bytes = []; faults = sink.faults } };
+    ghost seen = { λ sink. record { told = false; bytes = []; faults = sink.faults; puts = sink.puts } };
 
     fn put(&mut self, bytes: &[u8]) -> Result<(), SinkError>
         ensures ok { OnOk result (Appends (W.contents self.old.writer) (W.contents self.new.writer) bytes.now) }
@@ -95,7 +104,9 @@ impl<W: Write> Sink for RealSink<W> {
         ensures failed { OnErr result ((result ≡ Err SinkError.Failed)
             × (self.new.faults ≡ min (self.old.faults + 1) (2 ^ 64 - 1))) }
         ensures rise { self.old.faults ≤ self.new.faults }
+        ensures puts { self.new.puts ≡ raised 1 self.old.puts }
     {
+        self.puts = self.puts.saturating_add(1);
         let mut rest = bytes;
         // Steps are counted, and so many are never made.
         'parts: for _ in 0..u64::MAX {

@@ -10,6 +10,7 @@ use std::io;
 pub struct Puts {
     alloc: Global,
     all: Vec<Vec<u8>>,
+    puts: u64,
 }
 
 impl Puts {
@@ -18,6 +19,7 @@ impl Puts {
         Puts {
             alloc,
             all: Vec::new(alloc),
+            puts: 0,
         }
     }
 
@@ -48,9 +50,10 @@ impl Puts {
 }
 
 impl Sink for Puts {
-    ghost seen = { λ _. record { told = false; bytes = []; faults = 0 } };
+    ghost seen = { λ output. record { told = false; bytes = []; faults = 0; puts = output.puts } };
 
     fn put(&mut self, bytes: &[u8]) -> Result<(), SinkError> {
+        self.puts = self.puts.saturating_add(1);
         let Ok(copy) = bytes.to_vec(self.alloc) else {
             return Err(SinkError::NoMemory);
         };

@@ -9,6 +9,7 @@ use Rattle.beas_core.specs.declared.errors.Fail.{Fail}
 use Rattle.beas_core.specs.declared.errors.Fail.TheVariants.{NoMemory, Refused}
 use Rattle.beas_core.specs.declared.errors.NoMemory.{NoMemory as Want}
 use Rattle.catalogue.specs.Database.{Database}
+use Rattle.outside.specs.Counts.{raised}
 use Rattle.outside.specs.Seen.{Seen}
 use Rattle.report.specs.declared.reports.Report.{Report}
 use Rattle.report.specs.declared.reports.Report.TheVariants.{Refused as Refusing}
@@ -37,6 +38,7 @@ pub record HappensByLoad (limit : ℕ) (name : List ℕ) (effect : LoadOutcome �
   pub outcome : LoadOutcome
   pub happens : Happens (effect outcome) report db steps_before steps_after
   pub tied : AreTied limit (record { name = name; outcome = outcome } ∷ []) files_before files_after
+  pub counted : files_after.loads ≡ raised 1 files_before.loads
 
 abbrev pub CarriesOutLoad : ℕ → List ℕ → (LoadOutcome → Effect) → Database → Result Report Fail → Database
     → ℕ → ℕ → Seen → Seen → Type 0

@@ -1,8 +1,9 @@
 // Rows come and go.
-ghost use Rattle.std.specs.Prelude.{◌≡◌, ◌<◌, ◌≤◌, ◌^◌, length, All, IfOk};
+ghost use Rattle.std.specs.Prelude.{◌≡◌, ◌<◌, ◌≤◌, ◌⊎◌, ◌^◌, length, All, IfOk};
 ghost use Rattle.beas_core.specs.Shapes.{BlockIsWellFormed, width_of};
 ghost use Rattle.beas_core.specs.Results.{Gives};
 ghost use Rattle.catalogue.specs.Database.{block_table, schema_of};
+ghost use Rattle.outside.specs.Counts.{raised};
 ghost use Rattle.outside.specs.Seen.{IsLater};
 ghost use Rattle.catalogue.specs.Schema.{columns_at};
 ghost use Rattle.session.specs.Stores.{database_in};
@@ -140,6 +141,8 @@ pub fn load<F: Files>(
         (table_or_refusal (schema_of (database_in store.old)) table.now) file.now ≡ Does effect
         → files.new ≡ files.old }
     ensures later { IsLater (F.seen files.old) (F.seen files.new) }
+    ensures counted { ((F.seen files.new).loads ≡ (F.seen files.old).loads)
+        ⊎ ((F.seen files.new).loads ≡ raised 1 (F.seen files.old).loads) }
 {
     let id = known_table(alloc, store, table)?;
     let outcome = load_file(alloc, files, file.as_str(), limits.file)?;

@@ -1,5 +1,6 @@
 // The load of a file, with its outcome.
 ghost use Rattle.std.specs.Prelude.{◌≡◌, ◌-◌, ◌^◌, ◌<◌, [], ◌∷◌, IfOk};
+ghost use Rattle.outside.specs.Counts.{raised};
 ghost use Rattle.outside.specs.Seen.{IsLater};
 ghost use Rattle.session.specs.Ties.{AreTied, LoadIsShort};
 
@@ -18,7 +19,7 @@ pub enum LoadOutcome {
     TooLong,
 }
 
-/// Loads a file of at most `limit` bytes. The outcome is tied to the name's content and counts.
+/// Loads a file of at most `limit` bytes, once. The outcome is tied to the name's content and counts.
 pub fn load_file<F: Files>(
     alloc: Global,
     files: &mut F,
@@ -30,6 +31,7 @@ pub fn load_file<F: Files>(
         (F.seen files.old) (F.seen files.new)) }
     ensures short { IfOk result (LoadIsShort limit) }
     ensures later { IsLater (F.seen files.old) (F.seen files.new) }
+    ensures counted { (F.seen files.new).loads ≡ raised 1 (F.seen files.old).loads }
 {
     match files.load(alloc, name, limit) {
         Ok(bytes) => Ok(LoadOutcome::Content(bytes)),

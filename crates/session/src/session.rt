@@ -1,7 +1,8 @@
 // A session: the database, and what its statements are decided by.
-ghost use Rattle.std.specs.Prelude.{◌≡◌, ◌≤◌, [], IfOk, OnErr};
+ghost use Rattle.std.specs.Prelude.{◌≡◌, ◌≤◌, ◌⊎◌, [], IfOk, OnErr};
 ghost use Rattle.beas_core.specs.Fits.{Fits};
 ghost use Rattle.beas_core.specs.Results.{Gives};
+ghost use Rattle.outside.specs.Counts.{raised};
 ghost use Rattle.outside.specs.Seen.{IsLater};
 ghost use Rattle.session.specs.Announced.{announcement};
 ghost use Rattle.session.specs.Carrying.{Performs, reported};
@@ -36,7 +37,7 @@ pub struct Session {
 
 impl Session {
     ghost use Rattle.catalogue.specs.Database.{rows_at};
-    ghost use Rattle.session.specs.Applying.{IsApplied, MayCost, database_of, settings_in, settings_of};
+    ghost use Rattle.session.specs.Applying.{IsApplied, MayCost, MayLoad, database_of, settings_in, settings_of};
 
     /// A session without tables. It takes no memory.
     pub fn new(alloc: Global, limits: Limits, budget: Option<u64>, explain: bool) -> Session
@@ -99,6 +100,8 @@ impl Session {
         ensures unread { (effect : Effect)
             → action_of (settings_of self.old) (database_of self.old) statement.now ≡ Does effect
             → files.new ≡ files.old }
+        ensures loaded { MayLoad (action_of (settings_of self.old) (database_of self.old) statement.now)
+            (F.seen files.old) (F.seen files.new) }
         ensures later { IsLater (F.seen files.old) (F.seen files.new) }
     {
         report_of(self.carry_out(alloc, files, statement, steps))
@@ -123,6 +126,8 @@ impl Session {
             → action_of (settings_of self.old) (database_of self.old) statement.now ≡ Does effect
             → files.new ≡ files.old }
         ensures later { IsLater (F.seen files.old) (F.seen files.new) }
+        ensures counted { ((F.seen files.new).loads ≡ (F.seen files.old).loads)
+            ⊎ ((F.seen files.new).loads ≡ raised 1 (F.seen files.old).loads) }
     {
         let limits = &self.limits;
         let settings = Settings {

@@ -1,1 +1,1 @@
-mod Steady
+mod SteadyFacts

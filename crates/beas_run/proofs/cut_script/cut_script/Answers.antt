@@ -1,6 +1,6 @@
 use Rattle.std.proofs.Common.{refl, ap, arith, length}
-use Rattle.beas_run.proofs.Counting.{length-pieces_of-le}
-use Rattle.beas_run.proofs.Reading.{found_text}
+use Rattle.beas_run.proofs.CountingFacts.{length-pieces_of-le}
+use Rattle.beas_run.proofs.ReadingFacts.{found_text}
 use Rattle.beas_run.proofs.cut_script.cut_script.Goals as goal
 
 pub returns-clause-read : goal.returns-clause-read

@@ -9,9 +9,9 @@ use Rattle.session.specs.Effects.{Settings}
 use Rattle.beas_run.specs.Endings.{status_of}
 use Rattle.beas_run.specs.Readings.{reading_of, readings_at}
 use Rattle.beas_run.specs.Walks.{Moment}
-use Rattle.beas_run.proofs.Reached.{same_later, status_for}
-use Rattle.beas_run.proofs.Ties.{later_twice, sink_later, sink_later_twice}
-use Rattle.beas_run.proofs.Walking.{Walking, begun_walk, has_taken, walk_ended, walk_more, walk_stopped}
+use Rattle.beas_run.proofs.ReachedFacts.{same_later, status_for}
+use Rattle.beas_run.proofs.TieFacts.{later_twice, sink_later, sink_later_twice}
+use Rattle.beas_run.proofs.WalkFacts.{Walking, begun_walk, has_taken, walk_ended, walk_more, walk_stopped}
 use Rattle.beas_run.proofs.script.carry_out_all.Goals as goal
 
 -- the piece at this place, and those after it

@@ -4,7 +4,7 @@ use Rattle.session.specs.Applying.{settings_of}
 use Rattle.beas_run.specs.Audiences.{unshown}
 use Rattle.beas_run.specs.Readings.{readings_at}
 use Rattle.beas_run.specs.Walks.{moment}
-use Rattle.beas_run.proofs.Walking.{Walking}
+use Rattle.beas_run.proofs.WalkFacts.{Walking}
 use Rattle.beas_run.proofs.script.carry_out_all.Given as goal
 
 abbrev pub invariant-loop-place : goal.invariant-loop-place

@@ -1,5 +1,5 @@
-use Rattle.beas_run.proofs.Pieces.{applied, may_cost, refused}
-use Rattle.beas_run.proofs.WellFormed.{parsed_well}
+use Rattle.beas_run.proofs.PieceFacts.{applied, may_cost, may_load, none_loaded, refused}
+use Rattle.beas_run.proofs.WellFormedFacts.{parsed_well}
 use Rattle.beas_run.proofs.script.report_on.Goals as goal
 
 pub apply-requires : goal.apply-requires
@@ -14,3 +14,12 @@ returns-in-Ok-clause-at_most g c = may_cost _ _ _ _ _ _ c.in-Ok.ensures.parsed c
 pub returns-in-Err-Refused-clause-applied : goal.returns-in-Err-Refused-clause-applied
 returns-in-Err-Refused-clause-applied g c =
     rw c.in-Err-Refused.field-0-is (refused _ _ _ _ _ _ _ (rw c.in-Err-Refused.field-0-is at c.in-Err-Refused.ensures.parsed))
+
+pub returns-in-Ok-clause-loaded : goal.returns-in-Ok-clause-loaded
+returns-in-Ok-clause-loaded g c = may_load _ _ _ _ _ _ c.in-Ok.ensures.parsed c.apply.ensures.loaded
+
+pub returns-in-Err-Refused-clause-loaded : goal.returns-in-Err-Refused-clause-loaded
+returns-in-Err-Refused-clause-loaded g c = none_loaded _ _
+
+pub returns-in-Err-NoMemory-clause-loaded : goal.returns-in-Err-NoMemory-clause-loaded
+returns-in-Err-NoMemory-clause-loaded g c = none_loaded _ _

@@ -1,6 +1,6 @@
 use Rattle.std.proofs.Common.{refl}
-use Rattle.beas_run.proofs.Reached.{same_later}
-use Rattle.beas_run.proofs.Walking.{walk_unstarted}
+use Rattle.beas_run.proofs.ReachedFacts.{same_later}
+use Rattle.beas_run.proofs.WalkFacts.{walk_unstarted}
 use Rattle.beas_run.proofs.script.walk.Goals as goal
 
 pub returns-in-Ok-clause-walked : goal.returns-in-Ok-clause-walked
@@ -9,4 +9,4 @@ returns-in-Ok-clause-walked g c =
 
 -- out of memory before the first statement
 pub returns-in-Err-clause-walked : goal.returns-in-Err-clause-walked
-returns-in-Err-clause-walked g c = walk_unstarted _ _ _ _ _ _ (λ _. refl) refl refl (same_later _) refl
+returns-in-Err-clause-walked g c = walk_unstarted _ _ _ _ _ _ (λ _. refl) refl refl refl refl (same_later _) refl

@@ -6,6 +6,6 @@ returns-in-Ok-clause-source g c = record {
   asked_is = refl;
   fits = c.in-Ok.ensures.fits;
   is = c.in-Ok.ensures.asked;
-  unread = c.text_for.ensures.unread;
+  loaded = c.text_for.ensures.loaded;
   later = c.text_for.ensures.later;
 }

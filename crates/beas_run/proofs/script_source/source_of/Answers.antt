@@ -1,5 +1,5 @@
 use Rattle.std.proofs.Common.{ap, Err, ◌∙◌}
-use Rattle.beas_run.proofs.Sources.{no_memory_left, words_refused}
+use Rattle.beas_run.proofs.SourceFacts.{no_memory_left, words_refused}
 use Rattle.beas_run.proofs.script_source.source_of.Goals as goal
 
 pub returns-in-Ok-clause-source : goal.returns-in-Ok-clause-source

@@ -1,4 +1,4 @@
-use Rattle.beas_run.proofs.Empty.{fits_demo}
+use Rattle.beas_run.proofs.SourcelessFacts.{fits_demo}
 use Rattle.beas_run.proofs.script_source.text_for.Goals as goal
 
 pub returns-in-Ok-clause-fits : goal.returns-in-Ok-clause-fits

@@ -1,9 +1,9 @@
 use Rattle.std.proofs.Common.{refl, inl, inr, ap, arith, length}
-use Rattle.beas_run.proofs.Complete.{completes, completes_demo, completes_without}
-use Rattle.beas_run.proofs.Empty.{early_said, not_without, ran_nothing}
-use Rattle.beas_run.proofs.Pieces.{none_sent}
-use Rattle.beas_run.proofs.Sources.{but_faults, limits_stay, most, most_said, none_or_five, not_asked, not_with, ran_over, settings_are_words, seven_is_no_text, six_is_too_long, three_is_unread, two_is_words, two_or_five}
-use Rattle.beas_run.proofs.Ties.{later_twice, sink_later}
+use Rattle.beas_run.proofs.CompleteFacts.{completes, completes_demo, completes_without}
+use Rattle.beas_run.proofs.SourcelessFacts.{early_said, not_without, ran_nothing}
+use Rattle.beas_run.proofs.PieceFacts.{none_sent}
+use Rattle.beas_run.proofs.SourceFacts.{but_faults, limits_stay, most, most_said, none_or_five, not_asked, not_with, ran_over, settings_are_words, seven_is_no_text, six_is_too_long, three_is_unread, two_is_words, two_or_five}
+use Rattle.beas_run.proofs.TieFacts.{later_twice, sink_later}
 use Rattle.beas_run.proofs.whole_run.run.Goals as goal
 
 pub run_over-requires : goal.run_over-requires
@@ -62,7 +62,7 @@ returns-in-Err g c =
     let e = c.in-Err.ensures.none in
     let s = c.say.ensures in
     let early = early_said why _ s.status in
-    let run = ran_nothing _ _ why _ _ _ s.status (none_or_five why _ _ s.status e.seedless) (λ _. refl) refl refl e.later in
+    let run = ran_nothing _ _ why _ _ _ s.status (none_or_five why _ _ s.status e.seedless) (λ _. refl) refl refl refl e.loaded in
     record {
       ran = run;
       cause = record {

@@ -1,4 +1,4 @@
-use Rattle.beas_run.proofs.Sources.{settings_for_same, way_for}
+use Rattle.beas_run.proofs.SourceFacts.{settings_for_same, way_for}
 use Rattle.beas_run.proofs.whole_run.run_over.Goals as goal
 
 pub returns-in-Script : goal.returns-in-Script

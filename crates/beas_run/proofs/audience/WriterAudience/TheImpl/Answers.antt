@@ -10,7 +10,7 @@ any_answer (Err e) p = tt
 
 -- a writer shows what stands on the output
 shows : ((sent : Sent) → sent ≡ unshown) → ⊥
-shows none = false≢true (sym (ap (λ (s : Sent). s.told) (none (record { told = true; bytes = []; faults = 0 }))))
+shows none = false≢true (sym (ap (λ (s : Sent). s.told) (none (record { told = true; bytes = []; faults = 0; puts = 0 }))))
 
 pub take-tells : goal.take-tells
 take-tells g c = record {
@@ -22,5 +22,8 @@ take-tells g c = record {
   no_memory = c.ensures.no_memory;
   fault = c.ensures.fault;
   later = c.ensures.later;
+  put = c.ensures.put;
+  put_fault = c.ensures.put_fault;
+  put_once = c.ensures.put_once;
   unused = λ none. absurd (shows none);
 }

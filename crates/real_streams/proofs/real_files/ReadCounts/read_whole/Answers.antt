@@ -1,5 +1,5 @@
 use Rattle.std.proofs.Common.{rules, refl, arith}
-use Rattle.real_streams.proofs.Taken.{consumes_none}
+use Rattle.real_streams.proofs.TakenFacts.{consumes_none}
 use Rattle.real_streams.proofs.real_files.ReadCounts.read_whole.Goals as goal
 
 pub pieces-init : goal.pieces-init

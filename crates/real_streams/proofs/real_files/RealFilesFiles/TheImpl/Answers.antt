@@ -10,6 +10,7 @@ untold (Err why) = tt
 pub load-tells : goal.load-tells
 load-tells g c = record {
   later = record { told = refl; content = refl; faults = λ name. c.ensures.rise; taken = c.ensures.least };
+  counted = c.ensures.loads;
   ok = untold c.result;
   fits = c.ensures.fits;
   failed = λ failed. omega (arith, c.ensures.failed failed);

@@ -17,9 +17,6 @@ rose_twice m n k a b c e first second = omega arith
 rose_later : (n a b c : ℕ) → RoseBy n a b → b ≤ c → RoseBy n a c
 rose_later n a b c rose le = omega arith
 
-rose_earlier : (n a b c : ℕ) → a ≤ b → RoseBy n b c → RoseBy n a c
-rose_earlier n a b c le rose = omega arith
-
 mul_over : (k m n : ℕ) → k * (m + n) ≡ k * m + k * n
 mul_over k m zero = omega arith
 mul_over k m (suc n) = let h = mul_over k m n in rw (add-suc, mul-suc k (m + n), mul-suc k n) (omega arith)
@@ -78,12 +75,4 @@ tied_later limit reads a b c tied later = record {
   short = tied.short;
   failed = λ name. rose_later _ _ _ _ (tied.failed name) (later.faults name);
   too_long = λ untold. rose_later _ _ _ _ (tied.too_long untold) later.taken;
-}
-
-pub tied_earlier : (limit : ℕ) (reads : List FileLoad) (a b c : Seen) → IsLater a b → AreTied limit reads b c → AreTied limit reads a c
-tied_earlier limit reads a b c later tied = record {
-  contents = λ told. contents_from limit a b reads later.content (tied.contents (later.told ∙ told));
-  short = tied.short;
-  failed = λ name. rose_earlier _ _ _ _ (later.faults name) (tied.failed name);
-  too_long = λ untold. rose_earlier _ _ _ _ later.taken (tied.too_long (λ told. untold (sym later.told ∙ told)));
 }

@@ -1,10 +1,12 @@
 -- Where a run is in the turns of its script, and what is true where it ends there.
-use Rattle.std.proofs.Common.{◌≡◌, ◌≢◌, ◌<◌, ◌≤◌, ◌+◌, ◌++◌, ◌||◌, ◌∙◌, sym, ap, subst, refl, inl, inr, ℕ, Bool, true, false, List, [], ◌∷◌, Result, Ok, Err, length, take, arith, append_assoc, append-nil, length-append}
+use Rattle.std.proofs.Common.{◌≡◌, ◌≢◌, ◌<◌, ◌≤◌, ◌+◌, ◌++◌, ◌||◌, ◌⊎◌, ◌∙◌, sym, ap, subst, refl, inl, inr, ℕ, Bool, true, false, List, [], ◌∷◌, Result, Ok, Err, length, take, arith, append_assoc, append-nil, length-append}
 use Rattle.std.specs.Prelude.{if◌then◌else◌}
 use Rattle.std.specs.Option.{option_map_or}
 use Rattle.std.proofs.lemmas.List.Elements.{All-append, All-cons, All-nil}
 use Rattle.std.proofs.lemmas.List.Sums.{sum_by-take-le}
+use Rattle.outside.specs.Counts.{raised}
 use Rattle.outside.specs.Parts.{SentPart}
+use Rattle.outside.proofs.Counts.{raised_none}
 use Rattle.beas_core.specs.declared.refusal.Refusal.{Refusal}
 use Rattle.beas_core.specs.declared.schema.TableId.{TableId}
 use Rattle.beas_core.specs.declared.limits.Limits.{Limits}
@@ -16,7 +18,7 @@ use Rattle.sql_tree.specs.declared.tree.Statement.{Statement}
 use Rattle.sql_tree.specs.declared.tree.Statement.TheVariants.{CreateTable, CreateAccess, DropAccess, Load, Insert, Delete, DiscoverGroup, DiscoverPairs, Select, Explain}
 use Rattle.session.specs.declared.loading.LoadOutcome.{LoadOutcome}
 use Rattle.session.specs.declared.loading.LoadOutcome.TheVariants.{Failed}
-use Rattle.session.specs.Applying.{MayCost}
+use Rattle.session.specs.Applying.{MayCost, MayLoad}
 use Rattle.session.specs.Effects.{Settings, Action, Does, Loads, table_or_refusal, load_action, action_of}
 use Rattle.session.specs.Ties.{AreTied}
 use Rattle.outside.specs.Seen.{Seen, IsLater}
@@ -27,8 +29,8 @@ use Rattle.beas_run.specs.Endings.{status_of}
 use Rattle.beas_run.specs.Pieces.{IsTurn, IsReported, IsUnreported, IsUndone}
 use Rattle.beas_run.specs.Scripts.{next, action_for, turns}
 use Rattle.beas_run.specs.Walks.{Moment, AreWithin, Did, Stopped, whole_status, Follows, Walked}
-use Rattle.beas_run.proofs.Ties.{later_twice, tied_none, tied_twice, tied_later, tied_earlier}
-use Rattle.beas_run.proofs.Turns.{out_from, out-append, out-more, cost-append, refused-append, database-append, loads-append, taken_by, turns_taken, no_loads}
+use Rattle.beas_run.proofs.TieFacts.{later_twice, tied_none, tied_twice, tied_later}
+use Rattle.beas_run.proofs.TurnFacts.{out_from, out-append, out-more, cost-append, refused-append, database-append, loads-append, loads_more, puts_more, taken_by, turns_taken, no_loads}
 
 -- These turns are done. Whatever the reads to come give, the turns of the script are these and then those of the rest.
 pub record Reached (s : Settings) (all rest : List Reading) (place : ℕ) (refused : Bool) (before now : Moment) : Type 0 where
@@ -53,7 +55,7 @@ begun s readings before = record {
   joined = λ later. refl;
   count = refl;
   places = omega arith;
-  did = record { sent = λ _. sym (append-nil before.out.bytes); steps = omega arith; db = refl; within = All-nil (λ t. IsWithin t.effect.report) };
+  did = record { sent = λ _. sym (append-nil before.out.bytes); steps = omega arith; db = refl; within = All-nil (λ t. IsWithin t.effect.report); puts = sym (raised_none before.out.puts); loads = sym (raised_none before.files.loads) };
   refused_is = refl;
   tied = tied_none s.limits.file before.files before.files (same_later before.files);
   later = same_later before.files;
@@ -74,8 +76,9 @@ did_more : (done : List Turn) (action : Action) (limit place : ℕ) (outcome : L
     → now.out.told ≡ before.out.told
     → IsTurn limit action outcome now after
     → (now.out.told ≡ true → after.out.bytes ≡ now.out.bytes ++ report_text (place + 1) (turn_of action outcome).effect.report)
+    → after.out.puts ≡ raised 1 now.out.puts
     → Did (done ++ turn_of action outcome ∷ []) before after
-did_more done action limit place outcome before now after did count told turn sent =
+did_more done action limit place outcome before now after did count told turn sent puts =
     let t = turn_of action outcome in
     record {
       sent = λ on.
@@ -88,6 +91,9 @@ did_more done action limit place outcome before now after did count told turn se
           let one : cost_of (t ∷ []) ≡ t.effect.cost = omega arith in omega arith;
       db = turn.db ∙ sym (database-append before.state done (t ∷ []));
       within = All-append (λ t. IsWithin t.effect.report) done (t ∷ []) did.within (within_one t turn.within);
+      puts = puts_more (length done) before.out.puts now.out.puts after.out.puts did.puts puts
+          ∙ ap (λ n. raised n before.out.puts) (sym (length-append done (t ∷ [])));
+      loads = loads_more done t before.files.loads now.files.loads after.files.loads did.loads turn.loads;
     }
 
 or_false : (b : Bool) → (b || false) ≡ b
@@ -114,7 +120,7 @@ more s all rest reading place refused is took took_after before now after r p la
           ∙ sym (append_assoc r.done (t ∷ []) (turns s after.state rest os));
       count = let c = r.count in let l = length-append r.done (t ∷ []) in omega arith;
       places = let c = r.places in omega arith;
-      did = did_more r.done action s.limits.file place p.outcome before now after r.did r.count r.told p.turn p.sent;
+      did = did_more r.done action s.limits.file place p.outcome before now after r.did r.count r.told p.turn p.sent p.puts;
       refused_is = ap (λ b. b || is) r.refused_is ∙ ap (λ b. any_refused r.done || b) (p.refused_is ∙ sym (or_false (is_refusal t.effect.report)))
           ∙ sym (refused-append r.done (t ∷ []));
       tied = subst (λ reads. AreTied s.limits.file reads before.files after.files) (sym (loads-append r.done (t ∷ [])))
@@ -180,12 +186,20 @@ ended_turns s all place refused before now status r status_is = r.joined [] ∙ 
 front_le : (before cost rest after : ℕ) → after ≤ before + cost → after ≤ before + (cost + rest)
 front_le before cost rest after h = omega arith
 
+-- a file may have been loaded for a statement that has no turn
+loads_paused : (done left : List Turn) (before now after : ℕ) → now ≡ raised (length (loads_of done)) before
+    → (after ≡ now) ⊎ ((left ≡ []) × (after ≡ raised 1 now))
+    → (after ≡ raised (length (loads_of done)) before) ⊎ ((left ≡ []) × (after ≡ raised (length (loads_of done) + 1) before))
+loads_paused done left before now after first (inl same) = inl (same ∙ first)
+loads_paused done left before now after first (inr more) = inr (more.0, puts_more (length (loads_of done)) before now after first more.1)
+
 follows_paused : (limit : ℕ) (done left : List Turn) (status : ℕ) (before now after : Moment) → Did done before now → now.out.told ≡ before.out.told
     → AreTied limit (loads_of done) before.files after.files → loads_of left ≡ []
     → (now.out.told ≡ true → after.out.bytes ≡ now.out.bytes) → now.steps ≤ after.steps → after.steps ≤ now.steps + cost_of (take 1 left)
     → after.state ≡ now.state
+    → after.out.puts ≡ now.out.puts → (after.files.loads ≡ now.files.loads) ⊎ ((left ≡ []) × (after.files.loads ≡ raised 1 now.files.loads))
     → 2 ≤ status → status ≢ 4 → Follows limit (done ++ left) status before after
-follows_paused limit done left status before now after did told tied none sent no_fewer at_most db early fault =
+follows_paused limit done left status before now after did told tied none sent no_fewer at_most db puts loads early fault =
     let front = sum_by-take-le (λ (t : Turn). t.effect.cost) left 1 in
     let costs = cost-append done left in
     let costs_front = cost-append done (take 1 left) in
@@ -203,6 +217,8 @@ follows_paused limit done left status before now after did told tied none sent n
         at_most = omega arith;
         db = db ∙ did.db;
         within = did.within;
+        puts = puts ∙ did.puts;
+        loads = loads_paused done left before.files.loads now.files.loads after.files.loads did.loads loads;
       });
       part = λ on. record {
         part = out_of done;
@@ -220,8 +236,10 @@ pub paused : (s : Settings) (all rest : List Reading) (place : ℕ) (refused : B
     → Reached s all rest place refused before now
     → (now.out.told ≡ true → after.out.bytes ≡ now.out.bytes) → now.steps ≤ after.steps → after.steps ≤ now.steps + cost_of (take 1 (turns s now.state rest []))
     → after.state ≡ now.state
+    → after.out.puts ≡ now.out.puts
+    → (after.files.loads ≡ now.files.loads) ⊎ ((turns s now.state rest [] ≡ []) × (after.files.loads ≡ raised 1 now.files.loads))
     → IsLater now.files after.files → 2 ≤ status → status ≢ 4 → Walked s all status before after
-paused s all rest place refused before now after status r sent no_fewer at_most db later early fault =
+paused s all rest place refused before now after status r sent no_fewer at_most db puts loads later early fault =
     record {
       outcomes = r.outcomes ++ [];
       whole = λ below. absurd (omega arith);
@@ -229,8 +247,7 @@ paused s all rest place refused before now after status r sent no_fewer at_most 
           subst (λ ts. Follows s.limits.file ts status before after) (sym (r.joined []))
           (follows_paused s.limits.file r.done (turns s now.state rest []) status before now after r.did r.told
           (tied_later s.limits.file (loads_of r.done) before.files now.files after.files r.tied later) (no_loads s now.state rest)
-          sent no_fewer at_most db early
-          fault);
+          sent no_fewer at_most db puts loads early fault);
     }
 
 -- a read that failed costs nothing
@@ -264,6 +281,13 @@ cost_within : (s : Settings) (rest : List Reading) (action : Action) (before aft
 cost_within s rest (Does effect) before after free may = let h = may Failed in omega arith
 cost_within s rest (Loads name effect) before after free may = let h = may Failed in omega arith
 
+loaded_for : (s : Settings) (rest : List Reading) (action : Action) (now after : Seen) → MayLoad action now after
+    → (after.loads ≡ now.loads)
+    ⊎ ((option_map_or (λ n. n.turn ∷ turns s n.turn.effect.db rest n.left) (next action []) [] ≡ []) × (after.loads ≡ raised 1 now.loads))
+loaded_for s rest (Does effect) now after may = inl may
+loaded_for s rest (Loads name effect) now after (inl same) = inl same
+loaded_for s rest (Loads name effect) now after (inr more) = inr (refl, more)
+
 pub stopped_in_statement : (s here : Settings) (all rest : List Reading) (reading : Reading) (place : ℕ) (refused : Bool) (before now after : Moment)
     (status : ℕ)
     → Reached s all (reading ∷ rest) place refused before now → here ≡ s
@@ -271,19 +295,29 @@ pub stopped_in_statement : (s here : Settings) (all rest : List Reading) (readin
 stopped_in_statement s here all rest reading place refused before now after status r same undone later early fault =
     let P : Settings → Type 0 = λ h. MayCost (action_for h now.state reading) now.steps after.steps in
     let may : MayCost (action_for s now.state reading) now.steps after.steps = subst P same undone.at_most in
+    let Q : Settings → Type 0 = λ h. MayLoad (action_for h now.state reading) now.files after.files in
+    let loaded : MayLoad (action_for s now.state reading) now.files after.files = subst Q same undone.loaded in
     paused s all (reading ∷ rest) place refused before now after status r undone.sent undone.no_fewer
-    (cost_within s rest (action_for s now.state reading) now.steps after.steps (free_for s now.state reading) may) undone.db later early fault
+    (cost_within s rest (action_for s now.state reading) now.steps after.steps (free_for s now.state reading) may) undone.db undone.puts
+    (loaded_for s rest (action_for s now.state reading) now.files after.files loaded) later early fault
 
 pub unstarted : (s : Settings) (readings : List Reading) (before after : Moment) (status : ℕ)
-    → (before.out.told ≡ true → after.out.bytes ≡ before.out.bytes) → after.steps ≡ before.steps → after.state ≡ before.state → IsLater before.files after.files
+    → (before.out.told ≡ true → after.out.bytes ≡ before.out.bytes) → after.steps ≡ before.steps → after.state ≡ before.state
+    → after.out.puts ≡ before.out.puts → after.files.loads ≡ before.files.loads → IsLater before.files after.files
     → 2 ≤ status → status ≢ 4 → Walked s readings status before after
-unstarted s readings before after status sent steps db later early fault =
-    paused s readings readings 0 false before before after status (begun s readings before) sent (omega arith) (omega arith) db later early fault
+unstarted s readings before after status sent steps db puts loads later early fault =
+    paused s readings readings 0 false before before after status (begun s readings before) sent (omega arith) (omega arith) db puts (inl loads)
+    later early fault
 
 -- ---- an end in a report
 
 part_after : (before now after first next : List ℕ) → now ≡ before ++ first → SentPart now after next → SentPart (before ++ first) after next
 part_after before now after first next e part = subst (λ xs. SentPart xs after next) e part
+
+puts_stopped : (count before now after : ℕ) (C : Type 0) → now ≡ raised count before → (after ≡ raised 1 now) ⊎ (C × (after ≡ now))
+    → (after ≡ raised (count + 1) before) ⊎ (C × (after ≡ raised count before))
+puts_stopped count before now after C first (inl more) = inl (puts_more count before now after first more)
+puts_stopped count before now after C first (inr same) = inr (same.0, same.1 ∙ first)
 
 follows_unreported : (limit : ℕ) (done left : List Turn) (action : Action) (outcome : LoadOutcome) (place status : ℕ) (before now after : Moment)
     → Did done before now
@@ -291,8 +325,9 @@ follows_unreported : (limit : ℕ) (done left : List Turn) (action : Action) (ou
     → IsTurn limit action outcome now after
     → (now.out.told ≡ true → SentPart now.out.bytes after.out.bytes (report_text (place + 1) (turn_of action outcome).effect.report))
     → (status ≢ 4 → now.out.told ≡ true → after.out.bytes ≡ now.out.bytes)
+    → (after.out.puts ≡ raised 1 now.out.puts) ⊎ ((status ≢ 4) × (after.out.puts ≡ now.out.puts))
     → loads_of left ≡ [] → 2 ≤ status → Follows limit (done ++ turn_of action outcome ∷ left) status before after
-follows_unreported limit done left action outcome place status before now after did count told later tied turn sent unsent none early =
+follows_unreported limit done left action outcome place status before now after did count told later tied turn sent unsent puts none early =
     let t = turn_of action outcome in
     let steps = did.steps in
     let more = turn.steps in
@@ -322,6 +357,8 @@ follows_unreported limit done left action outcome place status before now after 
         steps = omega arith;
         db = turn.db;
         within = All-append (λ t. IsWithin t.effect.report) done (t ∷ []) did.within (within_one t turn.within);
+        puts = puts_stopped (length done) before.out.puts now.out.puts after.out.puts (status ≢ 4) did.puts puts;
+        loads = loads_more done t before.files.loads now.files.loads after.files.loads did.loads turn.loads;
       });
       part = λ on.
           let p = sent_at on in
@@ -348,6 +385,15 @@ no_memory : (why : Ending) (status : ℕ) → status ≡ status_of (Err why) →
 no_memory Fault status is fault = absurd (fault is)
 no_memory NoMemory status is fault = refl
 
+wanting : (why : Ending) (status : ℕ) → status ≡ status_of (Err why) → why ≡ NoMemory → status ≢ 4
+wanting Fault status is none = absurd (let bad : Fault ≡ NoMemory = none in cc)
+wanting NoMemory status is none = omega arith
+
+put_or_none : (why : Ending) (status before after : ℕ) → status ≡ status_of (Err why)
+    → (after ≡ raised 1 before) ⊎ ((why ≡ NoMemory) × (after ≡ before)) → (after ≡ raised 1 before) ⊎ ((status ≢ 4) × (after ≡ before))
+put_or_none why status before after is (inl more) = inl more
+put_or_none why status before after is (inr same) = inr (wanting why status is same.0, same.1)
+
 pub stopped_in_report : (s here : Settings) (all rest : List Reading) (reading : Reading) (place : ℕ) (refused : Bool) (before now after : Moment) (status : ℕ)
     (why : Ending)
     → Reached s all (reading ∷ rest) place refused before now → here ≡ s
@@ -368,51 +414,6 @@ stopped_in_report s here all rest reading place refused before now after status 
       follows =
           subst (λ ts. Follows s.limits.file ts status before after) (sym e)
           (follows_unreported s.limits.file r.done left action p.outcome place status before now after r.did r.count r.told r.later r.tied p.turn p.sent
-          (λ fault. p.unsent (no_memory why status status_is fault)) (no_loads s t.effect.db rest) (omega (arith, least)));
+          (λ fault. p.unsent (no_memory why status status_is fault))
+          (put_or_none why status now.out.puts after.out.puts status_is p.puts) (no_loads s t.effect.db rest) (omega (arith, least)));
     }
-
--- ---- a run that began a little earlier, when files had been read less
-
-did_from : (ts : List Turn) (before after : Moment) (files : Seen) → Did ts (record before { files = files }) after → Did ts before after
-did_from ts before after files h = record { sent = h.sent; steps = h.steps; db = h.db; within = h.within }
-
-stopped_from : (ts : List Turn) (status : ℕ) (before after : Moment) (files : Seen) → Stopped ts status (record before { files = files }) after
-    → Stopped ts status before after
-stopped_from ts status before after files (inl h) = inl (record {
-  done = h.done;
-  left = h.left;
-  turns_are = h.turns_are;
-  no_fault = h.no_fault;
-  sent = h.sent;
-  no_fewer = h.no_fewer;
-  at_most = h.at_most;
-  db = h.db;
-  within = h.within;
-})
-stopped_from ts status before after files (inr h) = inr (record {
-  done = h.done;
-  turn = h.turn;
-  left = h.left;
-  turns_are = h.turns_are;
-  sent = h.sent;
-  unsent = h.unsent;
-  steps = h.steps;
-  db = h.db;
-  within = h.within;
-})
-
-pub walked_from : (s : Settings) (readings : List Reading) (status : ℕ) (before after : Moment) (files : Seen) → IsLater before.files files
-    → Walked s readings status (record before { files = files }) after → Walked s readings status before after
-walked_from s readings status before after files later w = record {
-  outcomes = w.outcomes;
-  whole = w.whole;
-  follows = record {
-    whole = λ below. did_from _ before after files (w.follows.whole below);
-    refusals = w.follows.refusals;
-    stopped = λ early. stopped_from _ status before after files (w.follows.stopped early);
-    part = w.follows.part;
-    no_fewer = w.follows.no_fewer;
-    at_most = w.follows.at_most;
-    tied = tied_earlier s.limits.file _ before.files files after.files later w.follows.tied;
-  };
-}

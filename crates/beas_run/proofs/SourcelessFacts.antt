@@ -10,6 +10,7 @@ use Rattle.command_words.specs.declared.arguments.Args.TheVariants.{Script, Demo
 use Rattle.command_words.specs.Words.{args_of}
 use Rattle.demo_gen.specs.Demo.{demo_text}
 use Rattle.demo_gen.proofs.Lengths.{length-demo}
+use Rattle.outside.specs.Counts.{raised}
 use Rattle.outside.specs.Parts.{SentPart}
 use Rattle.sql_text.specs.Tokens.{tokens_from}
 use Rattle.session.specs.Effects.{Settings}
@@ -18,11 +19,11 @@ use Rattle.beas_run.specs.Readings.{Reading, Readings, readings_of}
 use Rattle.beas_run.specs.declared.no_script.NoScript.{NoScript}
 use Rattle.beas_run.specs.declared.no_script.NoScript.TheVariants.{Words, Unread, TooLong, NotText, NoMemory}
 use Rattle.beas_run.specs.NoScripts.{status_of}
-use Rattle.beas_run.specs.Runs.{seed_of, demo_seed, settings_for, settings_of_words, HasScript, HasRun, IsContent, IsScriptOf, IsWith, IsWithout, WalkedFor, longest_script}
+use Rattle.beas_run.specs.Runs.{seed_of, demo_seed, settings_for, settings_of_words, with_files, HasLoaded, HasScript, HasRun, IsContent, IsScriptOf, IsWith, IsWithout, WalkedFor, longest_script}
 use Rattle.beas_run.specs.Demonstrations.{Demonstrated, summary_of, without_output}
 use Rattle.beas_run.specs.Walks.{Moment, Walked}
-use Rattle.beas_run.proofs.Reached.{unstarted, walked_from}
-use Rattle.beas_run.proofs.Reading.{found}
+use Rattle.beas_run.proofs.ReachedFacts.{same_later, unstarted}
+use Rattle.beas_run.proofs.ReadingFacts.{found}
 
 pub no_readings : Readings [] []
 unfolding tokens_from
@@ -69,35 +70,51 @@ has_none status asked files early fault = record {
 
 -- nothing is done, whatever is asked for; where that is a demonstration, out of memory
 idle : (asked : Option Args) (s : Settings) (before after : Moment) (status : ℕ)
-    → (before.out.told ≡ true → after.out.bytes ≡ before.out.bytes) → after.steps ≡ before.steps → after.state ≡ before.state → IsLater before.files after.files
+    → (before.out.told ≡ true → after.out.bytes ≡ before.out.bytes) → after.steps ≡ before.steps → after.state ≡ before.state
+    → after.out.puts ≡ before.out.puts → after.files.loads ≡ before.files.loads → IsLater before.files after.files
     → 2 ≤ status → status ≢ 4 → (option_and_then seed_of asked ≡ None) ⊎ (status ≡ 5) → WalkedFor asked s [] status before after
-idle None s before after status sent steps db later early fault why = unstarted s [] before after status sent steps db later early fault
-idle (Some (Script path budget explain)) s before after status sent steps db later early fault why =
-    unstarted s [] before after status sent steps db later early fault
-idle (Some (Demo seed budget explain)) s before after status sent steps db later early fault (inl none) = absurd (some≢none seed none)
-idle (Some (Demo seed budget explain)) s before after status sent steps db later early fault (inr five) = record {
+idle None s before after status sent steps db puts loads later early fault why =
+    unstarted s [] before after status sent steps db puts loads later early fault
+idle (Some (Script path budget explain)) s before after status sent steps db puts loads later early fault why =
+    unstarted s [] before after status sent steps db puts loads later early fault
+idle (Some (Demo seed budget explain)) s before after status sent steps db puts loads later early fault (inl none) = absurd (some≢none seed none)
+idle (Some (Demo seed budget explain)) s before after status sent steps db puts loads later early fault (inr five) = record {
   ended = 5;
-  walked = unstarted s [] (without_output before) (without_output after) 5 (λ _. refl) steps db later (omega arith) (omega arith);
+  walked = unstarted s [] (without_output before) (without_output after) 5 (λ _. refl) steps db refl loads later (omega arith) (omega arith);
   whole = λ below. absurd (omega arith);
   part = λ on. rw (sent on) (none_of before.out.bytes (summary_of []));
   unsent = λ _ _. sent;
+  puts = inr (five, puts);
   early = λ _. (refl, five);
 }
+
+-- what is said doesn't change what was loaded
+loaded_said : (asked : Option Args) (why : NoScript) (status : ℕ) (before after : Seen) → (status ≡ status_of why) ⊎ (status ≡ 5)
+    → HasLoaded asked (status_of why) before after → HasLoaded asked status before after
+loaded_said None why status before after said loaded = loaded
+loaded_said (Some (Script path budget explain)) why status before after said (inl more) = inl more
+loaded_said (Some (Script path budget explain)) why status before after (inl e) (inr same) = inr (e ∙ same.0, same.1)
+loaded_said (Some (Script path budget explain)) why status before after (inr five) (inr same) = inr (five, same.1)
+loaded_said (Some (Demo seed budget explain)) why status before after said loaded = loaded
 
 -- a run without a script
 pub ran_nothing : (limits : Limits) (words : List (List ℕ)) (why : NoScript) (status : ℕ) (before after : Moment) → (status ≡ status_of why) ⊎ (status ≡ 5)
     → (demo_seed words ≡ None) ⊎ (status ≡ 5)
-    → (before.out.told ≡ true → after.out.bytes ≡ before.out.bytes) → after.steps ≡ before.steps → after.state ≡ before.state → IsLater before.files after.files
-    → HasRun limits words status before after
-ran_nothing limits words why status before after said none sent steps db later =
+    → (before.out.told ≡ true → after.out.bytes ≡ before.out.bytes) → after.steps ≡ before.steps → after.state ≡ before.state
+    → after.out.puts ≡ before.out.puts → HasLoaded (args_of words) (status_of why) before.files after.files → HasRun limits words status before after
+ran_nothing limits words why status before after said none sent steps db puts loaded =
     let early = early_said why status said in
     record {
       script = [];
       readings = [];
+      begun = after.files;
+      loaded = loaded_said (args_of words) why status before.files after.files said loaded;
+      unread = λ _. refl;
       has = has_none status (args_of words) before.files early.0 early.1;
       read_as = no_readings;
       silent = λ _. sent;
-      walked = idle (args_of words) (settings_of_words limits words) before after status sent steps db later early.0 early.1 none;
+      walked = idle (args_of words) (settings_of_words limits words) (with_files before after.files) after status sent steps db puts refl
+          (same_later after.files) early.0 early.1 none;
     }
 
 -- ---- a script that was read, or made
@@ -143,16 +160,21 @@ some_demo : (seed : ℕ) → demo_text seed ≡ [] → ⊥
 unfolding demo_text
 some_demo seed e = cc
 
-ran : (limits : Limits) (words : List (List ℕ)) (asked : Args) (script : List ℕ) (status : ℕ) (before after : Moment) → args_of words ≡ Some asked
+ran : (limits : Limits) (words : List (List ℕ)) (asked : Args) (script : List ℕ) (status : ℕ) (before after : Moment) (begun : Seen)
+    → args_of words ≡ Some asked
     → (script ≡ [] → before.out.told ≡ true → after.out.bytes ≡ before.out.bytes)
-    → HasScript script status (Some asked) before.files → WalkedFor (Some asked) (settings_for limits asked) (readings_of script) status before after
+    → HasScript script status (Some asked) before.files → HasLoaded (Some asked) status before.files begun → (IsWithout status → ⊥)
+    → WalkedFor (Some asked) (settings_for limits asked) (readings_of script) status (with_files before begun) after
     → HasRun limits words status before after
-ran limits words asked script status before after e silent has walked =
+ran limits words asked script status before after begun e silent has loaded with walked =
     let none : Settings = record { limits = limits; budget = None; explain = false } in
-    let P : Option Args → Type 0 = λ o. WalkedFor o (option_map_or (settings_for limits) o none) (readings_of script) status before after in
+    let P : Option Args → Type 0 = λ o. WalkedFor o (option_map_or (settings_for limits) o none) (readings_of script) status (with_files before begun) after in
     record {
       script = script;
       readings = readings_of script;
+      begun = begun;
+      loaded = subst (λ o. HasLoaded o status before.files begun) (sym e) loaded;
+      unread = λ without. absurd (with without);
       has = subst (λ o. HasScript script status o before.files) (sym e) has;
       read_as = found script;
       silent = silent;
@@ -164,26 +186,28 @@ pub ran_file : (limits : Limits) (words : List (List ℕ)) (path : List ℕ) (bu
     (before after : Moment) (files : Seen)
     → args_of words ≡ Some (Script path budget explain)
     → length script ≤ longest_script → IsUtf8 script → IsContent before.files script path → (status < 2) ⊎ (status ≡ 4) ⊎ (status ≡ 5)
-    → IsLater before.files files
-    → Walked (record { limits = limits; budget = budget; explain = explain }) (readings_of script) status (record before { files = files }) after
+    → files.loads ≡ raised 1 before.files.loads
+    → Walked (record { limits = limits; budget = budget; explain = explain }) (readings_of script) status (with_files before files) after
     → HasRun limits words status before after
-ran_file limits words path budget explain script status before after files asked fits text is ended later walked =
+ran_file limits words path budget explain script status before after files asked fits text is ended loaded walked =
     let s : Settings = record { limits = limits; budget = budget; explain = explain } in
-    let whole = walked_from s (readings_of script) status before after files later walked in
-    ran limits words (Script path budget explain) script status before after asked
-    (silent_file s script status before after whole)
+    ran limits words (Script path budget explain) script status before after files asked
+    (silent_file s script status (with_files before files) after walked)
     (has_read script status (Some (Script path budget explain)) before.files fits text is ended)
-    whole
+    (inl loaded) (not_without status ended) walked
 
 -- a run over the text of the demonstration that its words ask for
 pub ran_demo : (limits : Limits) (words : List (List ℕ)) (seed : ℕ) (budget : Option ℕ) (explain : Bool) (script : List ℕ) (status : ℕ) (before after : Moment)
+    (files : Seen)
     → args_of words ≡ Some (Demo seed budget explain) → script ≡ demo_text seed → IsUtf8 script → (status < 2) ⊎ (status ≡ 4) ⊎ (status ≡ 5)
-    → Demonstrated (record { limits = limits; budget = budget; explain = explain }) (readings_of script) status before after
+    → files ≡ before.files
+    → Demonstrated (record { limits = limits; budget = budget; explain = explain }) (readings_of script) status (with_files before files) after
     → HasRun limits words status before after
-ran_demo limits words seed budget explain script status before after asked is text ended walked =
-    ran limits words (Demo seed budget explain) script status before after asked
+ran_demo limits words seed budget explain script status before after files asked is text ended same walked =
+    ran limits words (Demo seed budget explain) script status before after files asked
     (λ none. absurd (some_demo seed (sym is ∙ none)))
-    (has_read script status (Some (Demo seed budget explain)) before.files (fits_demo seed script is) text is ended) walked
+    (has_read script status (Some (Demo seed budget explain)) before.files (fits_demo seed script is) text is ended)
+    (ap (λ (s : Seen). s.loads) same) (not_without status ended) walked
 
 -- ---- what the words ask for
 

@@ -8,25 +8,29 @@ use Rattle.catalogue.specs.Database.{Database}
 use Rattle.command_words.specs.declared.arguments.Args.{Args}
 use Rattle.command_words.specs.declared.arguments.Args.TheVariants.{Script, Demo}
 use Rattle.command_words.specs.Words.{args_of}
-use Rattle.outside.specs.Counts.{Rose}
+use Rattle.outside.specs.Counts.{Rose, raised}
 use Rattle.session.specs.Effects.{Settings}
 use Rattle.outside.specs.Seen.{Seen, Sent, IsLater}
 use Rattle.beas_run.specs.declared.no_script.NoScript.{NoScript}
 use Rattle.beas_run.specs.declared.no_script.NoScript.TheVariants.{Words, Unread, TooLong, NotText, NoMemory}
 use Rattle.beas_run.specs.declared.script_source.Source.{Source}
-use Rattle.beas_run.specs.Demonstrations.{Demonstrated}
 use Rattle.beas_run.specs.NoScripts.{status_of}
-use Rattle.beas_run.specs.Runs.{seed_of, demo_seed, settings_for, settings_of_words, longest_script, HasRun, IsNoText, IsScriptOf, IsTooLong, IsWith, WalkedFor}
+use Rattle.beas_run.specs.Runs.{seed_of, demo_seed, settings_for, settings_of_words, longest_script, HasLoaded, HasRun, IsNoText, IsScriptOf, IsTooLong, IsWith, WalkedFor}
 use Rattle.beas_run.specs.Readings.{readings_of}
-use Rattle.beas_run.specs.Sources.{HasNoScript, IsSource, DemoReadsNothing, RanOver}
+use Rattle.beas_run.specs.Sources.{HasNoScript, IsSource, LoadsScript, RanOver}
 use Rattle.beas_run.specs.Walks.{Moment}
-use Rattle.beas_run.proofs.Empty.{early_said, ran_demo, ran_file}
-use Rattle.beas_run.proofs.Reached.{same_later}
+use Rattle.beas_run.proofs.SourcelessFacts.{early_said, ran_demo, ran_file}
+use Rattle.beas_run.proofs.ReachedFacts.{same_later}
 
 some≢none : {X : Type 0} (x : X) → Some x ≡ None → ⊥
 some≢none x e = cc
 
 -- ---- there is no text
+
+none_loaded : (asked : Option Args) (status : ℕ) (files : Seen) → status ≡ 5 → HasLoaded asked status files files
+none_loaded None status files five = refl
+none_loaded (Some (Script path budget explain)) status files five = inr (five, refl)
+none_loaded (Some (Demo seed budget explain)) status files five = refl
 
 pub no_memory_left : (asked : Option Args) (files : Seen) → HasNoScript asked NoMemory files files
 no_memory_left asked files = record {
@@ -35,6 +39,7 @@ no_memory_left asked files = record {
   unread = λ e. absurd (let bad : NoMemory ≡ Unread = e in cc);
   too_long = λ e. absurd (let bad : NoMemory ≡ TooLong = e in cc);
   not_text = λ e. absurd (let bad : NoMemory ≡ NotText = e in cc);
+  loaded = none_loaded asked (status_of NoMemory) files refl;
   seedless = inr refl;
   later = same_later files;
 }
@@ -46,19 +51,22 @@ words_refused asked files none = record {
   unread = λ e. absurd (let bad : Words ≡ Unread = e in cc);
   too_long = λ e. absurd (let bad : Words ≡ TooLong = e in cc);
   not_text = λ e. absurd (let bad : Words ≡ NotText = e in cc);
+  loaded = subst (λ a. HasLoaded a (status_of Words) files files) (sym none) refl;
   seedless = inl (ap (option_and_then seed_of) none);
   later = same_later files;
 }
 
 pub file_unread : (path : List ℕ) (budget : Option ℕ) (explain : Bool) (why : NoScript) (before after : Seen)
     → (why ≡ Words → ⊥) → (why ≡ Unread → Rose (before.faults path) (after.faults path)) → (why ≡ TooLong → IsTooLong before after path)
-    → (why ≡ NotText → IsNoText before path) → IsLater before after → HasNoScript (Some (Script path budget explain)) why before after
-file_unread path budget explain why before after named unread too_long not_text later = record {
+    → (why ≡ NotText → IsNoText before path) → after.loads ≡ raised 1 before.loads → IsLater before after
+    → HasNoScript (Some (Script path budget explain)) why before after
+file_unread path budget explain why before after named unread too_long not_text loaded later = record {
   words = λ none. absurd (some≢none (Script path budget explain) none);
   words_alone = λ e. absurd (named e);
   unread = unread;
   too_long = too_long;
   not_text = not_text;
+  loaded = inl loaded;
   seedless = inl refl;
   later = later;
 }
@@ -81,18 +89,16 @@ settings_for_same args asked limits settings e same = same ∙ ap (settings_for 
 ran_source : (limits : Limits) (words : List (List ℕ)) (asked : Args) (script : List ℕ) (status : ℕ) (db : Database) (steps : ℕ) (out : Sent)
     (files now : Seen) (after : Moment)
     → args_of words ≡ Some asked → length script ≤ longest_script → IsUtf8 script → IsScriptOf (Some asked) files script
-    → (status < 2) ⊎ (status ≡ 4) ⊎ (status ≡ 5) → DemoReadsNothing asked files now → IsLater files now
+    → (status < 2) ⊎ (status ≡ 4) ⊎ (status ≡ 5) → LoadsScript asked files now
     → WalkedFor (Some asked) (settings_for limits asked) (readings_of script) status
     (record { state = db; steps = steps; out = out; files = now }) after
     → HasRun limits words status (record { state = db; steps = steps; out = out; files = files }) after
-ran_source limits words (Script path budget explain) script status db steps out files now after asked fits text is ended unread later walked =
+ran_source limits words (Script path budget explain) script status db steps out files now after asked fits text is ended loaded walked =
     ran_file limits words path budget explain script status (record { state = db; steps = steps; out = out; files = files }) after now
-    asked fits text is ended later walked
-ran_source limits words (Demo seed budget explain) script status db steps out files now after asked fits text is ended unread later walked =
-    let P : Seen → Type 0 = λ f. Demonstrated (record { limits = limits; budget = budget; explain = explain }) (readings_of script) status
-    (record { state = db; steps = steps; out = out; files = f }) after in
-    ran_demo limits words seed budget explain script status (record { state = db; steps = steps; out = out; files = files }) after
-    asked is text ended (subst P unread walked)
+    asked fits text is ended loaded walked
+ran_source limits words (Demo seed budget explain) script status db steps out files now after asked fits text is ended loaded walked =
+    ran_demo limits words seed budget explain script status (record { state = db; steps = steps; out = out; files = files }) after now
+    asked is text ended loaded walked
 
 pub ran_over : (limits : Limits) (words : List (List ℕ)) (source : Source) (text : List ℕ) (status : ℕ) (settings : Settings) (db : Database)
     (steps : ℕ) (out : Sent) (files now : Seen) (after : Moment)
@@ -102,7 +108,7 @@ pub ran_over : (limits : Limits) (words : List (List ℕ)) (source : Source) (te
 ran_over limits words source text status settings db steps out files now after is same utf8 ran =
     ran_source limits words source.args text status db steps out files now after is.asked_is
     (subst (λ t. length t ≤ longest_script) (sym same) is.fits) utf8 (subst (λ t. IsScriptOf (Some source.args) files t) (sym same) is.is)
-    ran.statuses is.unread is.later ran.walked
+    ran.statuses is.loaded ran.walked
 
 pub settings_are_words : (limits : Limits) (words : List (List ℕ)) (asked : Args) (settings : Settings)
     → args_of words ≡ Some asked → settings ≡ settings_for limits asked → settings ≡ settings_of_words limits words

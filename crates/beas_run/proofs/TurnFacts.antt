@@ -1,5 +1,5 @@
 -- The turns of a script, one more at a time.
-use Rattle.std.proofs.Common.{◌≡◌, ◌+◌, ◌++◌, ◌||◌, ◌∙◌, ap, refl, ℕ, List, [], ◌∷◌, Some, length, arith, append-nil}
+use Rattle.std.proofs.Common.{◌≡◌, ◌+◌, ◌++◌, ◌||◌, ◌∙◌, ap, refl, sym, ℕ, List, [], ◌∷◌, Some, length, length-append, arith, append-nil}
 use Rattle.std.specs.List.{enumerate_from, flat_map}
 use Rattle.std.specs.Option.{option_map_or}
 use Rattle.std.proofs.lemmas.Grind.{flat_map-append}
@@ -7,6 +7,8 @@ use Rattle.std.proofs.lemmas.List.Elements.{filter_map-append}
 use Rattle.std.proofs.lemmas.List.Folds.{list_any-append}
 use Rattle.std.proofs.lemmas.List.Sums.{sum_by-append, fold-append}
 use Rattle.catalogue.specs.Database.{Database}
+use Rattle.outside.specs.Counts.{raised}
+use Rattle.outside.proofs.Counts.{raised_twice}
 use Rattle.report.specs.Reports.{report_text}
 use Rattle.beas_run.specs.Readings.{Reading}
 use Rattle.session.specs.declared.loading.LoadOutcome.{LoadOutcome}
@@ -48,6 +50,20 @@ database-append db done left = fold-append (λ before t. t.effect.db) db done le
 
 pub loads-append : (done left : List Turn) → loads_of (done ++ left) ≡ loads_of done ++ loads_of left
 loads-append done left = filter_map-append (λ t. t.load) done left
+
+-- ---- counts of calls
+
+length_loads-append : (done left : List Turn) → length (loads_of (done ++ left)) ≡ length (loads_of done) + length (loads_of left)
+length_loads-append done left = ap length (loads-append done left) ∙ length-append (loads_of done) (loads_of left)
+
+pub loads_more : (done : List Turn) (t : Turn) (before now after : ℕ) → now ≡ raised (length (loads_of done)) before
+    → after ≡ raised (length (loads_of (t ∷ []))) now → after ≡ raised (length (loads_of (done ++ t ∷ []))) before
+loads_more done t before now after first more =
+    more ∙ ap (raised (length (loads_of (t ∷ [])))) first ∙ raised_twice (length (loads_of done)) (length (loads_of (t ∷ []))) before
+    ∙ ap (λ n. raised n before) (sym (length_loads-append done (t ∷ [])))
+
+pub puts_more : (count before now after : ℕ) → now ≡ raised count before → after ≡ raised 1 now → after ≡ raised (count + 1) before
+puts_more count before now after first more = more ∙ ap (raised 1) first ∙ raised_twice count 1 before
 
 -- ---- an action, with what its load gave
 

@@ -19,8 +19,8 @@ pub no_fault : (named : Option (List ℕ)) → IsSomeAnd named (λ n. Rose 0 0) 
 no_fault None h = h
 no_fault (Some n) h = none_rose h
 
-pub none_at : (n : ℕ) → RoseBy n 0 0 → n ≡ 0
-none_at n h = omega arith
+pub none_at : (n before : ℕ) → RoseBy n before 0 → n ≡ 0
+none_at n before h = omega arith
 
 -- whatever is asked for, the failures of a name are at most the rise of its count
 pub walked_failures : (asked : Option Args) (s : Settings) (readings : List Reading) (status : ℕ) (before after : Moment)

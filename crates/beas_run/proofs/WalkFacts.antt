@@ -2,7 +2,7 @@
 use Rattle.std.proofs.Common.{◌≡◌, ◌≢◌, ◌<◌, ◌≤◌, ◌+◌, ◌++◌, ◌||◌, ◌⊎◌, ◌∙◌, sym, ap, subst, refl, inl, inr, ℕ, Bool, true, false, List, [], ◌∷◌, Ok, Err, Result, arith, append-nil}
 use Rattle.std.proofs.lemmas.List.{length-map, map-append}
 use Rattle.demo_gen.specs.Summaries.{Totals, summary_text}
-use Rattle.outside.specs.Counts.{Rose}
+use Rattle.outside.specs.Counts.{Rose, raised}
 use Rattle.outside.specs.Parts.{SentPart}
 use Rattle.outside.specs.Seen.{IsLater, Sent}
 use Rattle.report.specs.declared.reports.Report.{Report}
@@ -17,7 +17,7 @@ use Rattle.beas_run.specs.Pieces.{IsReported, IsUndone, IsUnreported}
 use Rattle.beas_run.specs.Readings.{Reading}
 use Rattle.beas_run.specs.Scripts.{action_for, turns}
 use Rattle.beas_run.specs.Walks.{Moment, WalkedBefore}
-use Rattle.beas_run.proofs.Reached.{Reached, begun, begun_done, ended, ended_turns, more, more_done, status_for, stopped_in_report, stopped_in_statement, unstarted}
+use Rattle.beas_run.proofs.ReachedFacts.{Reached, begun, begun_done, ended, ended_turns, more, more_done, status_for, stopped_in_report, stopped_in_statement, unstarted}
 
 -- these turns are done, and their reports taken
 pub record Walking (took : List Report → Type 0) (s : Settings) (all rest : List Reading) (place : ℕ) (refused : Bool) (before now : Moment) : Type 0 where
@@ -97,9 +97,10 @@ walk_stopped took took_after s here all rest reading place refused before now af
 -- out of memory before the first statement
 pub walk_unstarted : (took : List Report → Type 0) (s : Settings) (readings : List Reading) (before after : Moment) (status : ℕ)
     → (before.out.told ≡ true → after.out.bytes ≡ before.out.bytes) → after.steps ≡ before.steps → after.state ≡ before.state
+    → after.out.puts ≡ before.out.puts → after.files.loads ≡ before.files.loads
     → IsLater before.files after.files → status ≡ 5 → WalkedBefore took s readings status before after
-walk_unstarted took s readings before after status sent steps state later five = record {
-  walked = unstarted s readings before after status sent steps state later (omega arith) (omega arith);
+walk_unstarted took s readings before after status sent steps state puts loads later five = record {
+  walked = unstarted s readings before after status sent steps state puts loads later (omega arith) (omega arith);
   took_all = λ below. absurd (omega arith);
 }
 
@@ -126,6 +127,7 @@ pub record IsPut (status : ℕ) (sum : Totals) (before after : Sent) : Type 0 wh
   pub whole : status < 2 → before.told ≡ true → after.bytes ≡ before.bytes ++ summary_text sum
   pub part : before.told ≡ true → SentPart before.bytes after.bytes (summary_text sum)
   pub unsent : status ≡ 5 → before.told ≡ true → after.bytes ≡ before.bytes
+  pub puts : (after.puts ≡ raised 1 before.puts) ⊎ ((status ≡ 5) × (after.puts ≡ before.puts))
 
 module _ (s : Settings) (readings : List Reading) (sum : Totals) (before after : Moment) where
   -- what is put is the line of the totals of the turns
@@ -144,6 +146,7 @@ module _ (s : Settings) (readings : List Reading) (sum : Totals) (before after :
         );
         part = λ on. subst (λ (t : Totals). SentPart before.out.bytes after.out.bytes (summary_text t)) same (put.part on);
         unsent = λ early fault. put.unsent (out_of_memory status (status_of (Ok refused)) late early fault ended);
+        puts = put.puts;
         early = λ early. absurd (omega arith);
       }
     where
@@ -158,13 +161,14 @@ module _ (s : Settings) (readings : List Reading) (sum : Totals) (before after :
 
   -- out of memory before the line is put
   pub unfinished : (why : Ending) → Counted s readings (status_of (Err why)) sum before after → (why ≡ Fault → Rose 0 0)
-      → (before.out.told ≡ true → after.out.bytes ≡ before.out.bytes) → Demonstrated s readings 5 before after
-  unfinished Fault counted fault same = absurd (never_failed (fault refl))
-  unfinished NoMemory counted fault same = record {
+      → (before.out.told ≡ true → after.out.bytes ≡ before.out.bytes) → after.out.puts ≡ before.out.puts → Demonstrated s readings 5 before after
+  unfinished Fault counted fault same puts = absurd (never_failed (fault refl))
+  unfinished NoMemory counted fault same puts = record {
     ended = 5;
     walked = counted.walked;
     whole = λ below. absurd (omega arith);
     part = λ on. rw (same on) (none_sent before.out.bytes (summary_of (turns s before.state readings counted.walked.outcomes)));
     unsent = λ _ _. same;
+    puts = inr (refl, puts);
     early = λ _. (refl, refl);
   }
