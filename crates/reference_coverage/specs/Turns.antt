@@ -1,5 +1,5 @@
 -- The choice at one turn of a derivation.
-use Rattle.std.specs.Prelude.{◌&&◌, ◌==◌, if◌then◌else◌, ℕ, Bool, List, filter, Option, None}
+use Rattle.std.specs.Prelude.{◌&&◌, ◌==◌, if◌then◌else◌, ℕ, List, filter, Option, None}
 use Rattle.beas_core.specs.declared.schema.Access.{Access}
 use Rattle.beas_core.specs.declared.plan.DStep.{DStep}
 use Rattle.beas_core.specs.declared.plan.Normal.{Normal}

@@ -1,7 +1,7 @@
 -- What the tokens of a piece are read as.
 --     Parses tokens reading      the reading is the statement that they spell, or why they spell none
 --     found_reading tokens       the reading, as it is found from left to right
-use Rattle.std.specs.Prelude.{◌≡◌, ◌<◌, ◌≤◌, nat_lt, if◌then◌else◌, Bool, false, List, [], ◌∷◌, Option, Some, None, Result, Ok, Err}
+use Rattle.std.specs.Prelude.{◌<◌, ◌≤◌, nat_lt, if◌then◌else◌, Bool, false, List, [], ◌∷◌, Option, Some, None, Result, Ok, Err}
 use Rattle.beas_core.specs.declared.refusal.Refusal.{Refusal}
 use Rattle.beas_core.specs.declared.refusal.Refusal.TheVariants.{Syntax, TooDeep, NeedsDistinct}
 use Rattle.sql_tree.specs.declared.tree.Statement.{Statement}
