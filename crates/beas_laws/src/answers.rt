@@ -1,5 +1,5 @@
 // Laws on what a query answers, and on what the steps of a derivation find.
-ghost use Rattle.std.specs.Prelude.{◌≡◌, ◌↔◌, Bool, ℕ, List as Items, All, Contains, IsTrue, Some, is_some};
+ghost use Rattle.std.specs.Prelude.{◌≡◌, ◌↔◌, Bool, ℕ, List, All, Contains, IsTrue, Some, is_some};
 ghost use Rattle.beas_core.specs.Types.{Guide, Row};
 ghost use Rattle.beas_core.specs.Shapes.{AccessIsWellFormed, BlockIsWellFormed, width_of};
 ghost use Rattle.beas_core.specs.Full.{full_of, full_of_block};
@@ -16,10 +16,10 @@ use beas_core::{AccessPort, Block, DStep, List, Normal, Prepared};
 /// A query answers what it answers in full, whichever of its blocks are guided. For every set of rows that guides it,
 /// its answers and its full answer have the same members in the set; without a guide they are equal.
 pub fn law_guided<P: AccessPort>(port: &P, prepared: &Prepared)
-    ensures inside { (guided : Items Bool) (n : ℕ) (found : Items Row) (row : Row) → Contains found row
+    ensures inside { (guided : List Bool) (n : ℕ) (found : List Row) (row : Row) → Contains found row
         → Contains (answers (P.rows port.now) guided n (Some found) prepared.now.query) row
         ↔ Contains (full_of (P.rows port.now) prepared.now.query) row }
-    ensures alone { (guided : Items Bool) → query_answers (P.rows port.now) guided prepared.now.query
+    ensures alone { (guided : List Bool) → query_answers (P.rows port.now) guided prepared.now.query
         ≡ full_of (P.rows port.now) prepared.now.query }
 {}
 

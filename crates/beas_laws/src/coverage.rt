@@ -1,9 +1,9 @@
 // Laws on covered sets, reasons and derivations, and on what is prepared from them.
-ghost use Rattle.std.specs.Prelude.{◌≡◌, ◌≤◌, ◌↔◌, ℕ, List as Items, length, map, IsTrue, Contains, false, Some, None, is_some};
+ghost use Rattle.std.specs.Prelude.{◌≡◌, ◌≤◌, ◌↔◌, ℕ, List, length, map, IsTrue, Contains, false, Some, None, is_some};
 ghost use Rattle.std.specs.List.{list_all};
-ghost use Rattle.beas_core.specs.declared.plan.DStep.{DStep as Step};
-ghost use Rattle.beas_core.specs.declared.plan.Prepared.{Prepared as Plan};
-ghost use Rattle.beas_core.specs.declared.schema.Access.{Access as Constraint};
+ghost use Rattle.beas_core.specs.declared.plan.DStep.{DStep};
+ghost use Rattle.beas_core.specs.declared.plan.Prepared.{Prepared};
+ghost use Rattle.beas_core.specs.declared.schema.Access.{Access};
 ghost use Rattle.beas_core.specs.Types.{ClassSet, TableRows};
 ghost use Rattle.beas_core.specs.Shapes.{EachIdOnce};
 ghost use Rattle.beas_core.specs.Coverage.{ClassesInRange, IsLeastClosed, covered_set, is_covered, reason};
@@ -33,17 +33,17 @@ pub fn law_reason(normal: &Normal, accesses: &List<Access>, set: &List<bool>)
 /// Each block of a query is covered for its start exactly where there is no first block that isn't, whatever
 /// constraints each block may use; and a block is guided only where it has a guide.
 pub fn law_first_uncovered(query: &Query)
-    ensures covered { (constraints : ℕ → Items Constraint)
+    ensures covered { (constraints : ℕ → List Access)
         → IsTrue (list_all task_is_covered (block_tasks constraints query.now))
         ↔ (first_uncovered (block_tasks constraints query.now) ≡ None) }
-    ensures guided { (constraints : ℕ → Items Constraint)
+    ensures guided { (constraints : ℕ → List Access)
         → GuidedOnlyWithGuide (map is_guided_task (block_tasks constraints query.now)) 0 false query.now }
 {}
 
 /// The canonical derivation is sound.
 pub fn law_derivation_sound(normal: &Normal, accesses: &List<Access>, start: &List<bool>)
     requires { EachIdOnce accesses.now }
-    ensures { (steps : Items Step) → derivation normal.now accesses.now start.now ≡ Some steps
+    ensures { (steps : List DStep) → derivation normal.now accesses.now start.now ≡ Some steps
         → IsSound normal.now accesses.now start.now steps }
 {}
 
@@ -51,11 +51,11 @@ pub fn law_derivation_sound(normal: &Normal, accesses: &List<Access>, start: &Li
 /// than theirs.
 pub fn law_pruned(accesses: &List<Access>, block: &Normal)
     requires { EachIdOnce accesses.now }
-    ensures left { (start : ClassSet) (steps : Items Step) → greedy_steps block.now accesses.now start ≡ Some steps
+    ensures left { (start : ClassSet) (steps : List DStep) → greedy_steps block.now accesses.now start ≡ Some steps
         → derivation block.now accesses.now start ≡ Some (pruned block.now accesses.now start steps) }
-    ensures sound { (start : ClassSet) (steps : Items Step) → greedy_steps block.now accesses.now start ≡ Some steps
+    ensures sound { (start : ClassSet) (steps : List DStep) → greedy_steps block.now accesses.now start ≡ Some steps
         → IsSound block.now accesses.now start (pruned block.now accesses.now start steps) }
-    ensures no_greater { (start : ClassSet) (steps : Items Step)
+    ensures no_greater { (start : ClassSet) (steps : List DStep)
         → capped_number accesses.now (pruned block.now accesses.now start steps) ≤ capped_number accesses.now steps }
 {}
 
@@ -73,15 +73,15 @@ pub fn law_derivation_exists(normal: &Normal, accesses: &List<Access>, start: &L
 /// A derivation stays sound with more constraints live.
 pub fn law_more_accesses(normal: &Normal, accesses: &List<Access>, more: &List<Access>)
     requires ids { EachIdOnce more.now }
-    requires within { (access : Constraint) → Contains accesses.now access → Contains more.now access }
-    ensures { (start : ClassSet) (steps : Items Step) → IsSound normal.now accesses.now start steps
+    requires within { (access : Access) → Contains accesses.now access → Contains more.now access }
+    ensures { (start : ClassSet) (steps : List DStep) → IsSound normal.now accesses.now start steps
         → IsSound normal.now more.now start steps }
 {}
 
 /// A prepared query that fits goes on fitting, with the same answers, probes and reads, over all constraints and rows
 /// that keep the constraints of its derivations and the rows of its tables, whatever else they have.
 pub fn law_still_fits(accesses: &List<Access>, other: &List<Access>)
-    ensures { (rows other_rows : TableRows) (prepared : Plan) → Fits accesses.now rows prepared
+    ensures { (rows other_rows : TableRows) (prepared : Prepared) → Fits accesses.now rows prepared
         → KeepsConstraints accesses.now other.now prepared.derivations
         → KeepsRows rows other_rows prepared.query
         → IsUnchanged accesses.now other.now rows other_rows prepared }
@@ -90,6 +90,6 @@ pub fn law_still_fits(accesses: &List<Access>, other: &List<Access>)
 /// So a prepared query that fits goes on fitting with more constraints live.
 pub fn law_more_fits(accesses: &List<Access>, more: &List<Access>)
     requires ids { EachIdOnce more.now }
-    requires within { (access : Constraint) → Contains accesses.now access → Contains more.now access }
-    ensures { (rows : TableRows) (prepared : Plan) → Fits accesses.now rows prepared → Fits more.now rows prepared }
+    requires within { (access : Access) → Contains accesses.now access → Contains more.now access }
+    ensures { (rows : TableRows) (prepared : Prepared) → Fits accesses.now rows prepared → Fits more.now rows prepared }
 {}

@@ -1,7 +1,7 @@
 // Laws on the value order, on sets of rows and on groups.
 ghost use Rattle.std.specs.Prelude.{◌≡◌, ◌≤◌, ◌↔◌, List, Contains};
 ghost use Rattle.std.specs.Cmp.{IsTotalOrder};
-ghost use Rattle.beas_core.specs.Types.{Row as Values};
+ghost use Rattle.beas_core.specs.Types.{Row};
 ghost use Rattle.beas_core.specs.Order.{value_cmp, row_cmp, TellsApart};
 ghost use Rattle.beas_core.specs.Sets.{distinct, IsInOrder};
 ghost use Rattle.beas_core.specs.Groups.{Holds, greatest};
@@ -19,14 +19,14 @@ pub fn law_order()
 /// `distinct` is strictly ascending and has the same members, and two strictly ascending lists with the same members
 /// are equal.
 pub fn law_set()
-    ensures ascending { (rows : List Values) → IsInOrder row_cmp (distinct row_cmp rows) }
-    ensures members { (rows : List Values) (row : Values) → Contains (distinct row_cmp rows) row ↔ Contains rows row }
-    ensures same { (left right : List Values) → IsInOrder row_cmp left → IsInOrder row_cmp right
-        → ((row : Values) → Contains left row ↔ Contains right row) → left ≡ right }
+    ensures ascending { (rows : List Row) → IsInOrder row_cmp (distinct row_cmp rows) }
+    ensures members { (rows : List Row) (row : Row) → Contains (distinct row_cmp rows) row ↔ Contains rows row }
+    ensures same { (left right : List Row) → IsInOrder row_cmp left → IsInOrder row_cmp right
+        → ((row : Row) → Contains left row ↔ Contains right row) → left ≡ right }
 {}
 
 /// A constraint holds over rows exactly where its greatest group has at most as many members as its bound.
 pub fn law_greatest(access: &Access)
-    ensures { (rows : List Values) → Holds rows access.now
+    ensures { (rows : List Row) → Holds rows access.now
         ↔ (greatest rows access.now.key access.now.fetched ≤ access.now.bound) }
 {}

@@ -1,7 +1,7 @@
 // The law of printing, on text.
 ghost use Rattle.std.specs.Prelude.{◌≡◌};
 ghost use Rattle.sql_text.specs.Tokens.{tokens_of};
-ghost use Rattle.sql_tree.specs.declared.tree.Statement.{Statement as Tree};
+ghost use Rattle.sql_tree.specs.declared.tree.Statement.{Statement};
 ghost use Rattle.sql_tree.specs.Symbols.{symbols};
 ghost use Rattle.sql_tree.specs.Grammar.{Spells};
 ghost use Rattle.sql_tree.specs.Canonical.{canonical_text};
@@ -13,6 +13,6 @@ use sql_tree::Statement;
 pub fn law_printed(statement: &Statement)
     ensures spelled { IsSpelledByTokens statement.now → Spells (symbols (tokens_of (canonical_text statement.now)))
         statement.now }
-    ensures no_other { IsSpelledByTokens statement.now → (other : Tree)
+    ensures no_other { IsSpelledByTokens statement.now → (other : Statement)
         → Spells (symbols (tokens_of (canonical_text statement.now))) other → other ≡ statement.now }
 {}

@@ -1,8 +1,8 @@
 // The canonical text of a statement, from any of its spellings.
 ghost use Rattle.std.specs.Prelude.{◌≡◌, ◌≤◌, ℕ, List, Ok, Err, length, IfOk, IsErrOf};
-ghost use Rattle.beas_core.specs.declared.refusal.Refusal.{Refusal as Why};
+ghost use Rattle.beas_core.specs.declared.refusal.Refusal.{Refusal};
 ghost use Rattle.sql_text.specs.Tokens.{tokens_of};
-ghost use Rattle.sql_tree.specs.declared.tree.Statement.{Statement as Tree};
+ghost use Rattle.sql_tree.specs.declared.tree.Statement.{Statement};
 ghost use Rattle.sql_tree.specs.Symbols.{symbols};
 ghost use Rattle.sql_tree.specs.Canonical.{canonical_text};
 ghost use Rattle.sql_parser.specs.Outcome.{Parses};
@@ -17,9 +17,9 @@ use std::alloc::Global;
 /// is refused as its tokens are.
 pub fn canonical(alloc: Global, source: &str) -> Result<Text, Fail>
     requires { length source.now ≤ 16777216 }
-    ensures text { IfOk result (λ text. (s : Tree) × Parses (symbols (tokens_of source.now)) (Ok s)
+    ensures text { IfOk result (λ text. (s : Statement) × Parses (symbols (tokens_of source.now)) (Ok s)
         × (text ≡ canonical_text s)) }
-    ensures refused { (why : Why) → IsErrOf result (Fail.Refused why)
+    ensures refused { (why : Refusal) → IsErrOf result (Fail.Refused why)
         → Parses (symbols (tokens_of source.now)) (Err why) }
 {
     let tokens = lex(alloc, source)?;
