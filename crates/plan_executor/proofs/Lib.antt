@@ -1,3 +1,2 @@
-mod FrontFacts
 pub mod HeldFacts
-mod TreeFacts
+pub mod TreeFacts

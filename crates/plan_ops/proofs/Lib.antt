@@ -1,6 +1,8 @@
 pub mod BoundSets
 mod ConstantFacts
 mod ExtendFacts
+mod FetchedFacts
+pub mod FrontFacts
 mod GuidedStarts
 mod JoinFacts
 mod KeyFacts

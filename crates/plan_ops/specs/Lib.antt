@@ -1,3 +1,4 @@
+pub mod Fetched
 pub mod Joins
 pub mod Merging
 pub mod Over

@@ -25,7 +25,8 @@ pub struct Join {
     pub checks: Vec<(usize, usize)>,
 }
 
-fn columns_of(alloc: Global, access: &Access) -> Result<Vec<ColumnId>, NoMemory>
+/// The columns of a tuple of a constraint.
+pub fn columns_of(alloc: Global, access: &Access) -> Result<Vec<ColumnId>, NoMemory>
     ensures { IfOk result (λ columns. columns.items ≡ member_columns access.now) }
 {
     let mut columns = Vec::new(alloc);

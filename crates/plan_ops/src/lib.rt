@@ -6,6 +6,8 @@
 #![tactic(auto)]
 
 mod extending;
+mod fetched;
+mod fetching;
 mod joining;
 mod keeping;
 mod matching;
@@ -19,6 +21,8 @@ mod tables;
 mod valuations;
 
 pub use extending::extend;
+pub use fetched::extend_fetched;
+pub use fetching::{fetch, keys_of};
 pub use keeping::keep;
 pub use projecting::project;
 pub use sets::{subtract, unite};

@@ -8,7 +8,7 @@ use Rattle.beas_core.specs.Sets.{distinct}
 use Rattle.beas_core.specs.Reads.{reads_of}
 use Rattle.beas_core.specs.Valuations.{output_row, answers_of}
 use Rattle.plan_ops.specs.Over.{bound_set}
-use Rattle.plan_executor.proofs.FrontFacts.{Front, front_none, nothing_read, answered, is_next, front_more, last_over, last_answers, at_error}
+use Rattle.plan_ops.proofs.FrontFacts.{Front, front_none, nothing_read, answered, is_next, front_more, last_over, last_answers, at_error}
 use Rattle.plan_executor.proofs.answering.answer_block.Goals as goal
 
 abbrev none : DStep

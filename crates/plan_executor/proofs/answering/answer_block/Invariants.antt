@@ -1,7 +1,7 @@
 use Rattle.std.specs.Option.{option_copied}
 use Rattle.std.proofs.Common.{◌≡◌, ◌+◌, take}
 use Rattle.beas_core.specs.Reads.{reads_of}
-use Rattle.plan_executor.proofs.FrontFacts.{Front}
+use Rattle.plan_ops.proofs.FrontFacts.{Front}
 use Rattle.plan_executor.proofs.answering.answer_block.Given as goal
 
 abbrev pub invariant-loop-step : goal.invariant-loop-step

@@ -109,7 +109,7 @@ module _ (rows : TableRows) (normal : Normal) (accesses : List Access) (guide : 
       counted : length (set_after done) ≡ normal.count
       counted = front_counted rows normal accesses guide ranges inside fit done (s ∷ later) all_sound
 
-      same_set : bound_set normal from ≡ set_after done
+      pub same_set : bound_set normal from ≡ set_after done
       same_set = bound_set_is normal (set_after done) from counted front.over
 
       next_over : IsOver (bound_set normal from) from

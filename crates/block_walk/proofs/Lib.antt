@@ -1,0 +1,4 @@
+mod PartFacts
+mod ProbeOrder
+mod StageFacts
+mod TurnFacts
