@@ -1,4 +1,6 @@
 // Queries whose answers a person worked out, as folders of files.
+ghost use Rattle.session.specs.Statements.{StatementIsWellFormed};
+
 use beas_core::{Fail, Limits, List, NoMemory, Refusal, Row, Steps, Text};
 use drawn_scenes::{
     bound_query, files_in, names_in, out_of_memory, reports_over, statement_of, text_in,
@@ -7,6 +9,7 @@ use full_meaning::evaluate;
 use outside::MemoryFiles;
 use report::{Report, text};
 use session::Session;
+use sql_tree::Statement;
 use std::alloc::Global;
 use std::io;
 use std::sync::ledger::Ledger;
@@ -19,6 +22,18 @@ struct Lines {
     agree: bool,
 }
 
+/// What a session reports of a statement that loads no file.
+fn report_of<L: Ledger>(
+    alloc: Global,
+    session: &mut Session,
+    statement: &Statement,
+    steps: &mut Steps<L>,
+) -> Result<Report, NoMemory>
+    requires { StatementIsWellFormed statement.now }
+{
+    session.apply(alloc, &mut MemoryFiles::new(alloc), statement, steps)
+}
+
 /// What a session reports of a query.
 fn said_of<L: Ledger>(
     alloc: Global,
@@ -27,7 +42,7 @@ fn said_of<L: Ledger>(
     steps: &mut Steps<L>,
 ) -> Result<Report, NoMemory> {
     match statement_of(alloc, spelled) {
-        Ok(statement) => session.apply(alloc, &mut MemoryFiles::new(alloc), &statement, steps),
+        Ok(statement) => report_of(alloc, session, &statement, steps),
         Err(Fail::Refused(why)) => Ok(Report::Refused { why }),
         Err(Fail::NoMemory) => Err(NoMemory),
     }
