@@ -1,7 +1,7 @@
 // Drawn queries whose outputs lose their columns.
 use crate::outcomes::{Outcome, outcome_of};
-use beas_core::{Fail, Limits, List, NoMemory, Query, QueryNode, Row, Steps, Text};
-use drawn_scenes::{Twin, bound_query, creations, draw_query, draw_scene, reports, tables_of};
+use beas_core::{Fail, Limits, List, NoMemory, Query, QueryNode, Row, Steps};
+use drawn_scenes::{Twin, bound_query, draw_query, fill_scene};
 use session::Session;
 use std::alloc::Global;
 use std::sync::ledger::Ledger;
@@ -115,13 +115,6 @@ fn try_drawn<L: Ledger>(
     Ok(tally)
 }
 
-/// Statements that make the tables and add drawn rows and constraints.
-fn scene_of(alloc: Global, twin: &mut Twin) -> Result<Text, NoMemory> {
-    let mut script = creations(alloc)?;
-    script.push_str(draw_scene(alloc, twin)?.script.as_str())?;
-    Ok(script)
-}
-
 /// Tries drawn queries over a session without tables, which gets drawn ones.
 fn try_scene<L: Ledger>(
     alloc: Global,
@@ -131,9 +124,7 @@ fn try_scene<L: Ledger>(
     steps: &mut Steps<L>,
 ) -> Result<Tally, NoMemory> {
     let mut twin = Twin::new(alloc, seed);
-    let script = scene_of(alloc, &mut twin)?;
-    reports(alloc, session, script.as_str(), steps)?;
-    let tables = tables_of(alloc, &twin.plain)?;
+    let tables = fill_scene(alloc, session, &mut twin, steps)?;
     try_drawn(alloc, &session.guarded, &mut twin, &tables, before, steps)
 }
 

@@ -57,21 +57,41 @@ fn has_accesses(guarded: &Guarded, case: &NamedCase) -> bool {
             .all(|(one, other)| is_access(one, other))
 }
 
+/// Has a session without tables make those of a case, with its constraints and rows. True where it has them as they are.
+fn fill<L: Ledger>(
+    alloc: Global,
+    session: &mut Session,
+    case: &NamedCase,
+    steps: &mut Steps<L>,
+) -> Result<bool, NoMemory> {
+    let script = script_of(alloc, case)?;
+    let lines = reports(alloc, session, script.as_str(), steps)?;
+    Ok(!lines.as_str().contains("refused") && has_accesses(&session.guarded, case))
+}
+
 /// What comes of a case over a session without tables, which gets those of the case.
-fn try_case<L: Ledger>(
+fn try_over<L: Ledger>(
     alloc: Global,
     session: &mut Session,
     case: &NamedCase,
     steps: &mut Steps<L>,
 ) -> Result<Outcome, Wrong> {
-    let script = script_of(alloc, case)?;
-    let lines = reports(alloc, session, script.as_str(), steps)?;
-    if lines.as_str().contains("refused") || !has_accesses(&session.guarded, case) {
+    if !fill(alloc, session, case, steps)? {
         return Ok(Outcome::Differs);
     }
     let query = case.query(alloc)?;
     let guarded = &session.guarded;
     Ok(outcome_of(alloc, guarded, &case.rows, query, u128::MAX, steps)?)
+}
+
+/// What comes of a case.
+fn try_case<L: Ledger>(
+    alloc: Global,
+    case: &NamedCase,
+    steps: &mut Steps<L>,
+) -> Result<Outcome, Wrong> {
+    let mut session = Session::new(alloc, Limits::standard(), None, false);
+    try_over(alloc, &mut session, case, steps)
 }
 
 /// The line of a case.
@@ -103,8 +123,7 @@ fn print_case<L: Ledger>(
     before: Tally,
     steps: &mut Steps<L>,
 ) -> io::Result<Tally> {
-    let mut session = Session::new(rt.alloc(), Limits::standard(), None, false);
-    let outcome = try_case(rt.alloc(), &mut session, case, steps).map_err(error_of)?;
+    let outcome = try_case(rt.alloc(), case, steps).map_err(error_of)?;
     let line = line_of(rt.alloc(), case, outcome).map_err(|why| error_of(Wrong::from(why)))?;
     println!(rt; "{line}")?;
     Ok(before.with(outcome))

@@ -8,7 +8,7 @@ ghost use Rattle.catalogue.specs.Queries.{QueryIsOver};
 ghost use Rattle.update_guard.specs.Stored.{database_in};
 
 use crate::shapes::is_right;
-use beas_core::{Fail, List, NoMemory, Prepared, Query, Refusal, Row, Steps};
+use beas_core::{Answer, Fail, List, NoMemory, Prepared, Query, Refusal, Row, Steps};
 use plan_builder::prepare;
 use plan_executor::execute;
 use reference_coverage::BlockPlans;
@@ -65,6 +65,27 @@ fn wanted_run(
     run_of(alloc, &PlansOnTables { tables, plans }, query)
 }
 
+/// What comes of a query with this answer, where the reference programs give the other one.
+fn outcome_of_runs(
+    alloc: Global,
+    tables: &[List<Row>],
+    prepared: &Prepared,
+    answer: &Answer,
+    wanted: &Answer,
+) -> Result<Outcome, NoMemory> {
+    let rows = full_of(alloc, tables, &prepared.query)?;
+    let are_rows = answer.rows == rows && wanted.rows == rows;
+    if are_rows && answer.reads == wanted.reads && answer.reads <= prepared.bound {
+        Ok(Outcome::Answered {
+            bound: prepared.bound,
+            reads: answer.reads,
+            rows: rows.len(),
+        })
+    } else {
+        Ok(Outcome::Differs)
+    }
+}
+
 /// What comes of a query that was prepared, and that the reference programs plan so.
 fn outcome_by_plans<L: Ledger>(
     alloc: Global,
@@ -77,19 +98,9 @@ fn outcome_by_plans<L: Ledger>(
     requires { Fits guarded.now.catalogue.accesses (rows_at (database_in guarded.now)) prepared.now }
 {
     let answer = execute(alloc, guarded, prepared, steps)?;
-    let rows = full_of(alloc, tables, &prepared.query)?;
-    let Some(run) = wanted_run(alloc, guarded, tables, &prepared.query, plans)? else {
-        return Ok(Outcome::Differs);
-    };
-    let are_rows = answer.rows == rows && run.answer.rows == rows;
-    if are_rows && answer.reads == run.answer.reads && answer.reads <= prepared.bound {
-        Ok(Outcome::Answered {
-            bound: prepared.bound,
-            reads: answer.reads,
-            rows: rows.len(),
-        })
-    } else {
-        Ok(Outcome::Differs)
+    match wanted_run(alloc, guarded, tables, &prepared.query, plans)? {
+        Some(run) => outcome_of_runs(alloc, tables, prepared, &answer, &run.answer),
+        None => Ok(Outcome::Differs),
     }
 }
 
@@ -126,6 +137,27 @@ fn outcome_of_refusal(why: &Refusal, wanted: &Planned) -> Outcome {
     }
 }
 
+/// What comes of a query of the right shape, of which the reference programs say this.
+fn outcome_where<L: Ledger>(
+    alloc: Global,
+    guarded: &Guarded,
+    tables: &[List<Row>],
+    query: Query,
+    wanted: &Planned,
+    budget: u128,
+    steps: &mut Steps<L>,
+) -> Result<Outcome, NoMemory>
+    requires well_formed { QueryIsWellFormed query }
+    requires over { QueryIsOver guarded.now.catalogue query }
+    requires few { length (blocks_of query) < 2 ^ 32 }
+{
+    match prepared_over(alloc, guarded, query) {
+        Ok(prepared) => outcome_within(alloc, guarded, tables, &prepared, wanted, budget, steps),
+        Err(Fail::Refused(why)) => Ok(outcome_of_refusal(&why, wanted)),
+        Err(Fail::NoMemory) => Err(NoMemory),
+    }
+}
+
 /// What comes of a query over a store whose tables have these rows. Above the budget it isn't executed.
 pub fn outcome_of<L: Ledger>(
     alloc: Global,
@@ -139,9 +171,5 @@ pub fn outcome_of<L: Ledger>(
         return Ok(Outcome::Misshapen);
     }
     let wanted = plan_query(alloc, guarded.catalogue.accesses().as_slice(), &query)?;
-    match prepared_over(alloc, guarded, query) {
-        Ok(prepared) => outcome_within(alloc, guarded, tables, &prepared, &wanted, budget, steps),
-        Err(Fail::Refused(why)) => Ok(outcome_of_refusal(&why, &wanted)),
-        Err(Fail::NoMemory) => Err(NoMemory),
-    }
+    outcome_where(alloc, guarded, tables, query, &wanted, budget, steps)
 }

@@ -3,7 +3,7 @@
 //!
 //! What is drawn depends on a seed alone, so that it is the same in each run. A `Twin` draws updates and carries them
 //! out on a plain list of rows by scans; a `Batch` has them as a script, with what a session is to report of it.
-//! `reports` has a session carry out such a script. `draw_query` draws the text of a query, `statement_of` reads
+//! `reports` has a session carry out such a script, and `fill_scene` one that makes a drawn scene. `draw_query` draws the text of a query, `statement_of` reads
 //! it, `bound_query` binds it, and `refusal_of_block` is its refusal where a block isn't covered. Beside them stands what
 //! such programs need of their words and of folders of files.
 //!
@@ -31,8 +31,7 @@ pub use folders::{files_in, names_in, text_in};
 pub use plain::{Plain, Rule};
 pub use queries::draw_query;
 pub use refusals::refusal_of_block;
-pub use scenes::{draw_scene, tables_of};
-pub use statements::{reports, reports_over, statement_of};
+pub use statements::{fill_scene, reports, reports_over, statement_of};
 pub use tables::{Fact, TABLES, column_name, table_name, value};
 pub use updates::{Batch, Twin, Update, creations};
 pub use words::{number_at, out_of_memory, word_at};

@@ -57,6 +57,15 @@ impl Rule {
         Ok(tuples)
     }
 
+    /// What is reported of a row, the nth of a statement, that breaks it.
+    fn broken_text(&self, alloc: Global, row: &Fact, nth: usize) -> Result<Text, NoMemory> {
+        let name = self.name.as_str();
+        let why = format!(in alloc; "refused 12 row {nth} breaks {name} at key ")?;
+        let mut why = Text::from_string(why);
+        row.push_tuple(alloc, &mut why, &self.key)?;
+        Ok(why)
+    }
+
     /// The number of tuples in its greatest group over some rows, which is the least limit that holds there.
     pub fn greatest(&self, alloc: Global, rows: &[Fact]) -> Result<usize, NoMemory> {
         let mut most = 0;
@@ -78,6 +87,19 @@ impl Plain {
         Ok(None)
     }
 
+    /// What is reported of a row, the nth of a statement, where a constraint breaks with it.
+    fn refusal_of_row(
+        &self,
+        alloc: Global,
+        row: &Fact,
+        nth: usize,
+    ) -> Result<Option<Text>, NoMemory> {
+        match self.first_broken(alloc, row)? {
+            Some(rule) => Ok(Some(rule.broken_text(alloc, row, nth)?)),
+            None => Ok(None),
+        }
+    }
+
     /// Adds rows, all or none, and gives the report.
     pub fn insert(&mut self, alloc: Global, more: &[Fact]) -> Result<Text, NoMemory> {
         let before = self.rows.len();
@@ -85,11 +107,7 @@ impl Plain {
         for row in more {
             self.rows.push(*row)?;
             nth = nth.saturating_add(1);
-            if let Some(rule) = self.first_broken(alloc, row)? {
-                let name = rule.name.as_str();
-                let why = format!(in alloc; "refused 12 row {nth} breaks {name} at key ")?;
-                let mut why = Text::from_string(why);
-                row.push_tuple(alloc, &mut why, &rule.key)?;
+            if let Some(why) = self.refusal_of_row(alloc, row, nth)? {
                 self.rows.truncate(before);
                 return Ok(why);
             }
@@ -105,23 +123,40 @@ impl Plain {
         Ok(Text::from_string(format!(in alloc; "ok {gone} rows")?))
     }
 
-    /// Adds a constraint, and gives the report. Refused are a name that is live, a limit of zero, and a limit that is
-    /// below a group.
-    pub fn create(&mut self, alloc: Global, rule: Rule) -> Result<Text, NoMemory> {
+    fn is_live(&self, name: &str) -> bool {
+        self.rules.iter().any(|other| other.name.as_str() == name)
+    }
+
+    /// What is reported of a constraint that isn't taken: a name that is live, a limit of zero, or a limit that is below a
+    /// group.
+    fn refusal_of_rule(&self, alloc: Global, rule: &Rule) -> Result<Option<String>, NoMemory> {
         let name = rule.name.as_str();
         let limit = rule.bound;
         let most = rule.greatest(alloc, &self.rows)?;
-        let report = if self.rules.iter().any(|other| other.name.as_str() == name) {
-            format!(in alloc; "refused 7 duplicate name {name}")?
-        } else if limit == 0 {
-            String::from_str(alloc, "refused 10 limit 0 not between 1 and 4294967295")?
-        } else if most > limit {
-            format!(in alloc; "refused 11 greatest group {most} above limit {limit}")?
-        } else {
-            self.rules.push(rule)?;
-            String::from_str(alloc, "ok")?
-        };
-        Ok(Text::from_string(report))
+        if self.is_live(name) {
+            return Ok(Some(format!(in alloc; "refused 7 duplicate name {name}")?));
+        }
+        if limit == 0 {
+            let why = String::from_str(alloc, "refused 10 limit 0 not between 1 and 4294967295")?;
+            return Ok(Some(why));
+        }
+        if most > limit {
+            return Ok(Some(format!(in alloc;
+                "refused 11 greatest group {most} above limit {limit}"
+            )?));
+        }
+        Ok(None)
+    }
+
+    /// Adds a constraint, and gives the report.
+    pub fn create(&mut self, alloc: Global, rule: Rule) -> Result<Text, NoMemory> {
+        match self.refusal_of_rule(alloc, &rule)? {
+            Some(why) => Ok(Text::from_string(why)),
+            None => {
+                self.rules.push(rule)?;
+                Text::from_str(alloc, "ok")
+            }
+        }
     }
 
     /// Drops the constraint with a name, and gives the report. Refused is a name that isn't live.

@@ -2,7 +2,9 @@
 ghost use Rattle.std.specs.Prelude.{◌-◌, ◌<◌, ◌≤◌, ◌^◌, length, All, IfOk};
 ghost use Rattle.session.specs.Statements.{StatementIsWellFormed};
 
-use beas_core::{Fail, NoMemory, Refusal, Steps, Text};
+use crate::scenes::{draw_scene, tables_of};
+use crate::updates::{Twin, creations};
+use beas_core::{Fail, List, NoMemory, Refusal, Row, Steps, Text};
 use outside::MemoryFiles;
 use report::{Report, text};
 use session::Session;
@@ -106,4 +108,24 @@ pub fn reports<L: Ledger>(
     steps: &mut Steps<L>,
 ) -> Result<Text, NoMemory> {
     reports_over(alloc, session, &mut MemoryFiles::new(alloc), script, steps)
+}
+
+/// Statements that make the tables and add drawn rows and constraints.
+fn scene_of(alloc: Global, twin: &mut Twin) -> Result<Text, NoMemory> {
+    let mut script = creations(alloc)?;
+    script.push_str(draw_scene(alloc, twin)?.script.as_str())?;
+    Ok(script)
+}
+
+/// Has a session without tables make those of `creations` with the rows and constraints of a drawn scene, and gives the
+/// rows of each table.
+pub fn fill_scene<L: Ledger>(
+    alloc: Global,
+    session: &mut Session,
+    twin: &mut Twin,
+    steps: &mut Steps<L>,
+) -> Result<Vec<List<Row>>, NoMemory> {
+    let script = scene_of(alloc, twin)?;
+    reports(alloc, session, script.as_str(), steps)?;
+    tables_of(alloc, &twin.plain)
 }

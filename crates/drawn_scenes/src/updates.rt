@@ -40,6 +40,30 @@ pub fn creations(alloc: Global) -> Result<Text, NoMemory> {
     Ok(script)
 }
 
+/// A constraint without a key and without a limit that fetches all columns of r.
+fn whole_rule(alloc: Global) -> Result<Rule, NoMemory> {
+    let fetched = Vec::from_slice(alloc, &[0, 1, 2, 3])?;
+    Ok(Rule {
+        name: String::from_str(alloc, "whole")?,
+        table: 0,
+        key: Vec::new(alloc),
+        fetched,
+        bound: 0,
+    })
+}
+
+/// The statement that creates a constraint.
+fn creation_of(alloc: Global, rule: &Rule) -> Result<Text, NoMemory> {
+    let name = rule.name.as_str();
+    let on = format!(in alloc; "CREATE ACCESS {name} ON {} ", table_name(rule.table))?;
+    let mut source = Text::from_string(on);
+    push_columns(&mut source, &rule.key)?;
+    source.push_str(" FETCH ")?;
+    push_columns(&mut source, &rule.fetched)?;
+    source.push_str(format!(in alloc; " LIMIT {}", rule.bound)?.as_str())?;
+    Ok(source)
+}
+
 impl Batch {
     /// No statements.
     pub fn new(alloc: Global) -> Batch {
@@ -75,30 +99,51 @@ impl Twin {
         }
     }
 
+    /// Adds one to three drawn rows to a table, all or none, with their literals to a text. It gives the report.
+    fn insert_drawn(
+        &mut self,
+        alloc: Global,
+        table: u8,
+        source: &mut Text,
+    ) -> Result<Text, NoMemory> {
+        let mut rows = Vec::new(alloc);
+        for place in 0..self.draws.below(3) + 1 {
+            let row = Fact::draw(&mut self.draws, table);
+            source.push_str(comma(usize::from(place)))?;
+            row.push_tuple(alloc, source, &[0, 1, 2, 3])?;
+            rows.push(row)?;
+        }
+        self.plain.insert(alloc, &rows)
+    }
+
     /// Adds one to three drawn rows to a table, all or none.
     pub fn insert(&mut self, alloc: Global) -> Result<Update, NoMemory> {
         let table = self.draws.below(TABLES);
         let into = format!(in alloc; "INSERT INTO {} VALUES ", table_name(table))?;
         let mut source = Text::from_string(into);
-        let mut rows = Vec::new(alloc);
-        for place in 0..self.draws.below(3) + 1 {
-            let row = Fact::draw(&mut self.draws, table);
-            source.push_str(comma(usize::from(place)))?;
-            row.push_tuple(alloc, &mut source, &[0, 1, 2, 3])?;
-            rows.push(row)?;
-        }
-        let report = self.plain.insert(alloc, &rows)?;
+        let report = self.insert_drawn(alloc, table, &mut source)?;
         Ok(Update { source, report })
+    }
+
+    /// Removes the rows of a table that meet drawn conditions, which it adds to a text. It gives the report.
+    fn delete_drawn(
+        &mut self,
+        alloc: Global,
+        table: u8,
+        source: &mut Text,
+    ) -> Result<Text, NoMemory> {
+        let count = self.draws.below(40).min(3);
+        let names = &[table_name(table)];
+        let tests = push_conditions(alloc, source, &mut self.draws, names, count)?;
+        self.plain.delete(alloc, table, &tests)
     }
 
     /// Removes the rows of a table that meet drawn conditions.
     fn delete(&mut self, alloc: Global) -> Result<Update, NoMemory> {
         let table = self.draws.below(TABLES);
-        let name = table_name(table);
-        let mut source = Text::from_string(format!(in alloc; "DELETE FROM {name}")?);
-        let count = self.draws.below(40).min(3);
-        let tests = push_conditions(alloc, &mut source, &mut self.draws, &[name], count)?;
-        let report = self.plain.delete(alloc, table, &tests)?;
+        let from = format!(in alloc; "DELETE FROM {}", table_name(table))?;
+        let mut source = Text::from_string(from);
+        let report = self.delete_drawn(alloc, table, &mut source)?;
         Ok(Update { source, report })
     }
 
@@ -121,13 +166,7 @@ impl Twin {
 
     /// Adds a constraint.
     fn create_rule(&mut self, alloc: Global, rule: Rule) -> Result<Update, NoMemory> {
-        let name = rule.name.as_str();
-        let on = format!(in alloc; "CREATE ACCESS {name} ON {} ", table_name(rule.table))?;
-        let mut source = Text::from_string(on);
-        push_columns(&mut source, &rule.key)?;
-        source.push_str(" FETCH ")?;
-        push_columns(&mut source, &rule.fetched)?;
-        source.push_str(format!(in alloc; " LIMIT {}", rule.bound)?.as_str())?;
+        let source = creation_of(alloc, &rule)?;
         let report = self.plain.create(alloc, rule)?;
         Ok(Update { source, report })
     }
@@ -158,13 +197,7 @@ impl Twin {
 
     /// Adds a constraint without a key that fetches all columns of r, and that holds.
     pub fn create_whole(&mut self, alloc: Global) -> Result<Update, NoMemory> {
-        let mut rule = Rule {
-            name: String::from_str(alloc, "whole")?,
-            table: 0,
-            key: Vec::new(alloc),
-            fetched: Vec::from_slice(alloc, &[0, 1, 2, 3])?,
-            bound: 0,
-        };
+        let mut rule = whole_rule(alloc)?;
         let most = rule.greatest(alloc, &self.plain.rows)?;
         rule.bound = most.saturating_add(usize::from(self.draws.below(3) + 1));
         self.create_rule(alloc, rule)

@@ -9,10 +9,8 @@ use crate::announced::{is_canonical, is_prepared_so, is_refused_so};
 use crate::constraints::draw_constraints;
 use crate::outcomes::outcome_of;
 use crate::tallies::{BUDGET, Tally};
-use beas_core::{AccessSpec, Fail, Limits, List, NoMemory, Prepared, Refusal, Row, Steps, Text};
-use drawn_scenes::{
-    Twin, bound_query, creations, draw_query, draw_scene, reports, statement_of, tables_of,
-};
+use beas_core::{AccessSpec, Fail, Limits, List, NoMemory, Prepared, Refusal, Row, Steps};
+use drawn_scenes::{Twin, bound_query, draw_query, fill_scene, statement_of};
 use reference_queries::{Planned, plan_query};
 use session::Session;
 use sql_tree::Statement;
@@ -95,8 +93,27 @@ fn try_query<L: Ledger>(
     }
 }
 
-/// Tries drawn queries over a session with these rows, half of them with one to three constraints that are made in
-/// between.
+/// Tries a drawn query over a session with these rows, half of the time with one to three constraints that are made in
+/// between, named by the numbers from `first` on.
+fn try_with<L: Ledger>(
+    alloc: Global,
+    session: &mut Session,
+    twin: &mut Twin,
+    tables: &[List<Row>],
+    spelled: &str,
+    first: u32,
+    steps: &mut Steps<L>,
+) -> Result<Tally, NoMemory> {
+    let count = twin.draws.below(6).saturating_sub(2);
+    let specs = draw_constraints(alloc, twin, first, count)?;
+    match try_query(alloc, session, specs.as_slice(), tables, spelled, steps) {
+        Ok(tally) => Ok(tally),
+        Err(Fail::Refused(_)) => Ok(Tally::refused(false)),
+        Err(Fail::NoMemory) => Err(NoMemory),
+    }
+}
+
+/// Tries drawn queries over a session with these rows.
 fn try_drawn<L: Ledger>(
     alloc: Global,
     session: &mut Session,
@@ -108,23 +125,10 @@ fn try_drawn<L: Ledger>(
     let mut tally = before;
     for nth in 0..QUERIES {
         let query = draw_query(alloc, &mut twin.draws)?;
-        let count = twin.draws.below(6).saturating_sub(2);
-        let specs = draw_constraints(alloc, twin, 100 + 3 * nth, count)?;
-        let specs = specs.as_slice();
-        tally = match try_query(alloc, session, specs, tables, query.as_str(), steps) {
-            Ok(more) => tally.with(more),
-            Err(Fail::Refused(_)) => tally.with(Tally::refused(false)),
-            Err(Fail::NoMemory) => return Err(NoMemory),
-        };
+        let spelled = query.as_str();
+        tally = tally.with(try_with(alloc, session, twin, tables, spelled, 100 + 3 * nth, steps)?);
     }
     Ok(tally)
-}
-
-/// Statements that make the tables and add drawn rows and constraints.
-fn scene_of(alloc: Global, twin: &mut Twin) -> Result<Text, NoMemory> {
-    let mut script = creations(alloc)?;
-    script.push_str(draw_scene(alloc, twin)?.script.as_str())?;
-    Ok(script)
 }
 
 /// Tries drawn queries over a session without tables, which gets drawn ones.
@@ -136,9 +140,7 @@ fn try_scene<L: Ledger>(
     steps: &mut Steps<L>,
 ) -> Result<Tally, NoMemory> {
     let mut twin = Twin::new(alloc, seed);
-    let script = scene_of(alloc, &mut twin)?;
-    reports(alloc, session, script.as_str(), steps)?;
-    let tables = tables_of(alloc, &twin.plain)?;
+    let tables = fill_scene(alloc, session, &mut twin, steps)?;
     try_drawn(alloc, session, &mut twin, &tables, before, steps)
 }
 

@@ -1,7 +1,7 @@
 // Drawn queries over small drawn tables.
 use crate::answers::{Wanted, wanted_of};
 use beas_core::{Fail, Limits, List, NoMemory, Row, Steps, Text};
-use drawn_scenes::{Draws, Twin, creations, draw_query, draw_scene, reports, tables_of};
+use drawn_scenes::{Draws, Twin, draw_query, fill_scene, reports};
 use reference_queries::GuidedBlocks;
 use report::{Report, text};
 use session::Session;
@@ -153,18 +153,6 @@ fn draw_queries<L: Ledger>(
     Ok(queries)
 }
 
-/// Adds drawn rows and constraints to a session and to plain tables.
-fn draw_rows<L: Ledger>(
-    alloc: Global,
-    session: &mut Session,
-    twin: &mut Twin,
-    steps: &mut Steps<L>,
-) -> Result<(), NoMemory> {
-    let scene = draw_scene(alloc, twin)?;
-    reports(alloc, session, scene.script.as_str(), steps)?;
-    Ok(())
-}
-
 /// Whether a session reports of queries what is wanted.
 fn are_answered<L: Ledger>(
     alloc: Global,
@@ -176,20 +164,20 @@ fn are_answered<L: Ledger>(
     Ok(said.as_str() == queries.wanted.as_str())
 }
 
-/// Has drawn queries answered by a session, whose rows and constraints a twin has too.
+/// Has drawn queries answered by a session whose tables have these rows.
 fn try_drawn<L: Ledger>(
     alloc: Global,
     session: &mut Session,
-    twin: &mut Twin,
+    draws: &mut Draws,
+    tables: &[List<Row>],
     tally: Tally,
     steps: &mut Steps<L>,
 ) -> Result<Tally, NoMemory> {
-    let tables = tables_of(alloc, &twin.plain)?;
     let scene = Scene {
         guarded: &session.guarded,
-        tables: &tables,
+        tables,
     };
-    let queries = draw_queries(alloc, scene, &mut twin.draws, tally, steps)?;
+    let queries = draw_queries(alloc, scene, draws, tally, steps)?;
     let is_same = are_answered(alloc, session, &queries, steps)?;
     Ok(Tally {
         differing: queries.tally.differing.saturating_add(u32::from(!is_same)),
@@ -197,7 +185,7 @@ fn try_drawn<L: Ledger>(
     })
 }
 
-/// Has drawn queries answered by a session with the rows and constraints that a seed gives.
+/// Has drawn queries answered by a session without tables, which gets the rows and constraints that a seed gives.
 fn try_seed<L: Ledger>(
     alloc: Global,
     session: &mut Session,
@@ -206,20 +194,18 @@ fn try_seed<L: Ledger>(
     steps: &mut Steps<L>,
 ) -> Result<Tally, NoMemory> {
     let mut twin = Twin::new(alloc, seed);
-    draw_rows(alloc, session, &mut twin, steps)?;
-    try_drawn(alloc, session, &mut twin, tally, steps)
+    let tables = fill_scene(alloc, session, &mut twin, steps)?;
+    try_drawn(alloc, session, &mut twin.draws, &tables, tally, steps)
 }
 
 /// The same by a session that is made for it.
 fn try_session<L: Ledger>(
     alloc: Global,
-    tables: &str,
     seed: u64,
     tally: Tally,
     steps: &mut Steps<L>,
 ) -> Result<Tally, NoMemory> {
     let mut session = Session::new(alloc, Limits::standard(), Some(BUDGET), false);
-    reports(alloc, &mut session, tables, steps)?;
     try_seed(alloc, &mut session, seed, tally, steps)
 }
 
@@ -236,9 +222,8 @@ pub fn try_queries<L: Ledger>(
         guided: GuidedBlocks::none(),
         differing: 0,
     };
-    let tables = creations(alloc)?;
     for seed in 0..sessions {
-        tally = try_session(alloc, tables.as_str(), u64::from(seed), tally, steps)?;
+        tally = try_session(alloc, u64::from(seed), tally, steps)?;
     }
     tally.said(alloc, sessions)
 }

@@ -20,26 +20,74 @@ use std::fmt::Write;
 /// All that is printed of a case.
 pub fn show_case(alloc: Global, case: &NamedCase) -> Result<String, Wrong> {
     let mut shown = format!(in alloc; "case {}\n", case.name)?;
+    show_built(alloc, &mut shown, case)?;
+    Ok(shown)
+}
+
+// What is printed of a case's query, once it is built.
+fn show_built(alloc: Global, shown: &mut String, case: &NamedCase) -> Result<(), Wrong> {
     let query = case.query(alloc)?;
-    if !blocks_have_few_places(alloc, &query)? {
-        return Err(Wrong::Line(0));
+    if blocks_have_few_places(alloc, &query)? {
+        show_query(alloc, shown, case, &query)
+    } else {
+        Err(Wrong::Line(0))
     }
-    let tasks = block_tasks(alloc, case.accesses.as_slice(), &query)?;
-    let guided = guided_flags(alloc, tasks.as_slice())?;
-    let derivations = plans_of(alloc, tasks.as_slice())?;
+}
+
+fn show_query(
+    alloc: Global,
+    shown: &mut String,
+    case: &NamedCase,
+    query: &Query,
+) -> Result<(), Wrong>
+    requires few { BlocksHaveFewPlaces query.now }
+{
+    let tasks = block_tasks(alloc, case.accesses.as_slice(), query)?;
+    show_tasks(alloc, shown, case, tasks.as_slice(), query)
+}
+
+// The query by the plans of its blocks.
+fn show_tasks(
+    alloc: Global,
+    shown: &mut String,
+    case: &NamedCase,
+    tasks: &[Task],
+    query: &Query,
+) -> Result<(), Wrong>
+    requires few { All HasFewAtoms tasks.now }
+    requires places { BlocksHaveFewPlaces query.now }
+    requires len { length tasks.now ≡ length (blocks_of query.now) }
+{
+    let guided = guided_flags(alloc, tasks)?;
+    let derivations = plans_of(alloc, tasks)?;
     let plans = BlockPlans {
         accesses: case.accesses.as_slice(),
         guided: guided.as_slice(),
         derivations: derivations.as_slice(),
     };
-    show_blocks(alloc, &mut shown, case, tasks.as_slice(), &plans, &query)?;
-    let full = full_of(alloc, &case.rows, &query)?;
-    match first_uncovered(alloc, tasks.as_slice())? {
+    show_planned(alloc, shown, case, tasks, &plans, query)
+}
+
+// The blocks, what comes of the query where all of them are covered, and its full answer.
+fn show_planned(
+    alloc: Global,
+    shown: &mut String,
+    case: &NamedCase,
+    tasks: &[Task],
+    plans: &BlockPlans,
+    query: &Query,
+) -> Result<(), Wrong>
+    requires few { All HasFewAtoms tasks.now }
+    requires places { BlocksHaveFewPlaces query.now }
+    requires flags { length plans.now.guided.now ≡ length (blocks_of query.now) }
+{
+    show_blocks(alloc, shown, case, tasks, plans, query)?;
+    let full = full_of(alloc, &case.rows, query)?;
+    match first_uncovered(alloc, tasks)? {
         Some(found) => writeln!(shown, "  the first uncovered block is {}", found.block)?,
-        None => show_run(alloc, &mut shown, case, &plans, &query, &full)?,
+        None => show_run(alloc, shown, case, plans, query, &full)?,
     }
-    show_rows(&mut shown, full.as_slice())?;
-    Ok(shown)
+    show_rows(shown, full.as_slice())
 }
 
 // The blocks from left to right.

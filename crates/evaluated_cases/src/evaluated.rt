@@ -1,0 +1,233 @@
+// Queries whose answers a person worked out, as folders of files.
+ghost use Rattle.session.specs.Statements.{StatementIsWellFormed};
+
+use beas_core::{Fail, Limits, List, NoMemory, Refusal, Row, Steps, Text};
+use drawn_scenes::{
+    bound_query, files_in, names_in, out_of_memory, reports_over, statement_of, text_in,
+};
+use full_meaning::evaluate;
+use outside::MemoryFiles;
+use report::{Report, text};
+use session::Session;
+use sql_tree::Statement;
+use std::alloc::Global;
+use std::io;
+use std::sync::ledger::Ledger;
+use update_guard::Guarded;
+
+/// What a session reports of queries, and whether each report agrees with `evaluate`.
+#[derive(Drop)]
+struct Lines {
+    said: Text,
+    agree: bool,
+}
+
+/// What a session reports of a statement that loads no file.
+fn report_of<L: Ledger>(
+    alloc: Global,
+    session: &mut Session,
+    statement: &Statement,
+    steps: &mut Steps<L>,
+) -> Result<Report, NoMemory>
+    requires { StatementIsWellFormed statement.now }
+{
+    session.apply(alloc, &mut MemoryFiles::new(alloc), statement, steps)
+}
+
+/// What a session reports of a query.
+fn said_of<L: Ledger>(
+    alloc: Global,
+    session: &mut Session,
+    spelled: &str,
+    steps: &mut Steps<L>,
+) -> Result<Report, NoMemory> {
+    match statement_of(alloc, spelled) {
+        Ok(statement) => report_of(alloc, session, &statement, steps),
+        Err(Fail::Refused(why)) => Ok(Report::Refused { why }),
+        Err(Fail::NoMemory) => Err(NoMemory),
+    }
+}
+
+/// The rows that `evaluate` gives for a query.
+fn rows_of<L: Ledger>(
+    alloc: Global,
+    guarded: &Guarded,
+    spelled: &str,
+    steps: &mut Steps<L>,
+) -> Result<List<Row>, Fail> {
+    let query = bound_query(alloc, &guarded.catalogue, spelled)?;
+    Ok(evaluate(alloc, guarded, &query, steps)?)
+}
+
+/// Whether a report has these rows, if it is of an answer.
+fn has_rows(report: &Report, given: &List<Row>) -> bool {
+    match report {
+        Report::Answered { rows, .. } => rows == given,
+        _ => true,
+    }
+}
+
+/// Whether a report is a refusal with the number of this one.
+fn is_refused_as(report: &Report, why: &Refusal) -> bool {
+    match report {
+        Report::Refused { why: said } => said.number() == why.number(),
+        _ => false,
+    }
+}
+
+/// Whether the report of a query agrees with `evaluate`: it has the same rows, if it is of an answer, and it is a refusal
+/// where the query can't be bound.
+fn agrees<L: Ledger>(
+    alloc: Global,
+    guarded: &Guarded,
+    spelled: &str,
+    report: &Report,
+    steps: &mut Steps<L>,
+) -> Result<bool, NoMemory> {
+    match rows_of(alloc, guarded, spelled, steps) {
+        Ok(rows) => Ok(has_rows(report, &rows)),
+        Err(Fail::Refused(why)) => Ok(is_refused_as(report, &why)),
+        Err(Fail::NoMemory) => Err(NoMemory),
+    }
+}
+
+impl Lines {
+    /// Adds the lines of a report.
+    fn push(&mut self, alloc: Global, number: u32, report: &Report) -> Result<(), NoMemory> {
+        self.said.push_str(text(alloc, number, report)?.as_str())
+    }
+
+    /// Adds the report of a query, which has this number.
+    fn add_report<L: Ledger>(
+        &mut self,
+        alloc: Global,
+        guarded: &Guarded,
+        number: u32,
+        spelled: &str,
+        report: &Report,
+        steps: &mut Steps<L>,
+    ) -> Result<(), NoMemory> {
+        self.push(alloc, number, report)?;
+        self.agree &= agrees(alloc, guarded, spelled, report, steps)?;
+        Ok(())
+    }
+
+    /// Has a session answer a query, and adds what it reports.
+    fn add<L: Ledger>(
+        &mut self,
+        alloc: Global,
+        session: &mut Session,
+        number: u32,
+        spelled: &str,
+        steps: &mut Steps<L>,
+    ) -> Result<(), NoMemory> {
+        let report = said_of(alloc, session, spelled, steps)?;
+        self.add_report(alloc, &session.guarded, number, spelled, &report, steps)
+    }
+}
+
+/// The lines of queries, each on a line of its own.
+fn lines_of<L: Ledger>(
+    alloc: Global,
+    session: &mut Session,
+    queries: &str,
+    steps: &mut Steps<L>,
+) -> Result<Lines, NoMemory> {
+    let mut lines = Lines {
+        said: Text::new(alloc),
+        agree: true,
+    };
+    let mut number: u32 = 0;
+    for spelled in queries.lines() {
+        number = number.saturating_add(1);
+        lines.add(alloc, session, number, spelled, steps)?;
+    }
+    Ok(lines)
+}
+
+/// Has a session carry out a script, which loads the files of a folder.
+fn run_script<L: Ledger>(
+    rt: &HostRuntime,
+    folder: &str,
+    session: &mut Session,
+    script: &str,
+    steps: &mut Steps<L>,
+) -> io::Result<()> {
+    let mut files = files_in(rt, folder)?;
+    reports_over(rt.alloc(), session, &mut files, script, steps).map_err(out_of_memory)?;
+    Ok(())
+}
+
+/// Has a session carry out the script of a case.
+fn make_store<L: Ledger>(
+    rt: &HostRuntime,
+    folder: &str,
+    session: &mut Session,
+    steps: &mut Steps<L>,
+) -> io::Result<()> {
+    let script = text_in(rt, folder, "script.beas")?;
+    run_script(rt, folder, session, script.as_str(), steps)
+}
+
+/// The lines of the queries of a case over the store that a session has.
+fn lines_over<L: Ledger>(
+    rt: &HostRuntime,
+    folder: &str,
+    session: &mut Session,
+    steps: &mut Steps<L>,
+) -> io::Result<Lines> {
+    let queries = text_in(rt, folder, "queries")?;
+    lines_of(rt.alloc(), session, queries.as_str(), steps).map_err(out_of_memory)
+}
+
+/// The lines of the queries of a case over the store that its script makes.
+fn lines_in<L: Ledger>(rt: &HostRuntime, folder: &str, steps: &mut Steps<L>) -> io::Result<Lines> {
+    let mut session = Session::new(rt.alloc(), Limits::standard(), None, false);
+    make_store(rt, folder, &mut session, steps)?;
+    lines_over(rt, folder, &mut session, steps)
+}
+
+/// Whether the lines are as wanted. Where they aren't, it says what they are.
+fn is_wanted(rt: &HostRuntime, folder: &str, lines: &Lines) -> io::Result<bool> {
+    let output = text_in(rt, folder, "output")?;
+    let said = lines.said.as_str();
+    if said == output.as_str() && lines.agree {
+        return Ok(true);
+    }
+    let agree = lines.agree;
+    println!(rt;
+        "{folder}: that evaluate gives the same rows is {agree}, the session reports\n{said}"
+    )?;
+    Ok(false)
+}
+
+/// Tries the case of a folder. True where its lines are as wanted.
+fn try_case<L: Ledger>(
+    rt: &HostRuntime,
+    folder: &str,
+    name: &str,
+    steps: &mut Steps<L>,
+) -> io::Result<bool> {
+    let path = format!(in rt.alloc(); "{folder}/{name}")?;
+    let lines = lines_in(rt, path.as_str(), steps)?;
+    is_wanted(rt, path.as_str(), &lines)
+}
+
+/// Tries all cases, and says how many were as wanted.
+pub fn try_evaluated<L: Ledger>(
+    rt: &HostRuntime,
+    folder: &str,
+    steps: &mut Steps<L>,
+) -> io::Result<()> {
+    let names = names_in(rt, folder, true)?;
+    let mut well: usize = 0;
+    for name in names.iter() {
+        if try_case(rt, folder, name.as_str(), steps)? {
+            well = well.saturating_add(1);
+        }
+    }
+    println!(rt;
+        "{well} of {} cases of evaluated queries as wanted",
+        names.len()
+    )
+}
