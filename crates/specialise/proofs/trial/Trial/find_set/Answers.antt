@@ -24,7 +24,7 @@ returns-then-try_sets c =
     let t = c.args.self.now in
     let found = c.as_slice-candidates.result.now in
     now_found t.accesses.now t.block.now found (c.as_slice-candidates.ensures ∙ t.candidates_are) c.args.start.now c.loop-size.start
-    c.loop-size.invariant.same c.loop-size.size (subst (λ n. c.loop-size.size < n + 1) c.len-count.ensures c.loop-size-test.true) c.loop-size.invariant.none
+    c.loop-size.invariant.same c.loop-size.size c.loop-size-test.true c.loop-size.invariant.none
     c.try_sets.new.start c.try_sets.result c.if-try_sets.true c.try_sets.ensures
 
 pub loop-size-preserved : goal.loop-size-preserved
@@ -40,5 +40,5 @@ returns c =
     let t = c.args.self.now in
     let found = c.as_slice-candidates.result.now in
     never_found t.accesses.now t.block.now found (c.as_slice-candidates.ensures ∙ t.candidates_are) c.args.start.now c.loop-size.start
-    c.loop-size.invariant.same c.loop-size.size (subst (λ n. n + 1 ≤ c.loop-size.size) c.len-count.ensures c.loop-size-test.false)
-    (let e = c.len-count.ensures in let m = c.loop-size.auto.size-end in omega arith) c.loop-size.invariant.none
+    c.loop-size.invariant.same c.loop-size.size c.loop-size-test.false
+    (let m = c.loop-size.auto.size-end in omega arith) c.loop-size.invariant.none
