@@ -1,24 +1,21 @@
 -- A block with constants more: its classes are the same, its start holds theirs, and their places are needed.
-use Rattle.std.proofs.Common.{◌≡◌, ◌==◌, ◌&&◌, ◌||◌, ◌<◌, ◌≤◌, ◌+◌, ℕ, zero, suc, Bool, true, false, not, List, [], ◌∷◌, ◌++◌, length, map, get_or, replicate, Option, Some, ◌⊎◌, inl, inr, refl, ap, sym, ◌∙◌, subst, arith, zero-add}
-use Rattle.std.specs.List.{list_any, list_all, filter, find, flat_map, enumerate_from, range_with_len}
+use Rattle.std.proofs.Common.{◌≡◌, ◌==◌, ◌<◌, ℕ, zero, suc, Bool, true, false, List, [], ◌∷◌, ◌++◌, length, map, get_or, replicate, ◌⊎◌, inl, inr, refl, ap, sym, ◌∙◌, subst, arith, zero-add}
+use Rattle.std.specs.List.{list_any, filter, flat_map, range_with_len}
 use Rattle.std.specs.Option.{unwrap_or}
 use Rattle.std.proofs.lemmas.Bool.{eqb-true}
-use Rattle.std.proofs.lemmas.List.{map-append}
 use Rattle.beas_core.specs.declared.schema.ColumnId.{ColumnId}
 use Rattle.beas_core.specs.declared.schema.Access.{Access}
 use Rattle.beas_core.specs.declared.value.Value.{Value}
 use Rattle.beas_core.specs.declared.query.Atom.{Atom}
 use Rattle.beas_core.specs.declared.query.Place.{Place}
 use Rattle.beas_core.specs.declared.query.Block.{Block}
-use Rattle.beas_core.specs.declared.plan.Normal.{Normal}
 use Rattle.beas_core.specs.Types.{ClassSet, Use}
 use Rattle.beas_core.specs.Groups.{has_column, member_columns}
-use Rattle.beas_core.specs.Shapes.{IsPlace, BlockIsWellFormed, width_of}
+use Rattle.beas_core.specs.Shapes.{IsPlace, width_of}
 use Rattle.beas_core.specs.Classes.{same_place, places_of, leaders, class_of, operand_places, used_places, needed_columns, normal_of}
-use Rattle.beas_core.specs.Coverage.{has, with_classes, class_at, place_class, constant_classes, grow, grow_times, covered_set, needed_of, holds_needed, uses, key_classes, fetched_classes}
+use Rattle.beas_core.specs.Coverage.{with_classes, constant_classes, grow, grow_times, covered_set, needed_of, holds_needed, uses, key_classes, fetched_classes}
 use Rattle.beas_core.proofs.Sets.{Has, Has-map, Has-from_map, Has-filter, Has-from_filter, Has-append_left, Has-append_right, Has-append_cases}
-use Rattle.evaluation_facts.specs.Numbering.{FirstPlace}
-use Rattle.evaluation_facts.proofs.MemberTests.{and_left, and_right, and_both, all_has, all_by, any_has, any_by}
+use Rattle.evaluation_facts.proofs.MemberTests.{and_both, all_has, all_by, any_has, any_by}
 use Rattle.evaluation_facts.proofs.UseFacts.{same_number}
 use Rattle.evaluation_facts.proofs.BindingFacts.{Has-range, from_range}
 use Rattle.evaluation_facts.proofs.ClassFacts.{has_place, width_at, place_from_test}

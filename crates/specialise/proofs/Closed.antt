@@ -1,18 +1,18 @@
 -- What the rules give from a start is what more constants cover.
-use Rattle.std.proofs.Common.{◌≡◌, ◌==◌, ◌&&◌, ◌<◌, ℕ, zero, suc, Bool, true, false, not, List, [], ◌∷◌, length, map, ◌⊎◌, inl, inr, refl, ap, sym, ◌∙◌, subst, arith}
+use Rattle.std.proofs.Common.{◌≡◌, ◌==◌, ◌&&◌, ◌<◌, ℕ, true, false, not, List, length, ◌⊎◌, inl, inr, sym, ◌∙◌, subst, arith}
 use Rattle.std.specs.List.{All, list_any, filter, range_with_len}
 use Rattle.std.proofs.lemmas.List.Elements.{All-from_recursion}
 use Rattle.beas_core.specs.declared.schema.Access.{Access}
 use Rattle.beas_core.specs.declared.query.Block.{Block}
 use Rattle.beas_core.specs.declared.plan.Normal.{Normal}
-use Rattle.beas_core.specs.Types.{ClassSet, Use}
+use Rattle.beas_core.specs.Types.{ClassSet}
 use Rattle.beas_core.specs.Shapes.{BlockIsWellFormed}
-use Rattle.beas_core.specs.Classes.{leaders, normal_of}
+use Rattle.beas_core.specs.Classes.{normal_of}
 use Rattle.beas_core.specs.Coverage.{has, with_classes, holds_classes, class_at, uses, key_classes, fetched_classes, constant_classes, covered_set, own_cover, Within, IsClosed, IsLeastClosed}
 use Rattle.beas_core.proofs.Sets.{Has, Has-map, Has-from_map, Has-filter, Has-from_filter, Has-from_contains, Contains-from_has, all_from}
-use Rattle.evaluation_facts.proofs.MemberTests.{and_left, and_right, from_not, to_not, which, all_has, all_by}
+use Rattle.evaluation_facts.proofs.MemberTests.{to_not, which, all_has, all_by}
 use Rattle.evaluation_facts.proofs.BindingFacts.{from_range}
-use Rattle.evaluation_facts.proofs.ClassSetFacts.{has_below, length-with, has-with_kept, has-with_new, has-with_cases, holds-within}
+use Rattle.evaluation_facts.proofs.ClassSetFacts.{length-with, has-with_kept, has-with_new, has-with_cases}
 use Rattle.evaluation_facts.proofs.ClassFacts.{classes_in_range}
 use Rattle.evaluation_facts.proofs.StartFacts.{start_counted}
 use Rattle.evaluation_facts.proofs.CoveredSetFacts.{covered_set_least}

@@ -1,12 +1,12 @@
 -- Classes that are marked, list by list.
-use Rattle.std.proofs.Common.{◌≡◌, ◌<◌, ◌≤◌, ◌+◌, ℕ, true, List, [], ◌∷◌, ◌++◌, length, map, take, get_or, refl, ap, sym, ◌∙◌, subst, arith}
+use Rattle.std.proofs.Common.{◌≡◌, ◌<◌, ◌≤◌, ◌+◌, ℕ, true, List, [], ◌∷◌, ◌++◌, length, map, take, get_or, refl, ap, sym, ◌∙◌, subst}
 use Rattle.std.specs.List.{flat_map, enumerate_from, slice_set}
 use Rattle.std.proofs.lemmas.List.{map-append, take_all}
 use Rattle.std.proofs.lemmas.List.FromFn.{length-enumerate_from}
 use Rattle.beas_core.specs.declared.schema.ColumnId.{ColumnId}
 use Rattle.beas_core.specs.declared.query.Place.{Place}
 use Rattle.beas_core.specs.declared.plan.Normal.{Normal}
-use Rattle.beas_core.specs.Types.{ClassSet, Use}
+use Rattle.beas_core.specs.Types.{ClassSet}
 use Rattle.beas_core.specs.Coverage.{with_classes, class_at, place_class, needed_places, key_classes}
 use Rattle.attribute_closure.proofs.Sets.{columns_more, set_past}
 use Rattle.attribute_closure.specs.Uses.{as_use}

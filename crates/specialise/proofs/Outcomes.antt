@@ -1,12 +1,11 @@
 -- What is answered of a block, case by case.
-use Rattle.std.proofs.Common.{◌≡◌, ◌==◌, ◌&&◌, ◌<◌, ◌≤◌, ◌+◌, ℕ, zero, suc, Bool, true, false, not, cond, nat_lt, List, [], ◌∷◌, ◌++◌, length, map, Option, Some, None, Result, Ok, Err, refl, ap, sym, ◌∙◌, subst, arith, add-one, inl, inr}
+use Rattle.std.proofs.Common.{◌≡◌, ◌==◌, ◌&&◌, ◌<◌, ◌≤◌, ℕ, Bool, true, false, not, cond, nat_lt, List, [], ◌∷◌, length, map, Option, Some, None, Result, Ok, Err, ap, sym, ◌∙◌, subst, arith, add-one, inl, inr}
 use Rattle.std.specs.List.{list_any, find, flat_map, range_with_len}
 use Rattle.std.specs.Option.{option_map}
 use Rattle.std.proofs.lemmas.Bool.{lt-ltb, ltb-true}
 use Rattle.std.proofs.lemmas.List.{append-nil, length-map}
 use Rattle.std.proofs.lemmas.List.FromFn.{length-range_with_len}
 use Rattle.beas_core.specs.declared.schema.Access.{Access}
-use Rattle.beas_core.specs.declared.value.Value.{Value}
 use Rattle.beas_core.specs.declared.query.Place.{Place}
 use Rattle.beas_core.specs.declared.query.Block.{Block}
 use Rattle.beas_core.specs.declared.plan.Normal.{Normal}
@@ -21,7 +20,7 @@ use Rattle.evaluation_facts.proofs.ReasonFacts.{reason-covered, covered-reason}
 use Rattle.evaluation_facts.proofs.SetSizes.{length-filter_le}
 use Rattle.specialise.specs.declared.candidates.Candidate.{Candidate}
 use Rattle.specialise.specs.Trials.{candidate_of}
-use Rattle.specialise.specs.Specialised.{asked_classes, candidates, first_place, first_set, has_too_many, is_covered_with, sets_of, specialised, sublists}
+use Rattle.specialise.specs.Specialised.{asked_classes, candidates, first_place, first_set, is_covered_with, sets_of, specialised, sublists}
 
 abbrev pub Answer : Type 0
 Answer = Result (Option (List Place)) Refusal

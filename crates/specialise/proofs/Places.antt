@@ -1,16 +1,15 @@
 -- The first place of a class, looked for atom by atom.
-use Rattle.std.proofs.Common.{◌≡◌, ◌==◌, ◌<◌, ◌≤◌, ◌+◌, ℕ, zero, suc, Bool, true, false, cond, List, [], ◌∷◌, ◌++◌, length, map, take, drop, get_or, Option, Some, None, refl, ap, sym, ◌∙◌, subst, arith, zero-add, add-zero}
+use Rattle.std.proofs.Common.{◌≡◌, ◌==◌, ◌<◌, ◌≤◌, ◌+◌, ℕ, Bool, List, [], length, map, take, drop, get_or, Some, None, ap, sym, ◌∙◌, arith, zero-add}
 use Rattle.std.specs.List.{find, flat_map, enumerate_from, range_with_len}
-use Rattle.std.specs.Option.{option_map, option_or, unwrap_or}
-use Rattle.std.proofs.lemmas.List.{append-nil, take-append-drop}
+use Rattle.std.specs.Option.{option_map, unwrap_or}
+use Rattle.std.proofs.lemmas.List.{take-append-drop}
 use Rattle.std.proofs.lemmas.List.FromFn.{get_or-map-range_with_len}
 use Rattle.beas_core.specs.declared.query.Atom.{Atom}
 use Rattle.beas_core.specs.declared.query.Place.{Place}
 use Rattle.beas_core.specs.declared.query.Block.{Block}
 use Rattle.beas_core.specs.declared.plan.Normal.{Normal}
-use Rattle.beas_core.specs.Classes.{class_of, places_of, normal_of}
+use Rattle.beas_core.specs.Classes.{class_of, normal_of}
 use Rattle.beas_core.specs.Coverage.{class_at}
-use Rattle.beas_core.proofs.Sets.{Has}
 use Rattle.evaluation_facts.proofs.BindingFacts.{from_range}
 use Rattle.specialise.specs.Specialised.{first_place}
 use Rattle.specialise.proofs.Lists.{find_same, find_map, find_on, find_here, numbers_push, numbers_all, flat_push, flat_append, get_or-enumerated}

@@ -1,15 +1,15 @@
 -- One round of rules over a set of classes, rule by rule.
-use Rattle.std.proofs.Common.{◌≡◌, ◌&&◌, ◌<◌, ◌≤◌, ◌+◌, ℕ, zero, suc, Bool, true, false, not, cond, List, [], ◌∷◌, ◌++◌, length, map, take, get_or, ◌⊎◌, inl, inr, refl, ap, sym, ◌∙◌, subst, arith}
-use Rattle.std.specs.List.{All, Contains, filter, slice_set}
+use Rattle.std.proofs.Common.{◌≡◌, ◌&&◌, ◌<◌, ◌≤◌, ◌+◌, ℕ, Bool, true, false, not, cond, List, [], ◌∷◌, length, take, get_or, inl, inr, refl, ap, sym, ◌∙◌, subst, arith}
+use Rattle.std.specs.List.{All, Contains}
 use Rattle.std.proofs.lemmas.List.Elements.{All-contains}
 use Rattle.std.proofs.Math.Seq.{take-length}
 use Rattle.beas_core.specs.Types.{ClassSet}
 use Rattle.beas_core.specs.Coverage.{has, with_classes, holds_classes, Within}
 use Rattle.beas_core.proofs.Sets.{Has, Has-append_cases, Has-from_contains, Contains-from_has}
-use Rattle.evaluation_facts.proofs.MemberTests.{all_has, all_by, not_all_has, which}
+use Rattle.evaluation_facts.proofs.MemberTests.{all_has, not_all_has}
 use Rattle.evaluation_facts.proofs.ClassSetFacts.{length-with, has-with_kept, has-with_new, has-with_cases, holds-within, trues, trues_le, trues_within, trues_more}
 use Rattle.specialise.specs.declared.rules.Rule.{Rule}
-use Rattle.specialise.specs.Trials.{IsClosedUnder, IsLeastUnder, Applied, Grown, grows, size}
+use Rattle.specialise.specs.Trials.{IsClosedUnder, Applied, Grown, grows, size}
 use Rattle.specialise.proofs.Lists.{take_push}
 
 size_is : (set : ClassSet) → size set ≡ trues set

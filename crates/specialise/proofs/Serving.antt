@@ -1,6 +1,6 @@
 -- Whether each atom is served, told by servers, is whether constants for the candidates that the start holds make the block covered.
-use Rattle.std.proofs.Common.{◌≡◌, ◌==◌, ◌&&◌, ◌<◌, ◌+◌, ℕ, zero, suc, Bool, true, false, not, List, [], ◌∷◌, ◌++◌, length, map, pos, ◌⊎◌, inl, inr, refl, ap, sym, ◌∙◌, subst, arith, zero-add}
-use Rattle.std.specs.List.{Contains, list_any, list_all, filter, slice_index_or, enumerate_from, range_with_len}
+use Rattle.std.proofs.Common.{◌≡◌, ◌==◌, ◌&&◌, ◌<◌, ℕ, zero, suc, Bool, true, false, not, List, [], ◌∷◌, length, map, pos, inl, inr, refl, ap, sym, ◌∙◌, subst, arith, zero-add}
+use Rattle.std.specs.List.{Contains, list_any, filter, slice_index_or, enumerate_from}
 use Rattle.std.proofs.lemmas.Bool.{eqb-true}
 use Rattle.std.proofs.lemmas.List.{length-map}
 use Rattle.std.proofs.lemmas.List.FromFn.{length-enumerate_from}
@@ -13,9 +13,9 @@ use Rattle.beas_core.specs.declared.query.Block.{Block}
 use Rattle.beas_core.specs.declared.plan.Normal.{Normal}
 use Rattle.beas_core.specs.Types.{ClassSet, Use}
 use Rattle.beas_core.specs.Groups.{has_column, member_columns}
-use Rattle.beas_core.specs.Shapes.{IsPlace, BlockIsWellFormed}
+use Rattle.beas_core.specs.Shapes.{BlockIsWellFormed}
 use Rattle.beas_core.specs.Classes.{leaders, class_of, needed_columns, normal_of}
-use Rattle.beas_core.specs.Coverage.{has, with_classes, holds_classes, class_at, place_class, uses, key_classes, fetched_classes, constant_classes, covered_set, own_cover, own_is_covered, needed_of, needed_places, holds_needed, serves, atoms_of, Within}
+use Rattle.beas_core.specs.Coverage.{has, with_classes, holds_classes, class_at, place_class, uses, key_classes, fetched_classes, constant_classes, covered_set, own_cover, own_is_covered, needed_of, needed_places, holds_needed, atoms_of, Within}
 use Rattle.beas_core.proofs.Sets.{Has, Has-map, Has-from_map, Has-filter, Has-from_filter, Has-append_cases, Has-from_contains, Contains-from_has}
 use Rattle.evaluation_facts.specs.Covered.{Server as ServingUse, IsCovered}
 use Rattle.evaluation_facts.proofs.MemberTests.{and_left, and_right, and_both, from_not, to_not, which, all_has, all_by, any_has, any_by, none_has, none_by, Has-from_flat_map}
@@ -26,8 +26,8 @@ use Rattle.evaluation_facts.proofs.ReasonFacts.{covered_in_words, covered_from_w
 use Rattle.specialise.specs.declared.candidates.Candidate.{Candidate}
 use Rattle.specialise.specs.declared.rules.Rule.{Rule}
 use Rattle.specialise.specs.declared.servers.Server.{Server}
-use Rattle.specialise.specs.Specialised.{candidates, first_place, with_constants, is_covered_with}
-use Rattle.specialise.specs.Trials.{candidate_of, outside, rules_of, lacks, server_of, servers_on, servers_of, serves_now, some_serves, all_serve, IsLeastUnder, IsStart, is_covered_from}
+use Rattle.specialise.specs.Specialised.{candidates, first_place, with_constants}
+use Rattle.specialise.specs.Trials.{candidate_of, rules_of, lacks, server_of, servers_on, servers_of, serves_now, some_serves, all_serve, IsLeastUnder, IsStart, is_covered_from}
 use Rattle.specialise.proofs.Added.{is_first_place, covered_same, start_more, needed_before, needed_first, needed_with, uses_same, keys_same, fetched_same}
 use Rattle.specialise.proofs.Closed.{holds_whole, holds_part, reached_is_least, candidate_below, set_reached, reached_set}
 

@@ -1,7 +1,7 @@
 -- Sets of candidates, tried one after another.
-use Rattle.std.proofs.Common.{◌≡◌, ◌≢◌, ◌==◌, ◌&&◌, ◌<◌, ◌≤◌, ◌+◌, ◌-◌, ℕ, zero, suc, Bool, true, false, not, cond, List, [], ◌∷◌, ◌++◌, length, map, take, drop, get_or, Option, Some, None, ◌⊎◌, inl, inr, refl, ap, sym, ◌∙◌, subst, arith, length-set, zero-add, append_assoc}
-use Rattle.std.specs.List.{AllByRecursion, Contains, list_any, filter, find, flat_map, slice_set, range_with_len}
-use Rattle.std.specs.Option.{is_some, option_map, option_or, unwrap_or}
+use Rattle.std.proofs.Common.{◌≡◌, ◌==◌, ◌&&◌, ◌<◌, ◌≤◌, ◌+◌, ◌-◌, ℕ, zero, suc, Bool, true, false, not, cond, List, [], ◌∷◌, ◌++◌, length, map, take, drop, get_or, Option, Some, None, inl, inr, refl, ap, sym, ◌∙◌, subst, arith, length-set, zero-add, append_assoc}
+use Rattle.std.specs.List.{Contains, list_any, filter, find, flat_map, slice_set, range_with_len}
+use Rattle.std.specs.Option.{is_some, option_map, unwrap_or}
 use Rattle.std.proofs.Math.Seq.{take-length}
 use Rattle.std.proofs.lemmas.List.{length-map}
 use Rattle.beas_core.specs.declared.schema.Access.{Access}
@@ -11,7 +11,7 @@ use Rattle.beas_core.specs.Types.{ClassSet}
 use Rattle.beas_core.specs.Shapes.{BlockIsWellFormed}
 use Rattle.beas_core.specs.Classes.{normal_of}
 use Rattle.beas_core.specs.Coverage.{has, with_classes, constant_classes, own_cover}
-use Rattle.beas_core.proofs.Sets.{Has, Has-from_map, Has-filter, Has-from_filter, Has-append_cases, Has-from_contains, Contains-from_has, all_at, all_from}
+use Rattle.beas_core.proofs.Sets.{Has, Has-from_map, Has-from_filter, Has-append_cases, Has-from_contains, Contains-from_has, all_at, all_from}
 use Rattle.evaluation_facts.proofs.MemberTests.{and_left, from_not, which, Has-from_flat_map}
 use Rattle.evaluation_facts.proofs.BindingFacts.{range_least}
 use Rattle.evaluation_facts.proofs.ClassSetFacts.{has-with_kept, has-with_new, has-with_cases}

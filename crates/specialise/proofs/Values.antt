@@ -1,6 +1,6 @@
 -- Constants for the same classes cover alike, whatever their values.
-use Rattle.std.proofs.Common.{◌≡◌, ◌&&◌, ℕ, Bool, not, List, [], ◌∷◌, ◌++◌, map, pos, refl, ap, sym, ◌∙◌}
-use Rattle.std.specs.List.{list_any, list_all, filter, enumerate_from, range_with_len, flat_map}
+use Rattle.std.proofs.Common.{◌≡◌, ℕ, List, [], ◌∷◌, ◌++◌, map, pos, refl, ap, sym, ◌∙◌}
+use Rattle.std.specs.List.{list_any, filter, enumerate_from, range_with_len, flat_map}
 use Rattle.beas_core.specs.declared.schema.Access.{Access}
 use Rattle.beas_core.specs.declared.schema.ColumnId.{ColumnId}
 use Rattle.beas_core.specs.declared.value.Value.{Value}

@@ -10,11 +10,10 @@
 --     AreUntried accesses block start classes
 --                                     candidates that the start lacks, ascending
 --     Walked test sets old new found  the first of some sets that passes a test, added to a set of classes; where none does, nothing
-use Rattle.std.specs.Prelude.{◌≡◌, ◌≤◌, ◌<◌, ◌&&◌, if◌then◌else◌, ◌==◌, Bool, true, false, not, ℕ, List, [], ◌∷◌, length, map, filter, find, IsTrue, All, Contains, ◌⊎◌, Option, Some, None, is_some, unwrap_or}
+use Rattle.std.specs.Prelude.{◌≡◌, ◌<◌, ◌&&◌, if◌then◌else◌, ◌==◌, Bool, true, false, not, ℕ, List, [], ◌∷◌, length, map, filter, find, IsTrue, Contains, ◌⊎◌, Option, is_some, unwrap_or}
 use Rattle.std.specs.List.{AllByRecursion, list_any, list_all}
 use Rattle.beas_core.specs.declared.schema.Access.{Access}
 use Rattle.beas_core.specs.declared.query.Block.{Block}
-use Rattle.beas_core.specs.declared.query.Place.{Place}
 use Rattle.beas_core.specs.declared.plan.Normal.{Normal}
 use Rattle.beas_core.specs.Types.{ClassSet, Use}
 use Rattle.beas_core.specs.Groups.{has_column, member_columns}

@@ -1,4 +1,4 @@
-use Rattle.std.proofs.Common.{◌≡◌, ◌≤◌, ◌∙◌, arith, ap, map, subst, sym}
+use Rattle.std.proofs.Common.{◌≤◌, ◌∙◌, ap, map, subst, sym}
 use Rattle.beas_core.specs.Coverage.{uses, own_cover}
 use Rattle.beas_core.specs.Classes.{normal_of}
 use Rattle.beas_core.specs.Shapes.{BlockIsWellFormed}

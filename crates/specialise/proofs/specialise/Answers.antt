@@ -1,4 +1,4 @@
-use Rattle.std.proofs.Common.{◌∙◌, List, Ok, Some, None, ap, sym}
+use Rattle.std.proofs.Common.{◌∙◌, ap, sym}
 use Rattle.beas_core.specs.Coverage.{reason}
 use Rattle.specialise.proofs.Outcomes.{answer_with, covered_is, covered_when, open_some}
 use Rattle.specialise.proofs.specialise.Goals as goal

@@ -1,4 +1,4 @@
-use Rattle.std.proofs.Common.{◌≡◌, ◌==◌, ◌∙◌, ℕ, Bool, ap, sym, eq-eqb}
+use Rattle.std.proofs.Common.{◌==◌, ◌∙◌, ℕ, Bool, sym, eq-eqb}
 use Rattle.beas_core.specs.declared.plan.Normal.{Normal}
 use Rattle.beas_core.specs.Coverage.{class_at}
 use Rattle.specialise.proofs.Lists.{find_range_there, find_range_more, unequal}

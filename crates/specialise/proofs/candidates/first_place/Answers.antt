@@ -1,4 +1,4 @@
-use Rattle.std.proofs.Common.{◌≡◌, ◌<◌, ◌≤◌, ℕ, arith, ap, length, get_or, subst, sym}
+use Rattle.std.proofs.Common.{◌<◌, ◌≤◌, arith, ap, length, get_or, subst, sym}
 use Rattle.beas_core.specs.declared.query.Atom.{Atom}
 use Rattle.specialise.proofs.Places.{place_more, place_there, place_none}
 use Rattle.specialise.proofs.candidates.first_place.Goals as goal

@@ -1,5 +1,5 @@
 use Rattle.std.proofs.Common.{◌∙◌, ◌++◌, ◌∷◌, [], ap, sym, map}
-use Rattle.std.specs.List.{filter, range_with_len}
+use Rattle.std.specs.List.{filter}
 use Rattle.specialise.specs.Trials.{candidate_of, is_marked}
 use Rattle.specialise.proofs.Lists.{filter_range}
 use Rattle.specialise.proofs.candidates.marked.Goals as goal

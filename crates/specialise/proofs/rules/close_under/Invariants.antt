@@ -1,4 +1,4 @@
-use Rattle.std.proofs.Common.{◌≡◌, ◌-◌, length}
+use Rattle.std.proofs.Common.{◌-◌, length}
 use Rattle.beas_core.specs.Coverage.{Within}
 use Rattle.beas_core.specs.Types.{ClassSet}
 use Rattle.specialise.specs.Trials.{IsClosedUnder, size}

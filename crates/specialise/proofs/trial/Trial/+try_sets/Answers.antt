@@ -1,6 +1,5 @@
-use Rattle.std.proofs.Common.{rules, ◌≡◌, ◌<◌, ◌-◌, ◌∙◌, ℕ, List, true, false, ap, arith, drop, length, length-set, map, subst, sym, take}
+use Rattle.std.proofs.Common.{rules, ◌<◌, ◌-◌, ◌∙◌, ℕ, List, true, false, ap, drop, length, length-set, subst, sym, take}
 use Rattle.std.specs.List.{slice_set}
-use Rattle.beas_core.specs.Types.{ClassSet}
 use Rattle.specialise.specs.declared.candidates.Candidate.{Candidate}
 use Rattle.specialise.specs.Specialised.{sublists}
 use Rattle.specialise.specs.Trials.{AreUntried, IsStart, Walked, is_covered_from}

@@ -1,4 +1,4 @@
-use Rattle.std.proofs.Common.{◌≡◌, ◌<◌, ◌≤◌, ◌+◌, ◌∙◌, ap, arith, length, subst, sym}
+use Rattle.std.proofs.Common.{◌∙◌, arith, subst, sym}
 use Rattle.beas_core.specs.Classes.{normal_of}
 use Rattle.beas_core.specs.Coverage.{own_cover}
 use Rattle.specialise.specs.Trials.{AreUntried, IsStart}

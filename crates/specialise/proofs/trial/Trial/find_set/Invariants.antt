@@ -1,4 +1,4 @@
-use Rattle.std.proofs.Common.{◌≡◌, None, length}
+use Rattle.std.proofs.Common.{◌≡◌, None}
 use Rattle.specialise.specs.Specialised.{candidates}
 use Rattle.specialise.specs.Trials.{first_added, is_covered_from}
 use Rattle.specialise.proofs.Tried.{all_to}

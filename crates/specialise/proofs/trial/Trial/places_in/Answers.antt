@@ -1,4 +1,4 @@
-use Rattle.std.proofs.Common.{◌≤◌, ◌∙◌, ap, length, map, sym, subst}
+use Rattle.std.proofs.Common.{◌≤◌, ◌∙◌, ap, length, map, subst}
 use Rattle.std.specs.List.{filter}
 use Rattle.std.proofs.lemmas.List.{take_all}
 use Rattle.specialise.specs.declared.candidates.Candidate.{Candidate}
