@@ -1,0 +1,11 @@
+pub mod Lists
+pub mod Marks
+pub mod Places
+pub mod Rounds
+pub mod Added
+pub mod Asked
+pub mod Closed
+pub mod Serving
+pub mod Tried
+pub mod Outcomes
+pub mod Values

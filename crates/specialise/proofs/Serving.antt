@@ -1,0 +1,305 @@
+-- Whether each atom is served, told by servers, is whether constants for the candidates that the start holds make the block covered.
+use Rattle.std.proofs.Common.{◌≡◌, ◌==◌, ◌&&◌, ◌<◌, ℕ, zero, suc, Bool, true, false, not, List, [], ◌∷◌, length, map, pos, inl, inr, refl, ap, sym, ◌∙◌, subst, arith, zero-add}
+use Rattle.std.specs.List.{Contains, list_any, filter, slice_index_or, enumerate_from}
+use Rattle.std.proofs.lemmas.Bool.{eqb-true}
+use Rattle.std.proofs.lemmas.List.{length-map}
+use Rattle.std.proofs.lemmas.List.FromFn.{length-enumerate_from}
+use Rattle.beas_core.specs.declared.schema.Access.{Access}
+use Rattle.beas_core.specs.declared.schema.ColumnId.{ColumnId}
+use Rattle.beas_core.specs.declared.value.Value.{Value}
+use Rattle.beas_core.specs.declared.value.Value.TheVariants.{Int}
+use Rattle.beas_core.specs.declared.query.Place.{Place}
+use Rattle.beas_core.specs.declared.query.Block.{Block}
+use Rattle.beas_core.specs.declared.plan.Normal.{Normal}
+use Rattle.beas_core.specs.Types.{ClassSet, Use}
+use Rattle.beas_core.specs.Groups.{has_column, member_columns}
+use Rattle.beas_core.specs.Shapes.{BlockIsWellFormed}
+use Rattle.beas_core.specs.Classes.{leaders, class_of, needed_columns, normal_of}
+use Rattle.beas_core.specs.Coverage.{has, with_classes, holds_classes, class_at, place_class, uses, key_classes, fetched_classes, constant_classes, covered_set, own_cover, own_is_covered, needed_of, needed_places, holds_needed, atoms_of, Within}
+use Rattle.beas_core.proofs.Sets.{Has, Has-map, Has-from_map, Has-filter, Has-from_filter, Has-append_cases, Has-from_contains, Contains-from_has}
+use Rattle.evaluation_facts.specs.Covered.{Server as ServingUse, IsCovered}
+use Rattle.evaluation_facts.proofs.MemberTests.{and_left, and_right, and_both, from_not, to_not, which, all_has, all_by, any_has, any_by, none_has, none_by, Has-from_flat_map}
+use Rattle.evaluation_facts.proofs.UseFacts.{same_number, enumerated}
+use Rattle.evaluation_facts.proofs.BindingFacts.{Has-range, from_range}
+use Rattle.evaluation_facts.proofs.ClassSetFacts.{holds-within}
+use Rattle.evaluation_facts.proofs.ReasonFacts.{covered_in_words, covered_from_words}
+use Rattle.specialise.specs.declared.candidates.Candidate.{Candidate}
+use Rattle.specialise.specs.declared.rules.Rule.{Rule}
+use Rattle.specialise.specs.declared.servers.Server.{Server}
+use Rattle.specialise.specs.Specialised.{candidates, first_place, with_constants}
+use Rattle.specialise.specs.Trials.{candidate_of, rules_of, lacks, server_of, servers_on, servers_of, serves_now, some_serves, all_serve, IsLeastUnder, IsStart, is_covered_from}
+use Rattle.specialise.proofs.Added.{is_first_place, covered_same, start_more, needed_before, needed_first, needed_with, uses_same, keys_same, fetched_same}
+use Rattle.specialise.proofs.Closed.{holds_whole, holds_part, reached_is_least, candidate_below, set_reached, reached_set}
+
+same_bools : (a b : Bool) → (a ≡ true → b ≡ true) → (b ≡ true → a ≡ true) → a ≡ b
+same_bools true b f g = sym (f refl)
+same_bools false true f g = g refl
+same_bools false false f g = refl
+
+never : (b : Bool) → b ≡ true → b ≡ false → ⊥
+never b p q = cc
+
+module _ (accesses : List Access) (block : Block) (shape : BlockIsWellFormed block) (start set : ClassSet) (is : IsStart accesses block start)
+    (least : IsLeastUnder (rules_of accesses block) start set) where
+  abbrev normal : Normal
+  normal = normal_of block
+
+  abbrev cover : ClassSet
+  cover = own_cover (normal_of block) accesses
+
+  abbrev given : List ℕ
+  given = filter (has start) (candidates accesses block)
+
+  abbrev constant_for : ℕ → ℕ × Value
+  constant_for c = (c, Int (pos 0))
+
+  abbrev constants : List (ℕ × Value)
+  constants = map constant_for given
+
+  abbrev more : Normal
+  more = normal_of (with_constants block constants)
+
+  abbrev covered : ClassSet
+  covered = own_cover more accesses
+
+  abbrev reached : ClassSet
+  reached = covered_set normal accesses (with_classes (constant_classes normal) given)
+
+  given_below : (c : ℕ) → Has given c → c < length (leaders block)
+  unfolding normal_of
+  given_below c h = candidate_below accesses block shape c (Has-from_filter (has start) (candidates accesses block) c h).0
+
+  own_classes : (cs : List ℕ) → ((c : ℕ) → Has cs c → c < length (leaders block))
+      → map (λ (g : ℕ × Value). class_of block (first_place block g.0)) (map constant_for cs) ≡ cs
+  own_classes [] h = refl
+  own_classes (c ∷ cs) h =
+      ap (λ k. k ∷ map (λ (g : ℕ × Value). class_of block (first_place block g.0)) (map constant_for cs)) (is_first_place block c (h c (inl refl))).of_class
+      ∙ ap (λ ks. c ∷ ks) (own_classes cs (λ d m. h d (inr m)))
+
+  covered_is : covered ≡ reached
+  covered_is =
+      covered_same accesses block constants (constant_classes more)
+      ∙ ap (covered_set normal accesses) (start_more accesses block constants ∙ ap (with_classes (constant_classes normal)) (own_classes given given_below))
+
+  reached_covered : Within reached covered
+  reached_covered c h = ap (λ s. has s c) covered_is ∙ h
+
+  covered_reached : Within covered reached
+  covered_reached c h = sym (ap (λ s. has s c) covered_is) ∙ h
+
+  set_covered : Within set covered
+  set_covered c h = reached_covered c (set_reached accesses block shape start set is least c h)
+
+  covered_held : Within covered set
+  covered_held c h = reached_set accesses block shape start set is least c (covered_reached c h)
+
+  cover_held : Within cover set
+  cover_held c h = least.from_start c (is.holds c h)
+
+  cover_covered : Within cover covered
+  cover_covered c h = set_covered c (cover_held c h)
+
+  abbrev found : List Candidate
+  found = map (candidate_of block) (candidates accesses block)
+
+  first_given : (p : Place) → Has (map (λ g. first_place block g.0) constants) p → (c : ℕ) × (Has given c) × (p ≡ first_place block c)
+  first_given p h =
+      let r = Has-from_map (λ g. first_place block g.0) constants p h in
+      let m = Has-from_map constant_for given r.0 r.1 in
+      (m.0, m.1, r.2 ∙ ap (λ g. first_place block g.0) m.2)
+
+  given_first : (c : ℕ) → Has given c → Has (map (λ g. first_place block g.0) constants) (first_place block c)
+  given_first c h = Has-map (λ g. first_place block g.0) constants (constant_for c) (Has-map constant_for given c h)
+
+  -- ---- from servers to coverage
+
+  abbrev test_use : ℕ → Use → Bool
+  test_use atom u = (u.atom == atom) && holds_needed normal u
+
+  record From (atom : ℕ) (s : Server) : Type 0 where
+    by : Use
+    member : Has (uses normal accesses) by
+    on_atom : by.atom ≡ atom
+    needed : holds_needed normal by ≡ true
+    is_made : s ≡ server_of normal cover found by
+
+  from_list : (atom : ℕ) (s : Server) → Has (servers_on normal cover found (uses normal accesses) atom) s → From atom s
+  from_list atom s h =
+      let m = Has-from_map (server_of normal cover found) (filter (test_use atom) (uses normal accesses)) s h in
+      let f = Has-from_filter (test_use atom) (uses normal accesses) m.0 m.1 in
+      record {
+        by = m.0;
+        member = f.0;
+        on_atom = eqb-true m.0.atom atom (and_left (m.0.atom == atom) (holds_needed normal m.0) f.1);
+        needed = and_right (m.0.atom == atom) (holds_needed normal m.0) f.1;
+        is_made = m.2;
+      }
+
+  not_lost : (u : Use) → list_any (has start) (server_of normal cover found u).loses ≡ false → (c : ℕ) → Has given c → lacks u (candidate_of block c) ≡ false
+  not_lost u none c h = elim (which (lacks u (candidate_of block c))) [
+    | inr e ↦ e
+    | inl e ↦ (
+        let f = Has-from_filter (has start) (candidates accesses block) c h in
+        let m = Has-map (λ (x : Candidate). x.class) (filter (lacks u) found) (candidate_of block c)
+        (Has-filter (lacks u) found (candidate_of block c) (Has-map (candidate_of block) (candidates accesses block) c f.0) e) in
+        absurd (never (has start c) f.1 (none_has (has start) (server_of normal cover found u).loses c none m)))
+  ]
+
+  holds_first : (u : Use) (c : ℕ) → lacks u (candidate_of block c) ≡ false → (first_place block c).atom ≡ u.atom
+      → has_column (member_columns u.access) (first_place block c).column ≡ true
+  holds_first u c e same = by (has_column (member_columns u.access) (first_place block c).column) refl
+    where
+      by : (b : Bool) → has_column (member_columns u.access) (first_place block c).column ≡ b → has_column (member_columns u.access) (first_place block c).column ≡ true
+      by true t = t
+      by false t = absurd (never (lacks u (candidate_of block c))
+          (and_both ((first_place block c).atom == u.atom) (not (has_column (member_columns u.access) (first_place block c).column))
+          (same_number (first_place block c).atom u.atom same) (ap not t)) e)
+
+  serving : (atom : ℕ) → atom < length block.atoms → (s : Server) → From atom s → serves_now start set s ≡ true → ServingUse more accesses covered atom
+  serving atom l s from now =
+      let u = from.by in
+      let made = server_of normal cover found u in
+      let here = subst (λ x. serves_now start set x ≡ true) from.is_made now in
+      let key = and_left (holds_classes set made.key) (not (list_any (has start) made.loses)) here in
+      let none = from_not (list_any (has start) made.loses) (and_right (holds_classes set made.key) (not (list_any (has start) made.loses)) here) in
+      let keys = holds-within set covered (key_classes normal u) set_covered (holds_whole cover set (key_classes normal u) cover_held key) in
+      let below = subst (λ n. n < length block.atoms) (sym from.on_atom) l in
+      let needed = needed_with accesses block constants u below from.needed (λ p m e.
+      let g = first_given p m in
+      subst (λ q. has_column (member_columns u.access) q.column ≡ true) (sym g.2)
+      (holds_first u g.0 (not_lost u none g.0 g.1) (sym (ap (λ q. q.atom) g.2) ∙ e))) in
+      record {
+        by = u;
+        member = subst (λ us. Contains us u) (sym (uses_same accesses block constants)) (Contains-from_has (uses normal accesses) u from.member);
+        on_atom = from.on_atom;
+        serves_it = and_both (holds_classes covered (key_classes more u)) (holds_needed more u)
+            (ap (holds_classes covered) (keys_same accesses block constants u) ∙ keys) needed;
+      }
+
+  atom_listed : (atom : ℕ) → atom < length block.atoms → Has (servers_of accesses block) (servers_on normal cover found (uses normal accesses) atom)
+  unfolding normal_of
+  atom_listed atom l = Has-map (servers_on normal cover found (uses normal accesses)) (atoms_of normal) atom
+      (Has-range (length block.atoms) 0 atom (omega arith) (omega (arith, l)))
+
+  served : all_serve start set (servers_of accesses block) ≡ true → (atom : ℕ) → atom < length block.atoms → ServingUse more accesses covered atom
+  served all atom l =
+      let list = servers_on normal cover found (uses normal accesses) atom in
+      let some = all_has (some_serves start set) (servers_of accesses block) list all (atom_listed atom l) in
+      let r = any_has (serves_now start set) list some in
+      serving atom l r.0 (from_list atom r.0 r.1) r.2
+
+  atoms_more : length more.atoms ≡ length block.atoms
+  unfolding normal_of
+  atoms_more = refl
+
+  needed_more : length more.needed ≡ length block.atoms
+  unfolding normal_of
+  needed_more = length-map (enumerate_from 0 block.atoms) (λ a. needed_columns (with_constants block constants) a.0 a.1.width) ∙ length-enumerate_from 0 block.atoms
+
+  -- a needed column of a served atom is covered
+  column_covered : (place : Place) → (s : ServingUse more accesses covered place.atom) → Has (needed_of more place.atom) place.column
+      → has covered (place_class more place) ≡ true
+  column_covered place s h =
+      let u = s.by in
+      let keys = and_left (holds_classes covered (key_classes more u)) (holds_needed more u) s.serves_it in
+      let needed = and_right (holds_classes covered (key_classes more u)) (holds_needed more u) s.serves_it in
+      let member = subst (λ us. Contains us u) (uses_same accesses block constants) s.member in
+      let fetched = holds-within reached covered (fetched_classes normal u) reached_covered
+      ((reached_is_least accesses block shape given).closed u member
+      (holds-within covered reached (key_classes normal u) covered_reached (sym (ap (holds_classes covered) (keys_same accesses block constants u)) ∙ keys))) in
+      let made : ℕ → ColumnId = λ n. record { 0 = n } in
+      let listed = subst (λ n. Has (needed_of more n) place.column) (sym s.on_atom) h in
+      let column = any_has (λ d. d.0 == place.column.0) (member_columns u.access)
+      (all_has (has_column (member_columns u.access)) (needed_of more u.atom) place.column needed listed) in
+      let same : column.0 ≡ place.column = ap made (eqb-true column.0.0 place.column.0 column.2) in
+      let class : class_at more u.atom column.0 ≡ place_class more place = ap (class_at more u.atom) same ∙ ap (λ n. class_at more n place.column) s.on_atom in
+      ap (has covered) (sym class) ∙ elim (Has-append_cases u.access.key u.access.fetched column.0 column.1) [
+        | inl m ↦ all_has (has covered) (key_classes more u) (class_at more u.atom column.0) keys (Has-map (class_at more u.atom) u.access.key column.0 m)
+        | inr m ↦ all_has (has covered) (fetched_classes more u) (class_at more u.atom column.0)
+            (ap (holds_classes covered) (fetched_same accesses block constants u) ∙ fetched) (Has-map (class_at more u.atom) u.access.fetched column.0 m)
+      ]
+
+  needed_at : (place : Place) → Has (needed_places more) place → (place.atom < length block.atoms) × Has (needed_of more place.atom) place.column
+  needed_at place h =
+      let place_on : ℕ → ColumnId → Place = λ n c. record { atom = n; column = c } in
+      let r = Has-from_flat_map (λ n. map (place_on n.0) n.1) (enumerate_from 0 more.needed) place h in
+      let m = Has-from_map (place_on r.0.0) r.0.1 place r.2 in
+      let k = enumerated (λ cs. cs) [] 0 more.needed r.0 r.1 in
+      let number : place.atom ≡ k.0 = ap (λ p. p.atom) m.2 ∙ k.2 ∙ zero-add k.0 in (
+        subst (λ n. n < length block.atoms) (sym number) (subst (λ n. k.0 < n) needed_more k.1),
+        subst (λ n. Has (needed_of more n) place.column) (sym number)
+            (subst (λ cs. Has cs place.column) (sym k.3 ∙ same_lists more.needed k.0) (subst (Has r.0.1) (sym (ap (λ p. p.column) m.2)) m.1)),
+      )
+    where
+      same_lists : (xs : List (List ColumnId)) (i : ℕ) → slice_index_or (map (λ cs. cs) xs) i [] ≡ slice_index_or xs i []
+      same_lists [] i = refl
+      same_lists (x ∷ xs) zero = refl
+      same_lists (x ∷ xs) (suc i) = same_lists xs i
+
+  to_covered : all_serve start set (servers_of accesses block) ≡ true → own_is_covered more accesses ≡ true
+  to_covered all = covered_from_words more accesses covered (record {
+    columns = λ place m. let n = needed_at place (Has-from_contains (needed_places more) place m) in column_covered place (served all place.atom n.0) n.1;
+    atoms = λ atom l. served all atom (subst (λ n. atom < n) atoms_more l);
+  })
+
+  -- ---- from coverage to servers
+
+  keeps : (u : Use) → u.atom < length block.atoms → holds_needed more u ≡ true → list_any (has start) (server_of normal cover found u).loses ≡ false
+  keeps u l needed = none_by (has start) (server_of normal cover found u).loses (λ c m. elim (which (has start c)) [
+    | inr e ↦ e
+    | inl e ↦ absurd (lost c m e)
+  ])
+    where
+      lost : (c : ℕ) → Has (server_of normal cover found u).loses c → has start c ≡ true → ⊥
+      lost c m held =
+          let r = Has-from_map (λ (x : Candidate). x.class) (filter (lacks u) found) c m in
+          let f = Has-from_filter (lacks u) found r.0 r.1 in
+          let k = Has-from_map (candidate_of block) (candidates accesses block) r.0 f.0 in
+          let class : c ≡ k.0 = r.2 ∙ ap (λ (x : Candidate). x.class) k.2 in
+          let own = Has-filter (has start) (candidates accesses block) k.0 k.1 (subst (λ d. has start d ≡ true) class held) in
+          let lack = subst (λ x. lacks u x ≡ true) k.2 f.1 in
+          let atom = eqb-true (first_place block k.0).atom u.atom
+          (and_left ((first_place block k.0).atom == u.atom) (not (has_column (member_columns u.access) (first_place block k.0).column)) lack) in
+          let column = from_not (has_column (member_columns u.access) (first_place block k.0).column)
+          (and_right ((first_place block k.0).atom == u.atom) (not (has_column (member_columns u.access) (first_place block k.0).column)) lack) in
+          never (has_column (member_columns u.access) (first_place block k.0).column)
+          (needed_first accesses block constants u l needed (first_place block k.0) (given_first k.0 own)
+          (is_first_place block k.0 (given_below k.0 own)).is_place atom) column
+
+  atom_serves : IsCovered more accesses covered → (atom : ℕ) → atom < length block.atoms
+      → some_serves start set (servers_on normal cover found (uses normal accesses) atom) ≡ true
+  atom_serves so atom l =
+      let s = so.atoms atom (subst (λ n. atom < n) (sym atoms_more) l) in
+      let u = s.by in
+      let below = subst (λ n. n < length block.atoms) (sym s.on_atom) l in
+      let keys = and_left (holds_classes covered (key_classes more u)) (holds_needed more u) s.serves_it in
+      let needed = and_right (holds_classes covered (key_classes more u)) (holds_needed more u) s.serves_it in
+      let member = Has-from_contains (uses normal accesses) u (subst (λ us. Contains us u) (uses_same accesses block constants) s.member) in
+      let passes = and_both (u.atom == atom) (holds_needed normal u) (same_number u.atom atom s.on_atom) (needed_before accesses block constants u below needed) in
+      let key = holds_part cover set (key_classes normal u)
+      (holds-within covered set (key_classes normal u) covered_held (sym (ap (holds_classes covered) (keys_same accesses block constants u)) ∙ keys)) in
+      any_by (serves_now start set) (servers_on normal cover found (uses normal accesses) atom) (server_of normal cover found u)
+      (Has-map (server_of normal cover found) (filter (test_use atom) (uses normal accesses)) u (Has-filter (test_use atom) (uses normal accesses) u member passes))
+      (and_both (holds_classes set (server_of normal cover found u).key) (not (list_any (has start) (server_of normal cover found u).loses)) key
+      (to_not (list_any (has start) (server_of normal cover found u).loses) (keeps u below needed)))
+
+  from_covered : own_is_covered more accesses ≡ true → all_serve start set (servers_of accesses block) ≡ true
+  unfolding normal_of
+  from_covered h =
+      let so = covered_in_words more accesses covered h in
+      all_by (some_serves start set) (servers_of accesses block) (λ list m.
+      let r = Has-from_map (servers_on normal cover found (uses normal accesses)) (atoms_of normal) list m in
+      let below = from_range (length block.atoms) 0 r.0 r.1 in
+      ap (some_serves start set) r.2 ∙ atom_serves so r.0 (omega (arith, below)))
+
+  pub serves_is : all_serve start set (servers_of accesses block) ≡ is_covered_from accesses block start
+  serves_is = same_bools (all_serve start set (servers_of accesses block)) (is_covered_from accesses block start) to_covered from_covered
+
+-- the same, as the code has it
+pub covers_is : (accesses : List Access) (block : Block) → BlockIsWellFormed block → (start set : ClassSet) → IsStart accesses block start
+    → (rules : List Rule) → rules ≡ rules_of accesses block → (copied : ClassSet) → copied ≡ start → IsLeastUnder rules copied set
+    → (servers : List (List Server)) → servers ≡ servers_of accesses block → (b : Bool) → b ≡ all_serve start set servers
+    → b ≡ is_covered_from accesses block start
+covers_is accesses block shape start set is rules er copied ec least servers es b eb =
+    let own = subst (λ s. IsLeastUnder (rules_of accesses block) s set) ec (subst (λ rs. IsLeastUnder rs copied set) er least) in
+    eb ∙ ap (all_serve start set) es ∙ serves_is accesses block shape start set is own

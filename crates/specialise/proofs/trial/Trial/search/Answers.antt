@@ -1,0 +1,21 @@
+use Rattle.std.proofs.Common.{◌∙◌, ap, map}
+use Rattle.std.specs.List.{filter}
+use Rattle.beas_core.specs.Coverage.{has}
+use Rattle.normal_form.proofs.Joined.{written}
+use Rattle.specialise.specs.Specialised.{candidates, first_place}
+use Rattle.specialise.proofs.Tried.{nothing_is, something_is}
+use Rattle.specialise.proofs.trial.Trial.search.Goals as goal
+
+pub returns-then-not-find_set : goal.returns-then-not-find_set
+returns-then-not-find_set c =
+    let t = c.args.self.now in
+    nothing_is t.accesses.now t.block.now c.requires.shape c.deref_mut.result.now c.find_set.new.start c.find_set.result
+    (c.deref_mut.ensures.value ∙ c.in_ok-start.ensures.items ∙ c.requires.cover) c.if-not-find_set.true c.find_set.ensures
+
+pub returns : goal.returns
+returns c =
+    let t = c.args.self.now in
+    something_is t.accesses.now t.block.now c.requires.shape c.deref_mut.result.now c.find_set.new.start c.find_set.result
+    (c.deref_mut.ensures.value ∙ c.in_ok-start.ensures.items ∙ c.requires.cover) c.if-not-find_set.false c.find_set.ensures c.in_ok-places_in.field-0
+    (c.in_ok-places_in.ensures ∙ ap (λ s. map (first_place t.block.now) (filter (has s) (candidates t.accesses.now t.block.now)))
+    (c.deref.ensures.value ∙ written c.find_set.new.start c.in_ok-start.start.items c.in_ok-start.start.len (c.find_set.auto.start ∙ c.deref_mut.ensures.len)))
