@@ -89,16 +89,16 @@ settings_for_same args asked limits settings e same = same ∙ ap (settings_for 
 ran_source : (limits : Limits) (words : List (List ℕ)) (asked : Args) (script : List ℕ) (status : ℕ) (db : Database) (steps : ℕ) (out : Sent)
     (files now : Seen) (after : Moment)
     → args_of words ≡ Some asked → length script ≤ longest_script → IsUtf8 script → IsScriptOf (Some asked) files script
-    → (status < 2) ⊎ (status ≡ 4) ⊎ (status ≡ 5) → LoadsScript asked files now
+    → (status < 2) ⊎ (status ≡ 4) ⊎ (status ≡ 5) → LoadsScript asked files now → IsLater files now
     → WalkedFor (Some asked) (settings_for limits asked) (readings_of script) status
     (record { state = db; steps = steps; out = out; files = now }) after
     → HasRun limits words status (record { state = db; steps = steps; out = out; files = files }) after
-ran_source limits words (Script path budget explain) script status db steps out files now after asked fits text is ended loaded walked =
+ran_source limits words (Script path budget explain) script status db steps out files now after asked fits text is ended loaded later walked =
     ran_file limits words path budget explain script status (record { state = db; steps = steps; out = out; files = files }) after now
-    asked fits text is ended loaded walked
-ran_source limits words (Demo seed budget explain) script status db steps out files now after asked fits text is ended loaded walked =
+    asked fits text is ended loaded later walked
+ran_source limits words (Demo seed budget explain) script status db steps out files now after asked fits text is ended loaded later walked =
     ran_demo limits words seed budget explain script status (record { state = db; steps = steps; out = out; files = files }) after now
-    asked is text ended loaded walked
+    asked is text ended loaded later walked
 
 pub ran_over : (limits : Limits) (words : List (List ℕ)) (source : Source) (text : List ℕ) (status : ℕ) (settings : Settings) (db : Database)
     (steps : ℕ) (out : Sent) (files now : Seen) (after : Moment)
@@ -108,7 +108,7 @@ pub ran_over : (limits : Limits) (words : List (List ℕ)) (source : Source) (te
 ran_over limits words source text status settings db steps out files now after is same utf8 ran =
     ran_source limits words source.args text status db steps out files now after is.asked_is
     (subst (λ t. length t ≤ longest_script) (sym same) is.fits) utf8 (subst (λ t. IsScriptOf (Some source.args) files t) (sym same) is.is)
-    ran.statuses is.loaded ran.walked
+    ran.statuses is.loaded is.later ran.walked
 
 pub settings_are_words : (limits : Limits) (words : List (List ℕ)) (asked : Args) (settings : Settings)
     → args_of words ≡ Some asked → settings ≡ settings_for limits asked → settings ≡ settings_of_words limits words

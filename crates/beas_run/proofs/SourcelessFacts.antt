@@ -101,13 +101,15 @@ loaded_said (Some (Demo seed budget explain)) why status before after said loade
 pub ran_nothing : (limits : Limits) (words : List (List ℕ)) (why : NoScript) (status : ℕ) (before after : Moment) → (status ≡ status_of why) ⊎ (status ≡ 5)
     → (demo_seed words ≡ None) ⊎ (status ≡ 5)
     → (before.out.told ≡ true → after.out.bytes ≡ before.out.bytes) → after.steps ≡ before.steps → after.state ≡ before.state
-    → after.out.puts ≡ before.out.puts → HasLoaded (args_of words) (status_of why) before.files after.files → HasRun limits words status before after
-ran_nothing limits words why status before after said none sent steps db puts loaded =
+    → after.out.puts ≡ before.out.puts → HasLoaded (args_of words) (status_of why) before.files after.files → IsLater before.files after.files
+    → HasRun limits words status before after
+ran_nothing limits words why status before after said none sent steps db puts loaded later =
     let early = early_said why status said in
     record {
       script = [];
       readings = [];
       begun = after.files;
+      later = later;
       loaded = loaded_said (args_of words) why status before.files after.files said loaded;
       unread = λ _. refl;
       has = has_none status (args_of words) before.files early.0 early.1;
@@ -163,16 +165,17 @@ some_demo seed e = cc
 ran : (limits : Limits) (words : List (List ℕ)) (asked : Args) (script : List ℕ) (status : ℕ) (before after : Moment) (begun : Seen)
     → args_of words ≡ Some asked
     → (script ≡ [] → before.out.told ≡ true → after.out.bytes ≡ before.out.bytes)
-    → HasScript script status (Some asked) before.files → HasLoaded (Some asked) status before.files begun → (IsWithout status → ⊥)
+    → HasScript script status (Some asked) before.files → HasLoaded (Some asked) status before.files begun → IsLater before.files begun → (IsWithout status → ⊥)
     → WalkedFor (Some asked) (settings_for limits asked) (readings_of script) status (with_files before begun) after
     → HasRun limits words status before after
-ran limits words asked script status before after begun e silent has loaded with walked =
+ran limits words asked script status before after begun e silent has loaded later with walked =
     let none : Settings = record { limits = limits; budget = None; explain = false } in
     let P : Option Args → Type 0 = λ o. WalkedFor o (option_map_or (settings_for limits) o none) (readings_of script) status (with_files before begun) after in
     record {
       script = script;
       readings = readings_of script;
       begun = begun;
+      later = later;
       loaded = subst (λ o. HasLoaded o status before.files begun) (sym e) loaded;
       unread = λ without. absurd (with without);
       has = subst (λ o. HasScript script status o before.files) (sym e) has;
@@ -186,28 +189,28 @@ pub ran_file : (limits : Limits) (words : List (List ℕ)) (path : List ℕ) (bu
     (before after : Moment) (files : Seen)
     → args_of words ≡ Some (Script path budget explain)
     → length script ≤ longest_script → IsUtf8 script → IsContent before.files script path → (status < 2) ⊎ (status ≡ 4) ⊎ (status ≡ 5)
-    → files.loads ≡ raised 1 before.files.loads
+    → files.loads ≡ raised 1 before.files.loads → IsLater before.files files
     → Walked (record { limits = limits; budget = budget; explain = explain }) (readings_of script) status (with_files before files) after
     → HasRun limits words status before after
-ran_file limits words path budget explain script status before after files asked fits text is ended loaded walked =
+ran_file limits words path budget explain script status before after files asked fits text is ended loaded later walked =
     let s : Settings = record { limits = limits; budget = budget; explain = explain } in
     ran limits words (Script path budget explain) script status before after files asked
     (silent_file s script status (with_files before files) after walked)
     (has_read script status (Some (Script path budget explain)) before.files fits text is ended)
-    (inl loaded) (not_without status ended) walked
+    (inl loaded) later (not_without status ended) walked
 
 -- a run over the text of the demonstration that its words ask for
 pub ran_demo : (limits : Limits) (words : List (List ℕ)) (seed : ℕ) (budget : Option ℕ) (explain : Bool) (script : List ℕ) (status : ℕ) (before after : Moment)
     (files : Seen)
     → args_of words ≡ Some (Demo seed budget explain) → script ≡ demo_text seed → IsUtf8 script → (status < 2) ⊎ (status ≡ 4) ⊎ (status ≡ 5)
-    → files ≡ before.files
+    → files ≡ before.files → IsLater before.files files
     → Demonstrated (record { limits = limits; budget = budget; explain = explain }) (readings_of script) status (with_files before files) after
     → HasRun limits words status before after
-ran_demo limits words seed budget explain script status before after files asked is text ended same walked =
+ran_demo limits words seed budget explain script status before after files asked is text ended same later walked =
     ran limits words (Demo seed budget explain) script status before after files asked
     (λ none. absurd (some_demo seed (sym is ∙ none)))
     (has_read script status (Some (Demo seed budget explain)) before.files (fits_demo seed script is) text is ended)
-    (ap (λ (s : Seen). s.loads) same) (not_without status ended) walked
+    (ap (λ (s : Seen). s.loads) same) later (not_without status ended) walked
 
 -- ---- what the words ask for
 

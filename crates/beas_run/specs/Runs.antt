@@ -118,6 +118,8 @@ pub record HasRun (limits : Limits) (words : List (List ℕ)) (status : ℕ) (be
   pub readings : List Reading
   -- the files where the script is there, before its first statement
   pub begun : Seen
+  -- they tell the contents that the files told before
+  pub later : IsLater before.files begun
   pub loaded : HasLoaded (args_of words) status before.files begun
   -- without a script no other file is loaded
   pub unread : IsWithout status → after.files ≡ begun

@@ -62,7 +62,7 @@ returns-in-Err g c =
     let e = c.in-Err.ensures.none in
     let s = c.say.ensures in
     let early = early_said why _ s.status in
-    let run = ran_nothing _ _ why _ _ _ s.status (none_or_five why _ _ s.status e.seedless) (λ _. refl) refl refl refl e.loaded in
+    let run = ran_nothing _ _ why _ _ _ s.status (none_or_five why _ _ s.status e.seedless) (λ _. refl) refl refl refl e.loaded e.later in
     record {
       ran = run;
       cause = record {
