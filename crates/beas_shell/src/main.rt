@@ -16,19 +16,13 @@ use std::sync::ledger::{Blank, Ledger};
 /// The status where memory runs out for the words.
 const NO_MEMORY: u8 = 5;
 
-/// The status where the system doesn't give the words.
+/// The status where the system doesn't give the words, since one isn't UTF-8.
 const NO_WORDS: u8 = 8;
 
-/// The words of the command line, the program's name first, or none where one isn't UTF-8: such words are faulty, and
-/// `run` refuses them as it does no words.
+/// The words of the command line, the program's name first. The system doesn't give them where one isn't UTF-8.
 fn words_of(rt: &HostRuntime) -> io::Result<Vec<String>> {
     let mut words = Vec::new(rt.alloc());
-    let given = match env::args(rt) {
-        Ok(given) => given,
-        Err(why) if why.kind() == ErrorKind::InvalidData => return Ok(words),
-        Err(why) => return Err(why),
-    };
-    for word in given {
+    for word in env::args(rt)? {
         words.push(word)?;
     }
     Ok(words)

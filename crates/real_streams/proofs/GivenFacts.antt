@@ -1,7 +1,7 @@
 -- Parts that were given to a writer one after another.
-use Rattle.std.proofs.Common.{◌≡◌, ◌++◌, ◌-◌, [], ◌∙◌, sym, ap, refl, ℕ, List, Option, Some, None, Result, Ok, Err, take, drop, length, arith}
+use Rattle.std.proofs.Common.{◌≡◌, ◌++◌, ◌-◌, [], ◌∙◌, sym, ap, refl, ℕ, List, Option, Some, None, take, drop, length, arith}
 use Rattle.std.proofs.lemmas.List.{append_assoc, append-nil, take-append-drop, take_all, length-drop}
-use Rattle.std.specs.Io.KnownBytes.{Appends, Keeps, WriteAppends}
+use Rattle.std.specs.Io.KnownBytes.{Appends, Keeps}
 use Rattle.real_streams.specs.Given.{GavePart}
 
 -- the bytes in front of the rest were given
@@ -59,25 +59,3 @@ gave_part_kept None middle now bytes rest gave kept = tt
 gave_part_kept (Some held) None now bytes rest gave kept = absurd gave.given
 gave_part_kept (Some held) (Some more) None bytes rest gave kept = absurd kept
 gave_part_kept (Some held) (Some more) (Some holds) bytes rest gave kept = record { part = gave.front; left = rest; sent = kept ∙ gave.given; cut = gave.cut }
-
-pub keeps_same : (before : Option (List ℕ)) → Keeps before before
-keeps_same None = tt
-keeps_same (Some held) = refl
-
-appends_kept : (before middle now : Option (List ℕ)) (part : List ℕ) → Keeps before middle → Appends middle now part → Appends before now part
-appends_kept None middle now part first second = tt
-appends_kept (Some held) None now part first second = absurd first
-appends_kept (Some held) (Some more) None part first second = absurd second
-appends_kept (Some held) (Some more) (Some last) part first second = second ∙ ap (λ xs. xs ++ part) first
-
-pub keeps_both : (before middle now : Option (List ℕ)) → Keeps before middle → Keeps middle now → Keeps before now
-keeps_both None middle now first second = tt
-keeps_both (Some held) None now first second = absurd first
-keeps_both (Some held) (Some more) None first second = absurd second
-keeps_both (Some held) (Some more) (Some last) first second = second ∙ first
-
--- a write after those that wrote nothing
-pub keeps_appends : {E : Type 0} (before middle now : Option (List ℕ)) (r : Result ℕ E) (bytes : List ℕ) → Keeps before middle → WriteAppends middle now r bytes
-    → WriteAppends before now r bytes
-keeps_appends before middle now (Ok count) bytes first second = appends_kept before middle now (take count bytes) first second
-keeps_appends before middle now (Err why) bytes first second = keeps_both before middle now first second

@@ -3,7 +3,6 @@
 //! tells its bytes, and what such a writer took, the contracts say.
 #![tactic(auto)]
 
-mod interrupted;
 mod real_files;
 mod real_sink;
 

@@ -1,12 +1,10 @@
 // Files of the system, of which nothing is told but counts.
 ghost use Rattle.std.specs.Prelude.{◌≡◌, ◌≢◌, ◌⊎◌, ◌+◌, ◌-◌, ◌^◌, ◌<◌, ◌≤◌, ◌++◌, ℕ, Ok, Err, false, None, length, min, IfOk, IfErr, IfSome, OnErr, IsErrOf};
 ghost use Rattle.std.specs.IoError.{error_kind};
-ghost use Rattle.std.specs.Io.KnownBytes.{IsAtEnd, ReadConsumes};
-ghost use Rattle.std.specs.Io.{ReadsAtMost};
+ghost use Rattle.std.specs.Io.KnownBytes.{IsAtEnd};
 ghost use Rattle.outside.specs.Counts.{raised};
 ghost use Rattle.real_streams.specs.Taken.{Took, TooLongFor};
 
-use crate::interrupted::is_interrupted;
 use beas_core::Bytes;
 use outside::{Files, FilesError};
 use std::alloc::Global;
@@ -67,7 +65,7 @@ impl ReadCounts {
         FilesError::Failed
     }
 
-    /// What an error means: out of memory, or a fault, which is counted.
+    /// What an error means: out of memory, or a fault, which is counted. An interrupted call is a fault.
     fn fault(&mut self, error: &io::Error) -> FilesError
         ensures memory { error_kind error.now ≡ ErrorKind.OutOfMemory → result ≡ FilesError.NoMemory }
         ensures failed { error_kind error.now ≢ ErrorKind.OutOfMemory → result ≡ FilesError.Failed }
@@ -114,7 +112,7 @@ impl ReadCounts {
     {
         let before = self.taken;
         let room = (limit - bytes.len() as u64 + 1).min(piece.len() as u64) as usize;
-        match read_some(source, &mut piece[..room]) {
+        match source.read(&mut piece[..room]) {
             Ok(0) => Ok(Progress::End),
             Ok(count) => {
                 self.taken = before.saturating_add(count as u64);
@@ -178,6 +176,8 @@ impl ReadCounts {
         ensures limit { (l : ℕ) → IsErrOf result (FilesError.TooLong l) → l ≡ limit }
         ensures all_taken { (l : ℕ) → IsErrOf result (FilesError.TooLong l)
             → self.new.taken ≡ min (self.old.taken + limit + 1) (2 ^ 64 - 1) }
+        ensures too_long { IfOk opened (λ source. (l : ℕ) → IsErrOf result (FilesError.TooLong l)
+            → IfSome (S.remaining source) (λ left. limit < length left)) }
         ensures least { self.old.taken ≤ self.new.taken }
         ensures most { self.new.taken ≤ self.old.taken + limit + 1 }
         ensures failed { IsErrOf result FilesError.Failed → self.new.faults ≡ min (self.old.faults + 1) (2 ^ 64 - 1) }
@@ -189,23 +189,6 @@ impl ReadCounts {
             Err(why) => Err(self.fault(&why)),
         }
     }
-}
-
-/// Reads a part. A read that was interrupted is tried again.
-#[tactic(auto, using(crate::proofs::TakenFacts::keeps_same, crate::proofs::TakenFacts::keeps_both, crate::proofs::TakenFacts::keeps_consumes))]
-fn read_some<S: Read>(source: &mut S, room: &mut [u8]) -> io::Result<usize>
-    ensures bound { ReadsAtMost result room.new }
-    ensures bytes { ReadConsumes (S.remaining source.old) (S.remaining source.new) result room.new }
-{
-    // Steps are counted, and so many are never made.
-    'tries: for _ in 0..u64::MAX {
-        match source.read(room) {
-            Ok(count) => return Ok(count),
-            Err(error) if is_interrupted(&error) => {}
-            Err(error) => return Err(error),
-        }
-    }
-    Err(io::Error::from(ErrorKind::Interrupted))
 }
 
 /// Room that pieces are read into.

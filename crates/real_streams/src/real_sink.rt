@@ -1,13 +1,11 @@
 // Writers of the system, of which nothing is told but a count.
-ghost use Rattle.std.specs.Prelude.{◌≡◌, ◌+◌, ◌-◌, ◌^◌, ◌<◌, ◌≤◌, [], false, Err, length, min, take, IfOk, OnOk, OnErr, IsErrOf};
-ghost use Rattle.std.specs.Io.KnownBytes.{Appends, Keeps, WriteAppends};
-ghost use Rattle.std.specs.Io.{WritesAtMost};
+ghost use Rattle.std.specs.Prelude.{◌≡◌, ◌+◌, ◌-◌, ◌^◌, ◌<◌, ◌≤◌, [], false, Err, length, min, take, IfOk, OnOk, OnErr};
+ghost use Rattle.std.specs.Io.KnownBytes.{Appends, Keeps};
 ghost use Rattle.outside.specs.Counts.{raised};
 ghost use Rattle.real_streams.specs.Given.{GavePart};
 
-use crate::interrupted::is_interrupted;
 use outside::{Sink, SinkError};
-use std::io::{self, ErrorKind, Write};
+use std::io::Write;
 
 /// A writer of the system. The bytes that it took aren't told.
 #[derive(Debug, Drop)]
@@ -56,7 +54,8 @@ impl<W: Write> RealSink<W> {
         SinkError::Failed
     }
 
-    /// Writes a part of the bytes, at least one, and says how many they were.
+    /// Writes a part of the bytes, at least one, and says how many they were. Any error of the system is a fault, an
+    /// interrupted call among them.
     fn write_part(&mut self, bytes: &[u8]) -> Result<usize, SinkError>
         requires { 0 < length bytes.now }
         ensures some { IfOk result (λ count. 0 < count) }
@@ -69,29 +68,12 @@ impl<W: Write> RealSink<W> {
             × (self.new.faults ≡ min (self.old.faults + 1) (2 ^ 64 - 1))) }
         ensures puts { self.new.puts ≡ self.old.puts }
     {
-        match write_some(&mut self.writer, bytes) {
+        match self.writer.write(bytes) {
             Ok(0) => Err(self.fail()),
             Ok(count) => Ok(count),
             Err(_) => Err(self.fail()),
         }
     }
-}
-
-/// Writes a part of the bytes, or none. A write that was interrupted is tried again.
-#[tactic(auto, using(crate::proofs::GivenFacts::keeps_same, crate::proofs::GivenFacts::keeps_both, crate::proofs::GivenFacts::keeps_appends))]
-fn write_some<W: Write>(writer: &mut W, bytes: &[u8]) -> io::Result<usize>
-    ensures bound { WritesAtMost result bytes.now }
-    ensures bytes { WriteAppends (W.contents writer.old) (W.contents writer.new) result bytes.now }
-{
-    // Steps are counted, and so many are never made.
-    'tries: for _ in 0..u64::MAX {
-        match writer.write(bytes) {
-            Ok(count) => return Ok(count),
-            Err(error) if is_interrupted(&error) => {}
-            Err(error) => return Err(error),
-        }
-    }
-    Err(io::Error::from(ErrorKind::Interrupted))
 }
 
 impl<W: Write> Sink for RealSink<W> {
