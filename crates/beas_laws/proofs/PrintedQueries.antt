@@ -146,7 +146,7 @@ head-again a distinct star rs (select_output {a = x} {b = y} d o) l =
       clean = clean-append (clean-keyword (codes "SELECT") refl d_again.clean) o_again.clean;
     }
 
-abbrev body_lexemes : Body → List Lexeme
+abbrev pub body_lexemes : Body → List Lexeme
 body_lexemes body = body_of body.0 body.1
 
 abbrev as_body : List FromItem → List Cond → Body
@@ -158,7 +158,7 @@ plain-body items conditions =
     ap (λ is. as_body is (flat_map (λ s. s.1) (map lone items) ++ conditions)) (lone-items items)
     ∙ ap (λ cs. as_body items (cs ++ conditions)) (lone-conditions items)
 
-body-again : (a : List Symbol) (body : Body) → IsBody a body → AreLexical a → Again IsBody body_lexemes body
+pub body-again : (a : List Symbol) (body : Body) → IsBody a body → AreLexical a → Again IsBody body_lexemes body
 body-again a body (from_sources {a = z} {b = v} {ss = ss} {cs = cs} s w) l =
     let sources = sources-again s (front IsLexical (FROM ∷ z) v l).1 in
     let f_again : Again (Commas (λ s i. IsSource s (lone i))) (comma_list item_of) (sources.first ∷ sources.others) =
@@ -175,7 +175,7 @@ body-again a body (from_sources {a = z} {b = v} {ss = ss} {cs = cs} s w) l =
     } in
     subst (λ is. Again IsBody body_lexemes (as_body is conditions)) (sym sources.items) again
 
-block-again : (a : List Symbol) (b : BlockTree) → IsBlock a b → AreLexical a → Again IsBlock block_lexemes b
+pub block-again : (a : List Symbol) (b : BlockTree) → IsBlock a b → AreLexical a → Again IsBlock block_lexemes b
 block-again a b (select_block {a = x} {b = y} {distinct = distinct} {star = star} {rs = rs} {body = body} h k) l =
     let h_again = head-again x distinct star rs h (front IsLexical x y l) in
     let k_again = body-again y body k (back IsLexical x y l) in

@@ -4,19 +4,23 @@ use Rattle.std.specs.Prelude.{codes, map}
 use Rattle.std.proofs.lemmas.List.{map-append}
 use Rattle.beas_core.specs.declared.schema.AccessSpec.{AccessSpec}
 use Rattle.beas_core.specs.declared.schema.Column.{Column}
+use Rattle.sql_tree.specs.declared.tree.ColumnRef.{ColumnRef}
+use Rattle.sql_tree.specs.declared.tree.GroupItem.{GroupItem}
+use Rattle.sql_tree.specs.declared.tree.GroupItem.TheVariants.{Count, Sum, Least, Greatest}
 use Rattle.sql_tree.specs.declared.tree.Literal.{Literal}
 use Rattle.sql_tree.specs.declared.tree.Statement.{Statement}
-use Rattle.sql_tree.specs.declared.tree.Statement.TheVariants.{CreateTable, CreateAccess, Insert, DiscoverGroup}
-use Rattle.sql_tree.specs.Canonical.{Lexeme, keyword, sign, names_of, comma_list, in_parentheses, column_of, tuple_of, limit_of, lexemes_of}
+use Rattle.sql_tree.specs.declared.tree.Statement.TheVariants.{CreateTable, CreateAccess, Insert, DiscoverGroup, Grouped}
+use Rattle.sql_tree.specs.Canonical.{Lexeme, keyword, sign, names_of, comma_list, in_parentheses, column_of, tuple_of, ref_of, group_item_of, limit_of, lexemes_of}
 use Rattle.sql_tree.specs.Symbols.{Symbol, word, number}
-use Rattle.sql_tree.specs.Trees.{Tree}
-use Rattle.sql_tree.specs.Grammar.{Commas, IsId, id, IsMaybeIds, IsColumn, IsTuple, Spells, create_table, create_access, drop_access, load, insert, delete, discover_group, discover_pairs, over_query, IsOverQuery, select, explain, IsQuery, wants_distinct}
-use Rattle.sql_tree.specs.Words.{ACCESS, CLOSE, CREATE, DISCOVER, FETCH, LIMIT, ON, OPEN, TABLE}
+use Rattle.sql_tree.specs.Trees.{Tree, Block}
+use Rattle.sql_tree.specs.Grouping.{grouped_block}
+use Rattle.sql_tree.specs.Grammar.{Commas, IsId, id, IsMaybeIds, IsColumn, IsTuple, IsRef, Body, IsBody, IsGroupItem, shared, counted, summed, least, greatest, Spells, create_table, create_access, drop_access, load, insert, delete, discover_group, discover_pairs, grouped, over_query, IsOverQuery, select, explain, scan_ok, specialise, wants_distinct}
+use Rattle.sql_tree.specs.Words.{ACCESS, BY, CLOSE, COUNT, CREATE, DISCOVER, DISTINCT, FETCH, GROUP, LIMIT, MAX, MIN, ON, OPEN, SELECT, SUM, TABLE}
 use Rattle.beas_laws.proofs.Clean.{symbol, AreClean, none, name_then, digits_then, content_then, clean-append}
 use Rattle.beas_laws.proofs.Lexicals.{IsNameText, IsDigitText, IsLexical, AreLexical, front, back}
-use Rattle.beas_laws.proofs.PrintedParts.{Again, clean-keyword, closed, clean-closed, commas-again, ids-again, maybe_ids-again, column-again, tuple-again}
+use Rattle.beas_laws.proofs.PrintedParts.{Again, clean-keyword, closed, clean-closed, commas-again, ids-again, maybe_ids-again, column-again, tuple-again, ref-again}
 use Rattle.beas_laws.proofs.PrintedConditions.{where-again, where_again}
-use Rattle.beas_laws.proofs.PrintedQueries.{query-again}
+use Rattle.beas_laws.proofs.PrintedQueries.{body_lexemes, body-again, block-again, query-again}
 
 -- key and fetched names
 key-shape : (ks fs : List Lexeme) → map symbol ((ks ++ sign (codes ")") ∷ []) ++ keyword (codes "FETCH") ∷ in_parentheses fs)
@@ -86,11 +90,66 @@ insert-again t b rows i h tuples l =
           (clean-keyword (codes "INTO") refl (name_then h (clean-keyword (codes "VALUES") refl again.clean)));
     }
 
-over-again : {words a : List Symbol} {t : Tree} {s : Statement} → IsOverQuery words t s → IsQuery a t → wants_distinct t ≡ false → AreLexical (words ++ a)
-    → SpellsAgain s
-over-again select h e l = let again = query-again h l in record { spelled = over_query select again.spelled e; clean = again.clean }
-over-again explain h e l = let again = query-again h l.1 in
-    record { spelled = over_query explain again.spelled e; clean = clean-keyword (codes "EXPLAIN") refl again.clean }
+over-again : {a : List Symbol} {t : Tree} {s : Statement} → IsOverQuery a t s → wants_distinct t ≡ false → AreLexical a → SpellsAgain s
+over-again (select h) e l = let again = query-again h l in record { spelled = over_query (select again.spelled) e; clean = again.clean }
+over-again (explain h) e l = let again = query-again h l.1 in
+    record { spelled = over_query (explain again.spelled) e; clean = clean-keyword (codes "EXPLAIN") refl again.clean }
+over-again (scan_ok h) e l = let again = query-again h l.1.1 in record {
+  spelled = over_query (scan_ok again.spelled) e;
+  clean = clean-keyword (codes "SCAN") refl (clean-keyword (codes "OK") refl again.clean);
+}
+over-again (specialise {a} {b} h) e l = let again = block-again a b h l.1 in
+    record { spelled = over_query (specialise again.spelled) e; clean = clean-keyword (codes "SPECIALISE") refl again.clean }
+
+-- ---- grouped statements
+
+counted-again : (a : List Symbol) (r : ColumnRef) → IsRef a r → AreLexical a → Again IsGroupItem group_item_of (Count r)
+counted-again a r h l = let again = ref-again a r h l in record {
+  spelled = subst (λ b. IsGroupItem (COUNT ∷ OPEN ∷ DISTINCT ∷ b) (Count r)) (sym (closed (ref_of r))) (counted again.spelled);
+  clean = clean-keyword (codes "COUNT") refl (clean-closed (clean-keyword (codes "DISTINCT") refl again.clean));
+}
+
+summed-again : (a : List Symbol) (r : ColumnRef) → IsRef a r → AreLexical a → Again IsGroupItem group_item_of (Sum r)
+summed-again a r h l = let again = ref-again a r h l in record {
+  spelled = subst (λ b. IsGroupItem (SUM ∷ OPEN ∷ DISTINCT ∷ b) (Sum r)) (sym (closed (ref_of r))) (summed again.spelled);
+  clean = clean-keyword (codes "SUM") refl (clean-closed (clean-keyword (codes "DISTINCT") refl again.clean));
+}
+
+least-again : (a : List Symbol) (r : ColumnRef) → IsRef a r → AreLexical a → Again IsGroupItem group_item_of (Least r)
+least-again a r h l = let again = ref-again a r h l in record {
+  spelled = subst (λ b. IsGroupItem (MIN ∷ OPEN ∷ b) (Least r)) (sym (closed (ref_of r))) (least again.spelled);
+  clean = clean-keyword (codes "MIN") refl (clean-closed again.clean);
+}
+
+greatest-again : (a : List Symbol) (r : ColumnRef) → IsRef a r → AreLexical a → Again IsGroupItem group_item_of (Greatest r)
+greatest-again a r h l = let again = ref-again a r h l in record {
+  spelled = subst (λ b. IsGroupItem (MAX ∷ OPEN ∷ b) (Greatest r)) (sym (closed (ref_of r))) (greatest again.spelled);
+  clean = clean-keyword (codes "MAX") refl (clean-closed again.clean);
+}
+
+group_item-again : (a : List Symbol) (i : GroupItem) → IsGroupItem a i → AreLexical a → Again IsGroupItem group_item_of i
+group_item-again a i (shared {r = r} h) l = let again = ref-again a r h l in record { spelled = shared again.spelled; clean = again.clean }
+group_item-again a i (counted {a = x} {r = r} h) l = counted-again x r h (front IsLexical x (CLOSE ∷ []) l.1.1.1)
+group_item-again a i (summed {a = x} {r = r} h) l = summed-again x r h (front IsLexical x (CLOSE ∷ []) l.1.1.1)
+group_item-again a i (least {a = x} {r = r} h) l = least-again x r h (front IsLexical x (CLOSE ∷ []) l.1.1)
+group_item-again a i (greatest {a = x} {r = r} h) l = greatest-again x r h (front IsLexical x (CLOSE ∷ []) l.1.1)
+
+grouped-shape : (i b k : List Lexeme) → map symbol (keyword (codes "SELECT") ∷ i ++ b ++ keyword (codes "GROUP") ∷ keyword (codes "BY") ∷ k)
+    ≡ SELECT ∷ map symbol i ++ map symbol b ++ GROUP ∷ BY ∷ map symbol k
+grouped-shape i b k =
+    map-append symbol (keyword (codes "SELECT") ∷ i ++ b) (keyword (codes "GROUP") ∷ keyword (codes "BY") ∷ k)
+    ∙ ap (λ t. (SELECT ∷ t) ++ GROUP ∷ BY ∷ map symbol k) (map-append symbol i b)
+
+grouped-again : (items : List GroupItem) (body : Body) (keys : List ColumnRef) → Again (Commas IsGroupItem) (comma_list group_item_of) items
+    → Again IsBody body_lexemes body → Again (Commas IsRef) (comma_list ref_of) keys
+    → SpellsAgain (Grouped items keys (Block (grouped_block items keys body.0 body.1)))
+grouped-again items body keys items_again body_again keys_again = record {
+  spelled = subst (λ a. Spells a (Grouped items keys (Block (grouped_block items keys body.0 body.1))))
+      (sym (grouped-shape (comma_list group_item_of items) (body_lexemes body) (comma_list ref_of keys)))
+      (grouped items_again.spelled body_again.spelled keys_again.spelled);
+  clean = clean-append (clean-append (clean-keyword (codes "SELECT") refl items_again.clean) body_again.clean)
+      (clean-keyword (codes "GROUP") refl (clean-keyword (codes "BY") refl keys_again.clean));
+}
 
 -- The lexemes of a statement that lexical tokens spell.
 pub statement-again : (a : List Symbol) (s : Statement) → Spells a s → AreLexical a → Again Spells lexemes_of s
@@ -122,4 +181,9 @@ statement-again a s (discover_group {b = b} {c = c} {t = t} {key = key} {fetched
     (ids-again k (back IsLexical b (CLOSE ∷ FETCH ∷ OPEN ∷ c) ahead).1.1.1)
 statement-again a s (discover_pairs {limit = limit} (id r)) l = record
     { spelled = discover_pairs (id r); clean = clean-keyword (codes "DISCOVER") refl (name_then l.1.0 (clean-limit limit l.1.1.1.0)) }
-statement-again a s (over_query o h e) l = over-again o h e l
+statement-again a s (grouped {a = x} {b = y} {c = z} {items = items} {body = body} {keys = keys} i k h) l =
+    let ahead = front IsLexical (x ++ y) (GROUP ∷ BY ∷ z) l.1 in
+    let behind = back IsLexical (x ++ y) (GROUP ∷ BY ∷ z) l.1 in
+    grouped-again items body keys (commas-again group_item-again i (front IsLexical x y ahead)) (body-again y body k (back IsLexical x y ahead))
+    (commas-again ref-again h behind.1.1)
+statement-again a s (over_query o e) l = over-again o e l

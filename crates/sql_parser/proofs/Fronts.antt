@@ -6,13 +6,14 @@ use Rattle.sql_tree.specs.declared.tree.FromItem.{FromItem}
 use Rattle.sql_tree.specs.Grammar.{Source}
 use Rattle.sql_tree.specs.Symbols.{Symbol}
 use Rattle.sql_tree.specs.Trees.{Tree}
-use Rattle.sql_parser.specs.declared.reader.ReadError.{ReadError}
-use Rattle.sql_parser.specs.declared.reader.ReadError.TheVariants as errors
+use Rattle.token_reader.specs.declared.reader.ReadError.{ReadError}
+use Rattle.token_reader.specs.declared.reader.ReadError.TheVariants as errors
 use Rattle.sql_parser.specs.declared.queries.Front.{Front}
 use Rattle.sql_parser.specs.declared.queries.Front.TheVariants.{Nothing, BeforeUnion, BeforeExcept}
 use Rattle.sql_parser.specs.Fronts.{joined_to}
 use Rattle.sql_tree.specs.Words.{COMMA, AND, UNION, EXCEPT}
-use Rattle.sql_parser.specs.Reading.{◌>>=◌, Adds, starts, rest_of, after, after_both, read_condition, read_conditions, read_source, read_sources, starts_join, read_join, read_joins, read_term, read_query}
+use Rattle.token_reader.specs.Reading.{◌>>=◌, starts, rest_of}
+use Rattle.sql_parser.specs.Reading.{Adds, after, after_both, read_condition, read_conditions, read_source, read_sources, starts_join, read_join, read_joins, read_term, read_query}
 
 -- a call that fails, where the whole fails with it
 pub adding_fails : {X Y : Type 0} (e : ReadError) (new : X) (after : Y) (rest : List Symbol) (part : Option (X × List Symbol))

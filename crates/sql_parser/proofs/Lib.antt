@@ -4,9 +4,12 @@ pub mod Openings
 pub mod Fronts
 pub mod SpelledIsRead
 pub mod QueryIsRead
+pub mod WithoutGroup
+pub mod GroupedIsRead
 pub mod StatementIsRead
 pub mod ReadIsSpelled
 pub mod QueryIsSpelled
+pub mod GroupedIsSpelled
 pub mod StatementIsSpelled
 pub mod Parsing
 pub mod Depths

@@ -1,10 +1,11 @@
 -- Reading in a loop: what was read before, and what is still read.
 use Rattle.std.proofs.Common.{◌≡◌, ℕ, suc, ◌-◌, ◌<◌, true, false, List, [], ◌∷◌, ◌++◌, length, Option, Some, None, Err, refl, sym, ap, ◌∙◌, append_assoc, arith}
 use Rattle.sql_tree.specs.Symbols.{Symbol}
-use Rattle.sql_parser.specs.declared.reader.ReadError.{ReadError}
-use Rattle.sql_parser.specs.declared.reader.ReadError.TheVariants as errors
+use Rattle.token_reader.specs.declared.reader.ReadError.{ReadError}
+use Rattle.token_reader.specs.declared.reader.ReadError.TheVariants as errors
 use Rattle.sql_tree.specs.Words.{COMMA}
-use Rattle.sql_parser.specs.Reading.{◌>>=◌, GivesWithRest, starts, rest_of, after, read_commas}
+use Rattle.token_reader.specs.Reading.{◌>>=◌, GivesWithRest, starts, rest_of}
+use Rattle.sql_parser.specs.Reading.{after, read_commas}
 
 after-some : {X : Type 0} (front xs : List X) (rest : List Symbol) → after front (Some (xs, rest)) ≡ Some (front ++ xs, rest)
 unfolding after

@@ -3,7 +3,8 @@ use Rattle.std.proofs.Common.{◌≡◌, ◌≤◌, ◌<◌, ℕ, ◌+◌, true,
 use Rattle.std.proofs.lemmas.List.{at_drop_more, drop_all}
 use Rattle.sql_tree.specs.Symbols.{Symbol}
 use Rattle.sql_parser.specs.declared.statements.Opening.{Opening}
-use Rattle.sql_parser.specs.Reading.{words_of, read_opened, begins_with, after_all, read_first, read_select}
+use Rattle.token_reader.specs.Reading.{begins_with, after_all}
+use Rattle.sql_parser.specs.Reading.{words_of, read_opened, read_first, read_selection}
 
 pub first-passes : (o : Opening) (os : List Opening) (tokens : List Symbol) → begins_with (words_of o) tokens ≡ false
     → read_first (o ∷ os) tokens ≡ read_first os tokens
@@ -23,6 +24,6 @@ module _ (os : List Opening) (i : ℕ) (other : Opening) (tokens : List Symbol) 
       → read_first (drop i os) tokens ≡ read_opened (get_or os i other) (after_all (words_of (get_or os i other)) tokens)
   taken e = at_drop_more (λ ys. read_first ys tokens) os i other within ∙ first-stands (get_or os i other) (drop (i + 1) os) tokens e
 
-pub none_left : (os : List Opening) (i : ℕ) (tokens : List Symbol) → length os ≤ i → read_first (drop i os) tokens ≡ read_select tokens
+pub none_left : (os : List Opening) (i : ℕ) (tokens : List Symbol) → length os ≤ i → read_first (drop i os) tokens ≡ read_selection tokens
 unfolding read_first
 none_left os i tokens le = ap (λ ys. read_first ys tokens) (drop_all i os le)

@@ -10,7 +10,7 @@ use Rattle.beas_core.specs.declared.errors.Fail.TheVariants.{Refused, NoMemory}
 use Rattle.beas_core.specs.declared.refusal.Refusal.{Refusal}
 use Rattle.beas_core.specs.declared.refusal.Refusal.TheVariants as refusal
 use Rattle.sql_tree.specs.Symbols.{Symbol, depth}
-use Rattle.sql_tree.specs.Grammar.{Spells, create_table, create_access, drop_access, load, insert, delete, discover_group, discover_pairs, over_query, IsOverQuery, select, explain, SpellsLone, lone, wants_distinct}
+use Rattle.sql_tree.specs.Grammar.{Spells, create_table, create_access, drop_access, load, insert, delete, discover_group, discover_pairs, grouped, over_query, IsOverQuery, select, explain, scan_ok, specialise, SpellsLone, lone, wants_distinct}
 use Rattle.beas_core.specs.Results.{Gives}
 use Rattle.sql_parser.specs.Reading.{read_statement}
 use Rattle.sql_parser.specs.Outcome.{Reading, Parses, SpellsNothing, lacks_distinct, with_distinct, to_the_end, found_reading}
@@ -23,9 +23,11 @@ any-spelled tokens s e =
     let t = statement-spelled tokens s [] e in
     subst (λ a. SpellsAny a s) (sym (append-nil t.front) ∙ sym t.parts) t.spelled
 
-over-lacks : {words : List Symbol} {t : Tree} {s : Statement} → IsOverQuery words t s → lacks_distinct s ≡ wants_distinct t
-over-lacks select = refl
-over-lacks explain = refl
+over-lacks : {a : List Symbol} {t : Tree} {s : Statement} → IsOverQuery a t s → lacks_distinct s ≡ wants_distinct t
+over-lacks (select q) = refl
+over-lacks (explain q) = refl
+over-lacks (scan_ok q) = refl
+over-lacks (specialise b) = refl
 
 spells-no_lack : {a : List Symbol} {s : Statement} → Spells a s → lacks_distinct s ≡ false
 spells-no_lack (create_table i h) = refl
@@ -36,15 +38,16 @@ spells-no_lack (insert i h) = refl
 spells-no_lack (delete i w) = refl
 spells-no_lack (discover_group i k f) = refl
 spells-no_lack (discover_pairs i) = refl
-spells-no_lack (over_query o q e) = over-lacks o ∙ e
+spells-no_lack (grouped i k h) = refl
+spells-no_lack (over_query o e) = over-lacks o ∙ e
 
 any-whole : {a : List Symbol} {s : Statement} → SpellsAny a s → lacks_distinct s ≡ false → Spells a s
 any-whole (whole h) e = h
-any-whole (lacking o q l) e = absurd (false≢true (sym e ∙ over-lacks o ∙ l))
+any-whole (lacking o l) e = absurd (false≢true (sym e ∙ over-lacks o ∙ l))
 
 any-lone : {a : List Symbol} {s : Statement} → SpellsAny a s → lacks_distinct s ≡ true → SpellsLone a
 any-lone (whole h) e = absurd (false≢true (sym (spells-no_lack h) ∙ e))
-any-lone (lacking o q l) e = lone o q l
+any-lone (lacking o l) e = lone o l
 
 -- ---- from what is read
 
@@ -55,7 +58,7 @@ pub lone_is_spelled : (tokens : List Symbol) (s : Statement) → read_statement 
 lone_is_spelled tokens s e l = any-lone (any-spelled tokens s e) l
 
 lone-lacks : (tokens : List Symbol) → SpellsLone tokens → (s : Statement) × (read_statement tokens ≡ Some (s, [])) × (lacks_distinct s ≡ true)
-lone-lacks tokens (lone {s = s} o q l) = (s, over-reads o q, over-lacks o ∙ l)
+lone-lacks tokens (lone {s = s} o l) = (s, over-reads o, over-lacks o ∙ l)
 
 pub nothing_is_spelled : (tokens : List Symbol) → ((s : Statement) → read_statement tokens ≡ Some (s, []) → ⊥) → SpellsNothing tokens
 nothing_is_spelled tokens h = record { no_statement = λ s k. h s (spelled-reads k); no_lone = λ k. let l = lone-lacks tokens k in h l.0 l.1 }

@@ -18,7 +18,8 @@ use Rattle.sql_parser.specs.declared.blocks.Head.{Head}
 use Rattle.sql_parser.specs.declared.queries.Front.{Front}
 use Rattle.sql_parser.specs.declared.queries.Front.TheVariants.{Nothing, BeforeUnion, BeforeExcept}
 use Rattle.sql_parser.specs.Fronts.{joined_to}
-use Rattle.sql_parser.specs.Reading.{starts, rest_of, starts_id, read_ref, read_condition, read_conditions, read_where, read_alias, read_item, read_joined, read_crossed, starts_join, read_join, read_joins, read_source, read_sources, read_output, after_distinct, read_head, read_body, read_block, read_block_term, read_term, read_query, read_whole_query}
+use Rattle.token_reader.specs.Reading.{starts, rest_of, starts_id}
+use Rattle.sql_parser.specs.Reading.{read_ref, read_condition, read_conditions, read_where, read_alias, read_item, read_joined, read_crossed, starts_join, read_join, read_joins, read_source, read_sources, read_output, after_distinct, read_head, read_body, read_block, read_block_term, read_term, read_query, read_whole_query}
 use Rattle.sql_parser.proofs.SpelledIsRead.{id-reads, id-starts, id-no_word, id-some, list-reads, commas-start, closed-reads, NoDot, ref-reads, ref-some, ref-no_word, ref-no_mark, side-no_open, simple-compare, simple-range, condition-simple, condition-some, three}
 
 condition-closed : (n : ℕ) (a : List Symbol) (cs : List Cond) (rest : List Symbol) → read_conditions n (a ++ CLOSE ∷ rest) ≡ Some (cs, CLOSE ∷ rest)
@@ -104,7 +105,7 @@ unfolding starts_id
 mark-no_name m rest = refl
 
 -- a reserved word that is none of those that go on with a source ends it
-word-ends : (w : List ℕ) (rest : List Symbol) → is_reserved w ≡ true → bytes_eq (codes "and") w ≡ false → bytes_eq (codes "as") w ≡ false
+pub word-ends : (w : List ℕ) (rest : List Symbol) → is_reserved w ≡ true → bytes_eq (codes "and") w ≡ false → bytes_eq (codes "as") w ≡ false
     → bytes_eq (codes "join") w ≡ false → bytes_eq (codes "inner") w ≡ false → bytes_eq (codes "cross") w ≡ false → SourceEnds (word w ∷ rest)
 unfolding starts starts_join
 word-ends w rest r a s j i c = record { dot = refl; and_ = a; alias_ = s; name = no_name w rest r; join = rw (j, i) c }
@@ -343,7 +344,7 @@ sources-read (suc n) d ss (comma {a = a} {b = b} {x = s} {xs = ts} h hs) le rest
 
 -- ---- blocks
 
-comma-no_dot : (rest : List Symbol) → NoDot (COMMA ∷ rest)
+pub comma-no_dot : (rest : List Symbol) → NoDot (COMMA ∷ rest)
 unfolding starts
 comma-no_dot rest = refl
 
@@ -401,7 +402,7 @@ body-reads (from_sources {a = a} {b = b} {ss = ss} {cs = cs} s w) rest ends =
     (sources-read (length (a ++ (b ++ rest))) a ss s fits (b ++ rest) (where-ends w rest ends.source) (where-no_comma w rest ends.comma))
     (where-reads w rest ends.source.dot ends.source.and_ ends.where_)
 
-body-no : {a : List Symbol} {b : Body} → IsBody a b → (rest : List Symbol) → NoDot (a ++ rest) × Never COMMA (a ++ rest)
+pub body-no : {a : List Symbol} {b : Body} → IsBody a b → (rest : List Symbol) → NoDot (a ++ rest) × Never COMMA (a ++ rest)
 unfolding starts
 body-no (from_sources s w) rest = (refl, refl)
 
@@ -410,7 +411,7 @@ block-steps : (tokens next : List Symbol) (head : Head) (body : Body) (rest : Li
 unfolding read_block
 block-steps tokens next head body rest h k = rw (h, k) refl
 
-block-reads : {a : List Symbol} {b : BlockTree} → IsBlock a b → (rest : List Symbol) → BlockEnds rest → read_block (a ++ rest) ≡ Some (b, rest)
+pub block-reads : {a : List Symbol} {b : BlockTree} → IsBlock a b → (rest : List Symbol) → BlockEnds rest → read_block (a ++ rest) ≡ Some (b, rest)
 block-reads (select_block {a = a} {b = b} {distinct = distinct} {star = star} {rs = rs} {body = body} h k) rest ends =
     let no = body-no k rest in
     ap read_block (append_assoc a b rest)
@@ -420,7 +421,7 @@ block-reads (select_block {a = a} {b = b} {distinct = distinct} {star = star} {r
 block-some : {a : List Symbol} {b : BlockTree} → IsBlock a b → 0 < length a
 block-some (select_block {b = body} (select_output {a = a} {b = b} h o) k) = omega (arith, length-append (SELECT ∷ a ++ b) body, length-append (SELECT ∷ a) b)
 
-block-no : (s : Symbol) → starts s (SELECT ∷ []) ≡ false → {a : List Symbol} {b : BlockTree} → IsBlock a b → (rest : List Symbol) → starts s (a ++ rest) ≡ false
+pub block-no : (s : Symbol) → starts s (SELECT ∷ []) ≡ false → {a : List Symbol} {b : BlockTree} → IsBlock a b → (rest : List Symbol) → starts s (a ++ rest) ≡ false
 unfolding starts
 block-no s e (select_block (select_output h o) k) rest = e
 

@@ -15,7 +15,8 @@ use Rattle.sql_parser.specs.declared.blocks.Head.{Head}
 use Rattle.sql_parser.specs.declared.queries.Front.{Front}
 use Rattle.sql_parser.specs.declared.queries.Front.TheVariants.{Nothing, BeforeUnion, BeforeExcept}
 use Rattle.sql_parser.specs.Fronts.{joined_to}
-use Rattle.sql_parser.specs.Reading.{◌>>=◌, expect, starts, rest_of, starts_id, read_id, read_list, then_close, read_ref, read_conditions, read_where, read_alias, read_item, read_joined, read_crossed, starts_join, read_join, read_joins, read_source, read_sources, read_output, after_distinct, read_head, read_body, read_block, read_block_term, read_term, read_query, read_whole_query}
+use Rattle.token_reader.specs.Reading.{◌>>=◌, expect, starts, rest_of, starts_id, read_id}
+use Rattle.sql_parser.specs.Reading.{read_list, then_close, read_ref, read_conditions, read_where, read_alias, read_item, read_joined, read_crossed, starts_join, read_join, read_joins, read_source, read_sources, read_output, after_distinct, read_head, read_body, read_block, read_block_term, read_term, read_query, read_whole_query}
 use Rattle.sql_parser.proofs.ReadIsSpelled.{Took, then_parts, read_as, some_is, none_is, bind-inv, pick-inv, took_as, starts-inv, expect-inv, closed-inv, id-spelled, commas-spelled, ref-spelled, conditions-spelled}
 
 pub where-spelled : (tokens : List Symbol) (cs : List Cond) (rest : List Symbol) → read_where tokens ≡ Some (cs, rest) → Took IsWhere tokens cs rest
@@ -266,7 +267,7 @@ body-spelled tokens b rest e =
       spelled = body-made t.spelled u.spelled;
     }) w.2
 
-block-spelled : (tokens : List Symbol) (b : BlockTree) (rest : List Symbol) → read_block tokens ≡ Some (b, rest) → Took IsBlock tokens b rest
+pub block-spelled : (tokens : List Symbol) (b : BlockTree) (rest : List Symbol) → read_block tokens ≡ Some (b, rest) → Took IsBlock tokens b rest
 unfolding read_block
 block-spelled tokens b rest e =
     let h = bind-inv (read_head tokens) _ (b, rest) e in

@@ -19,7 +19,8 @@ use Rattle.beas_core.specs.Spelling.{is_name}
 use Rattle.sql_tree.specs.Symbols.{Symbol, word, number, quoted, mark}
 use Rattle.sql_tree.specs.Grammar.{Commas, last, comma, IsId, id, IsMaybeIds, no_ids, ids, IsColumn, integer, int, text, IsLiteral, plain, positive, negative, between_quotes, IsTuple, tuple, IsRef, bare, dotted, IsSide, placed, written, IsSign, equal, differs, not_equal, less, at_most, more, at_least, is_literal, signed_literal, IsCondition, comparison, range, parentheses, IsConditions, last_condition, conjunction}
 use Rattle.sql_tree.specs.Words.{AND, BETWEEN, INT, INTEGER, TEXT, OPEN, CLOSE, COMMA, DOT, PLUS, MINUS}
-use Rattle.sql_parser.specs.Reading.{◌>>=◌, same, expect, starts, rest_of, starts_id, read_id, read_number, read_quoted, read_commas, read_list, then_close, read_maybe_ids, read_kind, read_column, read_signed, starts_quoted, read_literal, read_tuple, read_ref, read_side, sign_of, read_sign, read_range, read_comparison, read_simple, read_condition, read_conditions}
+use Rattle.token_reader.specs.Reading.{◌>>=◌, same, expect, starts, rest_of, begins_with, after_all, starts_id, read_id, read_number, read_quoted, starts_quoted, sign_of, read_sign}
+use Rattle.sql_parser.specs.Reading.{read_commas, read_list, then_close, read_maybe_ids, read_kind, read_column, read_signed, read_literal, read_tuple, read_ref, read_side, read_range, read_comparison, read_simple, read_condition, read_conditions}
 
 -- what was taken from the front of the tokens
 pub record Took {X : Type 0} (Spelled : List Symbol → X → Type 0) (tokens : List Symbol) (x : X) (rest : List Symbol) : Type 0 where
@@ -68,6 +69,15 @@ pub starts-inv : (s : Symbol) (tokens : List Symbol) → starts s tokens ≡ tru
 unfolding starts rest_of
 starts-inv s [] e = absurd (false≢true e)
 starts-inv s (t ∷ rest) e = ap (λ u. u ∷ rest) (sym (same-inv s t e))
+
+pub begins-inv : (words tokens : List Symbol) → begins_with words tokens ≡ true → tokens ≡ words ++ after_all words tokens
+unfolding begins_with after_all
+begins-inv [] tokens e = refl
+begins-inv (w ∷ ws) tokens e =
+    elim (pick-inv (starts w tokens) (begins_with ws (rest_of tokens)) false true e) [
+      | inl k ↦ starts-inv w tokens k.0 ∙ ap (λ r. w ∷ r) (begins-inv ws (rest_of tokens) k.1)
+      | inr k ↦ absurd (false≢true k.1)
+    ]
 
 pub expect-inv : (s : Symbol) (tokens rest : List Symbol) → expect s tokens ≡ Some rest → tokens ≡ s ∷ rest
 expect-inv s tokens rest e =

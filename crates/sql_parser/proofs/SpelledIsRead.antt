@@ -15,7 +15,8 @@ use Rattle.beas_core.proofs.Identifiers.{name_facts}
 use Rattle.sql_tree.specs.Symbols.{Symbol, word, mark}
 use Rattle.sql_tree.specs.Grammar.{Commas, last, comma, IsId, id, IsMaybeIds, no_ids, ids, IsColumn, integer, int, text, IsLiteral, plain, positive, negative, between_quotes, IsTuple, tuple, IsRef, bare, dotted, IsSide, placed, written, IsSign, equal, differs, not_equal, less, at_most, more, at_least, is_literal, IsCondition, comparison, range, parentheses}
 use Rattle.sql_tree.specs.Words.{AND, BETWEEN, INT, INTEGER, TEXT, OPEN, CLOSE, COMMA, DOT}
-use Rattle.sql_parser.specs.Reading.{starts, rest_of, starts_id, read_id, read_number, read_quoted, read_commas, read_list, then_close, read_maybe_ids, read_kind, read_column, read_signed, starts_quoted, read_literal, read_tuple, read_ref, read_side, sign_of, read_sign, read_range, read_comparison, read_simple, read_condition, read_conditions}
+use Rattle.token_reader.specs.Reading.{starts, rest_of, starts_id, read_id, read_number, read_quoted, starts_quoted, sign_of, read_sign}
+use Rattle.sql_parser.specs.Reading.{read_commas, read_list, then_close, read_maybe_ids, read_kind, read_column, read_signed, read_literal, read_tuple, read_ref, read_side, read_range, read_comparison, read_simple, read_condition, read_conditions}
 
 -- an identifier is none of the words of the grammar
 pub id_is_no_word : (w n : List ℕ) → is_reserved w ≡ true → is_name n ≡ true → bytes_eq w n ≡ false

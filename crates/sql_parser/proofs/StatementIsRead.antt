@@ -6,18 +6,22 @@ use Rattle.beas_core.specs.declared.schema.Column.{Column}
 use Rattle.sql_tree.specs.declared.tree.Literal.{Literal}
 use Rattle.sql_tree.specs.declared.tree.Cond.{Cond}
 use Rattle.sql_tree.specs.declared.tree.Statement.{Statement}
-use Rattle.sql_tree.specs.declared.tree.Statement.TheVariants.{CreateTable, CreateAccess, DropAccess, Load, Insert, Delete, DiscoverGroup, DiscoverPairs, Select, Explain}
+use Rattle.sql_tree.specs.declared.tree.Statement.TheVariants.{CreateTable, CreateAccess, DropAccess, Load, Insert, Delete, DiscoverGroup, DiscoverPairs, Select, Explain, ScanOk, Specialise}
 use Rattle.sql_parser.specs.declared.statements.Opening.{Opening}
 use Rattle.sql_parser.specs.declared.statements.Opening.TheVariants as opening
-use Rattle.sql_tree.specs.Trees.{Tree}
+use Rattle.sql_tree.specs.declared.tree.BlockTree.{BlockTree}
+use Rattle.sql_tree.specs.Trees.{Tree, Block}
 use Rattle.beas_core.specs.Spelling.{is_name}
 use Rattle.sql_tree.specs.Symbols.{Symbol, word, number, quoted}
-use Rattle.sql_tree.specs.Grammar.{Commas, IsId, id, IsMaybeIds, IsColumn, IsTuple, IsWhere, IsQuery, Spells, create_table, create_access, drop_access, load, insert, delete, discover_group, discover_pairs, over_query, IsOverQuery, select, explain}
-use Rattle.sql_tree.specs.Words.{ACCESS, CREATE, DELETE, DISCOVER, DROP, EXPLAIN, FETCH, FROM, INSERT, INTO, LIMIT, LOAD, ON, SELECT, TABLE, VALUES, OPEN, CLOSE}
-use Rattle.sql_parser.specs.Reading.{starts, rest_of, read_id, read_number, read_quoted, read_list, read_maybe_ids, read_column, read_tuple, read_where, read_whole_query, read_columns, read_key, read_fetched, read_create_table, read_create_access, read_drop_access, read_load, read_insert, read_delete, read_pairs, read_group, read_discover, read_explain, read_select, words_of, openings, begins_with, after_all, read_first, read_statement}
+use Rattle.sql_tree.specs.Grammar.{Commas, IsId, id, IsMaybeIds, IsColumn, IsTuple, IsWhere, IsBlock, IsQuery, Spells, create_table, create_access, drop_access, load, insert, delete, discover_group, discover_pairs, grouped, over_query, IsOverQuery, select, explain, scan_ok, specialise}
+use Rattle.sql_tree.specs.Words.{ACCESS, CREATE, DELETE, DISCOVER, DROP, EXPLAIN, FETCH, FROM, INSERT, INTO, LIMIT, LOAD, OK, ON, SCAN, SELECT, SPECIALISE, TABLE, VALUES, OPEN, CLOSE}
+use Rattle.token_reader.specs.Reading.{starts, rest_of, read_id, read_number, read_quoted, has_group, begins_with, after_all}
+use Rattle.sql_parser.specs.Reading.{read_list, read_maybe_ids, read_column, read_tuple, read_where, read_whole_query, read_columns, read_key, read_fetched, read_create_table, read_create_access, read_drop_access, read_load, read_insert, read_delete, read_pairs, read_group, read_discover, read_explain, read_scan_ok, read_block, read_block_term, read_specialise, read_select, read_selection, words_of, openings, read_first, read_statement}
 use Rattle.sql_parser.proofs.SpelledIsRead.{ids-reads, closed-reads, maybe_ids-reads, columns-read, tuples-read}
 use Rattle.sql_parser.proofs.Openings.{first-passes}
-use Rattle.sql_parser.proofs.QueryIsRead.{nothing-ends, where-reads, query-reads, query-no}
+use Rattle.sql_parser.proofs.QueryIsRead.{nothing-ends, where-reads, block-reads, query-reads, query-no}
+use Rattle.sql_parser.proofs.WithoutGroup.{query-no_group}
+use Rattle.sql_parser.proofs.GroupedIsRead.{grouped-reads}
 
 columns-closed : {a : List Symbol} {cs : List Column} → Commas IsColumn a cs → (rest : List Symbol)
     → read_columns (OPEN ∷ (a ++ CLOSE ∷ rest)) ≡ Some (cs, rest)
@@ -81,6 +85,18 @@ explain-reads : (tokens : List Symbol) (t : Tree) → read_whole_query tokens �
 unfolding read_first begins_with after_all read_explain starts rest_of
 explain-reads tokens t e = rw e refl
 
+scan_ok-reads : (tokens : List Symbol) (t : Tree) → read_whole_query tokens ≡ Some (t, []) → read_statement (SCAN ∷ OK ∷ tokens) ≡ Some (ScanOk t, [])
+unfolding read_first begins_with after_all read_scan_ok starts rest_of
+scan_ok-reads tokens t e = rw e refl
+
+specialise-reads : (tokens : List Symbol) (b : BlockTree) → read_block tokens ≡ Some (b, [])
+    → read_statement (SPECIALISE ∷ tokens) ≡ Some (Specialise (Block b), [])
+unfolding read_first begins_with after_all read_specialise read_block_term starts rest_of
+specialise-reads tokens b e = rw e refl
+
+whole-block : {a : List Symbol} {b : BlockTree} → IsBlock a b → read_block a ≡ Some (b, [])
+whole-block {a} h = ap read_block (sym (append-nil a)) ∙ block-reads h [] nothing-ends
+
 whole-query : {a : List Symbol} {t : Tree} → IsQuery a t → read_whole_query a ≡ Some (t, [])
 unfolding starts
 whole-query {a} q = ap read_whole_query (sym (append-nil a)) ∙ query-reads q [] nothing-ends refl refl
@@ -106,10 +122,16 @@ query-no_opening {a} q opening.Insert = begins-no INSERT (INTO ∷ []) a (never 
 query-no_opening {a} q opening.Delete = begins-no DELETE (FROM ∷ []) a (never q (codes "delete") refl)
 query-no_opening {a} q opening.Discover = begins-no DISCOVER [] a (never q (codes "discover") refl)
 query-no_opening {a} q opening.Explain = begins-no EXPLAIN [] a (never q (codes "explain") refl)
+query-no_opening {a} q opening.ScanOk = begins-no SCAN (OK ∷ []) a (never q (codes "scan") refl)
+query-no_opening {a} q opening.Specialise = begins-no SPECIALISE [] a (never q (codes "specialise") refl)
+
+selects-query : (tokens : List Symbol) → has_group tokens ≡ false → read_selection tokens ≡ read_select tokens
+unfolding read_selection
+selects-query tokens e = rw e refl
 
 query-left : {a : List Symbol} {t : Tree} → IsQuery a t → (os : List Opening) → read_first os a ≡ read_select a
 unfolding read_first
-query-left q [] = refl
+query-left {a} q [] = selects-query a (query-no_group q)
 query-left {a} q (o ∷ os) = first-passes o os a (query-no_opening q o) ∙ query-left q os
 
 select-reads : (tokens : List Symbol) (t : Tree) → read_whole_query tokens ≡ Some (t, []) → read_select tokens ≡ Some (Select t, [])
@@ -117,9 +139,11 @@ unfolding read_select
 select-reads tokens t e = rw e refl
 
 -- A statement over a query is read, also where it lacks its DISTINCT.
-pub over-reads : {words a : List Symbol} {t : Tree} {s : Statement} → IsOverQuery words t s → IsQuery a t → read_statement (words ++ a) ≡ Some (s, [])
-over-reads {a = a} {t = t} select q = query-left q openings ∙ select-reads a t (whole-query q)
-over-reads {a = a} {t = t} explain q = explain-reads a t (whole-query q)
+pub over-reads : {a : List Symbol} {t : Tree} {s : Statement} → IsOverQuery a t s → read_statement a ≡ Some (s, [])
+over-reads (select {a} {t} q) = query-left q openings ∙ select-reads a t (whole-query q)
+over-reads (explain {a} {t} q) = explain-reads a t (whole-query q)
+over-reads (scan_ok {a} {t} q) = scan_ok-reads a t (whole-query q)
+over-reads (specialise {a} {b} h) = specialise-reads a b (whole-block h)
 
 tuples-whole : {a : List Symbol} {rows : List (List Literal)} → Commas IsTuple a rows → read_list read_tuple a ≡ Some (rows, [])
 unfolding starts
@@ -145,7 +169,8 @@ spelled-reads (discover_group {b = b} {c = c} (id {n = table} r) k f) =
     ∙ group-reads table _ _ (OPEN ∷ (b ++ CLOSE ∷ (FETCH ∷ OPEN ∷ (c ++ CLOSE ∷ [])))) (FETCH ∷ OPEN ∷ (c ++ CLOSE ∷ [])) r (key-no_limit _) (key-closed k _)
     (fetched-closed f [])
 spelled-reads (discover_pairs {limit = limit} (id r)) = pairs-read _ limit r
-spelled-reads (over_query o q e) = over-reads o q
+spelled-reads (grouped i k h) = grouped-reads i k h
+spelled-reads (over_query o e) = over-reads o
 
 abbrev read_or : Statement → Option (Statement × List Symbol) → Statement
 read_or other (Some p) = p.0

@@ -1,17 +1,19 @@
 -- Statements that are read are spelled so.
 use Rattle.std.proofs.Common.{◌≡◌, ℕ, Bool, true, false, List, [], ◌∷◌, ◌++◌, length, Some, refl, sym, ap, inl, inr, ◌∙◌, append_assoc}
-use Rattle.std.proofs.lemmas.Bool.{false≢true}
 use Rattle.sql_parser.specs.declared.statements.Opening.{Opening}
 use Rattle.sql_parser.specs.declared.statements.Opening.TheVariants as opening
 use Rattle.beas_core.specs.declared.schema.Column.{Column}
 use Rattle.sql_tree.specs.declared.tree.Statement.{Statement}
-use Rattle.sql_tree.specs.Trees.{Tree}
+use Rattle.sql_tree.specs.declared.tree.Statement.TheVariants.{Specialise}
+use Rattle.sql_tree.specs.Trees.{Tree, Block}
 use Rattle.sql_tree.specs.Symbols.{Symbol, number, quoted}
-use Rattle.sql_tree.specs.Grammar.{Commas, IsId, IsMaybeIds, IsColumn, IsTuple, IsQuery, Spells, create_table, create_access, drop_access, load, insert, delete, discover_group, discover_pairs, over_query, IsOverQuery, select, explain, wants_distinct}
-use Rattle.sql_tree.specs.Words.{ACCESS, CREATE, DELETE, DISCOVER, DROP, EXPLAIN, FETCH, FROM, INSERT, INTO, LIMIT, LOAD, ON, TABLE, VALUES, OPEN, CLOSE}
-use Rattle.sql_parser.specs.Reading.{expect, starts, rest_of, read_id, read_number, read_quoted, read_list, read_maybe_ids, read_column, read_tuple, read_where, read_whole_query, read_columns, read_key, read_fetched, read_create_table, read_create_access, read_drop_access, read_load, read_insert, read_delete, read_pairs, read_group, read_discover, read_explain, read_select, words_of, read_opened, openings, begins_with, after_all, read_first, read_statement}
-use Rattle.sql_parser.proofs.ReadIsSpelled.{Took, then_parts, bind-inv, pick-inv, took_as, starts-inv, expect-inv, closed-inv, id-spelled, number-inv, quoted-inv, commas-spelled, ids-spelled, maybe_ids-spelled, column-spelled, tuple-spelled}
-use Rattle.sql_parser.proofs.QueryIsSpelled.{where-spelled, query-spelled}
+use Rattle.sql_tree.specs.Grammar.{Commas, IsId, IsMaybeIds, IsColumn, IsTuple, Spells, create_table, create_access, drop_access, load, insert, delete, discover_group, discover_pairs, over_query, IsOverQuery, select, explain, scan_ok, specialise, wants_distinct}
+use Rattle.sql_tree.specs.Words.{ACCESS, CREATE, DELETE, DISCOVER, DROP, EXPLAIN, FETCH, FROM, INSERT, INTO, LIMIT, LOAD, OK, ON, SCAN, SPECIALISE, TABLE, VALUES, OPEN, CLOSE}
+use Rattle.token_reader.specs.Reading.{expect, starts, rest_of, read_id, read_number, read_quoted, has_group, begins_with, after_all}
+use Rattle.sql_parser.specs.Reading.{read_list, read_maybe_ids, read_column, read_tuple, read_where, read_whole_query, read_columns, read_key, read_fetched, read_create_table, read_create_access, read_drop_access, read_load, read_insert, read_delete, read_pairs, read_group, read_discover, read_explain, read_scan_ok, read_specialise, read_select, read_block, read_block_term, read_grouped, read_selection, words_of, read_opened, openings, read_first, read_statement}
+use Rattle.sql_parser.proofs.ReadIsSpelled.{Took, then_parts, bind-inv, pick-inv, some_is, took_as, starts-inv, begins-inv, expect-inv, closed-inv, id-spelled, number-inv, quoted-inv, commas-spelled, ids-spelled, maybe_ids-spelled, column-spelled, tuple-spelled}
+use Rattle.sql_parser.proofs.QueryIsSpelled.{where-spelled, block-spelled, query-spelled}
+use Rattle.sql_parser.proofs.GroupedIsSpelled.{grouped-spelled}
 
 -- what stands between parentheses at the front of the tokens
 record InParentheses {X : Type 0} (Spelled : List Symbol → X → Type 0) (tokens : List Symbol) (x : X) (rest : List Symbol) : Type 0 where
@@ -51,7 +53,7 @@ fetched-spelled tokens ns rest e =
 -- A statement, or one that lacks its DISTINCT.
 pub data SpellsAny : List Symbol → Statement → Type 0 where
   whole : {a : List Symbol} {s : Statement} → Spells a s → SpellsAny a s
-  lacking : {words a : List Symbol} {t : Tree} {s : Statement} → IsOverQuery words t s → IsQuery a t → wants_distinct t ≡ true → SpellsAny (words ++ a) s
+  lacking : {a : List Symbol} {t : Tree} {s : Statement} → IsOverQuery a t s → wants_distinct t ≡ true → SpellsAny a s
 
 -- what spells a statement after its first words
 abbrev After : List Symbol → List Symbol → Statement → Type 0
@@ -179,10 +181,10 @@ discover-spelled tokens s rest e =
           }) d.2
     ]
 
-any_over : {words a : List Symbol} {t : Tree} {s : Statement} → IsOverQuery words t s → IsQuery a t → SpellsAny (words ++ a) s
-any_over {words} {a} {t} {s} o q =
-    let go : (b : Bool) → wants_distinct t ≡ b → SpellsAny (words ++ a) s = λ b. elim b as (λ b. wants_distinct t ≡ b → SpellsAny (words ++ a) s)
-    [ true ↦ λ e. lacking o q e | false ↦ λ e. whole (over_query o q e) ] in
+any_over : {a : List Symbol} {t : Tree} {s : Statement} → IsOverQuery a t s → SpellsAny a s
+any_over {a} {t} {s} o =
+    let go : (b : Bool) → wants_distinct t ≡ b → SpellsAny a s = λ b. elim b as (λ b. wants_distinct t ≡ b → SpellsAny a s)
+    [ true ↦ λ e. lacking o e | false ↦ λ e. whole (over_query o e) ] in
     go (wants_distinct t) refl
 
 explain-spelled : (tokens : List Symbol) (s : Statement) (rest : List Symbol) → read_explain tokens ≡ Some (s, rest)
@@ -191,14 +193,44 @@ unfolding read_explain
 explain-spelled tokens s rest e =
     let a = bind-inv (read_whole_query tokens) _ (s, rest) e in
     let t = query-spelled tokens a.0.0 a.0.1 a.1 in
-    took_as (record { front = t.front; parts = t.parts; spelled = any_over explain t.spelled }) a.2
+    took_as (record { front = t.front; parts = t.parts; spelled = any_over (explain t.spelled) }) a.2
+
+scan_ok-spelled : (tokens : List Symbol) (s : Statement) (rest : List Symbol) → read_scan_ok tokens ≡ Some (s, rest)
+    → Took (After (SCAN ∷ OK ∷ [])) tokens s rest
+unfolding read_scan_ok
+scan_ok-spelled tokens s rest e =
+    let a = bind-inv (read_whole_query tokens) _ (s, rest) e in
+    let t = query-spelled tokens a.0.0 a.0.1 a.1 in
+    took_as (record { front = t.front; parts = t.parts; spelled = any_over (scan_ok t.spelled) }) a.2
+
+specialise-spelled : (tokens : List Symbol) (s : Statement) (rest : List Symbol) → read_specialise tokens ≡ Some (s, rest)
+    → Took (After (SPECIALISE ∷ [])) tokens s rest
+unfolding read_specialise read_block_term
+specialise-spelled tokens s rest e =
+    let a = bind-inv (read_block_term tokens) _ (s, rest) e in
+    let b = bind-inv (read_block tokens) _ a.0 a.1 in
+    let t = block-spelled tokens b.0.0 b.0.1 b.1 in
+    let u : Took (After (SPECIALISE ∷ [])) tokens (Specialise (Block b.0.0)) b.0.1 = record
+    { front = t.front; parts = t.parts; spelled = any_over (specialise t.spelled) } in
+    took_as u (ap (λ (p : Tree × List Symbol). Some (Specialise p.0, p.1)) (some_is (Block b.0.0, b.0.1) a.0 b.2) ∙ a.2)
 
 select-spelled : (tokens : List Symbol) (s : Statement) (rest : List Symbol) → read_select tokens ≡ Some (s, rest) → Took SpellsAny tokens s rest
 unfolding read_select
 select-spelled tokens s rest e =
     let a = bind-inv (read_whole_query tokens) _ (s, rest) e in
     let t = query-spelled tokens a.0.0 a.0.1 a.1 in
-    took_as (record { front = t.front; parts = t.parts; spelled = any_over select t.spelled }) a.2
+    took_as (record { front = t.front; parts = t.parts; spelled = any_over (select t.spelled) }) a.2
+
+grouped-any : (tokens : List Symbol) (s : Statement) (rest : List Symbol) → read_grouped tokens ≡ Some (s, rest) → Took SpellsAny tokens s rest
+grouped-any tokens s rest e = let t = grouped-spelled tokens s rest e in record { front = t.front; parts = t.parts; spelled = whole t.spelled }
+
+selection-spelled : (tokens : List Symbol) (s : Statement) (rest : List Symbol) → read_selection tokens ≡ Some (s, rest) → Took SpellsAny tokens s rest
+unfolding read_selection
+selection-spelled tokens s rest e =
+    elim (pick-inv (has_group tokens) (read_grouped tokens) (read_select tokens) (Some (s, rest)) e) [
+      | inl k ↦ grouped-any tokens s rest k.1
+      | inr k ↦ select-spelled tokens s rest k.1
+    ]
 
 -- ---- by the words that a statement begins with
 
@@ -212,15 +244,8 @@ opened-spelled opening.Insert tokens s rest e = insert-spelled tokens s rest e
 opened-spelled opening.Delete tokens s rest e = delete-spelled tokens s rest e
 opened-spelled opening.Discover tokens s rest e = discover-spelled tokens s rest e
 opened-spelled opening.Explain tokens s rest e = explain-spelled tokens s rest e
-
-begins-inv : (words tokens : List Symbol) → begins_with words tokens ≡ true → tokens ≡ words ++ after_all words tokens
-unfolding begins_with after_all
-begins-inv [] tokens e = refl
-begins-inv (w ∷ ws) tokens e =
-    elim (pick-inv (starts w tokens) (begins_with ws (rest_of tokens)) false true e) [
-      | inl k ↦ starts-inv w tokens k.0 ∙ ap (λ r. w ∷ r) (begins-inv ws (rest_of tokens) k.1)
-      | inr k ↦ absurd (false≢true k.1)
-    ]
+opened-spelled opening.ScanOk tokens s rest e = scan_ok-spelled tokens s rest e
+opened-spelled opening.Specialise tokens s rest e = specialise-spelled tokens s rest e
 
 after_words : (words tokens : List Symbol) (s : Statement) (rest : List Symbol) → begins_with words tokens ≡ true
     → Took (After words) (after_all words tokens) s rest → Took SpellsAny tokens s rest
@@ -233,7 +258,7 @@ after_words words tokens s rest e t = record {
 first-spelled : (os : List Opening) (tokens : List Symbol) (s : Statement) (rest : List Symbol) → read_first os tokens ≡ Some (s, rest)
     → Took SpellsAny tokens s rest
 unfolding read_first
-first-spelled [] tokens s rest e = select-spelled tokens s rest e
+first-spelled [] tokens s rest e = selection-spelled tokens s rest e
 first-spelled (o ∷ os) tokens s rest e =
     elim (pick-inv (begins_with (words_of o) tokens) (read_opened o (after_all (words_of o) tokens)) (read_first os tokens) (Some (s, rest)) e) [
       | inl k ↦ after_words (words_of o) tokens s rest k.0 (opened-spelled o (after_all (words_of o) tokens) s rest k.1)

@@ -5,7 +5,7 @@ use Rattle.std.specs.Prelude.{◌<◌, ◌≤◌, nat_lt, if◌then◌else◌, B
 use Rattle.beas_core.specs.declared.refusal.Refusal.{Refusal}
 use Rattle.beas_core.specs.declared.refusal.Refusal.TheVariants.{Syntax, TooDeep, NeedsDistinct}
 use Rattle.sql_tree.specs.declared.tree.Statement.{Statement}
-use Rattle.sql_tree.specs.declared.tree.Statement.TheVariants.{CreateTable, CreateAccess, DropAccess, Load, Insert, Delete, DiscoverGroup, DiscoverPairs, Select, Explain}
+use Rattle.sql_tree.specs.declared.tree.Statement.TheVariants.{CreateTable, CreateAccess, DropAccess, Load, Insert, Delete, DiscoverGroup, DiscoverPairs, Select, Explain, ScanOk, Grouped, Specialise}
 use Rattle.sql_tree.specs.Grammar.{Spells, SpellsLone, wants_distinct}
 use Rattle.sql_tree.specs.Symbols.{Symbol, depth}
 use Rattle.sql_parser.specs.Reading.{read_statement}
@@ -18,6 +18,8 @@ Reading = Result Statement Refusal
 abbrev pub lacks_distinct : Statement → Bool
 lacks_distinct (Select tree) = wants_distinct tree
 lacks_distinct (Explain tree) = wants_distinct tree
+lacks_distinct (ScanOk tree) = wants_distinct tree
+lacks_distinct (Specialise tree) = wants_distinct tree
 lacks_distinct (CreateTable table columns) = false
 lacks_distinct (CreateAccess spec) = false
 lacks_distinct (DropAccess access) = false
@@ -26,6 +28,7 @@ lacks_distinct (Insert table rows) = false
 lacks_distinct (Delete table conditions) = false
 lacks_distinct (DiscoverGroup table key fetched) = false
 lacks_distinct (DiscoverPairs table limit) = false
+lacks_distinct (Grouped items keys inner) = false
 
 -- no statement, and no query that lacks its DISTINCT
 pub record SpellsNothing (tokens : List Symbol) : Type 0 where

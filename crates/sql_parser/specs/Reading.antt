@@ -1,13 +1,11 @@
 -- Reading from left to right: what is read from the front of the tokens, and the tokens after it. A reader that
 -- takes a number repeats at most so often.
-use Rattle.std.specs.Prelude.{◌≡◌, ℕ, zero, suc, ◌&&◌, if◌then◌else◌, Bool, true, false, List, [], ◌∷◌, ◌++◌, length, codes, bytes_eq, Option, Some, None, Result, Ok, Err}
+use Rattle.std.specs.Prelude.{◌≡◌, ℕ, zero, suc, ◌&&◌, if◌then◌else◌, Bool, true, false, List, [], ◌∷◌, ◌++◌, length, Option, Some, None, Result, Ok, Err}
 use Rattle.beas_core.specs.declared.schema.ColType.{ColType}
 use Rattle.beas_core.specs.declared.schema.ColType.TheVariants.{Integer, Words as Texts}
 use Rattle.beas_core.specs.declared.schema.Column.{Column}
-use Rattle.beas_core.specs.declared.query.Sign.{Sign}
-use Rattle.beas_core.specs.declared.query.Sign.TheVariants.{Equal, Differs, Less, AtMost, More, AtLeast}
-use Rattle.sql_parser.specs.declared.reader.ReadError.{ReadError}
-use Rattle.sql_parser.specs.declared.reader.ReadError.TheVariants as errors
+use Rattle.token_reader.specs.declared.reader.ReadError.{ReadError}
+use Rattle.token_reader.specs.declared.reader.ReadError.TheVariants as errors
 use Rattle.sql_parser.specs.declared.blocks.Head.{Head}
 use Rattle.sql_parser.specs.declared.statements.Opening.{Opening}
 use Rattle.sql_parser.specs.declared.statements.Opening.TheVariants as opening
@@ -23,24 +21,16 @@ use Rattle.sql_tree.specs.declared.tree.Cond.TheVariants.{Compare, Between}
 use Rattle.sql_tree.specs.declared.tree.FromItem.{FromItem}
 use Rattle.sql_tree.specs.declared.tree.BlockTree.{BlockTree}
 use Rattle.sql_tree.specs.declared.tree.Statement.{Statement}
-use Rattle.sql_tree.specs.declared.tree.Statement.TheVariants.{CreateTable, CreateAccess, DropAccess, Load, Insert, Delete, DiscoverGroup, DiscoverPairs, Select, Explain}
+use Rattle.sql_tree.specs.declared.tree.GroupItem.{GroupItem}
+use Rattle.sql_tree.specs.declared.tree.GroupItem.TheVariants.{Plain, Count, Sum, Least, Greatest}
+use Rattle.sql_tree.specs.declared.tree.Statement.TheVariants.{CreateTable, CreateAccess, DropAccess, Load, Insert, Delete, DiscoverGroup, DiscoverPairs, Select, Explain, ScanOk, Grouped, Specialise}
 use Rattle.sql_tree.specs.Trees.{Tree, Block}
-use Rattle.beas_core.specs.Spelling.{is_name}
-use Rattle.sql_tree.specs.Symbols.{Symbol, word, number, quoted, mark}
+use Rattle.sql_tree.specs.Symbols.{Symbol}
+use Rattle.token_reader.specs.Reading.{◌>>=◌, starts, rest_of, begins_with, after_all, expect, read_id, starts_id, read_number, read_quoted, starts_quoted, read_sign, has_group}
 use Rattle.sql_tree.specs.Grammar.{signed_literal, is_literal, Source, Body, block_of}
+use Rattle.sql_tree.specs.Grouping.{grouped_block}
 use Rattle.sql_parser.specs.Fronts.{joined_to}
-use Rattle.sql_tree.specs.Words.{ACCESS, AND, AS, BETWEEN, CREATE, CROSS, DELETE, DISCOVER, DISTINCT, DROP, EXCEPT, EXPLAIN, FETCH, FROM, INNER, INSERT, INT, INTEGER, INTO, JOIN, LIMIT, LOAD, ON, SELECT, TABLE, TEXT, UNION, VALUES, WHERE, OPEN, CLOSE, COMMA, DOT, STAR, PLUS, MINUS}
-
-infixl 10 ◌>>=◌
-abbrev pub ◌>>=◌ : {A B : Type 0} → Option A → (A → Option B) → Option B
-(Some x) >>= f = f x
-None >>= f = None
-
--- What a call answered, and the tokens that it left, are what reading gives, unless memory ran out.
-abbrev pub GivesWithRest : {X : Type 0} → Result X ReadError → List Symbol → Option (X × List Symbol) → Type 0
-GivesWithRest (Ok x) rest read = read ≡ Some (x, rest)
-GivesWithRest (Err errors.Syntax) rest read = read ≡ None
-GivesWithRest (Err errors.NoMemory) rest read = Unit {0}
+use Rattle.sql_tree.specs.Words.{ACCESS, AND, AS, BETWEEN, BY, COUNT, CREATE, CROSS, DELETE, DISCOVER, DISTINCT, DROP, EXCEPT, EXPLAIN, FETCH, FROM, GROUP, INNER, INSERT, INT, INTEGER, INTO, JOIN, LIMIT, LOAD, MAX, MIN, OK, ON, SCAN, SELECT, SPECIALISE, SUM, TABLE, TEXT, UNION, VALUES, WHERE, OPEN, CLOSE, COMMA, DOT, STAR, PLUS, MINUS}
 
 -- The same of a call that answers nothing, and changes what it was handed to new.
 abbrev pub Adds : {X Y : Type 0} → Result X ReadError → Y → List Symbol → Option (Y × List Symbol) → Type 0
@@ -55,45 +45,6 @@ after front read = read >>= λ p. Some (front ++ p.0, p.1)
 -- the same of items and conditions
 unfoldable pub after_both : Source → Option (Source × List Symbol) → Option (Source × List Symbol)
 after_both front read = read >>= λ p. Some ((front.0 ++ p.0.0, front.1 ++ p.0.1), p.1)
-
--- The same of a call that answers nothing.
-abbrev pub Passes : {X : Type 0} → Result X ReadError → List Symbol → Option (List Symbol) → Type 0
-Passes (Ok x) rest read = read ≡ Some rest
-Passes (Err errors.Syntax) rest read = read ≡ None
-Passes (Err errors.NoMemory) rest read = Unit {0}
-
-abbrev pub same : Symbol → Symbol → Bool
-same (word a) (word b) = bytes_eq a b
-same (mark a) (mark b) = bytes_eq a b
-same _ _ = false
-
-unfoldable pub starts : Symbol → List Symbol → Bool
-starts symbol [] = false
-starts symbol (first ∷ rest) = same symbol first
-
-unfoldable pub rest_of : List Symbol → List Symbol
-rest_of [] = []
-rest_of (first ∷ rest) = rest
-
-abbrev pub expect : Symbol → List Symbol → Option (List Symbol)
-expect symbol tokens = if starts symbol tokens then Some (rest_of tokens) else None
-
-unfoldable pub read_id : List Symbol → Option (List ℕ × List Symbol)
-read_id (word n ∷ rest) = if is_name n then Some (n, rest) else None
-read_id _ = None
-
--- whether an identifier is next
-unfoldable pub starts_id : List Symbol → Bool
-starts_id (word n ∷ rest) = is_name n
-starts_id _ = false
-
-unfoldable pub read_number : List Symbol → Option (List ℕ × List Symbol)
-read_number (number n ∷ rest) = Some (n, rest)
-read_number _ = None
-
-unfoldable pub read_quoted : List Symbol → Option (List ℕ × List Symbol)
-read_quoted (quoted n ∷ rest) = Some (n, rest)
-read_quoted _ = None
 
 -- X { , X }
 unfoldable pub read_commas : {X : Type 0} → (List Symbol → Option (X × List Symbol)) → ℕ → List Symbol → Option (List X × List Symbol)
@@ -133,11 +84,6 @@ read_signed negative tokens = do
   (digits, rest) ← read_number tokens
   Some (signed_literal negative digits, rest)
 
--- whether a text between quotes is next
-unfoldable pub starts_quoted : List Symbol → Bool
-starts_quoted (quoted t ∷ rest) = true
-starts_quoted _ = false
-
 unfoldable pub read_literal : List Symbol → Option (Literal × List Symbol)
 read_literal tokens =
     if starts_quoted tokens then (read_quoted tokens >>= λ p. Some (Words p.0, p.1))
@@ -159,20 +105,6 @@ unfoldable pub read_side : List Symbol → Option (Side × List Symbol)
 read_side tokens =
     if starts_id tokens then (read_ref tokens >>= λ p. Some (Placed p.0, p.1))
     else (read_literal tokens >>= λ p. Some (Fixed p.0, p.1))
-
-unfoldable pub sign_of : List ℕ → Option Sign
-sign_of text =
-    if bytes_eq (codes "=") text then Some Equal
-    else if bytes_eq (codes "<>") text then Some Differs
-    else if bytes_eq (codes "!=") text then Some Differs
-    else if bytes_eq (codes "<") text then Some Less
-    else if bytes_eq (codes "<=") text then Some AtMost
-    else if bytes_eq (codes ">") text then Some More
-    else if bytes_eq (codes ">=") text then Some AtLeast else None
-
-unfoldable pub read_sign : List Symbol → Option (Sign × List Symbol)
-read_sign (mark text ∷ rest) = sign_of text >>= λ sign. Some (sign, rest)
-read_sign _ = None
 
 -- after BETWEEN: the value is what was read before it
 unfoldable pub read_range : Side → List Symbol → Option (Cond × List Symbol)
@@ -400,10 +332,64 @@ read_explain tokens = do
   (tree, rest) ← read_whole_query tokens
   Some (Explain tree, rest)
 
+unfoldable pub read_scan_ok : List Symbol → Option (Statement × List Symbol)
+read_scan_ok tokens = do
+  (tree, rest) ← read_whole_query tokens
+  Some (ScanOk tree, rest)
+
+unfoldable pub read_specialise : List Symbol → Option (Statement × List Symbol)
+read_specialise tokens = do
+  (tree, rest) ← read_block_term tokens
+  Some (Specialise tree, rest)
+
 unfoldable pub read_select : List Symbol → Option (Statement × List Symbol)
 read_select tokens = do
   (tree, rest) ← read_whole_query tokens
   Some (Select tree, rest)
+
+-- ---- grouped statements
+
+-- after the parenthesis of MIN or MAX
+abbrev pub read_closed_ref : List Symbol → Option (ColumnRef × List Symbol)
+read_closed_ref tokens = then_close (read_ref tokens)
+
+-- after the parenthesis of COUNT or SUM
+unfoldable pub read_distinct_ref : List Symbol → Option (ColumnRef × List Symbol)
+read_distinct_ref tokens = do
+  rest ← expect DISTINCT tokens
+  read_closed_ref rest
+
+-- what a column is read as
+abbrev pub made_of : (ColumnRef → GroupItem) → Option (ColumnRef × List Symbol) → Option (GroupItem × List Symbol)
+made_of item read = read >>= λ p. Some (item p.0, p.1)
+
+-- a function is told from a column of that name by the parenthesis after it
+unfoldable pub read_group_item : List Symbol → Option (GroupItem × List Symbol)
+read_group_item tokens =
+    if begins_with (COUNT ∷ OPEN ∷ []) tokens then made_of Count (read_distinct_ref (rest_of (rest_of tokens)))
+    else if begins_with (SUM ∷ OPEN ∷ []) tokens then made_of Sum (read_distinct_ref (rest_of (rest_of tokens)))
+    else if begins_with (MIN ∷ OPEN ∷ []) tokens then made_of Least (read_closed_ref (rest_of (rest_of tokens)))
+    else if begins_with (MAX ∷ OPEN ∷ []) tokens then made_of Greatest (read_closed_ref (rest_of (rest_of tokens)))
+    else made_of Plain (read_ref tokens)
+
+-- GROUP BY ref { , ref }
+unfoldable pub read_group_keys : List Symbol → Option (List ColumnRef × List Symbol)
+read_group_keys tokens = do
+  rest ← expect GROUP tokens
+  rest ← expect BY rest
+  read_list read_ref rest
+
+unfoldable pub read_grouped : List Symbol → Option (Statement × List Symbol)
+read_grouped tokens = do
+  start ← expect SELECT tokens
+  (items, rest) ← read_list read_group_item start
+  (body, rest) ← read_body rest
+  (keys, rest) ← read_group_keys rest
+  Some (Grouped items keys (Block (grouped_block items keys body.0 body.1)), rest)
+
+-- what begins with no other words
+unfoldable pub read_selection : List Symbol → Option (Statement × List Symbol)
+read_selection tokens = if has_group tokens then read_grouped tokens else read_select tokens
 
 -- ---- statements, by the words that they begin with
 
@@ -416,6 +402,8 @@ words_of opening.Insert = INSERT ∷ INTO ∷ []
 words_of opening.Delete = DELETE ∷ FROM ∷ []
 words_of opening.Discover = DISCOVER ∷ []
 words_of opening.Explain = EXPLAIN ∷ []
+words_of opening.ScanOk = SCAN ∷ OK ∷ []
+words_of opening.Specialise = SPECIALISE ∷ []
 
 -- what stands after these words
 abbrev pub read_opened : Opening → List Symbol → Option (Statement × List Symbol)
@@ -427,23 +415,16 @@ read_opened opening.Insert tokens = read_insert tokens
 read_opened opening.Delete tokens = read_delete tokens
 read_opened opening.Discover tokens = read_discover tokens
 read_opened opening.Explain tokens = read_explain tokens
+read_opened opening.ScanOk tokens = read_scan_ok tokens
+read_opened opening.Specialise tokens = read_specialise tokens
 
 abbrev pub openings : List Opening
 openings = opening.CreateTable ∷ opening.CreateAccess ∷ opening.DropAccess ∷ opening.Load ∷ opening.Insert ∷ opening.Delete ∷ opening.Discover
-    ∷ opening.Explain ∷ []
+    ∷ opening.Explain ∷ opening.ScanOk ∷ opening.Specialise ∷ []
 
--- whether all of these stand at the front, so that a word that is also a name is told from it by the token after it
-unfoldable pub begins_with : List Symbol → List Symbol → Bool
-begins_with [] tokens = true
-begins_with (symbol ∷ symbols) tokens = if starts symbol tokens then begins_with symbols (rest_of tokens) else false
-
-unfoldable pub after_all : List Symbol → List Symbol → List Symbol
-after_all [] tokens = tokens
-after_all (symbol ∷ symbols) tokens = after_all symbols (rest_of tokens)
-
--- by the first of these openings that stands at the front; what begins with none is a query
+-- by the first of these openings that stands at the front; what begins with none is a query or a grouped statement
 unfoldable pub read_first : List Opening → List Symbol → Option (Statement × List Symbol)
-read_first [] tokens = read_select tokens
+read_first [] tokens = read_selection tokens
 read_first (first ∷ others) tokens =
     if begins_with (words_of first) tokens then read_opened first (after_all (words_of first) tokens) else read_first others tokens
 

@@ -1,13 +1,14 @@
 // Blocks: a head, which is SELECT with its items, and a body, which is the FROM items and conditions.
 ghost use Rattle.std.specs.Prelude.{◌≡◌, ◌∷◌, [], ◌++◌, codes, length};
-ghost use Rattle.sql_parser.specs.Reading.{GivesWithRest, Adds, after, after_both, read_alias, read_item, read_joined, read_crossed, starts_join, read_join, read_joins, read_source, read_sources, read_output, read_head, read_body, read_block};
+ghost use Rattle.token_reader.specs.Reading.{GivesWithRest};
+ghost use Rattle.sql_parser.specs.Reading.{Adds, after, after_both, read_alias, read_item, read_joined, read_crossed, starts_join, read_join, read_joins, read_source, read_sources, read_output, read_head, read_body, read_block};
 
 use crate::conditions::{conditions, where_conditions};
 use crate::parts::commas;
-use crate::reader::{ReadError, Reader};
 use beas_core::{Duplicate, List, Name};
 use sql_tree::{BlockTree, ColumnRef, Cond, FromItem};
 use std::alloc::Global;
+use token_reader::{ReadError, Reader};
 
 #[tactic(auto, unfolding(crate::specs::Reading::read_alias))]
 fn alias(reader: &mut Reader, alloc: Global, table: &Name) -> Result<Name, ReadError>
@@ -183,7 +184,10 @@ fn block_head(reader: &mut Reader, alloc: Global) -> Result<Head, ReadError>
 
 /// Reads a body: its FROM items, and the conditions after ON and WHERE.
 #[tactic(auto, unfolding(crate::specs::Reading::read_body, crate::specs::Reading::after, crate::specs::Reading::after_both))]
-fn block_body(reader: &mut Reader, alloc: Global) -> Result<(List<FromItem>, List<Cond>), ReadError>
+pub fn block_body(
+    reader: &mut Reader,
+    alloc: Global,
+) -> Result<(List<FromItem>, List<Cond>), ReadError>
     ensures { GivesWithRest result reader.new (read_body reader.old) }
 {
     reader.want_word("from")?;

@@ -1,12 +1,13 @@
 // Conditions. Parentheses around them leave no trace.
 ghost use Rattle.std.specs.Prelude.{◌≡◌, ◌∷◌, [], ◌++◌, codes, length};
-ghost use Rattle.sql_parser.specs.Reading.{GivesWithRest, Adds, after, then_close, starts_id, read_side, sign_of, read_sign, read_range, read_comparison, read_simple, read_condition, read_conditions, read_all_conditions, read_where};
+ghost use Rattle.token_reader.specs.Reading.{GivesWithRest, starts_id, sign_of, read_sign};
+ghost use Rattle.sql_parser.specs.Reading.{Adds, after, then_close, read_side, read_range, read_comparison, read_simple, read_condition, read_conditions, read_all_conditions, read_where};
 
 use crate::parts::Part;
-use crate::reader::{ReadError, Reader};
 use beas_core::{List, Sign};
 use sql_tree::{ColumnRef, Cond, Literal, Side};
 use std::alloc::Global;
+use token_reader::{ReadError, Reader};
 
 #[tactic(auto, unfolding(crate::specs::Reading::read_side))]
 fn side(reader: &mut Reader, alloc: Global) -> Result<Side, ReadError>

@@ -12,12 +12,12 @@
 
 mod blocks;
 mod conditions;
+mod groups;
 mod laws;
 mod nesting;
 mod numbers;
 mod parts;
 mod queries;
-mod reader;
 mod statements;
 mod whole;
 

@@ -1,13 +1,14 @@
 // The small parts of statements, and lists of them.
 ghost use Rattle.std.specs.Prelude.{◌≡◌, List, Option, ◌∷◌, [], codes, length};
-ghost use Rattle.sql_parser.specs.Reading.{GivesWithRest, read_commas, read_list, read_id, read_column, read_kind, read_signed, read_literal, read_tuple, read_ref, read_maybe_ids, starts_quoted, then_close};
+ghost use Rattle.token_reader.specs.Reading.{GivesWithRest, read_id, starts_quoted};
+ghost use Rattle.sql_parser.specs.Reading.{read_commas, read_list, read_column, read_kind, read_signed, read_literal, read_tuple, read_ref, read_maybe_ids, then_close};
 ghost use Rattle.sql_tree.specs.Symbols.{Symbol};
 
 use crate::numbers::significant_digits;
-use crate::reader::{ReadError, Reader};
 use beas_core::{ColType, Column, List as Items, Name};
 use sql_tree::{ColumnRef, Literal};
 use std::alloc::Global;
+use token_reader::{ReadError, Reader};
 
 /// What stands in lists with commas between.
 pub trait Part: Drop {

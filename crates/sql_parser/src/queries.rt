@@ -2,13 +2,14 @@
 ghost use Rattle.std.specs.Prelude.{◌≡◌, IfOk, length};
 ghost use Rattle.sql_tree.specs.Trees.{Block, Union, Except};
 ghost use Rattle.sql_parser.specs.Fronts.{joined_to};
-ghost use Rattle.sql_parser.specs.Reading.{GivesWithRest, read_block_term, read_term, read_query, read_whole_query, then_close};
+ghost use Rattle.token_reader.specs.Reading.{GivesWithRest};
+ghost use Rattle.sql_parser.specs.Reading.{read_block_term, read_term, read_query, read_whole_query, then_close};
 
 use crate::blocks::block;
-use crate::reader::{ReadError, Reader};
 use beas_core::NoMemory;
 use sql_tree::{SelectNode, SelectTree};
 use std::alloc::Global;
+use token_reader::{ReadError, Reader};
 
 /// What stands before a term.
 #[derive(Debug, Drop)]
@@ -40,8 +41,9 @@ fn join_to(alloc: Global, front: Front, tree: SelectTree) -> Result<SelectTree, 
     }
 }
 
+/// Reads a block, as a query.
 #[tactic(auto, unfolding(crate::specs::Reading::read_block_term))]
-fn block_term(reader: &mut Reader, alloc: Global) -> Result<SelectTree, ReadError>
+pub fn block_term(reader: &mut Reader, alloc: Global) -> Result<SelectTree, ReadError>
     ensures { GivesWithRest result reader.new (read_block_term reader.old) }
 {
     let block = block(reader, alloc)?;

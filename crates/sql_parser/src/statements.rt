@@ -1,14 +1,16 @@
 // Statements.
 ghost use Rattle.std.specs.Prelude.{◌≡◌, if◌then◌else◌, length};
-ghost use Rattle.sql_parser.specs.Reading.{GivesWithRest, Adds, after, then_close, read_columns, read_key, read_fetched, read_create_table, read_create_access, read_drop_access, read_load, read_insert, read_delete, read_pairs, read_group, read_discover, read_explain, read_select, words_of, read_opened, begins_with, after_all, read_first, read_statement};
+ghost use Rattle.token_reader.specs.Reading.{GivesWithRest, begins_with, after_all};
+ghost use Rattle.sql_parser.specs.Reading.{Adds, after, then_close, read_columns, read_key, read_fetched, read_create_table, read_create_access, read_drop_access, read_load, read_insert, read_delete, read_pairs, read_group, read_discover, read_explain, read_scan_ok, read_specialise, read_select, read_selection, words_of, read_opened, read_first, read_statement};
 
 use crate::conditions::where_conditions;
+use crate::groups::grouped;
 use crate::parts::{commas, maybe_names};
-use crate::queries::query;
-use crate::reader::{ReadError, Reader};
+use crate::queries::{block_term, query};
 use beas_core::{AccessSpec, Column, List, Name};
 use sql_tree::{Literal, Statement};
 use std::alloc::Global;
+use token_reader::{ReadError, Reader};
 
 #[tactic(auto, unfolding(crate::specs::Reading::read_columns, crate::specs::Reading::then_close))]
 fn columns(reader: &mut Reader, alloc: Global) -> Result<List<Column>, ReadError>
@@ -157,7 +159,34 @@ fn select(reader: &mut Reader, alloc: Global) -> Result<Statement, ReadError>
     Ok(Statement::Select { tree })
 }
 
-/// How a statement begins that isn't a query alone.
+#[tactic(auto, unfolding(crate::specs::Reading::read_scan_ok))]
+fn scan_ok(reader: &mut Reader, alloc: Global) -> Result<Statement, ReadError>
+    ensures { GivesWithRest result reader.new (read_scan_ok reader.old) }
+{
+    let tree = query(reader, alloc)?;
+    Ok(Statement::ScanOk { tree })
+}
+
+#[tactic(auto, unfolding(crate::specs::Reading::read_specialise))]
+fn specialise(reader: &mut Reader, alloc: Global) -> Result<Statement, ReadError>
+    ensures { GivesWithRest result reader.new (read_specialise reader.old) }
+{
+    let tree = block_term(reader, alloc)?;
+    Ok(Statement::Specialise { tree })
+}
+
+/// Reads what begins with no other words: a query or a grouped statement.
+#[tactic(auto, unfolding(crate::specs::Reading::read_selection))]
+fn selection(reader: &mut Reader, alloc: Global) -> Result<Statement, ReadError>
+    ensures { GivesWithRest result reader.new (read_selection reader.old) }
+{
+    if reader.has_group() {
+        return grouped(reader, alloc);
+    }
+    select(reader, alloc)
+}
+
+/// How a statement begins that isn't a query alone or grouped.
 #[derive(Clone, Copy)]
 enum Opening {
     CreateTable,
@@ -168,9 +197,11 @@ enum Opening {
     Delete,
     Discover,
     Explain,
+    ScanOk,
+    Specialise,
 }
 
-const OPENINGS: [Opening; 8] = [
+const OPENINGS: [Opening; 10] = [
     Opening::CreateTable,
     Opening::CreateAccess,
     Opening::DropAccess,
@@ -179,10 +210,12 @@ const OPENINGS: [Opening; 8] = [
     Opening::Delete,
     Opening::Discover,
     Opening::Explain,
+    Opening::ScanOk,
+    Opening::Specialise,
 ];
 
 /// Goes after the words of an opening, where they are next, and says whether they were.
-#[tactic(auto, unfolding(crate::specs::Reading::begins_with, crate::specs::Reading::after_all))]
+#[tactic(auto, unfolding(token_reader::specs::Reading::begins_with, token_reader::specs::Reading::after_all))]
 fn take_opening(reader: &mut Reader, opening: Opening) -> bool
     ensures found { result ≡ begins_with (words_of opening) reader.old }
     ensures rest { reader.new ≡ (if result then after_all (words_of opening) reader.old else reader.old) }
@@ -196,6 +229,8 @@ fn take_opening(reader: &mut Reader, opening: Opening) -> bool
         Opening::Delete => reader.take_words("delete", "from"),
         Opening::Discover => reader.take_word("discover"),
         Opening::Explain => reader.take_word("explain"),
+        Opening::ScanOk => reader.take_words("scan", "ok"),
+        Opening::Specialise => reader.take_word("specialise"),
     }
 }
 
@@ -216,10 +251,12 @@ fn after_opening(
         Opening::Delete => delete(reader, alloc),
         Opening::Discover => discover(reader, alloc),
         Opening::Explain => explain(reader, alloc),
+        Opening::ScanOk => scan_ok(reader, alloc),
+        Opening::Specialise => specialise(reader, alloc),
     }
 }
 
-/// Reads a statement by the first of these openings that is next. What begins with none is a query.
+/// Reads a statement by the first of these openings that is next. What begins with none is a query or grouped.
 fn by_first(
     reader: &mut Reader,
     alloc: Global,
@@ -232,7 +269,7 @@ fn by_first(
             return after_opening(reader, alloc, *opening);
         }
     }
-    select(reader, alloc)
+    selection(reader, alloc)
 }
 
 /// Reads a statement, or a query that lacks its DISTINCT.

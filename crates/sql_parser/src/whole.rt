@@ -9,12 +9,12 @@ ghost use Rattle.sql_parser.specs.Outcome.{Parses, Reading, lacks_distinct, foun
 ghost use Rattle.sql_parser.specs.Reading.{read_statement};
 
 use crate::nesting::is_too_deep;
-use crate::reader::{ReadError, Reader};
 use crate::statements::statement;
 use beas_core::{Fail, Refusal};
 use sql_text::Token;
 use sql_tree::{SelectNode, SelectTree, Statement};
 use std::alloc::Global;
+use token_reader::{ReadError, Reader};
 
 /// Reads a statement from all of the tokens, or a query that lacks its DISTINCT.
 fn all_of(tokens: &[Token], alloc: Global) -> Result<Statement, ReadError>
@@ -39,12 +39,15 @@ fn is_plain_block(tree: &SelectTree) -> bool
     }
 }
 
-/// Whether a statement is a query that lacks its DISTINCT, or EXPLAIN before one.
+/// Whether a statement is over a query that lacks its DISTINCT.
 fn lacks_distinct(statement: &Statement) -> bool
     ensures { result ≡ lacks_distinct statement.now }
 {
     match statement {
-        Statement::Select { tree } | Statement::Explain { tree } => is_plain_block(tree),
+        Statement::Select { tree }
+        | Statement::Explain { tree }
+        | Statement::ScanOk { tree }
+        | Statement::Specialise { tree } => is_plain_block(tree),
         Statement::CreateTable { .. }
         | Statement::CreateAccess { .. }
         | Statement::DropAccess { .. }
@@ -52,7 +55,8 @@ fn lacks_distinct(statement: &Statement) -> bool
         | Statement::Insert { .. }
         | Statement::Delete { .. }
         | Statement::DiscoverGroup { .. }
-        | Statement::DiscoverPairs { .. } => false,
+        | Statement::DiscoverPairs { .. }
+        | Statement::Grouped { .. } => false,
     }
 }
 
@@ -76,7 +80,7 @@ fn reading(alloc: Global, tokens: &[Token]) -> Result<Statement, Fail>
 
 /// The statement that the tokens of a piece spell. They are refused, in this order, where they are nested deeper
 /// than 32 (`TooDeep`), where they spell neither a statement nor a query that lacks its DISTINCT (`Syntax`), and
-/// where they spell such a query, or EXPLAIN before one (`NeedsDistinct`).
+/// where they spell such a query, also after EXPLAIN, SCAN OK or SPECIALISE (`NeedsDistinct`).
 pub fn parse(alloc: Global, tokens: &[Token]) -> Result<Statement, Fail>
     // What is answered is so by the grammar.
     ensures spelled { IfOk result (λ s. Parses (symbols tokens.now) (Ok s)) }

@@ -25,7 +25,7 @@ longest_word = 64
 abbrev pub marks : List (List ℕ)
 marks =
     codes "<>" ∷ codes "!=" ∷ codes "<=" ∷ codes ">=" ∷ codes "(" ∷ codes ")" ∷ codes "," ∷ codes ";" ∷ codes "."
-    ∷ codes "*" ∷ codes "+" ∷ codes "-" ∷ codes "=" ∷ codes "<" ∷ codes ">" ∷ []
+    ∷ codes "*" ∷ codes "+" ∷ codes "-" ∷ codes "=" ∷ codes "<" ∷ codes ">" ∷ codes "@" ∷ []
 
 abbrev pub quote : ℕ
 quote = 39

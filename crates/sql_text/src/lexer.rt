@@ -204,7 +204,7 @@ fn mark_len(bytes: &[u8], at: usize) -> usize
     match bytes[at] {
         b'<' if next == b'>' || next == b'=' => 2,
         b'>' | b'!' if next == b'=' => 2,
-        b'(' | b')' | b',' | b';' | b'.' | b'*' | b'+' | b'-' | b'=' | b'<' | b'>' => 1,
+        b'(' | b')' | b',' | b';' | b'.' | b'*' | b'+' | b'-' | b'=' | b'<' | b'>' | b'@' => 1,
         _ => 0,
     }
 }

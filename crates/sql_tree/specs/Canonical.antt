@@ -18,8 +18,10 @@ use Rattle.sql_tree.specs.declared.tree.Cond.{Cond}
 use Rattle.sql_tree.specs.declared.tree.Cond.TheVariants.{Compare, Between}
 use Rattle.sql_tree.specs.declared.tree.FromItem.{FromItem}
 use Rattle.sql_tree.specs.declared.tree.BlockTree.{BlockTree}
+use Rattle.sql_tree.specs.declared.tree.GroupItem.{GroupItem}
+use Rattle.sql_tree.specs.declared.tree.GroupItem.TheVariants.{Plain, Count, Sum, Least, Greatest}
 use Rattle.sql_tree.specs.declared.tree.Statement.{Statement}
-use Rattle.sql_tree.specs.declared.tree.Statement.TheVariants.{CreateTable, CreateAccess, DropAccess, Load, Insert, Delete, DiscoverGroup, DiscoverPairs, Select, Explain}
+use Rattle.sql_tree.specs.declared.tree.Statement.TheVariants.{CreateTable, CreateAccess, DropAccess, Load, Insert, Delete, DiscoverGroup, DiscoverPairs, Select, Explain, ScanOk, Grouped, Specialise}
 use Rattle.sql_text.specs.Tokens.{in_quotes}
 use Rattle.sql_tree.specs.Trees.{Tree, Block, Union, Except}
 
@@ -141,6 +143,27 @@ tree_lexemes (Block block) = block_of block
 tree_lexemes (Union left right) = tree_lexemes left ++ keyword (codes "UNION") ∷ operand_of right (tree_lexemes right)
 tree_lexemes (Except left right) = tree_lexemes left ++ keyword (codes "EXCEPT") ∷ operand_of right (tree_lexemes right)
 
+-- a function of the values of a column
+abbrev pub folded_of : List ℕ → Bool → ColumnRef → List Lexeme
+folded_of function distinct ref = keyword function ∷ in_parentheses (distinct_of distinct ++ ref_of ref)
+
+abbrev pub group_item_of : GroupItem → List Lexeme
+group_item_of (Plain ref) = ref_of ref
+group_item_of (Count ref) = folded_of (codes "COUNT") true ref
+group_item_of (Sum ref) = folded_of (codes "SUM") true ref
+group_item_of (Least ref) = folded_of (codes "MIN") false ref
+group_item_of (Greatest ref) = folded_of (codes "MAX") false ref
+
+-- the FROM items and conditions of a block; no statement is grouped over another tree
+abbrev pub from_of : Tree → List Lexeme
+from_of (Block block) = body_of block.from_items block.conditions
+from_of (Union left right) = []
+from_of (Except left right) = []
+
+abbrev pub grouped_of : List GroupItem → List ColumnRef → Tree → List Lexeme
+grouped_of items keys inner = keyword (codes "SELECT") ∷ comma_list group_item_of items ++ from_of inner ++ keyword (codes "GROUP")
+    ∷ keyword (codes "BY") ∷ comma_list ref_of keys
+
 -- FETCH ( names )
 abbrev pub fetch_of : List (List ℕ) → List Lexeme
 fetch_of names = keyword (codes "FETCH") ∷ in_parentheses (names_of names)
@@ -163,6 +186,9 @@ lexemes_of (DiscoverGroup table key fetched) = keyword (codes "DISCOVER") ∷ na
 lexemes_of (DiscoverPairs table limit) = keyword (codes "DISCOVER") ∷ name table ∷ limit_of limit
 lexemes_of (Select tree) = tree_lexemes tree
 lexemes_of (Explain tree) = keyword (codes "EXPLAIN") ∷ tree_lexemes tree
+lexemes_of (ScanOk tree) = keyword (codes "SCAN") ∷ keyword (codes "OK") ∷ tree_lexemes tree
+lexemes_of (Grouped items keys inner) = grouped_of items keys inner
+lexemes_of (Specialise tree) = keyword (codes "SPECIALISE") ∷ tree_lexemes tree
 
 abbrev pub canonical_text : Statement → List ℕ
 canonical_text statement = text_of_lexemes true (lexemes_of statement)

@@ -14,12 +14,15 @@ use Rattle.sql_tree.specs.declared.tree.Cond.{Cond}
 use Rattle.sql_tree.specs.declared.tree.Cond.TheVariants.{Compare, Between}
 use Rattle.sql_tree.specs.declared.tree.FromItem.{FromItem}
 use Rattle.sql_tree.specs.declared.tree.BlockTree.{BlockTree}
+use Rattle.sql_tree.specs.declared.tree.GroupItem.{GroupItem}
+use Rattle.sql_tree.specs.declared.tree.GroupItem.TheVariants.{Plain, Count, Sum, Least, Greatest}
 use Rattle.sql_tree.specs.declared.tree.Statement.{Statement}
-use Rattle.sql_tree.specs.declared.tree.Statement.TheVariants.{CreateTable, CreateAccess, DropAccess, Load, Insert, Delete, DiscoverGroup, DiscoverPairs, Select, Explain}
+use Rattle.sql_tree.specs.declared.tree.Statement.TheVariants.{CreateTable, CreateAccess, DropAccess, Load, Insert, Delete, DiscoverGroup, DiscoverPairs, Select, Explain, ScanOk, Grouped, Specialise}
 use Rattle.beas_core.specs.Spelling.{is_name}
 use Rattle.sql_tree.specs.Symbols.{Symbol, word, number, quoted, mark}
 use Rattle.sql_tree.specs.Trees.{Tree, Block, Union, Except}
-use Rattle.sql_tree.specs.Words.{ACCESS, AND, AS, BETWEEN, CREATE, CROSS, DELETE, DISCOVER, DISTINCT, DROP, EXCEPT, EXPLAIN, FETCH, FROM, INNER, INSERT, INT, INTEGER, INTO, JOIN, LIMIT, LOAD, ON, SELECT, TABLE, TEXT, UNION, VALUES, WHERE, OPEN, CLOSE, COMMA, DOT, STAR, PLUS, MINUS}
+use Rattle.sql_tree.specs.Grouping.{grouped_block}
+use Rattle.sql_tree.specs.Words.{ACCESS, AND, AS, BETWEEN, BY, COUNT, CREATE, CROSS, DELETE, DISCOVER, DISTINCT, DROP, EXCEPT, EXPLAIN, FETCH, FROM, GROUP, INNER, INSERT, INT, INTEGER, INTO, JOIN, LIMIT, LOAD, MAX, MIN, OK, ON, SCAN, SELECT, SPECIALISE, SUM, TABLE, TEXT, UNION, VALUES, WHERE, OPEN, CLOSE, COMMA, DOT, STAR, PLUS, MINUS}
 
 -- X { , X }
 pub data Commas {X : Type 0} (Spelled : List Symbol → X → Type 0) : List Symbol → List X → Type 0 where
@@ -181,10 +184,20 @@ wants_distinct (Block b) = not b.distinct
 wants_distinct (Union left right) = false
 wants_distinct (Except left right) = false
 
--- the words in front of a query, and the statement that they make of its tree
+-- a statement over a query, with the query's tree, also where that lacks its DISTINCT: query | EXPLAIN query | SCAN OK query | SPECIALISE block
 pub data IsOverQuery : List Symbol → Tree → Statement → Type 0 where
-  select : {t : Tree} → IsOverQuery [] t (Select t)
-  explain : {t : Tree} → IsOverQuery (EXPLAIN ∷ []) t (Explain t)
+  select : {a : List Symbol} {t : Tree} → IsQuery a t → IsOverQuery a t (Select t)
+  explain : {a : List Symbol} {t : Tree} → IsQuery a t → IsOverQuery (EXPLAIN ∷ a) t (Explain t)
+  scan_ok : {a : List Symbol} {t : Tree} → IsQuery a t → IsOverQuery (SCAN ∷ OK ∷ a) t (ScanOk t)
+  specialise : {a : List Symbol} {b : BlockTree} → IsBlock a b → IsOverQuery (SPECIALISE ∷ a) (Block b) (Specialise (Block b))
+
+-- ref | COUNT ( DISTINCT ref ) | SUM ( DISTINCT ref ) | MIN ( ref ) | MAX ( ref )
+pub data IsGroupItem : List Symbol → GroupItem → Type 0 where
+  shared : {a : List Symbol} {r : ColumnRef} → IsRef a r → IsGroupItem a (Plain r)
+  counted : {a : List Symbol} {r : ColumnRef} → IsRef a r → IsGroupItem (COUNT ∷ OPEN ∷ DISTINCT ∷ a ++ CLOSE ∷ []) (Count r)
+  summed : {a : List Symbol} {r : ColumnRef} → IsRef a r → IsGroupItem (SUM ∷ OPEN ∷ DISTINCT ∷ a ++ CLOSE ∷ []) (Sum r)
+  least : {a : List Symbol} {r : ColumnRef} → IsRef a r → IsGroupItem (MIN ∷ OPEN ∷ a ++ CLOSE ∷ []) (Least r)
+  greatest : {a : List Symbol} {r : ColumnRef} → IsRef a r → IsGroupItem (MAX ∷ OPEN ∷ a ++ CLOSE ∷ []) (Greatest r)
 
 -- The tokens spell the statement.
 pub data Spells : List Symbol → Statement → Type 0 where
@@ -205,9 +218,10 @@ pub data Spells : List Symbol → Statement → Type 0 where
       → Spells (DISCOVER ∷ a ++ OPEN ∷ b ++ CLOSE ∷ FETCH ∷ OPEN ∷ c ++ CLOSE ∷ []) (DiscoverGroup t key fetched)
   discover_pairs : {a : List Symbol} {t limit : List ℕ} → IsId a t
       → Spells (DISCOVER ∷ a ++ LIMIT ∷ number limit ∷ []) (DiscoverPairs t limit)
-  over_query : {words a : List Symbol} {t : Tree} {s : Statement} → IsOverQuery words t s → IsQuery a t → wants_distinct t ≡ false
-      → Spells (words ++ a) s
+  grouped : {a b c : List Symbol} {items : List GroupItem} {body : Body} {keys : List ColumnRef} → Commas IsGroupItem a items → IsBody b body
+      → Commas IsRef c keys → Spells (SELECT ∷ a ++ b ++ GROUP ∷ BY ∷ c) (Grouped items keys (Block (grouped_block items keys body.0 body.1)))
+  over_query : {a : List Symbol} {t : Tree} {s : Statement} → IsOverQuery a t s → wants_distinct t ≡ false → Spells a s
 
--- The tokens spell a query whose tree is one block without DISTINCT, or words in front of one that make a statement of a query.
+-- The tokens spell what would be a statement over a query, but its tree is one block without DISTINCT.
 pub data SpellsLone : List Symbol → Type 0 where
-  lone : {words a : List Symbol} {t : Tree} {s : Statement} → IsOverQuery words t s → IsQuery a t → wants_distinct t ≡ true → SpellsLone (words ++ a)
+  lone : {a : List Symbol} {t : Tree} {s : Statement} → IsOverQuery a t s → wants_distinct t ≡ true → SpellsLone a

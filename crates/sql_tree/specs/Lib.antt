@@ -1,6 +1,7 @@
 pub mod Between
 pub mod Canonical
 pub mod Grammar
+pub mod Grouping
 pub mod Heights
 pub mod Nodes
 pub mod Symbols

@@ -14,6 +14,12 @@ AS = word (codes "as")
 abbrev pub BETWEEN : Symbol
 BETWEEN = word (codes "between")
 
+abbrev pub BY : Symbol
+BY = word (codes "by")
+
+abbrev pub COUNT : Symbol
+COUNT = word (codes "count")
+
 abbrev pub CREATE : Symbol
 CREATE = word (codes "create")
 
@@ -44,6 +50,9 @@ FETCH = word (codes "fetch")
 abbrev pub FROM : Symbol
 FROM = word (codes "from")
 
+abbrev pub GROUP : Symbol
+GROUP = word (codes "group")
+
 abbrev pub INNER : Symbol
 INNER = word (codes "inner")
 
@@ -68,11 +77,29 @@ LIMIT = word (codes "limit")
 abbrev pub LOAD : Symbol
 LOAD = word (codes "load")
 
+abbrev pub MAX : Symbol
+MAX = word (codes "max")
+
+abbrev pub MIN : Symbol
+MIN = word (codes "min")
+
+abbrev pub OK : Symbol
+OK = word (codes "ok")
+
 abbrev pub ON : Symbol
 ON = word (codes "on")
 
+abbrev pub SCAN : Symbol
+SCAN = word (codes "scan")
+
 abbrev pub SELECT : Symbol
 SELECT = word (codes "select")
+
+abbrev pub SPECIALISE : Symbol
+SPECIALISE = word (codes "specialise")
+
+abbrev pub SUM : Symbol
+SUM = word (codes "sum")
 
 abbrev pub TABLE : Symbol
 TABLE = word (codes "table")

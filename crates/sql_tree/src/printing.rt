@@ -1,12 +1,12 @@
 // The canonical text of statements.
 ghost use Rattle.std.specs.Prelude.{◌≡◌, ◌++◌, ◌∷◌, [], List, OnOk, IfOk, Option, codes, if◌then◌else◌};
-ghost use Rattle.sql_tree.specs.declared.printing.Between.{Between as Separator};
-ghost use Rattle.sql_tree.specs.Canonical.{Lexeme, keyword, name, digits, content, sign, parts_with, comma_list, names_of, column_of, type_of, literal_of, tuple_of, alias_before, ref_of, side_of, sign_text, condition_of, where_of, item_of, output_of, distinct_of, head_of, body_of, block_of, in_parentheses, operand_of, tree_lexemes, fetch_of, limit_of, access_of, lexemes_of, canonical_text};
+ghost use Rattle.sql_tree.specs.Canonical.{Lexeme, keyword, name, digits, content, sign, parts_with, comma_list, names_of, column_of, type_of, literal_of, tuple_of, alias_before, ref_of, side_of, sign_text, condition_of, where_of, item_of, output_of, distinct_of, head_of, body_of, block_of, in_parentheses, operand_of, tree_lexemes, folded_of, group_item_of, from_of, grouped_of, fetch_of, limit_of, access_of, lexemes_of, canonical_text};
 ghost use Rattle.sql_tree.specs.Between.{lexeme_between};
 ghost use Rattle.sql_tree.specs.Writing.{put, put_all};
 
 use crate::tree::{
-    BlockTree, ColumnRef, Cond, FromItem, Literal, SelectNode, SelectTree, Side, Statement,
+    BlockTree, ColumnRef, Cond, FromItem, GroupItem, Literal, SelectNode, SelectTree, Side,
+    Statement,
 };
 use crate::writer::Writer;
 use beas_core::{AccessSpec, ColType, Column, List as Items, Name, NoMemory, Sign, Text};
@@ -467,6 +467,81 @@ fn write_explained(writer: &mut Writer, tree: &SelectTree) -> Result<(), NoMemor
     write_tree(writer, tree)
 }
 
+#[tactic(auto, unfolding(crate::specs::Writing::put_all))]
+fn write_scanned(writer: &mut Writer, tree: &SelectTree) -> Result<(), NoMemory>
+    ensures { OnOk result (writer.new ≡ put_all writer.old (keyword (codes "SCAN") ∷ keyword (codes "OK") ∷ tree_lexemes
+        tree.now)) }
+{
+    writer.word("SCAN")?;
+    writer.word("OK")?;
+    write_tree(writer, tree)
+}
+
+#[tactic(auto, unfolding(crate::specs::Writing::put_all))]
+fn write_specialised(writer: &mut Writer, tree: &SelectTree) -> Result<(), NoMemory>
+    ensures { OnOk result (writer.new ≡ put_all writer.old (keyword (codes "SPECIALISE") ∷ tree_lexemes tree.now)) }
+{
+    writer.word("SPECIALISE")?;
+    write_tree(writer, tree)
+}
+
+#[tactic(auto, unfolding(crate::specs::Writing::put_all), using(crate::proofs::Written::put_all_append))]
+fn write_folded(
+    writer: &mut Writer,
+    function: &str,
+    distinct: bool,
+    column: &ColumnRef,
+) -> Result<(), NoMemory>
+    ensures { OnOk result (writer.new ≡ put_all writer.old (folded_of function.now distinct column.now)) }
+{
+    writer.word(function)?;
+    writer.mark("(")?;
+    write_distinct(writer, distinct)?;
+    column.write(writer)?;
+    writer.mark(")")
+}
+
+impl Part for GroupItem {
+    ghost lexemes = { group_item_of };
+
+    fn write(&self, writer: &mut Writer) -> Result<(), NoMemory> {
+        match self {
+            GroupItem::Plain(column) => column.write(writer),
+            GroupItem::Count(column) => write_folded(writer, "COUNT", true, column),
+            GroupItem::Sum(column) => write_folded(writer, "SUM", true, column),
+            GroupItem::Least(column) => write_folded(writer, "MIN", false, column),
+            GroupItem::Greatest(column) => write_folded(writer, "MAX", false, column),
+        }
+    }
+}
+
+#[tactic(auto, unfolding(crate::specs::Writing::put_all))]
+fn write_from(writer: &mut Writer, tree: &SelectTree) -> Result<(), NoMemory>
+    ensures { OnOk result (writer.new ≡ put_all writer.old (from_of tree.now)) }
+{
+    match &tree.node {
+        SelectNode::Block(block) => write_body(writer, &block.from_items, &block.conditions),
+        SelectNode::Union(..) | SelectNode::Except(..) => Ok(()),
+    }
+}
+
+#[tactic(auto, unfolding(crate::specs::Writing::put_all), using(crate::proofs::Written::put_all_append))]
+fn write_grouped(
+    writer: &mut Writer,
+    items: &Items<GroupItem>,
+    keys: &Items<ColumnRef>,
+    inner: &SelectTree,
+) -> Result<(), NoMemory>
+    ensures { OnOk result (writer.new ≡ put_all writer.old (grouped_of items.now keys.now inner.now)) }
+{
+    writer.word("SELECT")?;
+    write_parted::<GroupItem>(writer, Between::Comma, items)?;
+    write_from(writer, inner)?;
+    writer.word("GROUP")?;
+    writer.word("BY")?;
+    write_parted::<ColumnRef>(writer, Between::Comma, keys)
+}
+
 fn write_statement(writer: &mut Writer, statement: &Statement) -> Result<(), NoMemory>
     ensures { OnOk result (writer.new ≡ put_all writer.old (lexemes_of statement.now)) }
 {
@@ -485,6 +560,9 @@ fn write_statement(writer: &mut Writer, statement: &Statement) -> Result<(), NoM
         Statement::DiscoverPairs { table, limit } => write_pairs(writer, table, limit),
         Statement::Select { tree } => write_tree(writer, tree),
         Statement::Explain { tree } => write_explained(writer, tree),
+        Statement::ScanOk { tree } => write_scanned(writer, tree),
+        Statement::Grouped { items, keys, inner } => write_grouped(writer, items, keys, inner),
+        Statement::Specialise { tree } => write_specialised(writer, tree),
     }
 }
 

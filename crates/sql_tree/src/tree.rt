@@ -89,7 +89,19 @@ impl Model for SelectTree {
     ghost size_decreases = { λ s h. nodes_fall s.node };
 }
 
-/// A statement of the language.
+/// What a group gives for one column of its rows: the value that they share, the number of distinct values, the sum of
+/// the distinct values, or the first or the last value in the order of values.
+#[derive(Debug, Drop)]
+pub enum GroupItem {
+    Plain(ColumnRef),
+    Count(ColumnRef),
+    Sum(ColumnRef),
+    Least(ColumnRef),
+    Greatest(ColumnRef),
+}
+
+/// A statement of the language. In `Grouped`, `inner` is a block with DISTINCT of the keys and then the columns of the
+/// items. In `Specialise`, `tree` is a block.
 #[derive(Debug, Drop)]
 pub enum Statement {
     CreateTable {
@@ -127,6 +139,17 @@ pub enum Statement {
         tree: SelectTree,
     },
     Explain {
+        tree: SelectTree,
+    },
+    ScanOk {
+        tree: SelectTree,
+    },
+    Grouped {
+        items: List<GroupItem>,
+        keys: List<ColumnRef>,
+        inner: SelectTree,
+    },
+    Specialise {
         tree: SelectTree,
     },
 }

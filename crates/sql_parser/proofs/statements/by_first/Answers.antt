@@ -1,6 +1,7 @@
 use Rattle.std.proofs.Common.{◌∙◌, sym, ap, subst, get_or}
 use Rattle.sql_parser.specs.declared.statements.Opening.TheVariants.{CreateTable}
-use Rattle.sql_parser.specs.Reading.{GivesWithRest, read_opened}
+use Rattle.token_reader.specs.Reading.{GivesWithRest}
+use Rattle.sql_parser.specs.Reading.{read_opened}
 use Rattle.sql_parser.proofs.Openings.{passed, taken, none_left}
 use Rattle.sql_parser.proofs.statements.by_first.Goals as goal
 
@@ -19,5 +20,5 @@ loop-opening-preserved c =
 
 pub returns : goal.returns
 returns c =
-    subst (λ read. GivesWithRest c.select.result c.select.new.reader read)
-    (sym (none_left c.args.openings.now c.loop-opening.opening-index c.loop-opening.reader c.loop-opening-test.false) ∙ c.loop-opening.invariant) c.select.ensures
+    subst (λ read. GivesWithRest c.selection.result c.selection.new.reader read)
+    (sym (none_left c.args.openings.now c.loop-opening.opening-index c.loop-opening.reader c.loop-opening-test.false) ∙ c.loop-opening.invariant) c.selection.ensures

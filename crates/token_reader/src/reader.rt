@@ -1,7 +1,9 @@
 // The tokens that are still to be read.
 ghost use Rattle.std.specs.Prelude.{◌≡◌, ◌∷◌, [], codes, length, if◌then◌else◌, IsTrue, OnOk};
-ghost use Rattle.sql_parser.specs.Reading.{GivesWithRest, Passes, starts, rest_of, begins_with, expect, read_id, read_number, read_quoted, starts_id, starts_quoted, read_sign, sign_of};
+ghost use Rattle.token_reader.specs.Reading.{GivesWithRest, Passes, starts, rest_of, begins_with, expect, read_id, read_number, read_quoted, starts_id, starts_quoted, read_sign, sign_of, is_group, has_group};
+ghost use Rattle.std.specs.List.{list_any};
 ghost use Rattle.sql_tree.specs.Symbols.{word, mark, symbols};
+ghost use Rattle.sql_tree.specs.Words.{OPEN};
 
 use beas_core::{Duplicate, Name, NoMemory, Sign, Text, is_name};
 use sql_text::{Token, TokenKind};
@@ -16,7 +18,7 @@ pub enum ReadError {
 }
 
 impl From<NoMemory> for ReadError {
-    ghost use Rattle.sql_parser.specs.declared.reader.ReadError.TheVariants.{NoMemory};
+    ghost use Rattle.token_reader.specs.declared.reader.ReadError.TheVariants.{NoMemory};
     ghost use Rattle.std.specs.Prelude.{◌≡◌};
 
     ghost from_gives = { λ _ e. e ≡ NoMemory };
@@ -39,6 +41,12 @@ fn sign_of(text: &str) -> Option<Sign>
         ">=" => Some(Sign::AtLeast),
         _ => None,
     }
+}
+
+fn any_is_group(tokens: &[Token]) -> bool
+    ensures { result ≡ list_any is_group tokens.now }
+{
+    tokens.iter().any(|token| token.kind == TokenKind::Word && token.text.as_str() == "group")
 }
 
 /// The tokens that are still to be read, seen as what they are and their texts.
@@ -139,6 +147,28 @@ impl<'a> Reader<'a> {
         }
         self.rest = before;
         false
+    }
+
+    /// Goes after this word and an opening parenthesis, where both are next, and says whether they were.
+    #[tactic(auto, unfolding(crate::specs::Reading::begins_with))]
+    pub fn take_call(&mut self, function: &str) -> bool
+        ensures found { result ≡ begins_with (word function.now ∷ OPEN ∷ []) self.old }
+        ensures rest { self.new ≡ (if result then rest_of (rest_of self.old) else self.old) }
+    {
+        let before = self.rest;
+        if self.take_word(function) && self.take_mark("(") {
+            return true;
+        }
+        self.rest = before;
+        false
+    }
+
+    /// Whether the word GROUP is among the tokens.
+    #[tactic(auto, using(crate::proofs::Groups::any_group))]
+    pub fn has_group(&self) -> bool
+        ensures { result ≡ has_group self.now }
+    {
+        any_is_group(self.rest)
     }
 
     /// Goes after a word, which must be next.
