@@ -1,5 +1,5 @@
 -- What a guard keeps stays true when a table is made, a constraint is made or dropped, and rows come or go; and the database that it is then.
-use Rattle.std.proofs.Common.{◌≡◌, ◌∙◌, ◌<◌, ◌≤◌, ◌+◌, ◌⊎◌, ℕ, zero, suc, List, [], ◌∷◌, ◌++◌, map, length, get_or, set, ap, refl, sym, subst, arith, inl, inr, length-append, length-set, if◌then◌else◌}
+use Rattle.std.proofs.Common.{◌≡◌, ◌∙◌, ◌<◌, ◌≤◌, ◌+◌, ◌⊎◌, ℕ, zero, suc, List, [], ◌∷◌, ◌++◌, length, get_or, set, ap, refl, sym, subst, arith, inl, inr, length-append, length-set}
 use Rattle.std.specs.Prelude.{All, remove, Result, Ok, Err, OnOk, OnErr}
 use Rattle.std.proofs.Math.Seq.{get_or-append_seam}
 use Rattle.std.proofs.Math.ListN.{get_or-append}
@@ -12,22 +12,14 @@ use Rattle.beas_core.specs.declared.schema.Column.{Column}
 use Rattle.beas_core.specs.declared.schema.TableId.{TableId}
 use Rattle.beas_core.specs.Types.{Row}
 use Rattle.beas_core.specs.Groups.{Holds}
+use Rattle.beas_core.specs.Shapes.{AccessIsWellFormed}
 use Rattle.access_index.specs.Index.{Index, IsIndexOf}
 use Rattle.catalogue.specs.declared.tables.TableSchema.{TableSchema}
 use Rattle.catalogue.specs.Schema.{Schema, no_table, columns_at, schema_with_table, schema_with_access, schema_without_access}
-use Rattle.catalogue.specs.Database.{Database, RowFits, table_schema, schema_of, rows_at, empty_table, with_table, with_rows}
-use Rattle.std.specs.Option.{option_or, is_none}
-use Rattle.beas_core.specs.declared.limits.Limits.{Limits}
-use Rattle.beas_core.specs.declared.schema.AccessSpec.{AccessSpec}
-use Rattle.std.specs.Prelude.{nat_lt}
+use Rattle.catalogue.specs.Database.{RowFits}
 use Rattle.std.proofs.Math.ListN.{get_or-eq_default}
-use Rattle.beas_core.specs.declared.refusal.Refusal.TheVariants.{TooMany}
-use Rattle.beas_core.specs.declared.refusal.Counted.TheVariants.{Rows}
-use Rattle.catalogue.specs.Schema.{accesses_on}
-use Rattle.catalogue.specs.Refusing.{insert_refusal, wrong_width, wrong_type, broken_bound, admit_refusal, already_broken, new_access, create_access_refusal}
-use Rattle.beas_core.specs.Results.{refused_if}
 use Rattle.update_guard.specs.Guarding.{IsIndexAt, IndexesOf, IsGuarded}
-use Rattle.catalogue.specs.Stored.{tables_with, database_of, HoldOver, create_access_reads}
+use Rattle.catalogue.specs.Stored.{HoldOver}
 use Rattle.update_guard.specs.Making.{AddsIndex, DropsIndex}
 
 -- one table more, without rows
@@ -238,3 +230,14 @@ few_at schema rows indexes g i = elim (below_or_above i (length rows)) [
   | inl b ↦ g.few i [] b
   | inr a ↦ let e = ap length (get_or-eq_default rows [] a) in omega (arith, e)
 ]
+
+-- a constraint on a table of few columns
+pub widened : (width : ℕ) (access : Access) → width ≤ 64 → AccessIsWellFormed width access → AccessIsWellFormed 64 access
+widened width access l f = record {
+  fetches = f.fetches;
+  key_once = f.key_once;
+  fetched_once = f.fetched_once;
+  key_columns = λ k d h. omega (arith, f.key_columns k d h, l);
+  fetched_columns = λ k d h. omega (arith, f.fetched_columns k d h, l);
+  bound = f.bound;
+}

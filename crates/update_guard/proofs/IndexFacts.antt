@@ -1,10 +1,10 @@
 -- The indexes of a table's constraints, one of them moved at a time.
-use Rattle.std.proofs.Common.{◌≡◌, ◌≢◌, ◌∙◌, ◌<◌, ◌≤◌, ◌+◌, ◌==◌, ◌||◌, ℕ, zero, suc, Bool, true, false, cond, List, [], ◌∷◌, map, take, drop, length, get_or, set, ap, refl, sym, subst, arith, true≢false, inl, inr, length-set, length-take, length-drop, if◌then◌else◌}
-use Rattle.std.specs.Prelude.{filter, All, AllPairs}
+use Rattle.std.proofs.Common.{◌≡◌, ◌≢◌, ◌∙◌, ◌<◌, ◌≤◌, ◌+◌, ◌==◌, ◌||◌, ℕ, zero, suc, Bool, true, false, cond, List, [], ◌∷◌, map, take, drop, length, get_or, set, ap, refl, sym, subst, arith, add-one, true≢false, inl, inr, length-set, length-take, length-drop, if◌then◌else◌}
+use Rattle.std.specs.Prelude.{◌++◌, filter, remove, All, AllPairs}
 use Rattle.std.specs.List.{list_any}
 use Rattle.std.proofs.Math.Seq.{drop-cons, take-suc}
 use Rattle.std.proofs.lemmas.Bool.{eq-eqb, ne_eqb, eqb-true, cases_eq}
-use Rattle.std.proofs.lemmas.List.{get_or-set_same, get_or-set_other, get_or-map, get_or-take, get_or-drop, get_or_default, length-map}
+use Rattle.std.proofs.lemmas.List.{get_or-set_same, get_or-set_other, get_or-map, get_or-take, get_or-drop, get_or_default, length-map, take_all}
 use Rattle.std.proofs.lemmas.List.Elements.{All-filter, filter_passes}
 use Rattle.std.proofs.lemmas.List.Kept.{AllPairs-filter}
 use Rattle.std.proofs.lemmas.List.Folds.{list_any_none, list_any-append, list_any_at}
@@ -17,6 +17,7 @@ use Rattle.catalogue.specs.Kept.{ids_on}
 use Rattle.catalogue.proofs.IdFacts.{IdsRise, located_at}
 use Rattle.catalogue.proofs.ListFacts.{one_place}
 use Rattle.update_guard.specs.Guarding.{IsIndexAt, IndexesOf}
+use Rattle.update_guard.specs.Seen.{index_at, no_index, IsMoved}
 use Rattle.update_guard.specs.Indexing.{AreIndexed, is_done, IsOnTable, IsPlaceOn, id_at, no_access}
 
 -- a constraint is live, and found by its id
@@ -369,3 +370,72 @@ fresh_after accesses table k place old new moved p h fresh i e f l unseen =
           let apart : i ≢ place = λ q. n (ap (λ j. (get_or accesses j f).id.0) q ∙ ap (λ a. a.id.0) (p.at f) ∙ p.is_on.has_id) in
           get_or-set_other new place i moved e apart ∙ fresh i e f l (sym (step_others ids k (record { 0 = 0 }) (get_or accesses i f).id.0 h n) ∙ unseen)
     ]
+
+-- what a call tells of the one index that it moved
+pub moved_long : {old new : List Index} {place : ℕ} (accesses : List Access) → IsMoved old new place → length old ≡ length accesses
+    → length new ≡ length accesses
+moved_long {old} {new} {place} accesses m e = ap length m.moved ∙ length-set old place m.index ∙ e
+
+moved_at : {old new : List Index} {place : ℕ} (m : IsMoved old new place) → place < length old → index_at new place ≡ m.index
+moved_at {old} {new} {place} m l = ap (λ xs. get_or xs place no_index) m.moved ∙ get_or-set_same old place m.index no_index l
+
+moved_access : {old new : List Index} {place : ℕ} (m : IsMoved old new place) → place < length old → m.index.access ≡ (get_or old place m.index).access
+moved_access {old} {new} {place} m l = m.access_stays ∙ ap (λ (i : Index). i.access) (get_or_default old place no_index m.index l)
+
+pub move_out : {accesses : List Access} {table k place : ℕ} {old new : List Index} (n : ℕ) (rows : List (List Row)) (before after : List Row)
+    → IsPlaceOn accesses table k place → k < n → n ≤ length (ids_on accesses table) → length old ≡ length accesses → table < length rows
+    → IsMoved old new place → (IsIndexOf (index_at old place) after → IsIndexOf (index_at new place) before)
+    → AreIndexed accesses rows table before after (drop k (take n (ids_on accesses table))) old
+    → AreIndexed accesses rows table before after (drop (k + 1) (take n (ids_on accesses table))) new
+move_out {accesses} {table} {k} {place} {old} {new} n rows before after p h l long live m flips is =
+    let within : place < length old = omega (arith, p.within, long) in
+    let ids = take n (ids_on accesses table) in
+    let turn = turn_of n old m.index p h l (moved_access m within) in
+    subst (λ ixs. AreIndexed accesses rows table before after (drop (k + 1) ids) ixs) (sym m.moved)
+    (subst (λ j. AreIndexed accesses rows table before after (drop j ids) (set old place m.index)) (sym (add-one k))
+    (turn_out rows before after turn live (λ x. subst (λ (i : Index). IsIndexOf i before) (moved_at m within)
+    (flips (subst (λ (i : Index). IsIndexOf i after) (get_or_default old place m.index no_index within) x))) is))
+
+pub move_in : {accesses : List Access} {table k place : ℕ} {old new : List Index} (rows : List (List Row)) (before after : List Row)
+    → IsPlaceOn accesses table k place → k < length (ids_on accesses table) → length old ≡ length accesses → table < length rows
+    → IsMoved old new place → (IsIndexOf (index_at old place) before → IsIndexOf (index_at new place) after)
+    → AreIndexed accesses rows table before after (take k (ids_on accesses table)) old
+    → AreIndexed accesses rows table before after (take (k + 1) (ids_on accesses table)) new
+move_in {accesses} {table} {k} {place} {old} {new} rows before after p h long live m flips is =
+    let within : place < length old = omega (arith, p.within, long) in
+    let ids = ids_on accesses table in
+    let turn = turn_of (length ids) old m.index p h (omega arith) (moved_access m within) in
+    let all = take_all (length ids) ids (omega arith) in
+    subst (λ ixs. AreIndexed accesses rows table before after (take (k + 1) ids) ixs) (sym m.moved)
+    (subst (λ ds. AreIndexed accesses rows table before after ds (set old place m.index))
+    (ap (λ xs. take (suc k) xs) all ∙ ap (λ j. take j ids) (sym (add-one k)))
+    (turn_in rows before after turn live (λ x. subst (λ (i : Index). IsIndexOf i after) (moved_at m within)
+    (flips (subst (λ (i : Index). IsIndexOf i before) (get_or_default old place m.index no_index within) x)))
+    (subst (λ ds. AreIndexed accesses rows table before after ds old) (ap (take k) (sym all)) is)))
+
+pub move_kept : {accesses : List Access} {table k place : ℕ} {old new : List Index} (rows : List (List Row)) (before after : List Row)
+    (done : List AccessId) → IsPlaceOn accesses table k place → length old ≡ length accesses → table < length rows
+    → IsMoved old new place → ((own : List Row) → IsIndexOf (index_at old place) own → IsIndexOf (index_at new place) own)
+    → AreIndexed accesses rows table before after done old → AreIndexed accesses rows table before after done new
+move_kept {accesses} {table} {k} {place} {old} {new} rows before after done p long live m keeps is =
+    let within : place < length old = omega (arith, p.within, long) in
+    subst (λ ixs. AreIndexed accesses rows table before after done ixs) (sym m.moved)
+    (kept_one rows before after done old m.index p live (moved_access m within)
+    (λ own x. subst (λ (i : Index). IsIndexOf i own) (moved_at m within)
+    (keeps own (subst (λ (i : Index). IsIndexOf i own) (get_or_default old place m.index no_index within) x))) is)
+
+-- the indexes of a table's constraints that aren't among the first k are as they were
+abbrev pub AreFresh : List Access → ℕ → ℕ → List Index → List Index → Type 0
+AreFresh accesses table k old new =
+    (i : ℕ) (d : Index) (e : Access) → i < length accesses → is_done (take k (ids_on accesses table)) (get_or accesses i e) ≡ false
+    → get_or new i d ≡ get_or old i d
+
+pub move_fresh : {accesses : List Access} {table k place : ℕ} {now new : List Index} (old : List Index) → IsPlaceOn accesses table k place
+    → k < length (ids_on accesses table) → IsMoved now new place → AreFresh accesses table k old now → AreFresh accesses table (k + 1) old new
+move_fresh {accesses} {table} {k} {place} {now} {new} old p h m fresh i d e l unseen =
+    ap (λ xs. get_or xs i d) m.moved ∙ fresh_after accesses table k place old now m.index p h fresh i d e l
+    (ap (λ j. is_done (take j (ids_on accesses table)) (get_or accesses i e)) (sym (add-one k)) ∙ unseen)
+
+pub last_removed : (front : List Index) (last : Index) → remove (front ++ last ∷ []) (length front) ≡ front
+last_removed [] last = refl
+last_removed (x ∷ front) last = ap (λ xs. x ∷ xs) (last_removed front last)

@@ -1,8 +1,9 @@
 -- Rows put into the indexes of their table one after another.
-use Rattle.std.proofs.Common.{◌≡◌, ◌∙◌, ◌<◌, ◌≤◌, ◌+◌, ◌^◌, ℕ, suc, Bool, false, List, [], ◌∷◌, ◌++◌, map, take, drop, length, get_or, set, ap, sym, subst, arith, inl, inr, Option, None, add-one, length-append, append_assoc}
+use Rattle.std.proofs.Common.{◌≡◌, ◌∙◌, ◌<◌, ◌≤◌, ◌+◌, ◌^◌, ℕ, suc, Bool, false, List, [], ◌∷◌, ◌++◌, map, take, drop, length, get_or, set, ap, sym, subst, arith, inl, inr, Option, None, add-one, length-append, append_assoc, true≢false}
 use Rattle.std.specs.Prelude.{option_map, All, Result, Ok, Err, OnErr, if◌then◌else◌}
 use Rattle.std.specs.List.{enumerate_from}
 use Rattle.std.specs.Option.{option_or}
+use Rattle.std.specs.Result.{IsErr, IsErrAnd}
 use Rattle.std.proofs.Math.Seq.{drop-cons, take-suc}
 use Rattle.std.proofs.Math.ListN.{drop_of_length-le}
 use Rattle.std.proofs.lemmas.Bool.{cases_eq}
@@ -90,6 +91,12 @@ room_of accesses rows table own added count more indexes live few fits is k d l 
 pub refused_alike : (A B : Type 0) (why : Fail) (r : Option Refusal) → IsRefusedAs {A = A} (Err why) r → IsRefusedAs {A = B} (Err why) r
 refused_alike A B NoMemory r h = tt
 refused_alike A B (Refused why) r h = h
+
+-- a refusal that is handed on
+pub refused_on : (A B : Type 0) (r : Result B Fail) (why : Fail) (o : Option Refusal) → IsErr r × IsErrAnd r (λ e. e ≡ why)
+    → IsRefusedAs {A = A} (Err why) o → IsRefusedAs {A = B} r o
+refused_on A B (Ok x) why o y h = absurd (true≢false (sym y.0))
+refused_on A B (Err e) why o y h = subst (λ (w : Fail). IsRefusedAs {A = B} (Err w) o) (sym y.1) (refused_alike A B why o h)
 
 -- what is left where rows are to go in together, by whether they did
 abbrev pub LeftBy : List Access → ℕ → List Row → List Index → List Index → Bool → Type 0

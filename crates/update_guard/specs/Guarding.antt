@@ -1,19 +1,13 @@
 -- What a guard keeps.
 --     IndexesOf accesses rows indexes   each constraint has the index of its table's rows
 --     IsGuarded schema rows indexes     rows fit their tables, the constraints hold, and each has its index
-use Rattle.std.specs.Prelude.{◌≡◌, ◌<◌, ◌≤◌, if◌then◌else◌, ℕ, List, [], ◌∷◌, length, All, slice_index_or}
-use Rattle.std.specs.Option.{is_none}
-use Rattle.beas_core.specs.declared.limits.Limits.{Limits}
+use Rattle.std.specs.Prelude.{◌≡◌, ◌<◌, ◌≤◌, ℕ, List, [], length, All, slice_index_or}
 use Rattle.beas_core.specs.declared.schema.Access.{Access}
-use Rattle.beas_core.specs.declared.schema.AccessSpec.{AccessSpec}
 use Rattle.beas_core.specs.Types.{Row}
-use Rattle.beas_core.specs.Groups.{Holds}
 use Rattle.access_index.specs.Index.{Index, IsIndexOf}
-use Rattle.catalogue.specs.declared.tables.TableSchema.{TableSchema}
 use Rattle.catalogue.specs.Schema.{Schema, no_table}
 use Rattle.catalogue.specs.Stored.{HoldOver}
-use Rattle.catalogue.specs.Database.{Database, Table, RowFits, schema_of, rows_at}
-use Rattle.catalogue.specs.Refusing.{admit_refusal, new_access}
+use Rattle.catalogue.specs.Database.{RowFits}
 
 -- the index of a constraint's table's rows
 pub record IsIndexAt (rows : List (List Row)) (index : Index) (access : Access) : Type 0 where

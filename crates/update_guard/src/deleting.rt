@@ -1,14 +1,14 @@
 // Rows go out of a table and its indexes in one pass.
 ghost use Rattle.std.specs.Prelude.{◌≡◌, ◌+◌, ◌<◌, List, [], length, All, vec_len, slice_index_or, slice_set};
-ghost use Rattle.beas_core.specs.Types.{Row as Tuple};
+ghost use Rattle.beas_core.specs.Types.{Row};
 ghost use Rattle.catalogue.specs.Database.{kept_rows};
 ghost use Rattle.row_checks.specs.Filtering.{BlockFits};
 ghost use Rattle.update_guard.specs.Guarding.{IndexesOf, IsGuarded};
 ghost use Rattle.beas_core.specs.Shapes.{BlockIsWellFormed, width_of};
 ghost use Rattle.catalogue.specs.Schema.{columns_at};
 
+use crate::indexes::Indexes;
 use crate::indexing::remove_row;
-use access_index::AccessIndex;
 use beas_core::{Block, Steps, TableId};
 use catalogue::Catalogue;
 use row_checks::meets;
@@ -17,23 +17,23 @@ use std::sync::ledger::Ledger;
 
 /// Takes the rows that meet all conditions of a block out of a table and its indexes; the others keep
 /// their order. It answers how many went, reads each row once and takes no memory.
-pub fn sweep<L: Ledger>(
+pub fn sweep<I: Indexes, L: Ledger>(
     catalogue: &Catalogue,
     table: TableId,
     rows: &mut Rows,
-    indexes: &mut Vec<AccessIndex>,
+    indexes: &mut I,
     filter: &Block,
     steps: &mut Steps<L>,
 ) -> u32
     requires live { table.0 < length catalogue.now.tables }
-    requires count { vec_len indexes.old ≡ length catalogue.now.accesses }
+    requires count { length (I.seen indexes.old) ≡ length catalogue.now.accesses }
     requires fits { All (λ row. BlockFits row filter.now) rows.old }
     ensures gone { result + length rows.new ≡ length rows.old }
     ensures rows { rows.new ≡ kept_rows filter.now rows.old }
-    ensures indexes { (all : List (List Tuple)) → table.0 < length all
-        → IndexesOf catalogue.now.accesses (slice_set all table.0 rows.old) indexes.old.items
-        → IndexesOf catalogue.now.accesses (slice_set all table.0 rows.new) indexes.new.items }
-    ensures len { vec_len indexes.new ≡ vec_len indexes.old }
+    ensures indexes { (all : List (List Row)) → table.0 < length all
+        → IndexesOf catalogue.now.accesses (slice_set all table.0 rows.old) (I.seen indexes.old)
+        → IndexesOf catalogue.now.accesses (slice_set all table.0 rows.new) (I.seen indexes.new) }
+    ensures len { length (I.seen indexes.new) ≡ length (I.seen indexes.old) }
     ensures cost { steps.new ≡ steps.old + length rows.old }
 {
     let count = rows.len();
@@ -53,16 +53,16 @@ pub fn sweep<L: Ledger>(
 
 /// Takes the rows that meet all conditions of a block out of its table and the table's indexes. It answers
 /// how many went.
-pub fn delete_from<L: Ledger>(
+pub fn delete_from<I: Indexes, L: Ledger>(
     catalogue: &Catalogue,
     table: TableId,
     stores: &mut Vec<Rows>,
-    indexes: &mut Vec<AccessIndex>,
+    indexes: &mut I,
     filter: &Block,
     steps: &mut Steps<L>,
 ) -> u32
     requires live { table.0 < length catalogue.now.tables }
-    requires kept { IsGuarded catalogue.now stores.old.items indexes.old.items }
+    requires kept { IsGuarded catalogue.now stores.old.items (I.seen indexes.old) }
     requires form { BlockIsWellFormed filter.now }
     requires one { length filter.now.atoms ≡ 1 }
     requires wide { width_of filter.now.atoms 0 ≡ length (columns_at catalogue.now table) }
@@ -71,7 +71,7 @@ pub fn delete_from<L: Ledger>(
     ensures gone { result + length (kept_rows filter.now (slice_index_or stores.old.items table.0 []))
         ≡ length (slice_index_or stores.old.items table.0 []) }
     ensures cost { steps.new ≡ steps.old + length (slice_index_or stores.old.items table.0 []) }
-    ensures kept { IsGuarded catalogue.now stores.new.items indexes.new.items }
+    ensures kept { IsGuarded catalogue.now stores.new.items (I.seen indexes.new) }
 {
     let store = &mut stores[table.0 as usize];
     sweep(catalogue, table, store, indexes, filter, steps)

@@ -2,7 +2,7 @@
 ghost use Rattle.std.specs.Prelude.{◌≡◌, ◌≢◌, ◌+◌, ◌<◌, ◌≤◌, ◌^◌, ◌++◌, ◌∷◌, ℕ, List, [], length, take, drop, All, Some, None, if◌then◌else◌, IfOk, OnOk, OnErr, IfSome, IsTrue, option_map, vec_len, ◌==◌, slice_index_or, slice_set};
 ghost use Rattle.std.specs.List.{list_any};
 ghost use Rattle.std.specs.Option.{is_none};
-ghost use Rattle.beas_core.specs.Types.{Row as Tuple};
+ghost use Rattle.beas_core.specs.Types.{Row};
 ghost use Rattle.access_index.specs.Index.{Index};
 ghost use Rattle.catalogue.specs.Schema.{accesses_on, access_with_id};
 ghost use Rattle.catalogue.specs.Kept.{ids_on};
@@ -13,7 +13,7 @@ ghost use Rattle.catalogue.specs.Stored.{HoldOver};
 ghost use Rattle.update_guard.specs.Indexing.{AreIndexed, IsPlaceOn, no_access};
 ghost use Rattle.update_guard.specs.Inserting.{StayIndexed};
 
-use access_index::AccessIndex;
+use crate::indexes::Indexes;
 use beas_core::{AccessId, NoMemory, Row, TableId};
 use catalogue::Catalogue;
 use std::alloc::Global;
@@ -36,36 +36,36 @@ fn id_in(ids: &[AccessId], k: usize) -> AccessId
 }
 
 /// Takes a row out of the indexes of the first `n` constraints on a table. It takes no memory.
-pub fn remove_from(
+pub fn remove_from<I: Indexes>(
     catalogue: &Catalogue,
     table: TableId,
     n: usize,
-    indexes: &mut Vec<AccessIndex>,
+    indexes: &mut I,
     row: &Row,
 )
     requires live { table.0 < length catalogue.now.tables }
     requires within { n ≤ length (ids_on catalogue.now.accesses table.0) }
-    requires count { vec_len indexes.old ≡ length catalogue.now.accesses }
-    ensures taken { (rows : List (List Tuple)) (front back : List Tuple) → table.0 < length rows
+    requires count { length (I.seen indexes.old) ≡ length catalogue.now.accesses }
+    ensures taken { (rows : List (List Row)) (front back : List Row) → table.0 < length rows
         → AreIndexed catalogue.now.accesses rows table.0 (front ++ back) (front ++ row.now ∷ back)
-        (take n (ids_on catalogue.now.accesses table.0)) indexes.old.items
-        → IndexesOf catalogue.now.accesses (slice_set rows table.0 (front ++ back)) indexes.new.items }
-    ensures len { vec_len indexes.new ≡ vec_len indexes.old }
+        (take n (ids_on catalogue.now.accesses table.0)) (I.seen indexes.old)
+        → IndexesOf catalogue.now.accesses (slice_set rows table.0 (front ++ back)) (I.seen indexes.new) }
+    ensures len { length (I.seen indexes.new) ≡ length (I.seen indexes.old) }
 {
     for k in 0..n {
         let place = place_on(catalogue, table, k);
-        indexes[place].remove(row);
+        indexes.remove(place, row);
     }
 }
 
 /// Takes a row out of the indexes of a table's constraints. It takes no memory.
-pub fn remove_row(catalogue: &Catalogue, table: TableId, indexes: &mut Vec<AccessIndex>, row: &Row)
+pub fn remove_row<I: Indexes>(catalogue: &Catalogue, table: TableId, indexes: &mut I, row: &Row)
     requires live { table.0 < length catalogue.now.tables }
-    requires count { vec_len indexes.old ≡ length catalogue.now.accesses }
-    ensures taken { (rows : List (List Tuple)) (front back : List Tuple) → table.0 < length rows
-        → IndexesOf catalogue.now.accesses (slice_set rows table.0 (front ++ row.now ∷ back)) indexes.old.items
-        → IndexesOf catalogue.now.accesses (slice_set rows table.0 (front ++ back)) indexes.new.items }
-    ensures len { vec_len indexes.new ≡ vec_len indexes.old }
+    requires count { length (I.seen indexes.old) ≡ length catalogue.now.accesses }
+    ensures taken { (rows : List (List Row)) (front back : List Row) → table.0 < length rows
+        → IndexesOf catalogue.now.accesses (slice_set rows table.0 (front ++ row.now ∷ back)) (I.seen indexes.old)
+        → IndexesOf catalogue.now.accesses (slice_set rows table.0 (front ++ back)) (I.seen indexes.new) }
+    ensures len { length (I.seen indexes.new) ≡ length (I.seen indexes.old) }
 {
     remove_from(
         catalogue,
@@ -77,68 +77,68 @@ pub fn remove_row(catalogue: &Catalogue, table: TableId, indexes: &mut Vec<Acces
 }
 
 /// Takes rows, the last of their table, out of the indexes of its first `n` constraints. It takes no memory.
-fn remove_rows_from(
+fn remove_rows_from<I: Indexes>(
     catalogue: &Catalogue,
     table: TableId,
     n: usize,
-    indexes: &mut Vec<AccessIndex>,
+    indexes: &mut I,
     added: &[Row],
 )
     requires live { table.0 < length catalogue.now.tables }
     requires within { n ≤ length (ids_on catalogue.now.accesses table.0) }
-    requires count { vec_len indexes.old ≡ length catalogue.now.accesses }
-    ensures taken { (rows : List (List Tuple)) (front : List Tuple) → table.0 < length rows
+    requires count { length (I.seen indexes.old) ≡ length catalogue.now.accesses }
+    ensures taken { (rows : List (List Row)) (front : List Row) → table.0 < length rows
         → AreIndexed catalogue.now.accesses rows table.0 front (front ++ added.now)
-        (take n (ids_on catalogue.now.accesses table.0)) indexes.old.items
-        → IndexesOf catalogue.now.accesses (slice_set rows table.0 front) indexes.new.items }
-    ensures len { vec_len indexes.new ≡ vec_len indexes.old }
+        (take n (ids_on catalogue.now.accesses table.0)) (I.seen indexes.old)
+        → IndexesOf catalogue.now.accesses (slice_set rows table.0 front) (I.seen indexes.new) }
+    ensures len { length (I.seen indexes.new) ≡ length (I.seen indexes.old) }
 {
     for k in 0..n {
         let place = place_on(catalogue, table, k);
-        indexes[place].remove_rows(added);
+        indexes.remove_rows(place, added);
     }
 }
 
 /// Takes rows, the last of their table, out of the indexes of its constraints. It takes no memory.
-pub fn remove_rows(
+pub fn remove_rows<I: Indexes>(
     catalogue: &Catalogue,
     table: TableId,
-    indexes: &mut Vec<AccessIndex>,
+    indexes: &mut I,
     added: &[Row],
 )
     requires live { table.0 < length catalogue.now.tables }
-    requires count { vec_len indexes.old ≡ length catalogue.now.accesses }
-    ensures taken { (rows : List (List Tuple)) (front : List Tuple) → table.0 < length rows
-        → IndexesOf catalogue.now.accesses (slice_set rows table.0 (front ++ added.now)) indexes.old.items
-        → IndexesOf catalogue.now.accesses (slice_set rows table.0 front) indexes.new.items }
-    ensures len { vec_len indexes.new ≡ vec_len indexes.old }
+    requires count { length (I.seen indexes.old) ≡ length catalogue.now.accesses }
+    ensures taken { (rows : List (List Row)) (front : List Row) → table.0 < length rows
+        → IndexesOf catalogue.now.accesses (slice_set rows table.0 (front ++ added.now)) (I.seen indexes.old)
+        → IndexesOf catalogue.now.accesses (slice_set rows table.0 front) (I.seen indexes.new) }
+    ensures len { length (I.seen indexes.new) ≡ length (I.seen indexes.old) }
 {
     let n = catalogue.ids_on(table).len();
     remove_rows_from(catalogue, table, n, indexes, added);
 }
 
 /// Puts a row into the indexes of a table's constraints, or into none.
-pub fn add_row(
+pub fn add_row<I: Indexes>(
     alloc: Global,
     catalogue: &Catalogue,
     table: TableId,
-    indexes: &mut Vec<AccessIndex>,
+    indexes: &mut I,
     row: &Row,
 ) -> Result<(), NoMemory>
     requires live { table.0 < length catalogue.now.tables }
-    requires count { vec_len indexes.old ≡ length catalogue.now.accesses }
-    requires room { All (λ index. index.total + 1 < 2 ^ 32) indexes.old.items }
-    ensures ok { OnOk result ((rows : List (List Tuple)) (front back : List Tuple) → table.0 < length rows
-        → IndexesOf catalogue.now.accesses (slice_set rows table.0 (front ++ back)) indexes.old.items
-        → IndexesOf catalogue.now.accesses (slice_set rows table.0 (front ++ row.now ∷ back)) indexes.new.items) }
-    ensures err { OnErr result ((rows : List (List Tuple)) (front back : List Tuple) → table.0 < length rows
-        → IndexesOf catalogue.now.accesses (slice_set rows table.0 (front ++ back)) indexes.old.items
-        → IndexesOf catalogue.now.accesses (slice_set rows table.0 (front ++ back)) indexes.new.items) }
-    ensures len { vec_len indexes.new ≡ vec_len indexes.old }
+    requires count { length (I.seen indexes.old) ≡ length catalogue.now.accesses }
+    requires room { All (λ index. index.total + 1 < 2 ^ 32) (I.seen indexes.old) }
+    ensures ok { OnOk result ((rows : List (List Row)) (front back : List Row) → table.0 < length rows
+        → IndexesOf catalogue.now.accesses (slice_set rows table.0 (front ++ back)) (I.seen indexes.old)
+        → IndexesOf catalogue.now.accesses (slice_set rows table.0 (front ++ row.now ∷ back)) (I.seen indexes.new)) }
+    ensures err { OnErr result ((rows : List (List Row)) (front back : List Row) → table.0 < length rows
+        → IndexesOf catalogue.now.accesses (slice_set rows table.0 (front ++ back)) (I.seen indexes.old)
+        → IndexesOf catalogue.now.accesses (slice_set rows table.0 (front ++ back)) (I.seen indexes.new)) }
+    ensures len { length (I.seen indexes.new) ≡ length (I.seen indexes.old) }
 {
     for k in 0..catalogue.ids_on(table).len() {
         let place = place_on(catalogue, table, k);
-        match indexes[place].add(alloc, row) {
+        match indexes.add(alloc, place, row) {
             Ok(()) => {}
             Err(why) => {
                 remove_from(catalogue, table, k, indexes, row);
@@ -152,30 +152,30 @@ pub fn add_row(
 /// Puts rows, which are to come after those of their table, into the indexes of its constraints where these all
 /// hold with them, and else into none. Each index takes all rows before the next one does, so that it can take them
 /// in the order of its own tuples.
-pub fn add_all(
+pub fn add_all<I: Indexes>(
     alloc: Global,
     catalogue: &Catalogue,
     table: TableId,
-    indexes: &mut Vec<AccessIndex>,
+    indexes: &mut I,
     added: &[Row],
 ) -> Result<bool, NoMemory>
     requires live { table.0 < length catalogue.now.tables }
-    requires count { vec_len indexes.old ≡ length catalogue.now.accesses }
-    requires room { All (λ index. index.total + length added.now < 2 ^ 32) indexes.old.items }
-    ensures indexed { IfOk result (λ all. (rows : List (List Tuple)) (front : List Tuple) → table.0 < length rows
-        → IndexesOf catalogue.now.accesses (slice_set rows table.0 front) indexes.old.items
+    requires count { length (I.seen indexes.old) ≡ length catalogue.now.accesses }
+    requires room { All (λ index. index.total + length added.now < 2 ^ 32) (I.seen indexes.old) }
+    ensures indexed { IfOk result (λ all. (rows : List (List Row)) (front : List Row) → table.0 < length rows
+        → IndexesOf catalogue.now.accesses (slice_set rows table.0 front) (I.seen indexes.old)
         → IndexesOf catalogue.now.accesses (slice_set rows table.0 (if all then front ++ added.now else front))
-        indexes.new.items) }
-    ensures broken { IfOk result (λ all. (rows : List (List Tuple)) → table.0 < length rows
-        → IndexesOf catalogue.now.accesses rows indexes.old.items → HoldOver catalogue.now.accesses rows
+        (I.seen indexes.new)) }
+    ensures broken { IfOk result (λ all. (rows : List (List Row)) → table.0 < length rows
+        → IndexesOf catalogue.now.accesses rows (I.seen indexes.old) → HoldOver catalogue.now.accesses rows
         → is_none (broken (accesses_on catalogue.now.accesses table) (slice_index_or rows table.0 [] ++ added.now))
         ≡ all) }
-    ensures err { OnErr result (StayIndexed catalogue.now.accesses table indexes.old.items indexes.new.items) }
-    ensures len { vec_len indexes.new ≡ vec_len indexes.old }
+    ensures err { OnErr result (StayIndexed catalogue.now.accesses table (I.seen indexes.old) (I.seen indexes.new)) }
+    ensures len { length (I.seen indexes.new) ≡ length (I.seen indexes.old) }
 {
     for k in 0..catalogue.ids_on(table).len() {
         let place = place_on(catalogue, table, k);
-        match indexes[place].add_rows(alloc, added) {
+        match indexes.add_rows(alloc, place, added) {
             Ok(true) => {}
             Ok(false) => {
                 remove_rows_from(catalogue, table, k, indexes, added);
@@ -192,16 +192,16 @@ pub fn add_all(
 
 /// Where the first constraint on a table stands that would not hold with one row more, if there is one. It
 /// takes no memory.
-pub fn first_broken(
+pub fn first_broken<I: Indexes>(
     catalogue: &Catalogue,
     table: TableId,
-    indexes: &[AccessIndex],
+    indexes: &I,
     row: &Row,
 ) -> Option<usize>
     requires live { table.0 < length catalogue.now.tables }
-    requires count { length indexes.now ≡ length catalogue.now.accesses }
-    ensures first { (rows : List (List Tuple)) → table.0 < length rows
-        → IndexesOf catalogue.now.accesses rows indexes.now → HoldOver catalogue.now.accesses rows
+    requires count { length (I.seen indexes.now) ≡ length catalogue.now.accesses }
+    ensures first { (rows : List (List Row)) → table.0 < length rows
+        → IndexesOf catalogue.now.accesses rows (I.seen indexes.now) → HoldOver catalogue.now.accesses rows
         → broken (accesses_on catalogue.now.accesses table) (slice_index_or rows table.0 [] ++ row.now ∷ [])
         ≡ option_map (λ place. slice_index_or catalogue.now.accesses place no_access) result }
     ensures within { IfSome result (λ place. place < length catalogue.now.accesses) }
@@ -209,7 +209,7 @@ pub fn first_broken(
 {
     for k in 0..catalogue.ids_on(table).len() {
         let place = place_on(catalogue, table, k);
-        if !indexes[place].would_hold(row) {
+        if !indexes.would_hold(place, row) {
             return Some(place);
         }
     }

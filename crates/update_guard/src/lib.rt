@@ -1,11 +1,13 @@
 //! The store: tables with their rows, each constraint with its index, and updates that keep every constraint.
 #![tactic(auto)]
 
-mod deleting;
+pub mod deleting;
 mod guarded;
+mod indexes;
 mod indexing;
-mod inserting;
-mod making;
+pub mod inserting;
+pub mod making;
 mod port;
 
 pub use guarded::Guarded;
+pub use indexes::Indexes;

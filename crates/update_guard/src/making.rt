@@ -1,14 +1,14 @@
 // Tables and constraints are made, each with its rows or its index, or not at all.
-ghost use Rattle.std.specs.Prelude.{◌≡◌, ◌≢◌, ◌+◌, ◌<◌, ◌≤◌, ◌++◌, ◌∷◌, if◌then◌else◌, [], length, vec_len, IfOk, IfErr, IsOk, IsTrue, OnOk, OnErr, Err, None, slice_index_or};
-ghost use Rattle.beas_core.specs.Groups.{Holds};
+ghost use Rattle.std.specs.Prelude.{◌≡◌, ◌≢◌, ◌+◌, ◌<◌, ◌≤◌, ◌++◌, ◌∷◌, if◌then◌else◌, [], List, length, IfOk, IfErr, IsOk, IsTrue, OnOk, OnErr, Err, None, slice_index_or};
+ghost use Rattle.beas_core.specs.Shapes.{AccessIsWellFormed};
 ghost use Rattle.std.specs.Option.{is_none, option_or};
-ghost use Rattle.access_index.specs.Index.{IsIndexOf, Index};
+ghost use Rattle.access_index.specs.Index.{Index};
 ghost use Rattle.catalogue.specs.Schema.{has_access, schema_with_table, schema_with_access, schema_without_access};
 ghost use Rattle.catalogue.specs.Refusing.{add_table_refusal, admit_refusal, already_broken, new_access, drop_access_refusal};
 ghost use Rattle.beas_core.specs.Results.{IsRefusedAs};
 ghost use Rattle.update_guard.specs.Making.{AddsIndex, DropsIndex};
 
-use access_index::AccessIndex;
+use crate::indexes::Indexes;
 use beas_core::{
     Access, AccessId, AccessSpec, Column, Fail, Limits, List, Name, Refusal, Steps, TableId,
 };
@@ -40,61 +40,67 @@ pub fn make_table(
     Ok(id)
 }
 
-/// The index of rows for a constraint, which is refused where it doesn't hold over them.
-fn index_that_holds<L: Ledger>(
+/// Adds the index of rows for a constraint at the end, which is refused where the constraint doesn't hold over them.
+fn put_index<I: Indexes, L: Ledger>(
     alloc: Global,
     access: Access,
     rows: &Rows,
+    indexes: &mut I,
     steps: &mut Steps<L>,
-) -> Result<AccessIndex, Fail>
+) -> Result<(), Fail>
+    requires { AccessIsWellFormed 64 access }
     ensures refused { IsRefusedAs result (already_broken rows.now access) }
-    ensures access { IfOk result (λ index. index.access ≡ access) }
-    ensures index { IfOk result (λ index. IsIndexOf index rows.now) }
-    ensures holds { OnOk result (Holds rows.now access) }
+    ensures index { OnOk result (AddsIndex rows.now access (I.seen indexes.old) (I.seen indexes.new)) }
+    ensures err { OnErr result (I.seen indexes.new ≡ I.seen indexes.old) }
     ensures read { OnOk result (steps.new ≡ steps.old + length rows.now) }
     ensures refused_read { IfErr result (λ why. why ≢ Fail.NoMemory → steps.new ≡ steps.old + length rows.now) }
     ensures at_most { steps.new ≤ steps.old + length rows.now }
     ensures no_fewer { steps.old ≤ steps.new }
 {
     let bound = access.bound;
-    let index = AccessIndex::build(alloc, access, rows, steps)?;
-    let needed = index.greatest();
+    let end = indexes.len();
+    let needed = indexes.build(alloc, access, rows, steps)?;
     if needed > bound {
+        indexes.drop_at(end);
         return Err(Fail::Refused(Refusal::AlreadyBroken { needed, bound }));
     }
-    Ok(index)
+    Ok(())
 }
 
-/// Adds a constraint that a statement may make, and its index at the end.
-fn put_access(
+/// Adds a constraint that a statement may make, whose index stands at the end, or takes that index away.
+fn put_access<I: Indexes>(
     alloc: Global,
     catalogue: &mut Catalogue,
-    indexes: &mut Vec<AccessIndex>,
+    indexes: &mut I,
     limits: &Limits,
     spec: &AccessSpec,
-    index: AccessIndex,
 ) -> Result<AccessId, Fail>
     requires fetches { 1 ≤ length spec.now.fetched }
     requires may { admit_refusal limits.now catalogue.old spec.now ≡ None }
+    requires some { 1 ≤ length (I.seen indexes.old) }
     ensures refused { IsRefusedAs result None }
     ensures id { IfOk result (λ id. id.0 ≡ catalogue.old.created) }
     ensures ok { OnOk result (catalogue.new ≡ schema_with_access catalogue.old (new_access catalogue.old spec.now)) }
-    ensures index { OnOk result (indexes.new.items ≡ indexes.old.items ++ index ∷ []) }
+    ensures index { OnOk result (I.seen indexes.new ≡ I.seen indexes.old) }
     ensures err { OnErr result (catalogue.new ≡ catalogue.old) }
-    ensures indexes_stay { OnErr result (indexes.new.items ≡ indexes.old.items) }
+    ensures without { OnErr result ((front : List Index) (last : Index) → I.seen indexes.old ≡ front ++ last ∷ []
+        → I.seen indexes.new ≡ front) }
 {
-    indexes.reserve(1)?;
-    let id = catalogue.add_access(alloc, limits, spec)?;
-    indexes.push_reserved(index);
-    Ok(id)
+    match catalogue.add_access(alloc, limits, spec) {
+        Ok(id) => Ok(id),
+        Err(why) => {
+            indexes.drop_at(indexes.len() - 1);
+            Err(why)
+        }
+    }
 }
 
 /// Makes a constraint that holds over its table's rows, with its index.
-pub fn make_access<L: Ledger>(
+pub fn make_access<I: Indexes, L: Ledger>(
     alloc: Global,
     catalogue: &mut Catalogue,
     rows: &List<Rows>,
-    indexes: &mut Vec<AccessIndex>,
+    indexes: &mut I,
     limits: &Limits,
     spec: &AccessSpec,
     steps: &mut Steps<L>,
@@ -107,9 +113,9 @@ pub fn make_access<L: Ledger>(
     ensures id { IfOk result (λ id. id.0 ≡ catalogue.old.created) }
     ensures ok { OnOk result (catalogue.new ≡ schema_with_access catalogue.old (new_access catalogue.old spec.now)) }
     ensures index { OnOk result (AddsIndex (slice_index_or rows.now (new_access catalogue.old spec.now).table.0 [])
-        (new_access catalogue.old spec.now) indexes.old.items indexes.new.items) }
+        (new_access catalogue.old spec.now) (I.seen indexes.old) (I.seen indexes.new)) }
     ensures err { OnErr result (catalogue.new ≡ catalogue.old) }
-    ensures indexes_stay { OnErr result (indexes.new.items ≡ indexes.old.items) }
+    ensures indexes_stay { OnErr result (I.seen indexes.new ≡ I.seen indexes.old) }
     ensures cost { result ≢ Err Fail.NoMemory → steps.new ≡ steps.old
         + (if is_none (admit_refusal limits.now catalogue.old spec.now) then length
         (slice_index_or rows.now (new_access catalogue.old spec.now).table.0 []) else 0) }
@@ -119,34 +125,36 @@ pub fn make_access<L: Ledger>(
     ensures no_fewer { steps.old ≤ steps.new }
 {
     let access = catalogue.admit(alloc, limits, spec)?;
+    // Read for what it tells: a table has at most 64 columns.
+    let _few = catalogue.columns(access.table);
     let table = access.table.0 as usize;
-    match index_that_holds(alloc, access, &rows.as_slice()[table], steps) {
-        Ok(index) => put_access(alloc, catalogue, indexes, limits, spec, index),
+    match put_index(alloc, access, &rows.as_slice()[table], indexes, steps) {
+        Ok(()) => put_access(alloc, catalogue, indexes, limits, spec),
         Err(why) => Err(why),
     }
 }
 
 /// Drops a constraint and its index. Where its name is live it takes no memory.
-pub fn drop_index(
+pub fn drop_index<I: Indexes>(
     alloc: Global,
     catalogue: &mut Catalogue,
-    indexes: &mut Vec<AccessIndex>,
+    indexes: &mut I,
     name: &Name,
 ) -> Result<(), Fail>
-    requires { vec_len indexes.old ≡ length catalogue.old.accesses }
+    requires { length (I.seen indexes.old) ≡ length catalogue.old.accesses }
     ensures refused { IsRefusedAs result (drop_access_refusal catalogue.old name.now) }
     ensures live { IsTrue (has_access catalogue.old name.now) → IsOk result }
     ensures ok { OnOk result (catalogue.new ≡ schema_without_access catalogue.old name.now) }
     ensures index { OnOk result (DropsIndex catalogue.old.accesses
-        (schema_without_access catalogue.old name.now).accesses indexes.old.items indexes.new.items) }
+        (schema_without_access catalogue.old name.now).accesses (I.seen indexes.old) (I.seen indexes.new)) }
     ensures err { OnErr result (catalogue.new ≡ catalogue.old) }
-    ensures indexes_stay { OnErr result (indexes.new.items ≡ indexes.old.items) }
+    ensures indexes_stay { OnErr result ((I.seen indexes.new) ≡ (I.seen indexes.old)) }
 {
     let place = catalogue.place_named(name);
     catalogue.drop_access(alloc, name)?;
     match place {
         Some(place) => {
-            indexes.remove(place);
+            indexes.drop_at(place);
         }
         None => unreachable!(),
     }

@@ -1,13 +1,17 @@
 // Keys of constraints with many key columns.
-ghost use Rattle.std.specs.Prelude.{◌≡◌, ◌≤◌, length, nat_eq, IfOk};
+ghost use Rattle.std.specs.Prelude.{◌≡◌, ◌≤◌, length, nat_eq, IfOk, MatchOption};
 ghost use Rattle.std.specs.Cmp.{partial_equiv_from_equiv};
 ghost use Rattle.std.specs.Cmp.Lexicographic.{pointwise, nat_list_eq_equiv};
 ghost use Rattle.std.specs.Hash as fed;
 ghost use Rattle.word_index.specs.Hashing.{keys_alike};
+ghost use Rattle.beas_core.specs.Groups.{project};
 ghost use Rattle.word_index.specs.Reading.{pick};
+ghost use Rattle.word_index.specs.Spelling.{AllHaveCodes, AreCodesOf};
 
+use crate::interner::Interner;
+use crate::spelling::code_in;
 use crate::words::word_at;
-use beas_core::{ColumnId, NoMemory};
+use beas_core::{ColumnId, NoMemory, Value};
 use indexmap::Equivalent;
 use std::alloc::Global;
 use std::hash::{Hash, Hasher};
@@ -44,6 +48,44 @@ impl KeyWords {
             words: key,
             len: columns.len(),
         }
+    }
+
+    /// The codes of a key's values, or none where one of them was never interned.
+    pub fn known(codes: &Interner, key: &[Value]) -> Option<KeyWords>
+        requires { length key.now ≤ 64 }
+        ensures { MatchOption result (AllHaveCodes codes.now key.now → ⊥)
+            (λ words. AreCodesOf codes.now words key.now) }
+    {
+        let mut words = [0; 64];
+        for (i, value) in key.iter().enumerate() {
+            match codes.code(value) {
+                Some(code) => words[i] = code,
+                None => return None,
+            }
+        }
+        Some(KeyWords {
+            words,
+            len: key.len(),
+        })
+    }
+
+    /// The codes of a row's values in these columns, or none where one of them was never interned.
+    pub fn in_row(codes: &Interner, columns: &[ColumnId], row: &[Value]) -> Option<KeyWords>
+        requires { length columns.now ≤ 64 }
+        ensures { MatchOption result (AllHaveCodes codes.now (project columns.now row.now) → ⊥)
+            (λ words. AreCodesOf codes.now words (project columns.now row.now)) }
+    {
+        let mut words = [0; 64];
+        for (i, column) in columns.iter().enumerate() {
+            match code_in(codes, row, *column) {
+                Some(code) => words[i] = code,
+                None => return None,
+            }
+        }
+        Some(KeyWords {
+            words,
+            len: columns.len(),
+        })
     }
 
     pub fn as_slice(&self) -> &[u64]

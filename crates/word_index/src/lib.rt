@@ -2,17 +2,22 @@
 #![tactic(auto)]
 
 mod any;
+mod bulk;
 mod coded;
 mod fixed;
 mod group;
 mod interner;
 mod key;
 mod long;
+mod rows;
+mod spelling;
 mod words;
 
 pub use any::AnyIndex;
+pub use bulk::{add_rows, index_of, remove_rows};
 pub use coded::Coded;
 pub use fixed::FixedIndex;
 pub use interner::Interner;
 pub use long::LongIndex;
+pub use rows::{add_row, find_group, remove_row, would_hold};
 pub use words::word_at;

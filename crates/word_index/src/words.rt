@@ -30,7 +30,7 @@ fn is_width(access: &Access, len: usize) -> bool
 
 /// The column of a constraint's tuples at a place.
 #[tactic(auto, using(crate::proofs::Members::members_long, crate::proofs::Members::in_key, crate::proofs::Members::in_fetched))]
-fn column_at(access: &Access, i: usize) -> ColumnId
+pub fn column_at(access: &Access, i: usize) -> ColumnId
     requires { i < length (member_columns access.now) }
     ensures { result ≡ slice_index_or (member_columns access.now) i result }
 {

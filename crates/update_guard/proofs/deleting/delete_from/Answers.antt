@@ -14,7 +14,7 @@ pub index_mut-store-requires : goal.index_mut-store-requires
 index_mut-store-requires g c = omega (arith, c.requires.live, c.requires.kept.tables, c.args.stores.now.ok.0)
 
 pub sweep-requires-clause-count : goal.sweep-requires-clause-count
-sweep-requires-clause-count g c = c.args.indexes.now.ok.0 ∙ c.requires.kept.indexed.count
+sweep-requires-clause-count g c = c.requires.kept.indexed.count
 
 pub sweep-requires-clause-fits : goal.sweep-requires-clause-fits
 sweep-requires-clause-fits g c k d l =
@@ -59,10 +59,10 @@ returns-clause-kept g c =
     ∙ get_or_default stores c.args.table.0 c.index_mut-store.result.now [] live in
     let after : c.sweep.new.rows ≡ kept_rows c.args.filter.now (get_or stores c.args.table.0 []) = c.sweep.ensures.rows
     ∙ ap (kept_rows c.args.filter.now) own in
-    let before : IndexesOf schema.accesses (set stores c.args.table.0 c.index_mut-store.result.now) c.args.indexes.now.items =
-    subst (λ ss. IndexesOf schema.accesses ss c.args.indexes.now.items) (sym (ap (set stores c.args.table.0) own ∙ set-get_or stores c.args.table.0 []))
+    let before : IndexesOf schema.accesses (set stores c.args.table.0 c.index_mut-store.result.now) (g.I.Indexes.seen c.args.indexes.now) =
+    subst (λ ss. IndexesOf schema.accesses ss (g.I.Indexes.seen c.args.indexes.now)) (sym (ap (set stores c.args.table.0) own ∙ set-get_or stores c.args.table.0 []))
     c.requires.kept.indexed in
-    let indexed = subst (λ rs. IndexesOf schema.accesses (set stores c.args.table.0 rs) c.sweep.new.indexes.items) after
+    let indexed = subst (λ rs. IndexesOf schema.accesses (set stores c.args.table.0 rs) (g.I.Indexes.seen c.sweep.new.indexes)) after
     (c.sweep.ensures.indexes stores live before) in
-    subst (λ rs. IsGuarded schema (set stores c.args.table.0 rs) c.sweep.new.indexes.items) (sym after)
-    (after_filter schema stores c.args.indexes.now.items c.sweep.new.indexes.items c.args.table p c.requires.kept live indexed)
+    subst (λ rs. IsGuarded schema (set stores c.args.table.0 rs) (g.I.Indexes.seen c.sweep.new.indexes)) (sym after)
+    (after_filter schema stores (g.I.Indexes.seen c.args.indexes.now) (g.I.Indexes.seen c.sweep.new.indexes) c.args.table p c.requires.kept live indexed)

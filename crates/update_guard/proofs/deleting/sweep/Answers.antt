@@ -40,9 +40,9 @@ loop-i-preserved g c =
             cost = cost;
             long = omega (arith, w.remove_row.ensures.len, c.loop-i.invariant.long);
             indexed = λ all live first.
-                subst (λ own. IndexesOf accesses (set all table own) w.remove_row.new.indexes.items) (after_gone p xs i row within is gone)
+                subst (λ own. IndexesOf accesses (set all table own) (g.I.Indexes.seen w.remove_row.new.indexes)) (after_gone p xs i row within is gone)
                 (w.remove_row.ensures.taken all (filter p (take i xs)) (drop (i + 1) xs) live
-                (subst (λ own. IndexesOf accesses (set all table own) c.loop-i.indexes.items) (before_gone p xs i row within is)
+                (subst (λ own. IndexesOf accesses (set all table own) (g.I.Indexes.seen c.loop-i.indexes)) (before_gone p xs i row within is)
                 (c.loop-i.invariant.indexed all live first)));
           })
       | else-meets w ↦
@@ -53,7 +53,7 @@ loop-i-preserved g c =
             cost = cost;
             long = c.loop-i.invariant.long;
             indexed = λ all live first.
-                subst (λ own. IndexesOf accesses (set all table own) c.loop-i.indexes.items) (after_kept p xs i row within is stays)
+                subst (λ own. IndexesOf accesses (set all table own) (g.I.Indexes.seen c.loop-i.indexes)) (after_kept p xs i row within is stays)
                 (c.loop-i.invariant.indexed all live first);
           })
     ]

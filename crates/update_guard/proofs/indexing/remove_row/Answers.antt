@@ -6,11 +6,11 @@ use Rattle.std.proofs.lemmas.List.{take_all}
 use Rattle.update_guard.proofs.indexing.remove_row.Goals as goal
 
 pub returns-clause-taken : goal.returns-clause-taken
-returns-clause-taken c rows front back live is =
+returns-clause-taken g c rows front back live is =
     let accesses = c.args.catalogue.now.accesses in
     let ids = ids_on accesses c.args.table.0 in
     let count : length ids ≡ length c.ids_on.result.now = ap length (sym c.ids_on.ensures.ids) in
     let all : take (length c.ids_on.result.now) ids ≡ ids = take_all (length c.ids_on.result.now) ids (omega (arith, count)) in
     c.remove_from.ensures.taken rows front back live
-    (subst (λ d. AreIndexed accesses rows c.args.table.0 (front ++ back) (front ++ c.args.row.now ∷ back) d c.args.indexes.now.items) (sym all)
-    (all_done accesses rows c.args.table.0 (front ++ back) (front ++ c.args.row.now ∷ back) c.args.indexes.now.items c.ids_on.ensures.sound.ids_rise live is))
+    (subst (λ d. AreIndexed accesses rows c.args.table.0 (front ++ back) (front ++ c.args.row.now ∷ back) d (g.I.Indexes.seen c.args.indexes.now)) (sym all)
+    (all_done accesses rows c.args.table.0 (front ++ back) (front ++ c.args.row.now ∷ back) (g.I.Indexes.seen c.args.indexes.now) c.ids_on.ensures.sound.ids_rise live is))

@@ -6,12 +6,12 @@ use Rattle.update_guard.proofs.IndexFacts.{all_done}
 use Rattle.update_guard.proofs.indexing.remove_rows.Goals as goal
 
 pub returns-clause-taken : goal.returns-clause-taken
-returns-clause-taken c rows front live is =
+returns-clause-taken g c rows front live is =
     let accesses = c.args.catalogue.now.accesses in
     let ids = ids_on accesses c.args.table.0 in
     let after = front ++ c.args.added.now in
     let count : length ids ≡ length c.ids_on-n.result.now = ap length (sym c.ids_on-n.ensures.ids) in
     let all : take (length c.ids_on-n.result.now) ids ≡ ids = take_all (length c.ids_on-n.result.now) ids (omega (arith, count)) in
     c.remove_rows_from.ensures.taken rows front live
-    (subst (λ d. AreIndexed accesses rows c.args.table.0 front after d c.args.indexes.now.items) (sym all)
-    (all_done accesses rows c.args.table.0 front after c.args.indexes.now.items c.ids_on-n.ensures.sound.ids_rise live is))
+    (subst (λ d. AreIndexed accesses rows c.args.table.0 front after d (g.I.Indexes.seen c.args.indexes.now)) (sym all)
+    (all_done accesses rows c.args.table.0 front after (g.I.Indexes.seen c.args.indexes.now) c.ids_on-n.ensures.sound.ids_rise live is))

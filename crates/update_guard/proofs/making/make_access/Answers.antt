@@ -1,4 +1,4 @@
-use Rattle.std.proofs.Common.{◌≡◌, ◌∙◌, ◌<◌, ◌≤◌, ◌+◌, ℕ, List, [], length, get_or, ap, sym, subst, arith, Option, if◌then◌else◌}
+use Rattle.std.proofs.Common.{◌≡◌, ◌∙◌, ◌<◌, ◌≤◌, ◌+◌, ℕ, List, [], ◌∷◌, length, length-append, get_or, ap, sym, subst, arith, Option, if◌then◌else◌}
 use Rattle.std.specs.Prelude.{Err}
 use Rattle.std.specs.Option.{option_or, is_none}
 use Rattle.std.proofs.lemmas.List.{get_or_default}
@@ -7,13 +7,29 @@ use Rattle.beas_core.specs.declared.schema.Access.{Access}
 use Rattle.beas_core.specs.declared.schema.AccessId.{AccessId}
 use Rattle.beas_core.specs.Types.{Row}
 use Rattle.beas_core.specs.Groups.{Holds}
-use Rattle.access_index.specs.Index.{Index, IsIndexOf}
+use Rattle.beas_core.specs.Shapes.{AccessIsWellFormed}
+use Rattle.access_index.specs.Index.{IsIndexOf}
+use Rattle.catalogue.specs.Schema.{columns_at}
 use Rattle.catalogue.specs.Refusing.{admit_refusal, new_access, already_broken}
 use Rattle.beas_core.specs.Results.{IsRefusedAs}
 use Rattle.catalogue.proofs.MayMake.{may_make_access}
-use Rattle.update_guard.proofs.GuardFacts.{on_ok}
+use Rattle.update_guard.proofs.GuardFacts.{on_ok, on_err, widened}
 use Rattle.update_guard.proofs.InsertFacts.{refused_alike}
 use Rattle.update_guard.proofs.making.make_access.Goals as goal
+
+pub columns-few-requires : goal.columns-few-requires
+columns-few-requires g c =
+    let may = may_make_access c.args.limits.now c.args.catalogue.now c.args.spec.now c.in_ok-access.ensures.refused c.requires.fetches
+    c.args.limits.now.constraints_in_range.1 in
+    subst (λ (x : Access). x.table.0 < length c.args.catalogue.now.tables) (sym c.in_ok-access.ensures.admitted) may.table
+
+pub put_index-requires : goal.put_index-requires
+put_index-requires g c =
+    let may = may_make_access c.args.limits.now c.args.catalogue.now c.args.spec.now c.in_ok-access.ensures.refused c.requires.fetches
+    c.args.limits.now.constraints_in_range.1 in
+    let a = c.in_ok-access.access in
+    widened (length (columns_at c.args.catalogue.now a.table)) a c.columns-few.ensures.sound.few_columns
+    (subst (λ (x : Access). AccessIsWellFormed (length (columns_at c.args.catalogue.now x.table)) x) (sym c.in_ok-access.ensures.admitted) may.form)
 
 pub returns-in-Err-clause-refused : goal.returns-in-Err-clause-refused
 returns-in-Err-clause-refused g c =
@@ -33,7 +49,7 @@ returns-in-Err-clause-refused g c =
     ap (λ o. option_or o (already_broken rows a)) c.in_ok-access.ensures.refused ∙ ap (λ rs. already_broken rs a) (sym own)
     ∙ ap (already_broken lent) (sym same) in
     let R : Option Refusal → Type 0 = λ r. IsRefusedAs {A = AccessId} (Err c.in-Err.why) r in
-    subst R (sym told) (refused_alike Index AccessId c.in-Err.why (already_broken lent c.in_ok-access.access) c.in-Err.ensures.refused)
+    subst R (sym told) (refused_alike (Unit {0}) AccessId c.in-Err.why (already_broken lent c.in_ok-access.access) c.in-Err.ensures.refused)
 
 pub returns-in-Err-clause-cost : goal.returns-in-Err-clause-cost
 returns-in-Err-clause-cost g c n =
@@ -65,7 +81,7 @@ returns-in-Err-clause-at_most g c =
     ∙ ap (λ (x : Access). get_or c.args.rows.now x.table.0 lent) same
     ∙ get_or_default c.args.rows.now a.table.0 lent [] live in
     let share = ap length own ∙ sym (ap (λ (o : Option Refusal). if is_none o then length rows else 0) c.in_ok-access.ensures.refused) in
-    subst (λ (k : ℕ). c.index_that_holds.new.steps ≤ c.args.steps.now + k) share c.in-Err.ensures.at_most
+    subst (λ (k : ℕ). c.put_index.new.steps ≤ c.args.steps.now + k) share c.in-Err.ensures.at_most
 
 pub returns-in-Ok-clause-refused : goal.returns-in-Ok-clause-refused
 returns-in-Ok-clause-refused g c =
@@ -99,13 +115,24 @@ returns-in-Ok-clause-index g c =
     c.index-as_slice-table.is ∙ ap (λ xs. get_or xs c.in_ok-access.access.table.0 lent) c.as_slice.ensures
     ∙ ap (λ (x : Access). get_or c.args.rows.now x.table.0 lent) same
     ∙ get_or_default c.args.rows.now a.table.0 lent [] live in
+    let x = c.in-Ok.ensures.index in
     on_ok c.put_access.result c.put_access.ensures.index (λ e. record {
-      index = c.in-Ok.index;
-      added = e;
-      access_is = c.in-Ok.ensures.access ∙ same;
-      index_is = subst (λ (rs : List Row). IsIndexOf c.in-Ok.index rs) own c.in-Ok.ensures.index;
-      holds = subst (λ (x : Access). Holds rows x) same (subst (λ (rs : List Row). Holds rs c.in_ok-access.access) own c.in-Ok.ensures.holds);
+      index = x.index;
+      added = e ∙ x.added;
+      access_is = x.access_is ∙ same;
+      index_is = subst (λ (rs : List Row). IsIndexOf x.index rs) own x.index_is;
+      holds = subst (λ (x : Access). Holds rows x) same (subst (λ (rs : List Row). Holds rs c.in_ok-access.access) own x.holds);
     })
+
+pub returns-in-Ok-clause-indexes_stay : goal.returns-in-Ok-clause-indexes_stay
+returns-in-Ok-clause-indexes_stay g c =
+    let x = c.in-Ok.ensures.index in
+    on_err c.put_access.result c.put_access.ensures.without (λ f. f (g.I.Indexes.seen c.args.indexes.now) x.index x.added)
+
+pub put_access-requires-clause-some : goal.put_access-requires-clause-some
+put_access-requires-clause-some g c =
+    let x = c.in-Ok.ensures.index in
+    omega (arith, ap length x.added, length-append (g.I.Indexes.seen c.args.indexes.now) (x.index ∷ []))
 
 pub returns-in-Ok-clause-cost : goal.returns-in-Ok-clause-cost
 returns-in-Ok-clause-cost g c n =
@@ -137,4 +164,4 @@ returns-in-Ok-clause-at_most g c =
     ∙ ap (λ (x : Access). get_or c.args.rows.now x.table.0 lent) same
     ∙ get_or_default c.args.rows.now a.table.0 lent [] live in
     let share = ap length own ∙ sym (ap (λ (o : Option Refusal). if is_none o then length rows else 0) c.in_ok-access.ensures.refused) in
-    subst (λ (k : ℕ). c.index_that_holds.new.steps ≤ c.args.steps.now + k) share c.in-Ok.ensures.at_most
+    subst (λ (k : ℕ). c.put_index.new.steps ≤ c.args.steps.now + k) share c.in-Ok.ensures.at_most

@@ -1,0 +1,112 @@
+-- A value that was never interned is in no tuple of an index.
+use Rattle.std.proofs.Common.{◌≡◌, ◌∙◌, ◌<◌, ℕ, zero, suc, Bool, true, false, cond, List, [], ◌∷◌, ◌++◌, map, take, length, ap, refl, sym, subst, inl, inr}
+use Rattle.std.specs.Prelude.{filter, flat_map, IsTrue, ◌↔◌}
+use Rattle.std.specs.List.{AllByRecursion, Contains}
+use Rattle.std.specs.Map.{values_of}
+use Rattle.std.proofs.lemmas.List.{length-map}
+use Rattle.beas_core.specs.declared.value.Value.{Value}
+use Rattle.beas_core.specs.Groups.{project, group_of, Holds, same_row, member_columns}
+use Rattle.beas_core.proofs.Groups.{same_row_true, same_row_itself}
+use Rattle.beas_core.proofs.Sets.{Has, Has-from_contains, Has-map, Has-filter, Has-distinct, Has-append_right}
+use Rattle.beas_core.specs.Order.{row_cmp_total}
+use Rattle.beas_core.proofs.ValueOrder.{row_cmp_tells}
+use Rattle.access_index.specs.declared.tally.Tally.{Tally}
+use Rattle.access_index.specs.Buckets.{tuples_in, is_key}
+use Rattle.access_index.specs.Index.{IsIndexOf, WouldHold, tallies, tuple_of, key_of}
+use Rattle.access_index.proofs.Indexing.{group_tuples}
+use Rattle.word_index.specs.declared.coded.Coded.{Coded}
+use Rattle.word_index.specs.Reading.{read_tally, read_group, read_entries, read_index, AllWordsKnown, IsInOrderFor, WordIndex}
+use Rattle.word_index.specs.Spelling.{AllHaveCodes}
+use Rattle.word_index.proofs.Holding.{holds_iff}
+use Rattle.word_index.proofs.SpellingFacts.{read_coded}
+
+-- what is true of a tally that an index gives for a key
+record IsCoded (codes : List Value) (width : ℕ) (key : List Value) (tally : Tally) : Type 0 where
+  coded : AllHaveCodes codes tally.tuple
+  keyed : is_key width key tally ≡ true
+
+module _ (codes : List Value) (width : ℕ) (key : List Value) where
+  in_group : (group : List Coded) (rest : List Tally) → AllWordsKnown codes group → AllByRecursion (IsCoded codes width key) rest
+      → AllByRecursion (IsCoded codes width key) (filter (is_key width key) (read_group codes group) ++ rest)
+  in_group [] rest k r = r
+  in_group (c ∷ group) rest k r = by (is_key width key (read_tally codes c)) refl (in_group group rest k.1 r)
+    where
+      by : (b : Bool) → is_key width key (read_tally codes c) ≡ b
+          → AllByRecursion (IsCoded codes width key) (filter (is_key width key) (read_group codes group) ++ rest)
+          → AllByRecursion (IsCoded codes width key)
+          (cond b (read_tally codes c ∷ filter (is_key width key) (read_group codes group)) (filter (is_key width key) (read_group codes group)) ++ rest)
+      by true t a = (record { coded = read_coded codes c.words k.0; keyed = t }, a)
+      by false t a = a
+
+  in_groups : (groups : List (List ℕ × List Coded)) → AllByRecursion (λ e. AllWordsKnown codes e.1) groups
+      → AllByRecursion (IsCoded codes width key) (flat_map (filter (is_key width key)) (values_of (read_entries codes groups)))
+  in_groups [] k = tt
+  in_groups (e ∷ groups) k =
+      in_group e.1 (flat_map (filter (is_key width key)) (values_of (read_entries codes groups))) k.0 (in_groups groups k.1)
+
+  has_coded : (ts : List Tally) (x : List Value) → AllByRecursion (IsCoded codes width key) ts → Has (tuples_in ts) x → AllHaveCodes codes x
+  has_coded [] x a h = absurd h
+  has_coded (t ∷ ts) x a (inl e) = subst (AllHaveCodes codes) (sym e) a.0.coded
+  has_coded (t ∷ ts) x a (inr h) = has_coded ts x a.1 h
+
+  front_coded : (n : ℕ) (values : List Value) → AllHaveCodes codes values → AllHaveCodes codes (take n values)
+  front_coded zero values a = tt
+  front_coded (suc n) [] a = tt
+  front_coded (suc n) (v ∷ values) a = (a.0, front_coded n values a.1)
+
+  none_coded : (ts : List Tally) → AllByRecursion (IsCoded codes width key) ts → (AllHaveCodes codes key → ⊥) → ts ≡ []
+  none_coded [] a n = refl
+  none_coded (t ∷ ts) a n =
+      absurd (n (subst (AllHaveCodes codes) (same_row_true (take width t.tuple) key a.0.keyed) (front_coded width t.tuple a.0.coded)))
+
+module _ (codes : List Value) (index : WordIndex) (o : IsInOrderFor codes index) where
+  -- a key with a value that has no code has no group
+  pub none_found : (rows : List (List Value)) (key : List Value) → IsIndexOf (read_index codes index) rows → (AllHaveCodes codes key → ⊥)
+      → group_of rows index.access key ≡ []
+  none_found rows key is n =
+      sym (ap tuples_in (is.tallies_are key) ∙ group_tuples index.access rows key)
+      ∙ ap tuples_in (none_coded codes (length index.access.key) key (tallies (read_index codes index) key)
+      (in_groups codes (length index.access.key) key index.groups o.known) n)
+
+  not_contained : (key x : List Value) → (AllHaveCodes codes x → ⊥) → Contains (tuples_in (tallies (read_index codes index) key)) x → ⊥
+  not_contained key x n c =
+      n (has_coded codes (length index.access.key) key (tallies (read_index codes index) key) x
+      (in_groups codes (length index.access.key) key index.groups o.known)
+      (Has-from_contains (tuples_in (tallies (read_index codes index) key)) x c))
+
+  -- a row with a value that has no code is none of the rows
+  pub not_among : (front back : List (List Value)) (row : List Value) → IsIndexOf (read_index codes index) (front ++ row ∷ back)
+      → (AllHaveCodes codes (tuple_of index.access row) → ⊥) → ⊥
+  not_among front back row is n =
+      let rows = front ++ row ∷ back in
+      let key = key_of index.access row in
+      let there : Has rows row = Has-append_right front (row ∷ back) row (inl refl) in
+      let member : Has (group_of rows index.access key) (tuple_of index.access row) =
+      Has-distinct row_cmp_total row_cmp_tells (map (project (member_columns index.access)) (filter (λ r. same_row (project index.access.key r) key) rows))
+      (tuple_of index.access row)
+      (Has-map (project (member_columns index.access)) (filter (λ r. same_row (project index.access.key r) key) rows) row
+      (Has-filter (λ r. same_row (project index.access.key r) key) rows row there (same_row_itself key))) in
+      n (has_coded codes (length index.access.key) key (tallies (read_index codes index) key) (tuple_of index.access row)
+      (in_groups codes (length index.access.key) key index.groups o.known)
+      (subst (λ ts. Has ts (tuple_of index.access row)) (sym (ap tuples_in (is.tallies_are key) ∙ group_tuples index.access rows key)) member))
+
+  -- such a row goes in where its group has room
+  pub new_holds : (row : List Value) (answer : Bool) (len : ℕ) → (IsTrue answer ↔ (len < index.access.bound))
+      → (AllHaveCodes codes (tuple_of index.access row) → ⊥)
+      → (rows : List (List Value)) → IsIndexOf (read_index codes index) rows → len ≡ length (group_of rows index.access (key_of index.access row))
+      → Holds rows index.access → IsTrue answer ↔ Holds (rows ++ row ∷ []) index.access
+  new_holds row answer len iff n rows is e h = holds_iff (read_index codes index) row answer (to, from) rows is h
+    where
+      key : List Value
+      key = key_of index.access row
+
+      same : length (tallies (read_index codes index) key) ≡ len
+      same = sym (length-map (tallies (read_index codes index) key) (λ (t : Tally). t.tuple))
+          ∙ ap length (ap tuples_in (is.tallies_are key) ∙ group_tuples index.access rows key) ∙ sym e
+
+      to : IsTrue answer → WouldHold (read_index codes index) row
+      to t = inr (subst (λ k. k < index.access.bound) (sym same) (iff.0 t))
+
+      from : WouldHold (read_index codes index) row → IsTrue answer
+      from (inl c) = absurd (not_contained key (tuple_of index.access row) n c)
+      from (inr l) = iff.1 (subst (λ k. k < index.access.bound) same l)

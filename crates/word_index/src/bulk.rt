@@ -1,0 +1,97 @@
+// Many rows of values that come into and go out of an index of words.
+ghost use Rattle.std.specs.Prelude.{◌≡◌, ◌≤◌, ◌<◌, ◌+◌, ◌^◌, ◌↔◌, ◌++◌, List, length, IsTrue, IfOk, OnOk, OnErr, if◌then◌else◌};
+ghost use Rattle.beas_core.specs.declared.value.Value.{Value};
+ghost use Rattle.beas_core.specs.Groups.{Holds};
+ghost use Rattle.beas_core.specs.Shapes.{AccessIsWellFormed};
+ghost use Rattle.access_index.specs.Index.{IsIndexOf};
+ghost use Rattle.word_index.specs.Codes.{AreDistinct};
+ghost use Rattle.word_index.specs.Reading.{read_index, IsInOrderFor, KeepsCodes};
+ghost use Rattle.word_index.specs.Widths.{index_in};
+
+use crate::any::AnyIndex;
+use crate::interner::Interner;
+use crate::rows::{add_row, remove_row, would_hold};
+use beas_core::{Access, NoMemory, Row, Steps};
+use row_store::Rows;
+use std::alloc::Global;
+use std::sync::ledger::Ledger;
+
+/// Counts rows fewer, which came after all others. It takes no memory.
+pub fn remove_rows(codes: &Interner, index: &mut AnyIndex, rows: &[Row])
+    requires in_order { IsInOrderFor codes.now (index_in index.old) }
+    requires form { AccessIsWellFormed 64 (index_in index.old).access }
+    ensures access { (index_in index.new).access ≡ (index_in index.old).access }
+    ensures total { (index_in index.new).total ≤ (index_in index.old).total }
+    ensures in_order { IsInOrderFor codes.now (index_in index.new) }
+    ensures rest { (front : List (List Value))
+        → IsIndexOf (read_index codes.now (index_in index.old)) (front ++ rows.now)
+        → IsIndexOf (read_index codes.now (index_in index.new)) front }
+{
+    for row in rows {
+        remove_row(codes, index, row.as_slice());
+    }
+}
+
+/// Counts rows that come after all others where the constraint holds with them all, and else none of them.
+pub fn add_rows(
+    alloc: Global,
+    codes: &mut Interner,
+    index: &mut AnyIndex,
+    rows: &[Row],
+) -> Result<bool, NoMemory>
+    requires in_order { IsInOrderFor codes.old (index_in index.old) }
+    requires form { AccessIsWellFormed 64 (index_in index.old).access }
+    requires room { (index_in index.old).total + length rows.now < 2 ^ 32 }
+    ensures kept { KeepsCodes codes.old codes.new }
+    ensures access { (index_in index.new).access ≡ (index_in index.old).access }
+    ensures total { (index_in index.new).total ≤ (index_in index.old).total + length rows.now }
+    ensures in_order { IsInOrderFor codes.new (index_in index.new) }
+    ensures index { IfOk result (λ all. (front : List (List Value))
+        → IsIndexOf (read_index codes.old (index_in index.old)) front
+        → IsIndexOf (read_index codes.new (index_in index.new)) (if all then front ++ rows.now else front)) }
+    ensures holds { IfOk result (λ all. (front : List (List Value))
+        → IsIndexOf (read_index codes.old (index_in index.old)) front → Holds front (index_in index.old).access
+        → (IsTrue all ↔ Holds (front ++ rows.now) (index_in index.old).access)) }
+    ensures err { OnErr result ((front : List (List Value))
+        → IsIndexOf (read_index codes.old (index_in index.old)) front
+        → IsIndexOf (read_index codes.new (index_in index.new)) front) }
+{
+    for (i, row) in rows.iter().enumerate() {
+        if !would_hold(codes, index, row.as_slice()) {
+            remove_rows(codes, index, &rows[..i]);
+            return Ok(false);
+        }
+        if let Err(why) = add_row(alloc, codes, index, row.as_slice()) {
+            remove_rows(codes, index, &rows[..i]);
+            return Err(why);
+        }
+    }
+    Ok(true)
+}
+
+/// The index of these rows for a constraint, whether or not it holds over them. It reads each row once.
+pub fn index_of<L: Ledger>(
+    alloc: Global,
+    codes: &mut Interner,
+    access: Access,
+    rows: &Rows,
+    steps: &mut Steps<L>,
+) -> Result<AnyIndex, NoMemory>
+    requires distinct { AreDistinct codes.old }
+    requires form { AccessIsWellFormed 64 access }
+    ensures kept { KeepsCodes codes.old codes.new }
+    ensures access { IfOk result (λ index. (index_in index).access ≡ access) }
+    ensures total { IfOk result (λ index. (index_in index).total ≡ length rows.now) }
+    ensures in_order { IfOk result (λ index. IsInOrderFor codes.new (index_in index)) }
+    ensures index { IfOk result (λ index. IsIndexOf (read_index codes.new (index_in index)) rows.now) }
+    ensures cost { OnOk result (steps.new ≡ steps.old + length rows.now) }
+    ensures at_most { steps.new ≤ steps.old + length rows.now }
+    ensures no_fewer { steps.old ≤ steps.new }
+{
+    let mut index = AnyIndex::new(alloc, access);
+    for i in 0..rows.len() {
+        let row = rows.row(i, steps);
+        add_row(alloc, codes, &mut index, row.as_slice())?;
+    }
+    Ok(index)
+}

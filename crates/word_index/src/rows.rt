@@ -1,0 +1,104 @@
+// Rows of values that come into and go out of an index of words.
+ghost use Rattle.std.specs.Prelude.{◌≡◌, ◌≤◌, ◌<◌, ◌+◌, ◌^◌, ◌↔◌, ◌++◌, ◌∷◌, [], List, length, map, IsTrue, IfOk, IfSome, OnOk, OnErr, MatchOption};
+ghost use Rattle.beas_core.specs.declared.value.Value.{Value};
+ghost use Rattle.beas_core.specs.Groups.{Holds, group_of, project};
+ghost use Rattle.beas_core.specs.Shapes.{AccessIsWellFormed};
+ghost use Rattle.access_index.specs.Index.{IsIndexOf};
+ghost use Rattle.word_index.specs.Reading.{read, read_index, IsInOrderFor, KeepsCodes, words_at};
+ghost use Rattle.word_index.specs.Widths.{index_in};
+
+use crate::any::AnyIndex;
+use crate::interner::Interner;
+use crate::key::KeyWords;
+use crate::spelling::{interned_words, known_words};
+use beas_core::{NoMemory, Value};
+use std::alloc::Global;
+
+/// The place and the length of a key's group, or none where it is empty. It takes no memory.
+pub fn find_group(codes: &Interner, index: &AnyIndex, key: &[Value]) -> Option<(u64, u32)>
+    requires in_order { IsInOrderFor codes.now (index_in index.now) }
+    requires width { length key.now ≡ length (index_in index.now).access.key }
+    requires few { length key.now ≤ 64 }
+    ensures len { IfSome result (λ found. found.1 ≡ length (words_at (index_in index.now) found.0)) }
+    ensures group { (rows : List (List Value)) → IsIndexOf (read_index codes.now (index_in index.now)) rows
+        → MatchOption result (group_of rows (index_in index.now).access key.now ≡ [])
+        (λ found. map (read codes.now) (words_at (index_in index.now) found.0)
+        ≡ group_of rows (index_in index.now).access key.now) }
+    ensures stands { IfSome result (λ found. found.0 < length (index_in index.now).groups) }
+{
+    match KeyWords::known(codes, key) {
+        Some(words) => index.find(words.as_slice()),
+        None => None,
+    }
+}
+
+/// The number of tuples that have the key of a row. It takes no memory.
+fn group_len(codes: &Interner, index: &AnyIndex, row: &[Value]) -> u32
+    requires in_order { IsInOrderFor codes.now (index_in index.now) }
+    requires form { AccessIsWellFormed 64 (index_in index.now).access }
+    ensures { (rows : List (List Value)) → IsIndexOf (read_index codes.now (index_in index.now)) rows
+        → result ≡ length (group_of rows (index_in index.now).access (project (index_in index.now).access.key row.now)) }
+{
+    match KeyWords::in_row(codes, index.access().key.as_slice(), row) {
+        Some(words) => match index.find(words.as_slice()) {
+            Some((_, len)) => len,
+            None => 0,
+        },
+        None => 0,
+    }
+}
+
+/// Whether a constraint, where it holds, holds with one row more too. It takes no memory.
+pub fn would_hold(codes: &Interner, index: &AnyIndex, row: &[Value]) -> bool
+    requires in_order { IsInOrderFor codes.now (index_in index.now) }
+    requires form { AccessIsWellFormed 64 (index_in index.now).access }
+    ensures { (rows : List (List Value)) → IsIndexOf (read_index codes.now (index_in index.now)) rows
+        → Holds rows (index_in index.now).access
+        → (IsTrue result ↔ Holds (rows ++ row.now ∷ []) (index_in index.now).access) }
+{
+    match known_words(codes, index.access(), row) {
+        Some(words) => index.would_hold(&words),
+        None => group_len(codes, index, row) < index.access().bound,
+    }
+}
+
+/// Counts one row fewer, wherever among the rows it stood. It takes no memory.
+pub fn remove_row(codes: &Interner, index: &mut AnyIndex, row: &[Value])
+    requires in_order { IsInOrderFor codes.now (index_in index.old) }
+    requires form { AccessIsWellFormed 64 (index_in index.old).access }
+    ensures access { (index_in index.new).access ≡ (index_in index.old).access }
+    ensures total { (index_in index.new).total ≤ (index_in index.old).total }
+    ensures in_order { IsInOrderFor codes.now (index_in index.new) }
+    ensures rest { (front back : List (List Value))
+        → IsIndexOf (read_index codes.now (index_in index.old)) (front ++ row.now ∷ back)
+        → IsIndexOf (read_index codes.now (index_in index.new)) (front ++ back) }
+{
+    match known_words(codes, index.access(), row) {
+        Some(words) => index.remove(&words),
+        None => {}
+    }
+}
+
+/// Counts one row more, wherever among the rows it stands. Its values are interned where they weren't yet. After an
+/// error the index is as it was.
+pub fn add_row(
+    alloc: Global,
+    codes: &mut Interner,
+    index: &mut AnyIndex,
+    row: &[Value],
+) -> Result<(), NoMemory>
+    requires in_order { IsInOrderFor codes.old (index_in index.old) }
+    requires form { AccessIsWellFormed 64 (index_in index.old).access }
+    requires room { (index_in index.old).total + 1 < 2 ^ 32 }
+    ensures kept { KeepsCodes codes.old codes.new }
+    ensures access { (index_in index.new).access ≡ (index_in index.old).access }
+    ensures total { OnOk result ((index_in index.new).total ≡ (index_in index.old).total + 1) }
+    ensures in_order { IsInOrderFor codes.new (index_in index.new) }
+    ensures ok { OnOk result ((front back : List (List Value))
+        → IsIndexOf (read_index codes.old (index_in index.old)) (front ++ back)
+        → IsIndexOf (read_index codes.new (index_in index.new)) (front ++ row.now ∷ back)) }
+    ensures err { OnErr result (index_in index.new ≡ index_in index.old) }
+{
+    let words = interned_words(alloc, codes, index.access(), row)?;
+    index.add(alloc, codes, &words)
+}
