@@ -1,4 +1,5 @@
-mod PartFacts
-mod ProbeOrder
+pub mod PartFacts
+pub mod ProbeOrder
 mod StageFacts
+pub mod SumFacts
 mod TurnFacts

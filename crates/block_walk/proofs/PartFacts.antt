@@ -20,9 +20,9 @@ use Rattle.block_walk.specs.declared.walking.StepFetched.{StepFetched}
 use Rattle.block_walk.specs.declared.walking.Walk.{Walk}
 use Rattle.block_walk.specs.Worlds.{World, AgreesWith}
 use Rattle.block_walk.specs.Walks.{Route, IsSoundIn, step_at, probe_at, fetched_in, IsTidy, Stands, HasEnded, StageOf, IsPutBack}
-use Rattle.block_walk.specs.Turns.{ProbedOne, IsDone, SpentDue}
+use Rattle.block_walk.specs.Turns.{ProbedOne, IsDone, SpentDue, share}
 use Rattle.block_walk.proofs.StageFacts.{ended_all}
-use Rattle.block_walk.proofs.TurnFacts.{IsBefore, before, key_bound, keys_wide, due, fewer, share_is, one, few, one_agrees, groups_found, keys_found, agree_new, fetched_new, stands_new, tidy_new}
+use Rattle.block_walk.proofs.TurnFacts.{IsBefore, before, key_bound, keys_wide, due, fewer, share_is, one, few, one_agrees, groups_found, keys_found, agree_new, all_reads, fetches, within, stands_new, tidy_new}
 
 pub on_err : {A E P : Type 0} (result : Result A E) → P → OnErr result P
 on_err (Ok value) p = tt
@@ -72,10 +72,14 @@ module _ (w : World) (r : Route) (ranges : ClassesInRange r.normal) (inside : Co
 
   -- no probe is due
   pub is_done : (new : Walk) → new.finished ≡ old.finished → new.from ≡ old.from → new.under_way ≡ None → HasEnded r old → (spent now : ℕ) → now ≡ spent
-      → (new ≡ old) × IsDone w r old new spent now
+      → IsDone w r (fetched_in old) new spent now
   is_done new finished from under ended spent now free =
-      let same : new ≡ old = walk_same new old finished (under ∙ sym ended.idle) from in
-      (same, record { ended = ended; all_made = ended_all w r ranges inside fit sound old (stands w sound agree) ended; same = same; cost = free })
+      let same : new ≡ old = walk_same new old finished (under ∙ sym ended.idle) from in record {
+        ended = subst (HasEnded r) (sym same) ended;
+        same = ap fetched_in same;
+        cost = free;
+        all_made = λ v sound_too agree_too. ended_all v r ranges inside fit sound_too old (stands v sound_too agree_too) ended;
+      }
 
   module _ (s0 : StepFetched) (of : StageOf w r old s0) where
     pub at_inside : (at : ℕ) → at ≡ n → at < length r.steps
@@ -100,10 +104,12 @@ module _ (w : World) (r : Route) (ranges : ClassesInRange r.normal) (inside : Co
         (keys_wide w r ranges inside fit sound old tidy stands agree s0 of)
 
     -- what the probe counts
-    pub spent_due : (spent now : ℕ) → now ≡ spent + probe_reads w.rows (access_in w.accesses step.access) key → SpentDue w r old spent now
+    pub spent_due : (spent now : ℕ) → now ≡ spent + probe_reads w.rows (access_in w.accesses step.access) key → SpentDue w r (fetched_in old) spent now
     spent_due spent now cost = record {
       probe = probe_at n key;
       due = due w r ranges inside fit sound old tidy stands agree s0 of;
+      fewer = fewer w r ranges inside fit sound old tidy stands agree s0 of;
+      within = within w r ranges inside fit sound old tidy stands agree s0 of;
       cost = cost ∙ ap (λ m. spent + m) (ap (λ (s : DStep). probe_reads w.rows (access_in w.accesses s.access) key) step_is
           ∙ sym (share_is w r ranges inside fit sound old tidy stands agree s0 of));
     }
@@ -147,15 +153,19 @@ module _ (w : World) (r : Route) (ranges : ClassesInRange r.normal) (inside : Co
           new_stands = stands_new w r ranges inside fit sound old tidy stands agree s0 of s1 group access keys groups here new put_here
 
           pub probed : (reads spent now : ℕ) → reads ≡ probe_reads w.rows (access_in w.accesses step.access) key
-              → now ≡ spent + probe_reads w.rows (access_in w.accesses step.access) key → ProbedOne w r reads old new spent now
-          probed reads spent now is cost = record {
-            one = one w r ranges inside fit sound old tidy stands agree s0 of s1 group access keys groups here;
-            due = due w r ranges inside fit sound old tidy stands agree s0 of;
-            agrees = one_agrees w r ranges inside fit sound old tidy stands agree s0 of s1 group access keys groups here;
-            fetched = fetched_new w r ranges inside fit sound old tidy stands agree s0 of s1 group access keys groups here new put_here;
-            agree = agree_new w r ranges inside fit sound old tidy stands agree s0 of s1 group access keys groups here new put_here;
-            fewer = fewer w r ranges inside fit sound old tidy stands agree s0 of;
-            reads_are = is ∙ ap (λ (s : DStep). probe_reads w.rows (access_in w.accesses s.access) key) step_is
-                ∙ sym (share_is w r ranges inside fit sound old tidy stands agree s0 of);
-            cost = cost ∙ ap (λ m. spent + m) (sym is);
-          }
+              → now ≡ spent + probe_reads w.rows (access_in w.accesses step.access) key → ProbedOne w r reads (fetched_in old) (fetched_in new) spent now
+          probed reads spent now is cost =
+              let shared : reads ≡ share w r (probe_at n key) = is
+              ∙ ap (λ (s : DStep). probe_reads w.rows (access_in w.accesses s.access) key) step_is
+              ∙ sym (share_is w r ranges inside fit sound old tidy stands agree s0 of) in record {
+                one = one w r ranges inside fit sound old tidy stands agree s0 of s1 group access keys groups here;
+                due = due w r ranges inside fit sound old tidy stands agree s0 of;
+                agrees = one_agrees w r ranges inside fit sound old tidy stands agree s0 of s1 group access keys groups here;
+                fetches = fetches w r ranges inside fit sound old tidy stands agree s0 of s1 group access keys groups here new put_here;
+                agree = agree_new w r ranges inside fit sound old tidy stands agree s0 of s1 group access keys groups here new put_here;
+                fewer = fewer w r ranges inside fit sound old tidy stands agree s0 of;
+                reads_are = shared;
+                all_reads = all_reads w r ranges inside fit sound old tidy stands agree s0 of s1 group access keys groups here new put_here reads shared;
+                within = within w r ranges inside fit sound old tidy stands agree s0 of;
+                cost = cost ∙ ap (λ m. spent + m) (sym is);
+              }

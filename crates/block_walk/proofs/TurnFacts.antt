@@ -1,9 +1,10 @@
 -- What a turn makes of a walk: the probe that it made was due, and the walk stands in every world that agrees with what is fetched then.
-use Rattle.std.proofs.Common.{◌≡◌, ◌+◌, ◌<◌, ◌≤◌, ℕ, suc, true, false, List, [], ◌∷◌, ◌++◌, length, map, take, drop, get_or, All, Option, Some, None, inl, inr, refl, ap, sym, ◌∙◌, subst, arith, append_assoc}
+use Rattle.std.proofs.Common.{◌≡◌, ◌+◌, ◌<◌, ◌≤◌, ℕ, suc, true, false, List, [], ◌∷◌, ◌++◌, length, map, take, drop, get_or, All, Option, Some, None, inl, inr, refl, ap, sym, ◌∙◌, subst, arith, append_assoc, max, sum_by}
 use Rattle.std.specs.List.{zip, AllZip, filter, flat_map}
 use Rattle.std.specs.Option.{is_some}
 use Rattle.std.specs.Prelude.{replicate}
 use Rattle.std.proofs.lemmas.List.{append-nil, map-append, length-append, length-map, length-replicate}
+use Rattle.std.proofs.lemmas.List.Sums.{sum_by-append, sum_by-cons}
 use Rattle.beas_core.specs.declared.schema.Access.{Access}
 use Rattle.beas_core.specs.declared.plan.DStep.{DStep}
 use Rattle.beas_core.specs.declared.plan.Normal.{Normal}
@@ -15,7 +16,7 @@ use Rattle.beas_core.specs.Coverage.{ClassesInRange, ConstantsInRange, class_at,
 use Rattle.beas_core.specs.Derivations.{access_in, bound_after, bound_by, key_is_bound, member_classes, use_of}
 use Rattle.beas_core.specs.Valuations.{value_of, as_bindings, agrees, classes_in, starts, valued_rows, valuations}
 use Rattle.beas_core.specs.Reads.{Probe, key_for, keys_for, probe_reads}
-use Rattle.beas_core.proofs.Sets.{Has, Has-map, Has-append_right, Has-append_cases, Has-from_contains, Contains-from_has, Has-get_or, Has-from_distinct, Has-from_map, Has-distinct}
+use Rattle.beas_core.proofs.Sets.{Has, Has-map, Has-append_left, Has-append_right, Has-append_cases, Has-from_contains, Contains-from_has, Has-get_or, Has-from_distinct, Has-from_map, Has-distinct}
 use Rattle.beas_core.proofs.ValueOrder.{row_cmp_tells}
 use Rattle.evaluation_facts.specs.Extensions.{extensions, extensions_of, keep_met}
 use Rattle.evaluation_facts.specs.Guides.{GuideFits}
@@ -30,8 +31,9 @@ use Rattle.block_walk.specs.declared.walking.StepFetched.{StepFetched}
 use Rattle.block_walk.specs.declared.walking.Walk.{Walk}
 use Rattle.block_walk.specs.Worlds.{World, Fetched, made, Agrees, AgreesWith}
 use Rattle.block_walk.specs.Walks.{Route, route, IsSoundIn, all_probes, step_at, probe_at, pair_at, pairs, pairs_from, pairs_under_way, fetched_in, first_classes, probes_from, IsPartly, IsUnderWay, IsTidy, IsStaged, StageIs, IsWalk, Stands, IsBegun, StageOf, GoesOn, IsFinished, IsPutBack}
-use Rattle.block_walk.specs.Turns.{IsDue, share}
+use Rattle.block_walk.specs.Turns.{Fetches, IsDue, IsWithin, fetched_reads, share}
 use Rattle.block_walk.proofs.ProbeOrder.{in_order_once, probe_cmp, probes_in_order}
+use Rattle.block_walk.proofs.SumFacts.{same_sums}
 use Rattle.block_walk.proofs.StageFacts.{zip-none, zip-more, made-all, next_made, pairs_from-more, agree_left, agree_right, step_access, stage_access, stage_groups, front_of, begun_staged}
 
 -- ---- one step in two worlds that have the same constraint and the same groups for it
@@ -92,6 +94,21 @@ pairs_from-first finished s = pairs_from-more 0 finished s ∙ ap (λ k. pairs_f
   where
     zero_plus : (n : ℕ) → 0 + n ≡ n
     zero_plus n = omega arith
+
+plus_none : (n : ℕ) → n + 0 ≡ n
+plus_none n = omega arith
+
+-- one pair more at the end
+fetches_last : (old : List Fetched) (one : Fetched) → Fetches Fetched one old (old ++ one ∷ [])
+fetches_last old one = record {
+  stands = Contains-from_has (old ++ one ∷ []) one (Has-append_right old (one ∷ []) one (inl refl));
+  others = λ f c. elim (Has-append_cases old (one ∷ []) f (Has-from_contains (old ++ one ∷ []) f c)) [
+    | inl h ↦ inr (Contains-from_has old f h)
+    | inr h ↦ elim h [ inl e ↦ inl e | inr none ↦ absurd none ]
+  ];
+  stay = λ f c. Contains-from_has (old ++ one ∷ []) f (Has-append_left old (one ∷ []) f (Has-from_contains old f c));
+  count = length-append old (one ∷ []);
+}
 
 -- ---- before the first probe
 
@@ -204,7 +221,7 @@ module _ (w0 : World) (r : Route) (ranges : ClassesInRange r.normal) (inside : C
       ∙ sym (append_assoc (made front) (made (pairs n s0)) (rest ++ later))
       ∙ ap (λ ps. ps ++ (rest ++ later)) (sym (map-append (λ (f : Fetched). f.probe) front (pairs n s0)) ∙ ap made (sym before.fetched))
 
-  pub due : IsDue w0 r old (probe_at n key)
+  pub due : IsDue w0 r (fetched_in old) (probe_at n key)
   due = record {
     wanted = Contains-from_has (all_probes w0 r) (probe_at n key) (subst (λ ps. Has ps (probe_at n key)) (sym placed)
         (Has-append_right (made (fetched_in old)) (probe_at n key ∷ others) (probe_at n key) (inl refl)));
@@ -212,6 +229,19 @@ module _ (w0 : World) (r : Route) (ranges : ClassesInRange r.normal) (inside : C
         (subst (IsInOrder probe_cmp) placed (probes_in_order w0.rows r.normal w0.accesses r.guide r.steps))
         (Has-from_contains (made (fetched_in old)) (probe_at n key) h);
   }
+
+  -- what was fetched counted as the world counts it
+  counted_as : (fs : List Fetched) → AgreesWith w0 r.steps fs → fetched_reads fs ≡ sum_by (share w0 r) (made fs)
+  counted_as fs agrees = same_sums (λ (f : Fetched). max 1 (length f.tuples)) (share w0 r) (λ (f : Fetched). f.probe) fs (λ f m.
+      let a = agrees f (Contains-from_has fs f m) in
+      sym (ap (λ (c : Access). probe_reads w0.rows c f.probe.key) a.access ∙ ap (λ (ts : List Row). max 1 (length ts)) a.tuples))
+
+  pub within : IsWithin w0 r (fetched_in old) (probe_at n key)
+  within =
+      let all = ap (sum_by (share w0 r)) placed ∙ sum_by-append (share w0 r) (made (fetched_in old)) (probe_at n key ∷ others)
+      ∙ ap (λ m. sum_by (share w0 r) (made (fetched_in old)) + m) (sum_by-cons (share w0 r) (probe_at n key) others) in
+      let made_so_far = counted_as (fetched_in old) agree in
+      omega (arith, all, made_so_far)
 
   pub fewer : length (fetched_in old) < length (all_probes w0 r)
   fewer =
@@ -367,8 +397,18 @@ module _ (w0 : World) (r : Route) (ranges : ClassesInRange r.normal) (inside : C
       fetched_are : fetched_in new ≡ front ++ pairs n s1
       fetched_are = elim put [ inl g ↦ fetched_on g | inr f ↦ fetched_all f ]
 
-      pub fetched_new : fetched_in new ≡ fetched_in old ++ one ∷ []
+      fetched_new : fetched_in new ≡ fetched_in old ++ one ∷ []
       fetched_new = fetched_are ∙ staged_pairs
+
+      pub fetches : Fetches Fetched one (fetched_in old) (fetched_in new)
+      fetches = subst (Fetches Fetched one (fetched_in old)) (sym fetched_new) (fetches_last (fetched_in old) one)
+
+      pub all_reads : (reads : ℕ) → reads ≡ share w0 r (probe_at n key) → fetched_reads (fetched_in new) ≡ fetched_reads (fetched_in old) + reads
+      all_reads reads is =
+          let tupled : max 1 (length group) ≡ share w0 r (probe_at n key) = sym (share_is ∙ ap (λ ts. max 1 (length ts)) (sym found)) in
+          ap fetched_reads fetched_new ∙ sum_by-append (λ (f : Fetched). max 1 (length f.tuples)) (fetched_in old) (one ∷ [])
+          ∙ ap (λ m. fetched_reads (fetched_in old) + m) (sum_by-cons (λ (f : Fetched). max 1 (length f.tuples)) one [] ∙ plus_none (max 1 (length group))
+          ∙ tupled ∙ sym is)
 
       pub agree_new : AgreesWith w0 r.steps (fetched_in new)
       agree_new = subst (AgreesWith w0 r.steps) (sym fetched_are) agree_more

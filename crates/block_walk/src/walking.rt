@@ -236,9 +236,9 @@ pub fn turn<P: AccessPort, L: Ledger>(
     ensures tidy { OnOk result (IsTidy (route block.now (option_copied guide.entry) plan.now) walk.new) }
     ensures stands { OnOk result (Stands (route block.now (option_copied guide.entry) plan.now) walk.new) }
     ensures turn { IfOk result (λ reads. TurnIs (world (P.rows port.now) (P.accesses port.now))
-        (route block.now (option_copied guide.entry) plan.now) reads walk.old walk.new steps.old steps.new) }
+        (route block.now (option_copied guide.entry) plan.now) reads (fetched_in walk.old) walk.new steps.old steps.new) }
     ensures spent { OnErr result (SpentOnce (world (P.rows port.now) (P.accesses port.now))
-        (route block.now (option_copied guide.entry) plan.now) walk.old steps.old steps.new) }
+        (route block.now (option_copied guide.entry) plan.now) (fetched_in walk.old) steps.old steps.new) }
 {
     let found = next_stage(alloc, port, block, guide, plan, walk)?;
     let Some(mut stage) = found else {

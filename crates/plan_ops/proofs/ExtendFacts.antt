@@ -148,7 +148,7 @@ module _ (normal : Normal) (accesses : List Access) (s : DStep) (classes : List 
   abbrev of_step : Access
   of_step = access_in accesses s.access
 
-  module _ (row tuple : Row) (wide : length row ≡ length classes) (fit : IsTuple (member_columns (access_in accesses s.access)) tuple)
+  module _ (row tuple : Row) (wide : length row ≡ length classes) (fit : length tuple ≡ length (member_columns (access_in accesses s.access)))
       (bound : key_is_bound normal accesses set s ≡ true)
       (begins : (j : ℕ) → j < length (access_in accesses s.access).key → get_or tuple j (Int (pos 0)) ≡ get_or (key_for normal accesses s set row) j
       (Int (pos 0))) where
@@ -161,8 +161,7 @@ module _ (normal : Normal) (accesses : List Access) (s : DStep) (classes : List 
         let a = length-append row tuple in
         let b = length-append classes (member_classes normal (use_of accesses s)) in
         let c = length-map (member_columns (access_in accesses s.access)) (class_at normal s.atom) in
-        let d = fit.wide in
-        omega (arith, a, b, c, d, wide)
+        omega (arith, a, b, c, fit, wide)
 
     -- the places of the valuation are the first of their classes
     own_place : (i : ℕ) → i < length classes → place_of joined (get_or joined i 0) ≡ i
@@ -214,11 +213,11 @@ module _ (normal : Normal) (accesses : List Access) (s : DStep) (classes : List 
         let c = length-append of_step.key of_step.fetched in
         omega (arith, a, b, c)
 
-    fits_are : fits_by join.checks.items row tuple ≡ fits normal accesses s set row tuple
+    pub fits_are : fits_by join.checks.items row tuple ≡ fits normal accesses s set row tuple
     fits_are = ap (λ cs. fits_by cs row tuple) is.checks_are
         ∙ sym (ap agrees bindings_are ∙ agrees_by_place joined (row ++ tuple) (length classes + length of_step.key) joined_wide known_few known_same)
 
-    rows_are : joined_by join.sources.items row tuple ≡ extended_row normal accesses s set row tuple
+    pub rows_are : joined_by join.sources.items row tuple ≡ extended_row normal accesses s set row tuple
     rows_are = ap (λ ps. joined_by ps row tuple) (is.sources_are ∙ ap (map (place_of joined)) is.classes_are)
         ∙ map-map (at_place row tuple) (place_of joined) (classes_in (bound_by normal accesses set s))
         ∙ map_same (λ c. at_place row tuple (place_of joined c)) (value_of (bindings_with normal accesses s set row tuple))
@@ -232,9 +231,9 @@ module _ (normal : Normal) (accesses : List Access) (s : DStep) (classes : List 
       ≡ map (extended_row normal accesses s set row) (filter (fits normal accesses s set row) tuples)
   joins_are row tuples wide all bound begins =
       ap (map (joined_by join.sources.items row)) (filter_alike (fits_by join.checks.items row) (fits normal accesses s set row) tuples
-      (λ t m. fits_are row t wide (tuple_of t m) bound (begins t m)))
+      (λ t m. fits_are row t wide (tuple_of t m).wide bound (begins t m)))
       ∙ map_same (joined_by join.sources.items row) (extended_row normal accesses s set row) (filter (fits normal accesses s set row) tuples)
-      (λ t m. let h = (Has-from_filter (fits normal accesses s set row) tuples t m).0 in rows_are row t wide (tuple_of t h) bound (begins t h))
+      (λ t m. let h = (Has-from_filter (fits normal accesses s set row) tuples t m).0 in rows_are row t wide (tuple_of t h).wide bound (begins t h))
     where
       tuple_of : (t : Row) → Has tuples t → IsTuple (member_columns (access_in accesses s.access)) t
       tuple_of t m = let c = Contains-from_has tuples t m in subst (IsTuple (member_columns (access_in accesses s.access))) c.2 (all c.0 t c.1)

@@ -9,5 +9,6 @@ mod KeyFacts
 pub mod MeetFacts
 pub mod MergeFacts
 pub mod PlaceFacts
-mod ProbeFacts
+pub mod ProbeFacts
+pub mod RowFacts
 mod TableFacts

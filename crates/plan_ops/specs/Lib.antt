@@ -3,4 +3,5 @@ pub mod Joins
 pub mod Merging
 pub mod Over
 pub mod Places
+pub mod Stages
 pub mod Started

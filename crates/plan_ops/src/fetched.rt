@@ -22,8 +22,8 @@ use beas_core::{
 };
 use std::alloc::Global;
 
-// The value of a joined row at a place.
-fn value_in_pair<'a>(row: &'a [Value], tuple: &'a [Value], place: usize) -> &'a Value
+/// The value of a joined row at a place.
+pub fn value_in_pair<'a>(row: &'a [Value], tuple: &'a [Value], place: usize) -> &'a Value
     requires { place < length row.now + length tuple.now }
     ensures { result.now ≡ at_place row.now tuple.now place }
 {
@@ -44,8 +44,8 @@ fn pair_agrees(row: &[Value], tuple: &[Value], check: (usize, usize)) -> bool
     *left == *right
 }
 
-// Whether a tuple fits the valuation.
-fn pair_fits(join: &Join, row: &[Value], tuple: &[Value]) -> bool
+/// Whether a tuple fits the valuation.
+pub fn pair_fits(join: &Join, row: &[Value], tuple: &[Value]) -> bool
     requires { IsWithin (length row.now + length tuple.now) join.now }
     ensures { result ≡ fits_by join.now.checks.items row.now tuple.now }
 {
@@ -57,8 +57,13 @@ fn pair_fits(join: &Join, row: &[Value], tuple: &[Value]) -> bool
     true
 }
 
-// The valuation with a tuple's values.
-fn joined_pair(alloc: Global, join: &Join, row: &[Value], tuple: &[Value]) -> Result<Row, NoMemory>
+/// The valuation with a tuple's values.
+pub fn joined_pair(
+    alloc: Global,
+    join: &Join,
+    row: &[Value],
+    tuple: &[Value],
+) -> Result<Row, NoMemory>
     requires { IsWithin (length row.now + length tuple.now) join.now }
     ensures { IfOk result (λ joined. joined ≡ joined_by join.now.sources.items row.now tuple.now) }
 {

@@ -17,7 +17,8 @@ use std::alloc::Global;
 use std::cmp::Ordering;
 use std::mem;
 
-fn sign_holds(sign: Sign, order: Ordering) -> bool
+/// Whether an order of two values is what the sign asks. It takes no memory.
+pub fn sign_holds(sign: Sign, order: Ordering) -> bool
     ensures { result ≡ holds_of sign order }
 {
     match sign {
@@ -54,7 +55,8 @@ fn keep_pair(rows: &mut Vec<Row>, left: usize, sign: Sign, right: usize, zero: &
     });
 }
 
-fn place_among(block: &Normal, classes: &[u16], place: &Place) -> usize
+/// Where the class of a place stands among ascending ones, or their number where it stands nowhere. It takes no memory.
+pub fn place_among(block: &Normal, classes: &[u16], place: &Place) -> usize
     requires { classes.now ≡ classes_in (set_of block.now classes.now) }
     ensures { result ≡ place_of classes.now (place_class block.now place.now) }
 {

@@ -7,8 +7,8 @@ ghost use Rattle.beas_core.specs.Sets.{distinct};
 use beas_core::{ColumnId, Duplicate, List, NoMemory, Row, Value, sort_distinct};
 use std::alloc::Global;
 
-// The values of a row in some columns. One past the row's end is made up, since nothing reaches it.
-fn values_in(alloc: Global, columns: &[ColumnId], row: &[Value]) -> Result<Row, NoMemory>
+/// The values of a row in some columns. One past the row's end is made up, since nothing reaches it.
+pub fn values_in(alloc: Global, columns: &[ColumnId], row: &[Value]) -> Result<Row, NoMemory>
     ensures { IfOk result (λ values. values ≡ project columns.now row.now) }
 {
     let mut values = Vec::with_capacity(alloc, columns.len())?;

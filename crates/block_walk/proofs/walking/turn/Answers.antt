@@ -217,6 +217,6 @@ returns-in_default-clause-turn g c =
     let w = world (g.P.AccessPort.rows c.args.port.now) (g.P.AccessPort.accesses c.args.port.now) in
     let r = route c.args.block.now (option_copied c.args.guide) c.args.plan.now in
     let old = c.args.walk.now in
-    (is_done w r c.requires.classes c.requires.constants c.requires.fits c.requires.sound old c.requires.tidy c.requires.stands c.requires.agrees
+    is_done w r c.requires.classes c.requires.constants c.requires.fits c.requires.sound old c.requires.tidy c.requires.stands c.requires.agrees
     c.next_stage.new.walk c.next_stage.ensures.finished c.next_stage.ensures.from c.next_stage.ensures.under_way
-    (subst (NextStage w r old) c.in_default.is c.in_ok-found.ensures.stage) c.args.steps.now c.args.steps.now refl).1
+    (subst (NextStage w r old) c.in_default.is c.in_ok-found.ensures.stage) c.args.steps.now c.args.steps.now refl

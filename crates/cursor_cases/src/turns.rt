@@ -1,0 +1,110 @@
+// A query answered by cursors and by the executor.
+ghost use Rattle.std.specs.Prelude.{◌≡◌, false, IfOk, IsTrue, OnOk, is_some};
+ghost use Rattle.beas_core.specs.Fits.{Fits};
+ghost use Rattle.block_walk.specs.Worlds.{world};
+ghost use Rattle.catalogue.specs.Database.{rows_at};
+ghost use Rattle.cursor_executor.specs.Fetching.{AllAgree};
+ghost use Rattle.update_guard.specs.Stored.{database_in};
+
+use beas_core::{AccessPort, Answer, Fail, NoMemory, Prepared, Refusal, Steps};
+use cursor_executor::{Cursor, Turn};
+use drawn_scenes::statement_of;
+use plan_executor::execute;
+use session::Session;
+use sql_tree::Statement;
+use std::alloc::Global;
+use std::sync::ledger::Ledger;
+
+/// What cursors gave of a query: how many turns made a probe, how many rows and reads the answer has, and whether the
+/// answers are those of the executor.
+#[derive(Clone, Copy)]
+pub struct Turned {
+    pub probes: u32,
+    pub rows: usize,
+    pub reads: u128,
+    pub agrees: bool,
+}
+
+/// A query as it is announced over the constraints as they are.
+fn prepared_query(alloc: Global, session: &Session, spelled: &str) -> Result<Prepared, Fail>
+    ensures { IfOk result (Fits session.now.guarded.catalogue.accesses (rows_at (database_in session.now.guarded))) }
+{
+    match statement_of(alloc, spelled)? {
+        Statement::Select { tree } => session.announce(alloc, &tree),
+        _ => Err(Fail::Refused(Refusal::Syntax)),
+    }
+}
+
+/// Drives a cursor turn by turn until no probe is due. Gives how many turns made one.
+fn count_probes<P: AccessPort, L: Ledger>(
+    alloc: Global,
+    port: &P,
+    cursor: &mut Cursor,
+    steps: &mut Steps<L>,
+) -> Result<u32, NoMemory>
+    requires fits { Fits (P.accesses port.now) (P.rows port.now) cursor.old.prepared }
+    requires going { cursor.old.failed ≡ false }
+    requires agrees { AllAgree (world (P.rows port.now) (P.accesses port.now)) cursor.old.prepared
+        cursor.old.fetched }
+    ensures { OnOk result (IsTrue (is_some cursor.new.answer)) }
+{
+    let mut probes: u32 = 0;
+    'turns: while let Turn::Probed = cursor.advance(alloc, port, steps)? {
+        probes = probes.saturating_add(1);
+    }
+    Ok(probes)
+}
+
+/// What a cursor gives that is driven turn by turn, and after how many probes.
+fn turn_by_turn<P: AccessPort, L: Ledger>(
+    alloc: Global,
+    port: &P,
+    prepared: Prepared,
+    steps: &mut Steps<L>,
+) -> Result<(Answer, u32), NoMemory>
+    requires { Fits (P.accesses port.now) (P.rows port.now) prepared }
+{
+    let mut cursor = Cursor::begin(alloc, prepared)?;
+    let probes = count_probes(alloc, port, &mut cursor, steps)?;
+    Ok((cursor.finish(), probes))
+}
+
+/// What a cursor gives that makes all its probes at once.
+fn completed<P: AccessPort, L: Ledger>(
+    alloc: Global,
+    port: &P,
+    prepared: Prepared,
+    steps: &mut Steps<L>,
+) -> Result<Answer, NoMemory>
+    requires { Fits (P.accesses port.now) (P.rows port.now) prepared }
+{
+    let mut cursor = Cursor::begin(alloc, prepared)?;
+    cursor.complete(alloc, port, steps)?;
+    Ok(cursor.finish())
+}
+
+/// Whether two answers have the same rows and reads.
+fn are_same(left: &Answer, right: &Answer) -> bool {
+    left.rows == right.rows && left.reads == right.reads
+}
+
+/// What cursors and the executor give of the query that a text spells, over the store of a session.
+pub fn turned_query<L: Ledger>(
+    alloc: Global,
+    session: &Session,
+    spelled: &str,
+    steps: &mut Steps<L>,
+) -> Result<Turned, Fail> {
+    let guarded = &session.guarded;
+    let prepared = prepared_query(alloc, session, spelled)?;
+    let executed = execute(alloc, guarded, &prepared, steps)?;
+    let (answer, probes) = turn_by_turn(alloc, guarded, prepared, steps)?;
+    let again = prepared_query(alloc, session, spelled)?;
+    let whole = completed(alloc, guarded, again, steps)?;
+    Ok(Turned {
+        probes,
+        rows: answer.rows.len(),
+        reads: answer.reads,
+        agrees: are_same(&answer, &executed) && are_same(&whole, &executed),
+    })
+}

@@ -1,0 +1,4 @@
+mod CourseFacts
+mod CursorFacts
+mod RunFacts
+mod StepFacts

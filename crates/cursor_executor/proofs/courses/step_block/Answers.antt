@@ -1,0 +1,201 @@
+use Rattle.std.proofs.Common.{◌∙◌, ◌<◌, Some, length, refl, ap, sym, subst}
+use Rattle.std.specs.Option.{option_copied}
+use Rattle.block_walk.specs.Worlds.{world}
+use Rattle.depth_walk.proofs.LoopFacts.{on_err}
+use Rattle.cursor_executor.specs.Fetching.{steps_of}
+use Rattle.cursor_executor.specs.Operations.{guide_at, normal_at}
+use Rattle.cursor_executor.proofs.StepFacts.{block_fits, place_inside, step_agrees, step_classes, step_constants, step_course, step_ended, step_finished, step_guide, step_ran, step_sound, step_spent, step_stands, step_stepped}
+use Rattle.cursor_executor.proofs.courses.step_block.Goals as goal
+
+pub block_at-block-requires : goal.block_at-block-requires
+block_at-block-requires g c =
+    let w = world (g.P.AccessPort.rows c.args.port.now) (g.P.AccessPort.accesses c.args.port.now) in
+    let prepared = c.args.prepared.now in
+    let old = c.args.course.now in
+    let req = c.requires in
+    subst (λ n. n < length prepared.normals) (sym c.len-at.ensures) (block_fits w prepared req.fits old req.course c.args.place req.at req.agrees).normal
+
+pub plan_at-plan-requires : goal.plan_at-plan-requires
+plan_at-plan-requires g c =
+    let w = world (g.P.AccessPort.rows c.args.port.now) (g.P.AccessPort.accesses c.args.port.now) in
+    let prepared = c.args.prepared.now in
+    let old = c.args.course.now in
+    let req = c.requires in
+    subst (λ n. n < length prepared.derivations) (sym c.len-at.ensures) (block_fits w prepared req.fits old req.course c.args.place req.at req.agrees).plan
+
+pub block_turn-requires-clause-classes : goal.block_turn-requires-clause-classes
+block_turn-requires-clause-classes g c =
+    let w = world (g.P.AccessPort.rows c.args.port.now) (g.P.AccessPort.accesses c.args.port.now) in
+    let prepared = c.args.prepared.now in
+    let old = c.args.course.now in
+    let req = c.requires in
+    let normal_is = c.block_at-block.ensures ∙ ap (normal_at prepared) c.len-at.ensures in
+    let own_is = c.guide_in-guide.ensures ∙ ap (λ s. guide_at s c.args.place) c.as_slice-stack.ensures.value in
+    let steps_is = c.plan_at-plan.ensures ∙ ap (steps_of prepared) c.len-at.ensures in
+    step_classes w prepared req.fits old req.course c.args.place req.at req.agrees
+    c.block_at-block.result.now (option_copied c.guide_in-guide.result) c.plan_at-plan.result.now normal_is own_is steps_is
+
+pub block_turn-requires-clause-constants : goal.block_turn-requires-clause-constants
+block_turn-requires-clause-constants g c =
+    let w = world (g.P.AccessPort.rows c.args.port.now) (g.P.AccessPort.accesses c.args.port.now) in
+    let prepared = c.args.prepared.now in
+    let old = c.args.course.now in
+    let req = c.requires in
+    let normal_is = c.block_at-block.ensures ∙ ap (normal_at prepared) c.len-at.ensures in
+    let own_is = c.guide_in-guide.ensures ∙ ap (λ s. guide_at s c.args.place) c.as_slice-stack.ensures.value in
+    let steps_is = c.plan_at-plan.ensures ∙ ap (steps_of prepared) c.len-at.ensures in
+    step_constants w prepared req.fits old req.course c.args.place req.at req.agrees
+    c.block_at-block.result.now (option_copied c.guide_in-guide.result) c.plan_at-plan.result.now normal_is own_is steps_is
+
+pub block_turn-requires-clause-fits : goal.block_turn-requires-clause-fits
+block_turn-requires-clause-fits g c =
+    let w = world (g.P.AccessPort.rows c.args.port.now) (g.P.AccessPort.accesses c.args.port.now) in
+    let prepared = c.args.prepared.now in
+    let old = c.args.course.now in
+    let req = c.requires in
+    let normal_is = c.block_at-block.ensures ∙ ap (normal_at prepared) c.len-at.ensures in
+    let own_is = c.guide_in-guide.ensures ∙ ap (λ s. guide_at s c.args.place) c.as_slice-stack.ensures.value in
+    let steps_is = c.plan_at-plan.ensures ∙ ap (steps_of prepared) c.len-at.ensures in
+    step_guide w prepared req.fits old req.course c.args.place req.at req.agrees
+    c.block_at-block.result.now (option_copied c.guide_in-guide.result) c.plan_at-plan.result.now normal_is own_is steps_is
+
+pub block_turn-requires-clause-sound : goal.block_turn-requires-clause-sound
+block_turn-requires-clause-sound g c =
+    let w = world (g.P.AccessPort.rows c.args.port.now) (g.P.AccessPort.accesses c.args.port.now) in
+    let prepared = c.args.prepared.now in
+    let old = c.args.course.now in
+    let req = c.requires in
+    let normal_is = c.block_at-block.ensures ∙ ap (normal_at prepared) c.len-at.ensures in
+    let own_is = c.guide_in-guide.ensures ∙ ap (λ s. guide_at s c.args.place) c.as_slice-stack.ensures.value in
+    let steps_is = c.plan_at-plan.ensures ∙ ap (steps_of prepared) c.len-at.ensures in
+    step_sound w prepared req.fits old req.course c.args.place req.at req.agrees
+    c.block_at-block.result.now (option_copied c.guide_in-guide.result) c.plan_at-plan.result.now normal_is own_is steps_is
+
+pub block_turn-requires-clause-walk : goal.block_turn-requires-clause-walk
+block_turn-requires-clause-walk g c =
+    let w = world (g.P.AccessPort.rows c.args.port.now) (g.P.AccessPort.accesses c.args.port.now) in
+    let prepared = c.args.prepared.now in
+    let old = c.args.course.now in
+    let req = c.requires in
+    let normal_is = c.block_at-block.ensures ∙ ap (normal_at prepared) c.len-at.ensures in
+    let own_is = c.guide_in-guide.ensures ∙ ap (λ s. guide_at s c.args.place) c.as_slice-stack.ensures.value in
+    let steps_is = c.plan_at-plan.ensures ∙ ap (steps_of prepared) c.len-at.ensures in
+    step_stands w prepared req.fits old req.course c.args.place req.at req.agrees
+    c.block_at-block.result.now (option_copied c.guide_in-guide.result) c.plan_at-plan.result.now normal_is own_is steps_is
+    c.take-begun.result c.take-begun.ensures.value
+
+pub block_turn-requires-clause-agrees : goal.block_turn-requires-clause-agrees
+block_turn-requires-clause-agrees g c =
+    let w = world (g.P.AccessPort.rows c.args.port.now) (g.P.AccessPort.accesses c.args.port.now) in
+    let prepared = c.args.prepared.now in
+    let old = c.args.course.now in
+    let req = c.requires in
+    let normal_is = c.block_at-block.ensures ∙ ap (normal_at prepared) c.len-at.ensures in
+    let own_is = c.guide_in-guide.ensures ∙ ap (λ s. guide_at s c.args.place) c.as_slice-stack.ensures.value in
+    let steps_is = c.plan_at-plan.ensures ∙ ap (steps_of prepared) c.len-at.ensures in
+    step_agrees w prepared req.fits old req.course c.args.place req.at req.agrees
+    c.block_at-block.result.now (option_copied c.guide_in-guide.result) c.plan_at-plan.result.now normal_is own_is steps_is
+    c.take-begun.result c.take-begun.ensures.value
+
+pub returns-in_err-walk-clause-spent : goal.returns-in_err-walk-clause-spent
+returns-in_err-walk-clause-spent g c =
+    let w = world (g.P.AccessPort.rows c.args.port.now) (g.P.AccessPort.accesses c.args.port.now) in
+    let prepared = c.args.prepared.now in
+    let old = c.args.course.now in
+    let req = c.requires in
+    let normal_is = c.block_at-block.ensures ∙ ap (normal_at prepared) c.len-at.ensures in
+    let own_is = c.guide_in-guide.ensures ∙ ap (λ s. guide_at s c.args.place) c.as_slice-stack.ensures.value in
+    let steps_is = c.plan_at-plan.ensures ∙ ap (steps_of prepared) c.len-at.ensures in
+    on_err c.from_residual.result (step_spent w prepared req.fits old req.course c.args.place req.at req.agrees
+    c.block_at-block.result.now (option_copied c.guide_in-guide.result) c.plan_at-plan.result.now normal_is own_is steps_is
+    c.take-begun.result c.take-begun.ensures.value
+    c.args.steps.now c.block_turn.new.steps c.in_err-walk.ensures.spent)
+
+pub returns-then-is_some-clause-course : goal.returns-then-is_some-clause-course
+returns-then-is_some-clause-course g c =
+    let w = world (g.P.AccessPort.rows c.args.port.now) (g.P.AccessPort.accesses c.args.port.now) in
+    let prepared = c.args.prepared.now in
+    let old = c.args.course.now in
+    let req = c.requires in
+    let normal_is = c.block_at-block.ensures ∙ ap (normal_at prepared) c.len-at.ensures in
+    let own_is = c.guide_in-guide.ensures ∙ ap (λ s. guide_at s c.args.place) c.as_slice-stack.ensures.value in
+    let steps_is = c.plan_at-plan.ensures ∙ ap (steps_of prepared) c.len-at.ensures in
+    step_course w prepared req.fits old req.course c.args.place req.at req.agrees
+    c.block_at-block.result.now (option_copied c.guide_in-guide.result) c.plan_at-plan.result.now normal_is own_is steps_is
+    c.take-begun.result c.take-begun.ensures.value
+    c.in_ok-walk.walk c.in_ok-walk.ensures.tidy c.in_ok-walk.ensures.stands c.in_ok-walk.reads c.args.steps.now c.block_turn.new.steps c.in_ok-walk.ensures.turn
+    (record { operations = old.operations; place = old.place; stack = old.stack; finished = old.finished; walk = Some c.in_ok-walk.walk })
+    refl refl refl refl refl
+
+pub returns-then-is_some-clause-stepped : goal.returns-then-is_some-clause-stepped
+returns-then-is_some-clause-stepped g c =
+    let w = world (g.P.AccessPort.rows c.args.port.now) (g.P.AccessPort.accesses c.args.port.now) in
+    let prepared = c.args.prepared.now in
+    let old = c.args.course.now in
+    let req = c.requires in
+    let normal_is = c.block_at-block.ensures ∙ ap (normal_at prepared) c.len-at.ensures in
+    let own_is = c.guide_in-guide.ensures ∙ ap (λ s. guide_at s c.args.place) c.as_slice-stack.ensures.value in
+    let steps_is = c.plan_at-plan.ensures ∙ ap (steps_of prepared) c.len-at.ensures in
+    step_stepped w prepared req.fits old req.course c.args.place req.at req.agrees
+    c.block_at-block.result.now (option_copied c.guide_in-guide.result) c.plan_at-plan.result.now normal_is own_is steps_is
+    c.take-begun.result c.take-begun.ensures.value
+    c.in_ok-walk.walk c.in_ok-walk.ensures.tidy c.in_ok-walk.ensures.stands c.in_ok-walk.reads c.args.steps.now c.block_turn.new.steps c.in_ok-walk.ensures.turn
+    (record { operations = old.operations; place = old.place; stack = old.stack; finished = old.finished; walk = Some c.in_ok-walk.walk })
+    refl refl refl refl refl (sym c.is_some.ensures ∙ c.if-is_some.true)
+
+pub answer-rows-requires-clause-ended : goal.answer-rows-requires-clause-ended
+answer-rows-requires-clause-ended g c =
+    let w = world (g.P.AccessPort.rows c.args.port.now) (g.P.AccessPort.accesses c.args.port.now) in
+    let prepared = c.args.prepared.now in
+    let old = c.args.course.now in
+    let req = c.requires in
+    let normal_is = c.block_at-block.ensures ∙ ap (normal_at prepared) c.len-at.ensures in
+    let own_is = c.guide_in-guide.ensures ∙ ap (λ s. guide_at s c.args.place) c.as_slice-stack.ensures.value in
+    let steps_is = c.plan_at-plan.ensures ∙ ap (steps_of prepared) c.len-at.ensures in
+    step_ended w prepared req.fits old req.course c.args.place req.at req.agrees
+    c.block_at-block.result.now (option_copied c.guide_in-guide.result) c.plan_at-plan.result.now normal_is own_is steps_is
+    c.take-begun.result c.take-begun.ensures.value
+    c.in_ok-walk.walk c.in_ok-walk.ensures.tidy c.in_ok-walk.ensures.stands c.in_ok-walk.reads c.args.steps.now c.block_turn.new.steps c.in_ok-walk.ensures.turn
+    (sym c.is_some.ensures ∙ c.if-is_some.false)
+
+pub finish_block-requires : goal.finish_block-requires
+finish_block-requires g c =
+    let w = world (g.P.AccessPort.rows c.args.port.now) (g.P.AccessPort.accesses c.args.port.now) in
+    let prepared = c.args.prepared.now in
+    let old = c.args.course.now in
+    let req = c.requires in
+    place_inside w prepared req.fits old req.course c.args.place req.at req.agrees
+
+pub returns-clause-course : goal.returns-clause-course
+returns-clause-course g c =
+    let w = world (g.P.AccessPort.rows c.args.port.now) (g.P.AccessPort.accesses c.args.port.now) in
+    let prepared = c.args.prepared.now in
+    let old = c.args.course.now in
+    let req = c.requires in
+    let normal_is = c.block_at-block.ensures ∙ ap (normal_at prepared) c.len-at.ensures in
+    let own_is = c.guide_in-guide.ensures ∙ ap (λ s. guide_at s c.args.place) c.as_slice-stack.ensures.value in
+    let steps_is = c.plan_at-plan.ensures ∙ ap (steps_of prepared) c.len-at.ensures in
+    let did = c.in_ok-finish_block.ensures in
+    step_finished w prepared req.fits old req.course c.args.place req.at req.agrees
+    c.block_at-block.result.now (option_copied c.guide_in-guide.result) c.plan_at-plan.result.now normal_is own_is steps_is
+    c.take-begun.result c.take-begun.ensures.value
+    c.in_ok-walk.walk c.in_ok-walk.ensures.tidy c.in_ok-walk.ensures.stands c.in_ok-walk.reads c.args.steps.now c.block_turn.new.steps c.in_ok-walk.ensures.turn
+    (sym c.is_some.ensures ∙ c.if-is_some.false)
+    c.answer-rows.new.walk c.answer-rows.ensures.fetched c.answer-rows.result c.answer-rows.ensures.rows c.finish_block.new.course did.operations did.place did.stack did.finished (did.walk ∙ c.take-begun.ensures.after)
+
+pub returns-clause-stepped : goal.returns-clause-stepped
+returns-clause-stepped g c =
+    let w = world (g.P.AccessPort.rows c.args.port.now) (g.P.AccessPort.accesses c.args.port.now) in
+    let prepared = c.args.prepared.now in
+    let old = c.args.course.now in
+    let req = c.requires in
+    let normal_is = c.block_at-block.ensures ∙ ap (normal_at prepared) c.len-at.ensures in
+    let own_is = c.guide_in-guide.ensures ∙ ap (λ s. guide_at s c.args.place) c.as_slice-stack.ensures.value in
+    let steps_is = c.plan_at-plan.ensures ∙ ap (steps_of prepared) c.len-at.ensures in
+    let did = c.in_ok-finish_block.ensures in
+    step_ran w prepared req.fits old req.course c.args.place req.at req.agrees
+    c.block_at-block.result.now (option_copied c.guide_in-guide.result) c.plan_at-plan.result.now normal_is own_is steps_is
+    c.take-begun.result c.take-begun.ensures.value
+    c.in_ok-walk.walk c.in_ok-walk.ensures.tidy c.in_ok-walk.ensures.stands c.in_ok-walk.reads c.args.steps.now c.block_turn.new.steps c.in_ok-walk.ensures.turn
+    (sym c.is_some.ensures ∙ c.if-is_some.false)
+    c.answer-rows.new.walk c.answer-rows.ensures.fetched c.answer-rows.result c.answer-rows.ensures.rows c.finish_block.new.course did.operations did.place did.stack did.finished (did.walk ∙ c.take-begun.ensures.after)

@@ -1,0 +1,4 @@
+pub mod Courses
+pub mod Fetching
+pub mod Operations
+pub mod Turns

@@ -1,0 +1,237 @@
+// A query that is answered turn by turn.
+ghost use Rattle.std.specs.Prelude.{◌≡◌, ◌+◌, ◌≤◌, [], true, false, None, Ok, Some, IfOk, IsErr, IsOk, IsTrue, OnErr, OnOk, is_some};
+ghost use Rattle.beas_core.specs.Fits.{Fits, PreparedIsWellFormed};
+ghost use Rattle.beas_core.specs.Full.{full_of};
+ghost use Rattle.block_walk.specs.Worlds.{world};
+ghost use Rattle.cursor_executor.specs.Courses.{IsCourse, fetched_by, left_of};
+ghost use Rattle.cursor_executor.specs.Fetching.{AllAgree, IsWorld, reads_due, reads_fetched};
+ghost use Rattle.cursor_executor.specs.Turns.{HasGone, QuerySpent, SpentWithin, TurnIs};
+
+use crate::courses::{Course, course_of, go};
+use beas_core::{AccessPort, Answer, NoMemory, Prepared, Steps};
+use plan_executor::ask_for_all;
+use std::alloc::Global;
+use std::marker::Model;
+use std::sync::ledger::Ledger;
+
+/// What a turn did.
+#[derive(Clone, Copy)]
+pub enum Turn {
+    /// It made one probe.
+    Probed,
+    /// No probe was due: the answer is there.
+    Done,
+}
+
+/// A prepared query between two of its probes.
+///
+/// It keeps what it has fetched and nothing of a port. So it may go on over any port that agrees with what was fetched:
+/// each step that was probed has the same constraint there, and each key that was probed the same tuples.
+#[derive(Drop)]
+pub struct Cursor {
+    prepared: Prepared,
+    course: Course,
+    reads: u128,
+    failed: bool,
+    whole: bool,
+}
+
+impl Model for Cursor {
+    ghost use Rattle.cursor_executor.specs.Fetching.{Seen, coded_seen};
+    ghost use Rattle.cursor_executor.specs.Courses.{IsKept, seen_of};
+
+    ghost Value = { Seen };
+
+    ghost coded = { coded_seen };
+
+    ghost view = { λ s. seen_of s.prepared s.course s.reads s.failed s.whole };
+
+    ghost invariant = { λ s. IsKept s.prepared s.course s.reads s.failed s.whole };
+}
+
+// Makes the next probe, adds its reads, and says whether one was made.
+fn probe_next<P: AccessPort, L: Ledger>(
+    alloc: Global,
+    port: &P,
+    prepared: &Prepared,
+    course: &mut Course,
+    reads: &mut u128,
+    steps: &mut Steps<L>,
+) -> Result<bool, NoMemory>
+    requires fits { IsWorld (world (P.rows port.now) (P.accesses port.now)) prepared.now }
+    requires course { IsCourse prepared.now course.old }
+    requires agrees { AllAgree (world (P.rows port.now) (P.accesses port.now)) prepared.now (fetched_by course.old) }
+    requires reads { reads.old ≡ reads_fetched (fetched_by course.old) }
+    ensures course { OnOk result (IsCourse prepared.now course.new) }
+    ensures reads { OnOk result (reads.new ≡ reads_fetched (fetched_by course.new)) }
+    ensures went { IfOk result (λ probed. HasGone (world (P.rows port.now) (P.accesses port.now)) prepared.now
+        probed course.old course.new steps.old steps.new) }
+    ensures spent { OnErr result (QuerySpent (world (P.rows port.now) (P.accesses port.now)) prepared.now
+        (fetched_by course.old) steps.old steps.new) }
+{
+    // Read for what its type tells: the announced number fits 128 bits, and so do the reads.
+    let _bound = prepared.bound;
+    let Some(made) = go(alloc, port, prepared, course, steps)? else {
+        return Ok(false);
+    };
+    *reads += made as u128;
+    Ok(true)
+}
+
+// Makes all probes that are due.
+fn probe_all<P: AccessPort, L: Ledger>(
+    alloc: Global,
+    port: &P,
+    prepared: &Prepared,
+    course: &mut Course,
+    reads: &mut u128,
+    steps: &mut Steps<L>,
+) -> Result<(), NoMemory>
+    requires fits { IsWorld (world (P.rows port.now) (P.accesses port.now)) prepared.now }
+    requires course { IsCourse prepared.now course.old }
+    requires agrees { AllAgree (world (P.rows port.now) (P.accesses port.now)) prepared.now (fetched_by course.old) }
+    requires reads { reads.old ≡ reads_fetched (fetched_by course.old) }
+    ensures course { OnOk result (IsCourse prepared.now course.new) }
+    ensures left { OnOk result (left_of course.new ≡ []) }
+    ensures agrees { OnOk result (AllAgree (world (P.rows port.now) (P.accesses port.now)) prepared.now
+        (fetched_by course.new)) }
+    ensures reads { OnOk result (reads.new ≡ reads_fetched (fetched_by course.new)) }
+    ensures cost { OnOk result (steps.new + reads.old ≡ steps.old + reads.new) }
+    ensures spent { OnErr result (SpentWithin (world (P.rows port.now) (P.accesses port.now)) prepared.now reads.old
+        steps.old steps.new) }
+    ensures kept { steps.old ≤ steps.new }
+{
+    'probes: while probe_next(alloc, port, prepared, course, reads, steps)? {}
+    Ok(())
+}
+
+impl Cursor {
+    /// A cursor that has fetched nothing.
+    pub fn begin(alloc: Global, prepared: Prepared) -> Result<Cursor, NoMemory>
+        requires { PreparedIsWellFormed prepared }
+        ensures { IfOk result (λ cursor. cursor
+            ≡ record { prepared = prepared; fetched = []; reads = 0; failed = false; answer = None }) }
+    {
+        let course = course_of(alloc, &prepared)?;
+        Ok(Cursor {
+            prepared,
+            course,
+            reads: 0,
+            failed: false,
+            whole: false,
+        })
+    }
+
+    /// The query, with all that is announced of it.
+    pub fn prepared(&self) -> &Prepared
+        ensures { result.now ≡ self.now.prepared }
+    {
+        &self.prepared
+    }
+
+    /// Makes the next probe that is due, and no other. Where none is due the answer is there, now and after any further
+    /// turn. Out of memory, the cursor has failed: each further turn says so and probes nothing.
+    pub fn advance<P: AccessPort, L: Ledger>(
+        &mut self,
+        alloc: Global,
+        port: &P,
+        steps: &mut Steps<L>,
+    ) -> Result<Turn, NoMemory>
+        requires fits { Fits (P.accesses port.now) (P.rows port.now) self.old.prepared }
+        requires agrees { self.old.failed ≡ false
+            → AllAgree (world (P.rows port.now) (P.accesses port.now)) self.old.prepared self.old.fetched }
+        ensures prepared { self.new.prepared ≡ self.old.prepared }
+        ensures turn { IfOk result
+            (λ turn. TurnIs (world (P.rows port.now) (P.accesses port.now)) turn self.old self.new
+            steps.old steps.new) }
+
+        ensures failed { OnErr result (self.new.failed ≡ true) }
+        ensures spent { OnErr result (QuerySpent (world (P.rows port.now) (P.accesses port.now)) self.old.prepared
+            self.old.fetched steps.old steps.new) }
+        ensures failed_before { self.old.failed ≡ true → IsErr result × (steps.new ≡ steps.old) }
+        ensures once_whole { IsTrue (is_some self.old.answer) → result ≡ Ok Turn.Done }
+    {
+        if self.failed {
+            return Err(NoMemory);
+        }
+        let prepared = &self.prepared;
+        ask_for_all(port, prepared.derivations.as_slice());
+        if self.whole {
+            return Ok(Turn::Done);
+        }
+        // Until the turn has succeeded, the cursor counts as failed.
+        self.failed = true;
+        let probed = probe_next(
+            alloc,
+            port,
+            prepared,
+            &mut self.course,
+            &mut self.reads,
+            steps,
+        )?;
+        self.failed = false;
+        if probed {
+            return Ok(Turn::Probed);
+        }
+        self.whole = true;
+        Ok(Turn::Done)
+    }
+
+    /// Makes all probes that are due, so that the answer is there: as `plan_executor::execute` does, and with its
+    /// reads. Out of memory, the cursor has failed, and no more was counted than the reads that were left.
+    pub fn complete<P: AccessPort, L: Ledger>(
+        &mut self,
+        alloc: Global,
+        port: &P,
+        steps: &mut Steps<L>,
+    ) -> Result<(), NoMemory>
+        requires fits { Fits (P.accesses port.now) (P.rows port.now) self.old.prepared }
+        requires going { self.old.failed ≡ false }
+        requires agrees { AllAgree (world (P.rows port.now) (P.accesses port.now)) self.old.prepared self.old.fetched }
+        ensures prepared { self.new.prepared ≡ self.old.prepared }
+        ensures answer { OnOk result (self.new.answer ≡ Some (full_of (P.rows port.now) self.old.prepared.query)) }
+        ensures reads { OnOk result (self.new.reads
+            ≡ reads_due (world (P.rows port.now) (P.accesses port.now)) self.old.prepared) }
+        ensures bound { OnOk result (self.new.reads ≤ self.old.prepared.bound) }
+
+        ensures failed { OnErr result (self.new.failed ≡ true) }
+        ensures cost { OnOk result (steps.new + self.old.reads ≡ steps.old + self.new.reads) }
+        ensures spent { OnErr result (SpentWithin (world (P.rows port.now) (P.accesses port.now)) self.old.prepared
+            self.old.reads steps.old steps.new) }
+        ensures kept { steps.old ≤ steps.new }
+        ensures once_whole { IsTrue (is_some self.old.answer) → IsOk result }
+    {
+        let prepared = &self.prepared;
+        ask_for_all(port, prepared.derivations.as_slice());
+        if self.whole {
+            return Ok(());
+        }
+        self.failed = true;
+        probe_all(
+            alloc,
+            port,
+            prepared,
+            &mut self.course,
+            &mut self.reads,
+            steps,
+        )?;
+        self.failed = false;
+        self.whole = true;
+        Ok(())
+    }
+
+    /// The answer of a cursor that is whole, and its reads. It takes no memory.
+    pub fn finish(self) -> Answer
+        requires { IsTrue (is_some self.answer) }
+        ensures rows { Some result.rows ≡ self.answer }
+        ensures reads { result.reads ≡ self.reads }
+    {
+        let course = self.course;
+        let mut stack = course.stack;
+        let rows = stack.pop().unwrap();
+        Answer {
+            rows,
+            reads: self.reads,
+        }
+    }
+}

@@ -1,0 +1,18 @@
+use Rattle.std.proofs.Common.{refl}
+use Rattle.std.specs.Option.{option_copied}
+use Rattle.depth_walk.specs.declared.walking.Walk.{Walk}
+use Rattle.depth_walk.proofs.StartFacts.{first_stands, first_tidy}
+use Rattle.depth_walk.proofs.walking.begin.Goals as goal
+
+pub returns-clause-tidy : goal.returns-clause-tidy
+returns-clause-tidy c =
+    let walk : Walk = record { first = c.in_ok-from.from.classes; stages = c.new.result; known = c.new-2.result; pending = c.in_ok-pending.pending; through = c.new-3.result } in
+    first_tidy c.args.block.now (option_copied c.args.guide) c.in_ok-from.from c.in_ok-from.ensures.over c.in_ok-from.ensures.rows walk
+    refl c.new.ensures.items c.new-2.ensures.empty c.new-2.ensures.ordered c.in_ok-pending.ensures c.new-3.ensures
+
+pub returns-clause-stands : goal.returns-clause-stands
+returns-clause-stands c =
+    let walk : Walk = record { first = c.in_ok-from.from.classes; stages = c.new.result; known = c.new-2.result; pending = c.in_ok-pending.pending; through = c.new-3.result } in
+    first_stands c.args.block.now (option_copied c.args.guide) c.in_ok-from.from c.in_ok-from.ensures.over c.in_ok-from.ensures.rows walk
+    refl c.new.ensures.items c.new-2.ensures.empty c.new-2.ensures.ordered c.in_ok-pending.ensures c.new-3.ensures
+    c.requires.classes c.requires.constants c.requires.fits

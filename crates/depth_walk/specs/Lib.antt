@@ -1,0 +1,3 @@
+pub mod Descents
+pub mod Turns
+pub mod Walks

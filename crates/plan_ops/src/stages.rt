@@ -1,0 +1,229 @@
+// One step from one valuation.
+ghost use Rattle.std.specs.Prelude.{◌≡◌, ◌<◌, ◌+◌, length, pos, slice_index_or, IfOk, IsTrue};
+ghost use Rattle.beas_core.specs.declared.value.Value.TheVariants.{Int};
+ghost use Rattle.beas_core.specs.Coverage.{ClassesInRange, holds_classes, key_classes};
+ghost use Rattle.beas_core.specs.Groups.{project, value_at};
+ghost use Rattle.beas_core.specs.Valuations.{as_bindings, classes_in, comparison_is_met, output_row};
+ghost use Rattle.evaluation_facts.specs.Extensions.{meets_bound};
+ghost use Rattle.plan_ops.specs.Joins.{IsWithin, joined_by};
+ghost use Rattle.plan_ops.specs.Over.{set_of};
+ghost use Rattle.plan_ops.specs.Stages.{IsPair, IsStage, bound_with, joined_row, key_by, leads_to, set_before, use_at};
+
+use crate::fetched::{joined_pair, pair_fits, value_in_pair};
+use crate::joining::{Join, join_of};
+use crate::keeping::{place_among, sign_holds};
+use crate::picking::values_in;
+use crate::places::{columns_at, columns_in};
+use beas_core::{
+    Access, ColumnId, Comparison, Duplicate, List, NoMemory, Normal, Operand, Row, Value, compare,
+};
+use std::alloc::Global;
+
+/// What is worked out once for a step, to go on from any valuation before it.
+#[derive(Drop)]
+pub struct Stage {
+    /// The atom that the step is on.
+    pub atom: u16,
+    /// The constraint that it uses.
+    pub access: Access,
+    /// The classes that are bound before it, ascending.
+    pub from: List<u16>,
+    /// The columns of its key in valuations of these classes.
+    pub key: Vec<ColumnId>,
+    /// How tuples of the constraint join these valuations.
+    pub join: Join,
+    /// The columns of the block's output in valuations after it.
+    pub output: Vec<ColumnId>,
+}
+
+/// The stage of a step on an atom by a constraint, after valuations of these classes.
+pub fn stage_of(
+    alloc: Global,
+    block: &Normal,
+    atom: u16,
+    access: &Access,
+    from: &List<u16>,
+) -> Result<Stage, NoMemory>
+    requires ranges { ClassesInRange block.now }
+    requires classes { from.now ≡ classes_in (set_of block.now from.now) }
+    requires key { IsTrue (holds_classes (set_of block.now from.now)
+        (key_classes block.now (record { atom = atom; access = access.now }))) }
+    ensures stage { IfOk result (IsStage block.now) }
+    ensures atom { IfOk result (λ stage. stage.atom ≡ atom) }
+    ensures access { IfOk result (λ stage. stage.access ≡ access.now) }
+    ensures from { IfOk result (λ stage. stage.from ≡ from.now) }
+{
+    let key = columns_in(alloc, block, from.as_slice(), atom, access.key.as_slice())?;
+    let join = join_of(alloc, block, atom, access, from.as_slice())?;
+    let output = columns_at(
+        alloc,
+        block,
+        join.classes.as_slice(),
+        block.output.as_slice(),
+    )?;
+    let access = access.copy(alloc)?;
+    let from = from.copy(alloc)?;
+    Ok(Stage {
+        atom,
+        access,
+        from,
+        key,
+        join,
+        output,
+    })
+}
+
+/// The key that a valuation gives to a step.
+pub fn key_of_row(alloc: Global, stage: &Stage, row: &[Value]) -> Result<Row, NoMemory>
+    ensures { (normal : Normal) → IsStage normal stage.now → length row.now ≡ length stage.now.from
+        → IfOk result (λ key. key ≡ key_by normal (use_at stage.now) (set_before normal stage.now) row.now) }
+{
+    values_in(alloc, &stage.key, row)
+}
+
+// A value of a valuation joined with a tuple. The joined row isn't made.
+fn joined_value<'a>(join: &Join, row: &'a [Value], tuple: &'a [Value], column: usize) -> &'a Value
+    requires within { IsWithin (length row.now + length tuple.now) join.now }
+    requires column { column < length join.now.sources.items }
+    ensures { result.now ≡ slice_index_or (joined_by join.now.sources.items row.now tuple.now) column (Int (pos 0)) }
+{
+    value_in_pair(row, tuple, join.sources[column])
+}
+
+// Whether a valuation joined with a tuple meets a comparison, where its columns are all bound.
+fn pair_meets(
+    block: &Normal,
+    join: &Join,
+    row: &[Value],
+    tuple: &[Value],
+    comparison: &Comparison,
+) -> bool
+    requires classes { join.now.classes ≡ classes_in (set_of block.now join.now.classes) }
+    requires within { IsWithin (length row.now + length tuple.now) join.now }
+    requires sources { length join.now.sources.items ≡ length join.now.classes }
+    ensures { result ≡ comparison_is_met block.now (set_of block.now join.now.classes)
+        (as_bindings (set_of block.now join.now.classes) (joined_by join.now.sources.items row.now tuple.now)) comparison.now }
+{
+    let classes = join.classes.as_slice();
+    let left = place_among(block, classes, &comparison.left);
+    if left == classes.len() {
+        return true;
+    }
+    let value = joined_value(join, row, tuple, left);
+    match &comparison.right {
+        Operand::Fixed(fixed) => sign_holds(comparison.sign, compare(value, fixed)),
+        Operand::At(place) => {
+            let right = place_among(block, classes, place);
+            if right == classes.len() {
+                return true;
+            }
+            let other = joined_value(join, row, tuple, right);
+            sign_holds(comparison.sign, compare(value, other))
+        }
+    }
+}
+
+// Whether it meets every comparison whose columns are all bound.
+fn pair_meets_all(block: &Normal, join: &Join, row: &[Value], tuple: &[Value]) -> bool
+    requires classes { join.now.classes ≡ classes_in (set_of block.now join.now.classes) }
+    requires within { IsWithin (length row.now + length tuple.now) join.now }
+    requires sources { length join.now.sources.items ≡ length join.now.classes }
+    ensures { result ≡ meets_bound block.now (set_of block.now join.now.classes)
+        (joined_by join.now.sources.items row.now tuple.now) }
+{
+    for comparison in block.comparisons.as_slice() {
+        if !pair_meets(block, join, row, tuple, comparison) {
+            return false;
+        }
+    }
+    true
+}
+
+/// Whether a tuple that the key of a valuation finds makes a valuation after the step of it: it fits, and the
+/// comparisons are met. It makes no row and takes no memory.
+pub fn leads(block: &Normal, stage: &Stage, row: &[Value], tuple: &[Value]) -> bool
+    requires stage { IsStage block.now stage.now }
+    requires pair { IsPair block.now stage.now row.now tuple.now }
+    ensures { result ≡ leads_to block.now (use_at stage.now) (set_before block.now stage.now) row.now tuple.now }
+{
+    if !pair_fits(&stage.join, row, tuple) {
+        return false;
+    }
+    pair_meets_all(block, &stage.join, row, tuple)
+}
+
+/// The valuation with the values of a tuple that its key finds.
+pub fn joined(alloc: Global, stage: &Stage, row: &[Value], tuple: &[Value]) -> Result<Row, NoMemory>
+    requires within { IsWithin (length row.now + length tuple.now) stage.now.join }
+    ensures { (normal : Normal) → IsStage normal stage.now → IsPair normal stage.now row.now tuple.now
+        → IfOk result (λ next. next ≡ joined_row normal (use_at stage.now) (set_before normal stage.now) row.now tuple.now) }
+{
+    joined_pair(alloc, &stage.join, row, tuple)
+}
+
+// The value of a joined row in a column. One past its end is made up, since nothing reaches it.
+fn output_value(
+    alloc: Global,
+    join: &Join,
+    row: &[Value],
+    tuple: &[Value],
+    column: ColumnId,
+) -> Result<Value, NoMemory>
+    requires within { IsWithin (length row.now + length tuple.now) join.now }
+    ensures { IfOk result (λ value. value ≡ value_at (joined_by join.now.sources.items row.now tuple.now) column) }
+{
+    let column = usize::from(column.0);
+    if column < join.sources.len() {
+        joined_value(join, row, tuple, column).copy(alloc)
+    } else {
+        Ok(Value::Int(0))
+    }
+}
+
+// The values of a joined row in some columns.
+fn output_values(
+    alloc: Global,
+    join: &Join,
+    row: &[Value],
+    tuple: &[Value],
+    columns: &[ColumnId],
+) -> Result<Row, NoMemory>
+    requires within { IsWithin (length row.now + length tuple.now) join.now }
+    ensures { IfOk result (λ values. values ≡ project columns.now (joined_by join.now.sources.items row.now tuple.now)) }
+{
+    let mut values = Vec::with_capacity(alloc, columns.len())?;
+    for column in columns {
+        values.push_reserved(output_value(alloc, join, row, tuple, *column)?);
+    }
+    Ok(List::from_vec(values))
+}
+
+/// The output row of the valuation with the values of a tuple that its key finds. The valuation isn't made.
+pub fn joined_output(
+    alloc: Global,
+    stage: &Stage,
+    row: &[Value],
+    tuple: &[Value],
+) -> Result<Row, NoMemory>
+    requires within { IsWithin (length row.now + length tuple.now) stage.now.join }
+    ensures { (normal : Normal) → IsStage normal stage.now → IsPair normal stage.now row.now tuple.now
+        → IfOk result (λ output. output ≡ output_row normal (bound_with normal (use_at stage.now) (set_before normal stage.now))
+        (joined_row normal (use_at stage.now) (set_before normal stage.now) row.now tuple.now)) }
+{
+    output_values(alloc, &stage.join, row, tuple, &stage.output)
+}
+
+/// The output row of a valuation of these classes.
+pub fn output_of(
+    alloc: Global,
+    block: &Normal,
+    classes: &[u16],
+    row: &[Value],
+) -> Result<Row, NoMemory>
+    requires classes { classes.now ≡ classes_in (set_of block.now classes.now) }
+    requires wide { length row.now ≡ length classes.now }
+    ensures { IfOk result (λ output. output ≡ output_row block.now (set_of block.now classes.now) row.now) }
+{
+    let columns = columns_at(alloc, block, classes, block.output.as_slice())?;
+    values_in(alloc, &columns, row)
+}
