@@ -1,0 +1,5 @@
+pub mod CoverFacts
+pub mod ListFacts
+pub mod NumberFacts
+pub mod PlanFacts
+pub mod PreparingFacts
