@@ -1,10 +1,12 @@
 -- The lines of a plan, step by step, and that each cost and size of a plan that fits is a number of 128 bits.
-use Rattle.std.proofs.Common.{◌≡◌, ◌⊎◌, length-append, ◌≤◌, ◌<◌, ◌+◌, ◌*◌, ◌^◌, ◌++◌, ℕ, zero, suc, Bool, true, false, true≢false, cond, List, [], ◌∷◌, length, get_or, drop, inl, inr, arith, refl, ap, sym, ◌∙◌, append_assoc}
+use Rattle.std.proofs.Common.{◌≡◌, ◌⊎◌, length-append, ◌≤◌, ◌<◌, ◌+◌, ◌*◌, ◌^◌, ◌++◌, ℕ, zero, suc, Bool, true, false, true≢false, cond, List, [], ◌∷◌, length, get_or, drop, inl, inr, arith, refl, ap, sym, ◌∙◌, append_assoc, append-nil}
 use Rattle.std.proofs.Math.Seq.{drop-cons}
 use Rattle.std.proofs.Math.Nat.{mul-le-mul_left}
-use Rattle.std.proofs.lemmas.List.Elements.{All-contains, All-head, All-tail}
+use Rattle.std.proofs.lemmas.List.Elements.{All-append, All-contains, All-head, All-tail, All-weaker}
+use Rattle.std.proofs.lemmas.List.Folds.{find-append}
 use Rattle.std.proofs.lemmas.List.{length-map}
-use Rattle.std.specs.Prelude.{codes, All, IsTrue, if◌then◌else◌}
+use Rattle.std.specs.Option.{is_some, option_or, unwrap_or}
+use Rattle.std.specs.Prelude.{◌==◌, codes, All, IsTrue, find, Some, None, if◌then◌else◌}
 use Rattle.std.specs.List.{range_with_len}
 use Rattle.beas_core.specs.declared.schema.Access.{Access}
 use Rattle.beas_core.specs.declared.schema.AccessId.{AccessId}
@@ -24,11 +26,12 @@ use Rattle.beas_core.specs.Guiding.{after}
 use Rattle.beas_core.specs.Queries.{plan_of, start_size, size_of, announced_in, query_bound}
 use Rattle.beas_core.specs.Fits.{PreparedIsWellFormed, PlanFits, PlansAreSound}
 use Rattle.beas_core.proofs.Sets.{Has, Has-append_left, Has-append_right, Contains-from_has}
-use Rattle.beas_core.proofs.Accesses.{access_in-member}
+use Rattle.beas_core.proofs.Accesses.{access_in-append, access_in-member}
 use Rattle.evaluation_facts.proofs.MemberTests.{all_has}
 use Rattle.evaluation_facts.proofs.SoundParts.{sound_parts}
-use Rattle.catalogue.specs.Schema.{Schema, SchemaIsSound, AccessIsSound, access_with_id}
-use Rattle.report.specs.Plans.{AllStepsTold, BlocksAreTold, answer_text, blocks_text, plan_text_over, step_line, step_text, steps_text, use_text}
+use Rattle.catalogue.specs.Schema.{Schema, SchemaIsSound, AccessIsSound}
+use Rattle.catalogue.proofs.ListFacts.{is_some-find}
+use Rattle.report.specs.Plans.{AllStepsTold, BlocksAreTold, TablesAreThere, answer_text, blocks_text, plan_lines, plan_text, plan_text_over, step_line, step_text, steps_text, use_text}
 
 -- the lines of the steps left are that of the first and those after it
 pub steps_text-next : (schema : Schema) (accesses : List Access) (b j size after : ℕ) (steps : List DStep) (i : ℕ) (d : DStep) → i < length steps
@@ -187,17 +190,46 @@ told accesses prepared fits below =
           (λ b m. All-contains BlockIsWellFormed (blocks_of prepared.query) b fits.well_formed.query.blocks (Contains-from_has (blocks_of prepared.query) b m)) fits.plans small;
     }
 
--- the catalogue's definition of the live constraint with an id is that of derivations
-pub access_is : (accesses : List Access) (id : AccessId) → access_with_id accesses id ≡ access_in accesses id
+-- ---- the constraint with an id: a live one, or else a scan
+
+abbrev no_access : AccessId → Access
+no_access id = record { id = id; name = []; table = record { 0 = 0 }; key = []; fetched = []; bound = 0 }
+
+with_id-live : (accesses : List Access) (id : AccessId) (a : Access) → find (λ c. c.id.0 == id.0) accesses ≡ Some a
+    → (is_live accesses id ≡ true) × (access_in accesses id ≡ a)
 unfolding access_in
-access_is accesses id = refl
+with_id-live accesses id a e =
+    (sym (is_some-find (λ (c : Access). c.id.0 == id.0) accesses) ∙ ap is_some e, ap (λ o. unwrap_or o (no_access id)) e)
+
+pub found_live : (accesses scans : List Access) (id : AccessId) (a : Access) → find (λ c. c.id.0 == id.0) accesses ≡ Some a
+    → a ≡ access_in (accesses ++ scans) id
+found_live accesses scans id a e =
+    let found = with_id-live accesses id a e in
+    sym (access_in-append accesses scans id found.0 ∙ found.1)
+
+pub found_scan : (accesses scans : List Access) (id : AccessId) (a : Access) → find (λ c. c.id.0 == id.0) accesses ≡ None
+    → find (λ c. c.id.0 == id.0) scans ≡ Some a → a ≡ access_in (accesses ++ scans) id
+found_scan accesses scans id a none e =
+    sym ((with_id-live (accesses ++ scans) id a
+    (find-append (λ (c : Access). c.id.0 == id.0) accesses scans ∙ ap (λ o. option_or o (find (λ c. c.id.0 == id.0) scans)) none ∙ e)).1)
+
+pub found_one : (accesses scans : List Access) (id : AccessId) → find (λ c. c.id.0 == id.0) accesses ≡ None
+    → find (λ c. c.id.0 == id.0) scans ≡ None → is_live (accesses ++ scans) id ≡ true → ⊥
+found_one accesses scans id none nothing live =
+    let missing = find-append (λ (c : Access). c.id.0 == id.0) accesses scans
+    ∙ ap (λ o. option_or o (find (λ c. c.id.0 == id.0) scans)) none ∙ nothing in
+    true≢false (sym live ∙ sym (is_some-find (λ (c : Access). c.id.0 == id.0) (accesses ++ scans)) ∙ ap is_some missing)
 
 -- and its table is one of the schema
-pub found_table : (schema : Schema) (id : AccessId) → SchemaIsSound schema → IsTrue (is_live schema.accesses id)
-    → (access_in schema.accesses id).table.0 < length schema.tables
-found_table schema id sound live =
-    let member = Contains-from_has schema.accesses (access_in schema.accesses id) (access_in-member schema.accesses id live) in
-    (All-contains (AccessIsSound schema) schema.accesses (access_in schema.accesses id) sound.accesses member).table
+pub found_table : (schema : Schema) (scans : List Access) (id : AccessId) → SchemaIsSound schema → TablesAreThere schema scans
+    → IsTrue (is_live (schema.accesses ++ scans) id) → (access_in (schema.accesses ++ scans) id).table.0 < length schema.tables
+found_table schema scans id sound tables live =
+    let all = schema.accesses ++ scans in
+    let member = Contains-from_has all (access_in all id) (access_in-member all id live) in
+    All-contains (λ (a : Access). a.table.0 < length schema.tables) all (access_in all id)
+    (All-append (λ (a : Access). a.table.0 < length schema.tables) schema.accesses scans
+    (All-weaker (AccessIsSound schema) (λ (a : Access). a.table.0 < length schema.tables) (λ a s. s.table) schema.accesses sound.accesses) tables)
+    member
 
 -- what is written and then what is left is the whole, one line further on
 pub advance : (text next : List ℕ) {line item now whole pushed : List ℕ}
@@ -205,22 +237,26 @@ pub advance : (text next : List ℕ) {line item now whole pushed : List ℕ}
 advance text next {line} {item} p l n w = rw (p, l, append_assoc text item next, ← n) w
 
 -- the valuations after a step, and its line, from what the code works out
-pub step_told : (schema : Schema) (b j size : ℕ) (s : DStep) (access : Access) (atom bound after : ℕ) (used : List ℕ)
-    → access ≡ access_in schema.accesses s.access → bound ≡ access.bound → after ≡ (if s.adds then size * bound else size)
+pub step_told : (schema : Schema) (accesses : List Access) (b j size : ℕ) (s : DStep) (access : Access) (atom bound after : ℕ) (used : List ℕ)
+    → access ≡ access_in accesses s.access → bound ≡ access.bound → after ≡ (if s.adds then size * bound else size)
     → used ≡ use_text schema access s.adds → atom ≡ s.atom
-    → (after ≡ size_after schema.accesses size s) × (step_text b j (atom + 1) used (size * bound) after ≡ step_line schema schema.accesses b j size s)
-step_told schema b j size s access atom bound after used a n r u t = (rw (r, n, a) refl, rw (r, u, t, n, a) refl)
+    → (after ≡ size_after accesses size s) × (step_text b j (atom + 1) used (size * bound) after ≡ step_line schema accesses b j size s)
+step_told schema accesses b j size s access atom bound after used a n r u t = (rw (r, n, a) refl, rw (r, u, t, n, a) refl)
 
-regrouped : (a b c d : List ℕ) → ((a ++ b) ++ c) ++ d ≡ a ++ (b ++ (c ++ d))
-regrouped a b c d = simp append_assoc
+regrouped : (o a b c d : List ℕ) → (((o ++ a) ++ b) ++ c) ++ d ≡ o ++ (a ++ (b ++ (c ++ d)))
+regrouped o a b c d = simp append_assoc
 
 -- the blocks' lines and the line of the answer
-pub plan_whole : (schema : Schema) (prepared : Prepared) (blocks begun told text : List ℕ)
-    → blocks ≡ blocks_text schema schema.accesses prepared.guided prepared.derivations 0 [] 1 prepared.query
+pub plan_whole : (schema : Schema) (accesses : List Access) (prepared : Prepared) (old blocks begun told text : List ℕ)
+    → blocks ≡ old ++ blocks_text schema accesses prepared.guided prepared.derivations 0 [] 1 prepared.query
     → begun ≡ blocks ++ codes "plan answer " → told ≡ begun ++ answer_text 1 prepared.query → text ≡ told ++ codes "\n"
-    → text ≡ plan_text_over schema schema.accesses prepared
-unfolding plan_text_over
-plan_whole schema prepared blocks begun told text b g o t =
-    t ∙ ap (λ (x : List ℕ). x ++ codes "\n") (o ∙ ap (λ (x : List ℕ). x ++ answer_text 1 prepared.query) g)
-    ∙ regrouped blocks (codes "plan answer ") (answer_text 1 prepared.query) (codes "\n")
-    ∙ ap (λ (x : List ℕ). x ++ (codes "plan answer " ++ (answer_text 1 prepared.query ++ codes "\n"))) b
+    → text ≡ old ++ plan_lines schema accesses prepared
+unfolding plan_lines
+plan_whole schema accesses prepared old blocks begun told text b g o t =
+    t ∙ ap (λ (x : List ℕ). x ++ codes "\n") (o ∙ ap (λ (x : List ℕ). x ++ answer_text 1 prepared.query) (g ∙ ap (λ (x : List ℕ). x ++ codes "plan answer ") b))
+    ∙ regrouped old (blocks_text schema accesses prepared.guided prepared.derivations 0 [] 1 prepared.query)
+    (codes "plan answer ") (answer_text 1 prepared.query) (codes "\n")
+
+-- without scans the plan is over the live constraints
+pub no_scans : (schema : Schema) (prepared : Prepared) → plan_text_over schema [] prepared ≡ plan_text schema prepared
+no_scans schema prepared = ap (λ accesses. plan_lines schema accesses prepared) (append-nil schema.accesses)

@@ -2,9 +2,12 @@
 --     blocks_text schema accesses guided plans n guide b t   for each block of a tree its line and those of its steps, where `guide` says
 --                                                            how the tree's guide is made, and it has at most b answers
 --     answer_text b t                                        how blocks from number b on make the answer
---     plan_text_over schema accesses prepared                both, over a list of constraints
+--     plan_lines schema accesses prepared                    both, over a list of constraints
 --     plan_text schema prepared                              over the live ones
+--     plan_text_over schema scans prepared                   where whole tables are scanned first: a line for each, and then both, over the
+--                                                            live constraints and the scans
 use Rattle.std.specs.Prelude.{◌+◌, ◌*◌, ◌<◌, ◌≤◌, ◌^◌, if◌then◌else◌, Bool, ℕ, List, [], ◌∷◌, ◌++◌, length, codes, decimal, All, IsTrue}
+use Rattle.std.specs.List.{flat_map}
 use Rattle.beas_core.specs.declared.schema.Access.{Access}
 use Rattle.beas_core.specs.declared.plan.DStep.{DStep}
 use Rattle.beas_core.specs.declared.plan.Derivation.{Derivation}
@@ -70,13 +73,26 @@ blocks_text schema accesses guided plans n guide b (Minus l r) =
     ++ blocks_text schema accesses guided plans (after n l) (answer_text (n + 1) l) (size_of accesses guided plans n b l) r
 
 -- a query as a whole has no guide
-unfoldable pub plan_text_over : Schema → List Access → Prepared → List ℕ
-plan_text_over schema accesses prepared =
+unfoldable pub plan_lines : Schema → List Access → Prepared → List ℕ
+plan_lines schema accesses prepared =
     blocks_text schema accesses prepared.guided prepared.derivations 0 [] 1 prepared.query
     ++ concatenation (codes "plan answer " ∷ answer_text 1 prepared.query ∷ codes "\n" ∷ [])
 
 abbrev pub plan_text : Schema → Prepared → List ℕ
-plan_text schema prepared = plan_text_over schema schema.accesses prepared
+plan_text schema prepared = plan_lines schema schema.accesses prepared
+
+-- a scan of a table of at most so many rows
+unfoldable pub scan_line : Schema → Access → List ℕ
+scan_line schema scan =
+    concatenation (codes "plan scan " ∷ (table_at schema scan.table).name ∷ codes " limit " ∷ decimal scan.bound ∷ codes "\n" ∷ [])
+
+abbrev pub plan_text_over : Schema → List Access → Prepared → List ℕ
+plan_text_over schema scans prepared =
+    flat_map (scan_line schema) scans ++ plan_lines schema (schema.accesses ++ scans) prepared
+
+-- the table of each constraint is there
+abbrev pub TablesAreThere : Schema → List Access → Type 0
+TablesAreThere schema accesses = All (λ a. a.table.0 < length schema.tables) accesses
 
 -- what the steps of a block need so that their lines can be told: each constraint is live, and each cost is a number of 128 bits
 pub record StepsAreTold (accesses : List Access) (size : ℕ) (steps : List DStep) : Type 0 where

@@ -2,7 +2,8 @@
 ghost use Rattle.std.specs.Prelude.{◌≡◌, ◌∷◌, ◌++◌, [], ℕ, List, IsUtf8, OnOk};
 ghost use Rattle.csv.specs.Records.{fields_of};
 
-use beas_core::{Name, NoMemory, Value};
+use aggregate::Cell;
+use beas_core::{Name, NoMemory, Text, Value};
 use csv::StringRecord;
 use itoa::Buffer;
 
@@ -26,6 +27,15 @@ impl Field for Name {
     }
 }
 
+impl Field for Text {
+    ghost field = { λ text. text };
+
+    fn push_to(&self, fields: &mut StringRecord) -> Result<(), NoMemory> {
+        fields.push_field(self.as_str())?;
+        Ok(())
+    }
+}
+
 impl Field for Value {
     ghost use Rattle.report.specs.Reports.{field_text};
 
@@ -35,6 +45,21 @@ impl Field for Value {
         match self {
             Value::Int(number) => fields.push_field(Buffer::new().format(*number))?,
             Value::Str(words) => fields.push_field(words.as_str())?,
+        }
+        Ok(())
+    }
+}
+
+impl Field for Cell {
+    ghost use Rattle.report.specs.Reports.{cell_text};
+
+    ghost field = { cell_text };
+
+    fn push_to(&self, fields: &mut StringRecord) -> Result<(), NoMemory> {
+        match self {
+            Cell::Plain(value) => value.push_to(fields)?,
+            Cell::Count(count) => fields.push_field(Buffer::new().format(*count))?,
+            Cell::Sum(sum) => fields.push_field(Buffer::new().format(*sum))?,
         }
         Ok(())
     }

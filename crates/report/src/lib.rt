@@ -10,5 +10,5 @@ mod refusals;
 mod reports;
 mod texts;
 
-pub use plans::plan_text;
+pub use plans::{plan_text, plan_text_over};
 pub use reports::{Report, text};

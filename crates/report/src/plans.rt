@@ -1,16 +1,19 @@
 // The plan lines of a prepared query.
-ghost use Rattle.std.specs.Prelude.{◌≡◌, if◌then◌else◌, ◌<◌, ◌+◌, ◌^◌, ◌++◌, length, IsTrue, IfOk, OnOk};
+ghost use Rattle.std.specs.Prelude.{◌≡◌, if◌then◌else◌, ◌<◌, ◌+◌, ◌^◌, ◌==◌, ◌++◌, find, length, option_copied, IsTrue, IfOk, OnOk};
+ghost use Rattle.std.specs.List.{flat_map};
 ghost use Rattle.beas_core.specs.Derivations.{access_in, is_live};
 ghost use Rattle.beas_core.specs.Fits.{PlanFits};
 ghost use Rattle.beas_core.specs.Guiding.{after};
 ghost use Rattle.beas_core.specs.Numbers.{last_size};
 ghost use Rattle.beas_core.specs.Queries.{is_guided, plan_of, size_of, start_size};
 ghost use Rattle.beas_core.specs.Trees.{blocks_of};
-ghost use Rattle.report.specs.Plans.{BlocksAreTold, StepsAreTold, answer_text, block_line, blocks_text, guide_text, plan_text, step_text, steps_text, use_text, verb};
+ghost use Rattle.report.specs.Plans.{BlocksAreTold, StepsAreTold, TablesAreThere, answer_text, block_line, blocks_text, guide_text, plan_lines, plan_text, plan_text_over, scan_line, step_text, steps_text, use_text, verb};
 
 use crate::decimal::Decimal;
 use crate::texts::text;
-use beas_core::{Access, AccessId, DStep, Derivation, NoMemory, Prepared, Query, QueryNode, Text};
+use beas_core::{
+    Access, AccessId, DStep, Derivation, List, NoMemory, Prepared, Query, QueryNode, Text,
+};
 use catalogue::Catalogue;
 use itoa::Buffer;
 use std::alloc::Global;
@@ -40,6 +43,60 @@ pub fn plan_text(
     requires { PlanFits catalogue.now.accesses prepared.now }
     ensures { IfOk result (λ text. text ≡ plan_text catalogue.now prepared.now) }
 {
+    plan_text_over(alloc, prepared, catalogue, &List::new(alloc))
+}
+
+/// How a prepared query is fetched where tables are scanned first, by constraints that aren't live: a line for each
+/// of them with the greatest number of rows, and then the lines of the plan over the live constraints and these.
+pub fn plan_text_over(
+    alloc: Global,
+    prepared: &Prepared,
+    catalogue: &Catalogue,
+    scans: &List<Access>,
+) -> Result<Text, NoMemory>
+    requires plan { PlanFits (catalogue.now.accesses ++ scans.now) prepared.now }
+    requires tables { TablesAreThere catalogue.now scans.now }
+    ensures { IfOk result (λ text. text ≡ plan_text_over catalogue.now scans.now prepared.now) }
+{
+    let mut text = scans_text(alloc, catalogue, scans.as_slice())?;
+    push_plan(&mut text, alloc, prepared, catalogue, scans.as_slice())?;
+    Ok(text)
+}
+
+fn scans_text(alloc: Global, catalogue: &Catalogue, scans: &[Access]) -> Result<Text, NoMemory>
+    requires { TablesAreThere catalogue.now scans.now }
+    ensures { IfOk result (λ text. text ≡ flat_map (scan_line catalogue.now) scans.now) }
+{
+    let mut text = Text::new(alloc);
+    for scan in scans {
+        let line = scan_text(alloc, catalogue, scan)?;
+        text.push_str(line.as_str())?;
+    }
+    Ok(text)
+}
+
+#[tactic(auto, unfolding(crate::specs::Plans::scan_line))]
+fn scan_text(alloc: Global, catalogue: &Catalogue, scan: &Access) -> Result<Text, NoMemory>
+    requires { scan.now.table.0 < length catalogue.now.tables }
+    ensures { IfOk result (λ text. text ≡ scan_line catalogue.now scan.now) }
+{
+    let table = catalogue.table_name(scan.table);
+    text!(in alloc; "plan scan {} limit {}\n", table.as_str(), Decimal(scan.bound))
+}
+
+/// Adds the lines of the blocks, and that of the answer.
+fn push_plan(
+    text: &mut Text,
+    alloc: Global,
+    prepared: &Prepared,
+    catalogue: &Catalogue,
+    scans: &[Access],
+) -> Result<(), NoMemory>
+    requires plan { PlanFits (catalogue.now.accesses ++ scans.now) prepared.now }
+    requires tables { TablesAreThere catalogue.now scans.now }
+    ensures { OnOk result (text.new ≡ text.old
+        ++ plan_lines catalogue.now (catalogue.now.accesses ++ scans.now) prepared.now) }
+{
     // Read for what its type tells: the announced number fits 128 bits, and so do the numbers of the steps.
     let _bound = prepared.bound;
     let derivations = prepared.derivations.as_slice();
@@ -48,21 +105,21 @@ pub fn plan_text(
         answer: Text::new(alloc),
         size: 1,
     };
-    let mut text = Text::new(alloc);
     push_blocks(
-        &mut text,
+        text,
         alloc,
         derivations,
         guided,
         catalogue,
+        scans,
         0,
         &no_guide,
         &prepared.query,
     )?;
     text.push_str("plan answer ")?;
-    push_answer(&mut text, 1, &prepared.query)?;
+    push_answer(text, 1, &prepared.query)?;
     text.push_str("\n")?;
-    Ok(text)
+    Ok(())
 }
 
 /// Adds the lines of the blocks of a part of the query, whose first block has this number, from 0 on.
@@ -72,17 +129,20 @@ fn push_blocks(
     derivations: &[Derivation],
     guided: &[bool],
     catalogue: &Catalogue,
+    scans: &[Access],
     first: usize,
     guide: &GuideNote,
     query: &Query,
 ) -> Result<Reached, NoMemory>
-    requires { BlocksAreTold catalogue.now.accesses guided.now derivations.now first guide.now.size
+    requires tables { TablesAreThere catalogue.now scans.now }
+    requires told { BlocksAreTold (catalogue.now.accesses ++ scans.now) guided.now derivations.now first guide.now.size
         query.now }
-    ensures text { OnOk result (text.new ≡ text.old ++ blocks_text catalogue.now catalogue.now.accesses guided.now
-        derivations.now first guide.now.answer guide.now.size query.now) }
+    ensures text { OnOk result (text.new ≡ text.old ++ blocks_text catalogue.now
+        (catalogue.now.accesses ++ scans.now) guided.now derivations.now first guide.now.answer guide.now.size
+        query.now) }
     ensures next { IfOk result (λ reached. reached.next ≡ after first query.now) }
     ensures size { IfOk result (λ reached. reached.size
-        ≡ size_of catalogue.now.accesses guided.now derivations.now first guide.now.size query.now) }
+        ≡ size_of (catalogue.now.accesses ++ scans.now) guided.now derivations.now first guide.now.size query.now) }
 {
     match &query.node {
         QueryNode::Block(_) => push_block(
@@ -91,6 +151,7 @@ fn push_blocks(
             derivations,
             guided,
             catalogue,
+            scans,
             first,
             guide,
         ),
@@ -101,6 +162,7 @@ fn push_blocks(
                 derivations,
                 guided,
                 catalogue,
+                scans,
                 first,
                 guide,
                 left,
@@ -111,6 +173,7 @@ fn push_blocks(
                 derivations,
                 guided,
                 catalogue,
+                scans,
                 l.next,
                 guide,
                 right,
@@ -127,6 +190,7 @@ fn push_blocks(
                 derivations,
                 guided,
                 catalogue,
+                scans,
                 first,
                 guide,
                 left,
@@ -138,6 +202,7 @@ fn push_blocks(
                 derivations,
                 guided,
                 catalogue,
+                scans,
                 l.next,
                 &right_guide,
                 right,
@@ -168,18 +233,20 @@ fn push_block(
     derivations: &[Derivation],
     guided: &[bool],
     catalogue: &Catalogue,
+    scans: &[Access],
     n: usize,
     guide: &GuideNote,
 ) -> Result<Reached, NoMemory>
     requires derivations { n < length derivations.now }
     requires flags { n < length guided.now }
-    requires told { StepsAreTold catalogue.now.accesses (start_size guided.now n guide.now.size)
+    requires tables { TablesAreThere catalogue.now scans.now }
+    requires told { StepsAreTold (catalogue.now.accesses ++ scans.now) (start_size guided.now n guide.now.size)
         (plan_of derivations.now n).steps }
     ensures text { OnOk result (text.new ≡ text.old ++ (block_line (n + 1) (guide_text (is_guided guided.now n)
-        guide.now.answer guide.now.size) ++ steps_text catalogue.now catalogue.now.accesses (n + 1) 1
+        guide.now.answer guide.now.size) ++ steps_text catalogue.now (catalogue.now.accesses ++ scans.now) (n + 1) 1
         (start_size guided.now n guide.now.size) (plan_of derivations.now n).steps)) }
     ensures next { IfOk result (λ reached. reached.next ≡ n + 1) }
-    ensures size { IfOk result (λ reached. reached.size ≡ last_size catalogue.now.accesses
+    ensures size { IfOk result (λ reached. reached.size ≡ last_size (catalogue.now.accesses ++ scans.now)
         (start_size guided.now n guide.now.size) (plan_of derivations.now n).steps) }
 {
     let is_guided = guided[n];
@@ -188,7 +255,7 @@ fn push_block(
     let line = block_line(alloc, n + 1, words.as_str())?;
     text.push_str(line.as_str())?;
     let start = if is_guided { guide.size } else { 1 };
-    let size = push_steps(text, alloc, n + 1, start, steps, catalogue)?;
+    let size = push_steps(text, alloc, n + 1, start, steps, catalogue, scans)?;
     Ok(Reached { next: n + 1, size })
 }
 
@@ -219,14 +286,17 @@ fn push_steps(
     start: u128,
     steps: &[DStep],
     catalogue: &Catalogue,
+    scans: &[Access],
 ) -> Result<u128, NoMemory>
-    requires { StepsAreTold catalogue.now.accesses start steps.now }
-    ensures text { OnOk result (text.new ≡ text.old ++ steps_text catalogue.now catalogue.now.accesses block 1 start steps.now) }
-    ensures size { IfOk result (λ size. size ≡ last_size catalogue.now.accesses start steps.now) }
+    requires tables { TablesAreThere catalogue.now scans.now }
+    requires told { StepsAreTold (catalogue.now.accesses ++ scans.now) start steps.now }
+    ensures text { OnOk result (text.new ≡ text.old ++ steps_text catalogue.now
+        (catalogue.now.accesses ++ scans.now) block 1 start steps.now) }
+    ensures size { IfOk result (λ size. size ≡ last_size (catalogue.now.accesses ++ scans.now) start steps.now) }
 {
     let mut size = start;
     for (place, step) in steps.iter().enumerate() {
-        let access = access_of(catalogue, step.access);
+        let access = access_of(catalogue, scans, step.access);
         let cost = size * u128::from(access.bound);
         size = size_after(step, size, cost);
         let used = use_text(alloc, access, step.adds, catalogue)?;
@@ -280,15 +350,27 @@ fn verb(adds: bool) -> &'static str
     if adds { "adds" } else { "checks" }
 }
 
-/// The live access constraint with this id.
-fn access_of(catalogue: &Catalogue, id: AccessId) -> &Access
-    requires { IsTrue (is_live catalogue.now.accesses id) }
-    ensures access { result.now ≡ access_in catalogue.now.accesses id }
+/// The constraint with this id, a live one or else a scan.
+fn access_of<'a>(catalogue: &'a Catalogue, scans: &'a [Access], id: AccessId) -> &'a Access
+    requires tables { TablesAreThere catalogue.now scans.now }
+    requires live { IsTrue (is_live (catalogue.now.accesses ++ scans.now) id) }
+    ensures access { result.now ≡ access_in (catalogue.now.accesses ++ scans.now) id }
     ensures table { result.now.table.0 < length catalogue.now.tables }
 {
-    // Its clauses say what is true of every catalogue.
-    let _accesses = catalogue.accesses();
-    catalogue.access(id)
+    match with_id(catalogue.accesses().as_slice(), id) {
+        Some(access) => access,
+        None => match with_id(scans, id) {
+            Some(access) => access,
+            None => unreachable!(),
+        },
+    }
+}
+
+/// The first constraint with this id.
+fn with_id(accesses: &[Access], id: AccessId) -> Option<&Access>
+    ensures { option_copied result ≡ find (λ a. a.id.0 == id.0) accesses.now }
+{
+    accesses.iter().find(|access| access.id.0 == id.0)
 }
 
 /// Adds how the blocks of a query, numbered from `first` on, make the answer, and tells the next number.

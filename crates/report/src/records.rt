@@ -2,56 +2,59 @@
 ghost use Rattle.std.specs.Prelude.{◌≡◌, ◌++◌, map, IsUtf8, IfOk, OnOk};
 ghost use Rattle.std.specs.List.{flat_map};
 ghost use Rattle.csv.specs.Records.{AllText, fields_of};
-ghost use Rattle.report.specs.Reports.{field_text, record_line, records_text};
+ghost use Rattle.report.specs.Reports.{record_line, records_text};
 ghost use Rattle.report.specs.Records.{IsBetweenRecords, text_of_writer};
 
 use crate::fields::Field;
-use beas_core::{List, Name, NoMemory, Row, Text};
+use beas_core::{List, NoMemory, Text};
 use csv::{StringRecord, Writer, WriterBuilder};
 use std::alloc::Global;
 
 /// The text, and after it the header and the rows as csv writes them.
-pub fn with_records(
+pub fn with_records<H: Field, F: Field>(
     alloc: Global,
     text: &str,
-    header: &List<Name>,
-    rows: &List<Row>,
+    header: &[H],
+    rows: &[List<F>],
 ) -> Result<Text, NoMemory>
-    ensures { IfOk result (λ whole. whole ≡ text.now ++ records_text header.now rows.now) }
+    ensures { IfOk result (λ whole. whole ≡ text.now
+        ++ records_text F.field (map H.field header.now) rows.now) }
 {
     let bytes = Vec::from_slice(alloc, text.as_bytes())?;
     let mut writer = WriterBuilder::new().flexible(true).from_writer(bytes);
-    let mut fields = StringRecord::new(alloc);
-    write_header(&mut writer, &mut fields, header.as_slice())?;
-    write_rows(&mut writer, &mut fields, rows.as_slice())?;
+    write_records(alloc, &mut writer, header, rows)?;
     let Ok(bytes) = writer.into_inner() else {
         return Err(NoMemory);
     };
     text_of(bytes)
 }
 
-#[tactic(auto, using(crate::proofs::WriterFacts::names_as_fields))]
-fn write_header(
+fn write_records<H: Field, F: Field>(
+    alloc: Global,
     writer: &mut Writer<Vec<u8>>,
-    fields: &mut StringRecord,
-    header: &[Name],
+    header: &[H],
+    rows: &[List<F>],
 ) -> Result<(), NoMemory>
     requires { IsBetweenRecords writer.old }
     ensures stands { OnOk result (IsBetweenRecords writer.new) }
-    ensures written { OnOk result (text_of_writer writer.new ≡ text_of_writer writer.old ++ record_line header.now) }
+    ensures written { OnOk result (text_of_writer writer.new ≡ text_of_writer writer.old
+        ++ records_text F.field (map H.field header.now) rows.now) }
 {
-    write_row(writer, fields, header)
+    let mut fields = StringRecord::new(alloc);
+    write_row(writer, &mut fields, header)?;
+    write_rows(writer, &mut fields, rows)?;
+    Ok(())
 }
 
-fn write_rows(
+fn write_rows<F: Field>(
     writer: &mut Writer<Vec<u8>>,
     fields: &mut StringRecord,
-    rows: &[Row],
+    rows: &[List<F>],
 ) -> Result<(), NoMemory>
     requires { IsBetweenRecords writer.old }
     ensures stands { OnOk result (IsBetweenRecords writer.new) }
     ensures written { OnOk result (text_of_writer writer.new
-        ≡ text_of_writer writer.old ++ flat_map record_line (map (λ row. map field_text row) rows.now)) }
+        ≡ text_of_writer writer.old ++ flat_map record_line (map (λ row. map F.field row) rows.now)) }
 {
     for row in rows {
         write_row(writer, fields, row.as_slice())?;

@@ -1,12 +1,15 @@
 // The report of a statement, and its lines.
-ghost use Rattle.std.specs.Prelude.{◌≡◌, IfOk};
+ghost use Rattle.std.specs.Prelude.{◌≡◌, ◌++◌, length, map, IfOk};
 ghost use Rattle.std.specs.List.{flat_map};
-ghost use Rattle.report.specs.Reports.{bound_text, counts_text, pair_line, report_text};
+ghost use Rattle.report.specs.declared.reports.Report.TheVariants.{Answered, Grouped, Specialised};
+ghost use Rattle.report.specs.Reports.{bound_text, counts_text, pair_line, place_line, records_text, report_text};
 
 use crate::decimal::Decimal;
+use crate::fields::Field;
 use crate::records::with_records;
 use crate::refusals::refusal_text;
 use crate::texts::text;
+use aggregate::Cell;
 use beas_core::{List, Name, NoMemory, Refusal, Row, Text};
 use std::alloc::Global;
 
@@ -41,6 +44,28 @@ pub enum Report {
         rows: List<Row>,
         reads: u128,
     },
+    /// The answer of a query in groups, as that of a query: a name for each item, and for each group a row of cells.
+    Grouped {
+        bound: u128,
+        plan: Text,
+        header: List<Text>,
+        rows: List<List<Cell>>,
+        reads: u128,
+    },
+    /// The columns that, given as constants, would make a block covered, each with the number of its atom, from 1
+    /// on; nothing where no columns do.
+    Specialised {
+        places: Option<List<(u32, Name)>>,
+    },
+    /// A session's query was announced, and its probes may be made one by one.
+    Opened {
+        session: u32,
+        bound: u128,
+    },
+    /// One probe of a session's query was made.
+    Probed {
+        session: u32,
+    },
     /// The statement was not carried out.
     Refused {
         why: Refusal,
@@ -71,18 +96,125 @@ pub fn text(alloc: Global, number: u32, report: &Report) -> Result<Text, NoMemor
             header,
             rows,
             reads,
-        } => {
-            let head = bound_text(alloc, number, *bound, plan)?;
-            let mut text = with_records(alloc, head.as_str(), header, rows)?;
-            let end = counts_text(alloc, number, rows.len(), *reads)?;
-            text.push_str(end.as_str())?;
-            Ok(text)
-        }
+        } => answered_text(alloc, number, *bound, plan, header, rows, *reads),
+        Report::Grouped {
+            bound,
+            plan,
+            header,
+            rows,
+            reads,
+        } => grouped_text(alloc, number, *bound, plan, header, rows, *reads),
+        Report::Specialised { places } => specialised_text(alloc, number, places),
+        Report::Opened { session, bound } =>
+            text!(in alloc; "{k} open {} bound {}\n", Decimal(*session), Decimal(*bound)),
+        Report::Probed { session } => text!(in alloc; "{k} probed {}\n", Decimal(*session)),
         Report::Refused { why } => {
             let said = refusal_text(alloc, why)?;
             text!(in alloc; "{k} refused {} {}\n", Decimal(why.number()), said.as_str())
         }
     }
+}
+
+/// The lines of a query's answer.
+fn answered_text(
+    alloc: Global,
+    number: u32,
+    bound: u128,
+    plan: &Text,
+    header: &List<Name>,
+    rows: &List<Row>,
+    reads: u128,
+) -> Result<Text, NoMemory>
+    ensures { IfOk result (λ text. text ≡ report_text number (Answered bound plan.now header.now rows.now reads)) }
+{
+    answer_text(
+        alloc,
+        number,
+        bound,
+        plan,
+        header.as_slice(),
+        rows.as_slice(),
+        reads,
+    )
+}
+
+/// The lines of an answer in groups.
+fn grouped_text(
+    alloc: Global,
+    number: u32,
+    bound: u128,
+    plan: &Text,
+    header: &List<Text>,
+    rows: &List<List<Cell>>,
+    reads: u128,
+) -> Result<Text, NoMemory>
+    ensures { IfOk result (λ text. text ≡ report_text number (Grouped bound plan.now header.now rows.now reads)) }
+{
+    answer_text(
+        alloc,
+        number,
+        bound,
+        plan,
+        header.as_slice(),
+        rows.as_slice(),
+        reads,
+    )
+}
+
+/// The lines of an answer, whose header and rows are records.
+fn answer_text<H: Field, F: Field>(
+    alloc: Global,
+    number: u32,
+    bound: u128,
+    plan: &Text,
+    header: &[H],
+    rows: &[List<F>],
+    reads: u128,
+) -> Result<Text, NoMemory>
+    ensures { IfOk result (λ text. text ≡ (bound_text number bound plan.now
+        ++ records_text F.field (map H.field header.now) rows.now) ++ counts_text number (length rows.now) reads) }
+{
+    let head = bound_text(alloc, number, bound, plan)?;
+    let mut text = with_records(alloc, head.as_str(), header, rows)?;
+    let end = counts_text(alloc, number, rows.len(), reads)?;
+    text.push_str(end.as_str())?;
+    Ok(text)
+}
+
+#[tactic(auto, unfolding(crate::specs::Reports::report_text))]
+fn specialised_text(
+    alloc: Global,
+    number: u32,
+    places: &Option<List<(u32, Name)>>,
+) -> Result<Text, NoMemory>
+    ensures { IfOk result (λ text. text ≡ report_text number (Specialised places.now)) }
+{
+    let k = Decimal(number);
+    match places {
+        None => text!(in alloc; "{k} none\n"),
+        Some(places) => {
+            let lines = places_text(alloc, number, places)?;
+            text!(in alloc; "{}{k} ok {} columns\n", lines.as_str(), Decimal(places.len()))
+        }
+    }
+}
+
+fn places_text(alloc: Global, number: u32, places: &List<(u32, Name)>) -> Result<Text, NoMemory>
+    ensures { IfOk result (λ text. text ≡ flat_map (place_line number) places.now) }
+{
+    let mut text = Text::new(alloc);
+    for place in places.as_slice() {
+        let line = place_text(alloc, number, place)?;
+        text.push_str(line.as_str())?;
+    }
+    Ok(text)
+}
+
+fn place_text(alloc: Global, number: u32, place: &(u32, Name)) -> Result<Text, NoMemory>
+    ensures { IfOk result (λ text. text ≡ place_line number place.now) }
+{
+    let k = Decimal(number);
+    text!(in alloc; "{k} needs atom {} column {}\n", Decimal(place.0), place.1.as_str())
 }
 
 fn pairs_text(alloc: Global, number: u32, found: &List<(Name, Name, u32)>) -> Result<Text, NoMemory>

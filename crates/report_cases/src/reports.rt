@@ -1,5 +1,6 @@
 // A report of each kind, and the records of answers.
 use crate::{Stop, name, write};
+use aggregate::Cell;
 use beas_core::{List, Name, NoMemory, Row, Text, Value};
 use report::Report;
 use std::alloc::Global;
@@ -86,6 +87,44 @@ fn answer(alloc: Global, plan: &str, header: &[&str], rows: List<Row>) -> Result
     })
 }
 
+/// A row of groups: a value, a count and a sum.
+fn cells(alloc: Global, text: &str, count: u64, sum: i128) -> Result<List<Cell>, NoMemory> {
+    let mut cells = List::new(alloc);
+    cells.push(Cell::Plain(Value::Str(Text::from_str(alloc, text)?)))?;
+    cells.push(Cell::Count(count))?;
+    cells.push(Cell::Sum(sum))?;
+    Ok(cells)
+}
+
+fn groups(alloc: Global, plan: &str) -> Result<Report, Stop> {
+    let plan = Text::from_str(alloc, plan)?;
+    let mut header = List::new(alloc);
+    for text in ["city", "count(cid)", "sum(cid)"] {
+        header.push(Text::from_str(alloc, text)?)?;
+    }
+    let mut rows = List::new(alloc);
+    rows.push(cells(alloc, "a,b", u64::MAX, i128::MIN)?)?;
+    rows.push(cells(alloc, "", 1, i128::MAX)?)?;
+    rows.push(cells(alloc, "x", 0, 0)?)?;
+    Ok(Report::Grouped {
+        bound: 315_000,
+        plan,
+        header,
+        rows,
+        reads: u128::MAX,
+    })
+}
+
+fn wanted(alloc: Global, columns: &[(u32, &str)]) -> Result<Report, Stop> {
+    let mut places = List::new(alloc);
+    for (atom, column) in columns {
+        places.push((*atom, name(alloc, column)?))?;
+    }
+    Ok(Report::Specialised {
+        places: Some(places),
+    })
+}
+
 /// The reports, by their place in this list.
 fn report_of(alloc: Global, place: u32) -> Result<Report, Stop> {
     match place {
@@ -102,12 +141,22 @@ fn report_of(alloc: Global, place: u32) -> Result<Report, Stop> {
         6 => answer(alloc, "", &["cid", "city"], rows(alloc, &RECORDS)?),
         7 => answer(alloc, "plan answer 1\n", &["b"], List::new(alloc)),
         8 => answer(alloc, "", &["b"], single_texts(alloc)?),
-        _ => answer(alloc, "", &[], row_of_nothing(alloc)?),
+        9 => answer(alloc, "", &[], row_of_nothing(alloc)?),
+        10 => groups(alloc, ""),
+        11 => groups(alloc, "plan answer 1\n"),
+        12 => wanted(alloc, &[(1, "year"), (16, "month")]),
+        13 => wanted(alloc, &[]),
+        14 => Ok(Report::Specialised { places: None }),
+        15 => Ok(Report::Opened {
+            session: 64,
+            bound: u128::MAX,
+        }),
+        _ => Ok(Report::Probed { session: 1 }),
     }
 }
 
 pub fn write_all(rt: &HostRuntime) -> Result<(), Stop> {
-    for place in 0..10 {
+    for place in 0..17 {
         write(rt, &report_of(rt.alloc(), place)?)?;
     }
     Ok(())

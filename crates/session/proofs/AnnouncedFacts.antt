@@ -18,7 +18,7 @@ use Rattle.session.proofs.CarryFacts.{failed}
 use Rattle.session.proofs.GivenFacts.{given, given_fails, given_next}
 
 module _ (limits : Limits) (budget : Option ℕ) (schema : Schema) (tree : Tree) where
-  abbrev prepare_within : QueryTree → Result Prepared Refusal
+  abbrev pub prepare_within : QueryTree → Result Prepared Refusal
   prepare_within query = and_then (preparation schema query) (within_budget budget)
 
   pub announced_unbound : (x : Fail) → IsRefusedAs (failed QueryTree x) (first (refusals limits schema tree))

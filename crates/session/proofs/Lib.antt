@@ -1,9 +1,14 @@
 pub mod AnnouncedFacts
 pub mod AppliedFacts
+pub mod BlockFacts
 pub mod CarryFacts
 pub mod FileFacts
 pub mod GivenFacts
+pub mod GroupFacts
+pub mod OutputFacts
 pub mod PairFacts
+pub mod PlaceFacts
+pub mod ScanFacts
 pub mod StoreFacts
 pub mod TieFacts
 pub mod TupleFacts

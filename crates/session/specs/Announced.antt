@@ -1,6 +1,8 @@
--- What is announced of a query before any row is read: a function of catalogue, limits, budget and tree, and of no row.
---     binding limits schema tree                  the query that the tree is bound to, or why it is refused
---     announcement limits budget schema tree      the query as it is prepared, or why it is refused
+-- What is announced of a query before any row is read: a function of catalogue, limits, budget and tree, and of no row; where tables may be
+-- scanned, of their numbers of rows, too.
+--     binding limits schema tree                              the query that the tree is bound to, or why it is refused
+--     announcement limits budget schema tree                  the query as it is prepared, or why it is refused
+--     scan_announcement limits budget schema sizes tree       the same where tables may be scanned, which have so many rows
 use Rattle.std.specs.Prelude.{ℕ, if◌then◌else◌, nat_le, List, [], ◌∷◌, Option, Some, None, Result, Ok, Err}
 use Rattle.beas_core.specs.declared.limits.Limits.{Limits}
 use Rattle.beas_core.specs.declared.plan.Prepared.{Prepared}
@@ -10,7 +12,10 @@ use Rattle.beas_core.specs.Trees.{QueryTree}
 use Rattle.catalogue.specs.Schema.{Schema}
 use Rattle.sql_tree.specs.Trees.{Tree}
 use Rattle.binder.specs.Binding.{refusals, bound_query}
+use Rattle.partial_plan.specs.declared.plan.ScanPlan.{ScanPlan}
+use Rattle.partial_plan.specs.ScanPlans.{scan_preparation}
 use Rattle.plan_builder.specs.Preparation.{preparation}
+use Rattle.scan_port.specs.Scans.{TableSizes}
 
 -- an answer, unless there are refusals: then the first
 abbrev pub unless_refused : {A : Type 0} → List Refusal → A → Result A Refusal
@@ -33,3 +38,13 @@ within_budget (Some budget) prepared =
 unfoldable pub announcement : Limits → Option ℕ → Schema → Tree → Result Prepared Refusal
 announcement limits budget schema tree =
     and_then (binding limits schema tree) (λ query. and_then (preparation schema query) (within_budget budget))
+
+-- ---- where tables may be scanned
+
+abbrev pub scans_within_budget : Option ℕ → ScanPlan → Result ScanPlan Refusal
+scans_within_budget None plan = Ok plan
+scans_within_budget (Some budget) plan = if nat_le plan.bound budget then Ok plan else Err (OverBudget plan.bound budget)
+
+unfoldable pub scan_announcement : Limits → Option ℕ → Schema → TableSizes → Tree → Result ScanPlan Refusal
+scan_announcement limits budget schema sizes tree =
+    and_then (binding limits schema tree) (λ query. and_then (scan_preparation schema sizes query) (scans_within_budget budget))

@@ -4,11 +4,12 @@
 --     Action                              what a statement does at once, or by what the load of its file gives
 --     action_of settings db statement     what the statement does
 -- The rules of refusals are those of the catalogue, the binder and the files; here stands which comes first.
-use Rattle.std.specs.Prelude.{◌-◌, if◌then◌else◌, ℕ, Bool, List, [], length, map, slice_index_or, unwrap_or, Option, Some, None, Result, Ok, Err}
+use Rattle.std.specs.Prelude.{◌+◌, ◌-◌, if◌then◌else◌, ℕ, Bool, List, [], length, map, slice_index_or, unwrap_or, Option, Some, None, option_map, Result, Ok, Err}
 use Rattle.std.specs.Option.{ok_or}
 use Rattle.beas_core.specs.declared.limits.Limits.{Limits}
 use Rattle.beas_core.specs.declared.plan.Prepared.{Prepared}
 use Rattle.beas_core.specs.declared.query.Block.{Block}
+use Rattle.beas_core.specs.declared.query.Place.{Place}
 use Rattle.beas_core.specs.declared.refusal.Refusal.{Refusal}
 use Rattle.beas_core.specs.declared.refusal.Refusal.TheVariants.{UnknownTable, BadLimit, Unreadable, FileTooLong}
 use Rattle.beas_core.specs.declared.schema.Access.{Access}
@@ -27,18 +28,26 @@ use Rattle.catalogue.specs.Schema.{Schema, table_named, columns_at}
 use Rattle.sql_tree.specs.declared.tree.Cond.{Cond}
 use Rattle.sql_tree.specs.declared.tree.Literal.{Literal}
 use Rattle.sql_tree.specs.declared.tree.Statement.{Statement}
-use Rattle.sql_tree.specs.declared.tree.Statement.TheVariants.{CreateTable, CreateAccess, DropAccess, Load, Insert, Delete, DiscoverGroup, DiscoverPairs, Select, Explain}
+use Rattle.sql_tree.specs.declared.tree.ColumnRef.{ColumnRef}
+use Rattle.sql_tree.specs.declared.tree.GroupItem.{GroupItem}
+use Rattle.sql_tree.specs.declared.tree.Statement.TheVariants as statement
 use Rattle.sql_tree.specs.Trees.{Tree}
 use Rattle.binder.specs.Binding.{row_refusals, bound_rows, delete_refusals, bound_delete}
 use Rattle.csv_load.specs.CsvRows.{fault_of, rows_in}
 use Rattle.constraint_miner.specs.Pairs.{pairs_in}
 use Rattle.report.specs.declared.reports.Report.{Report}
-use Rattle.report.specs.declared.reports.Report.TheVariants.{Done, Changed, Greatest, Pairs, Explained, Answered, Refused}
-use Rattle.report.specs.Plans.{plan_text}
+use Rattle.report.specs.declared.reports.Report.TheVariants.{Done, Changed, Greatest, Pairs, Explained, Answered, Grouped, Specialised, Refused}
+use Rattle.partial_plan.specs.declared.plan.ScanPlan.{ScanPlan}
+use Rattle.partial_plan.specs.ScanPlans.{scan_plan_reads}
+use Rattle.plan_builder.specs.Preparation.{atom_table}
+use Rattle.report.specs.Plans.{plan_text, plan_text_over}
+use Rattle.scan_port.specs.Scans.{TableSizes, sizes_of_tables}
+use Rattle.specialise.specs.Specialised.{specialised}
 use Rattle.session.specs.declared.discovery.Resolved.{Resolved}
 use Rattle.session.specs.declared.loading.LoadOutcome.{LoadOutcome}
 use Rattle.session.specs.declared.loading.LoadOutcome.TheVariants.{Content, Failed, TooLong}
-use Rattle.session.specs.Announced.{announcement, unless_refused}
+use Rattle.session.specs.Announced.{announcement, binding, scan_announcement, unless_refused}
+use Rattle.session.specs.Grouping.{first_block, grouping_refusal, groups_over, item_name}
 
 pub record Settings : Type 0 where
   pub limits : Limits
@@ -223,16 +232,76 @@ explain_effect limits budget db tree =
     with_answer (announcement limits budget (schema_of db) tree) db (λ prepared.
     record { report = Explained prepared.bound (plan_text (schema_of db) prepared); cost = 0; db = db })
 
+-- ---- SCAN OK
+
+abbrev pub sizes_in : Database → TableSizes
+sizes_in db = sizes_of_tables (map (λ t. t.rows) db.tables)
+
+abbrev pub scans_shown : Bool → Database → ScanPlan → List ℕ
+scans_shown explain db plan = if explain then plan_text_over (schema_of db) plan.scans plan.prepared else []
+
+abbrev pub scan_reads_in : Database → ScanPlan → ℕ
+scan_reads_in db plan = scan_plan_reads (rows_at db) db.accesses plan
+
+abbrev pub scan_answer_effect : Bool → Database → ScanPlan → Effect
+scan_answer_effect explain db plan = record {
+  report =
+      Answered plan.bound (scans_shown explain db plan) plan.prepared.header
+      (full_of (rows_at db) plan.prepared.query) (scan_reads_in db plan);
+  cost = scan_reads_in db plan;
+  db = db;
+}
+
+abbrev pub scan_effect : Settings → Database → Tree → Effect
+scan_effect s db tree =
+    with_answer (scan_announcement s.limits s.budget (schema_of db) (sizes_in db) tree) db (scan_answer_effect s.explain db)
+
+-- ---- grouped statements and SPECIALISE
+
+abbrev pub groups_effect : Bool → Database → ℕ → List GroupItem → Prepared → Effect
+groups_effect explain db keys items prepared = record {
+  report =
+      Grouped prepared.bound (plan_shown explain db prepared) (map item_name items)
+      (groups_over keys items (full_of (rows_at db) prepared.query)) (reads_in db prepared);
+  cost = reads_in db prepared;
+  db = db;
+}
+
+-- the keys and the columns of the items are a query; its refusals come first
+abbrev pub grouped_effect : Settings → Database → List GroupItem → List ColumnRef → Tree → Effect
+grouped_effect s db items keys inner =
+    with_answer (announcement s.limits s.budget (schema_of db) inner) db (λ prepared.
+    unless (grouping_refusal (schema_of db) (first_block prepared.query) (length keys) items) db
+    (groups_effect s.explain db (length keys) items prepared))
+
+-- atoms are numbered from 1 in a report
+abbrev pub named_place : Schema → Block → Place → ℕ × List ℕ
+named_place schema block place = (place.atom + 1, name_at (columns_at schema (atom_table block place.atom)) place.column)
+
+-- the first set of columns that, given as constants, make the block covered
+abbrev pub specialise_effect : Limits → Database → Tree → Effect
+specialise_effect limits db tree =
+    with_answer (binding limits (schema_of db) tree) db (λ query.
+    with_answer (specialised db.accesses (first_block query)) db (λ places.
+    record {
+      report = Specialised (option_map (map (named_place (schema_of db) (first_block query))) places);
+      cost = 0;
+      db = db;
+    }))
+
 -- ---- each statement
 
 abbrev pub action_of : Settings → Database → Statement → Action
-action_of s db (CreateTable name columns) = Does (create_table_effect s.limits db name columns)
-action_of s db (CreateAccess spec) = Does (create_access_effect s.limits db spec)
-action_of s db (DropAccess name) = Does (drop_access_effect db name)
-action_of s db (Load table file) = load_action s.limits db (table_or_refusal (schema_of db) table) file
-action_of s db (Insert table tuples) = Does (insert_effect s.limits db table tuples)
-action_of s db (Delete table conditions) = Does (delete_effect s.limits db table conditions)
-action_of s db (DiscoverGroup table key fetched) = Does (discover_group_effect db table key fetched)
-action_of s db (DiscoverPairs table limit) = Does (discover_pairs_effect db table limit)
-action_of s db (Select tree) = Does (select_effect s db tree)
-action_of s db (Explain tree) = Does (explain_effect s.limits s.budget db tree)
+action_of s db (statement.CreateTable name columns) = Does (create_table_effect s.limits db name columns)
+action_of s db (statement.CreateAccess spec) = Does (create_access_effect s.limits db spec)
+action_of s db (statement.DropAccess name) = Does (drop_access_effect db name)
+action_of s db (statement.Load table file) = load_action s.limits db (table_or_refusal (schema_of db) table) file
+action_of s db (statement.Insert table tuples) = Does (insert_effect s.limits db table tuples)
+action_of s db (statement.Delete table conditions) = Does (delete_effect s.limits db table conditions)
+action_of s db (statement.DiscoverGroup table key fetched) = Does (discover_group_effect db table key fetched)
+action_of s db (statement.DiscoverPairs table limit) = Does (discover_pairs_effect db table limit)
+action_of s db (statement.Select tree) = Does (select_effect s db tree)
+action_of s db (statement.Explain tree) = Does (explain_effect s.limits s.budget db tree)
+action_of s db (statement.ScanOk tree) = Does (scan_effect s db tree)
+action_of s db (statement.Grouped items keys inner) = Does (grouped_effect s db items keys inner)
+action_of s db (statement.Specialise tree) = Does (specialise_effect s.limits db tree)

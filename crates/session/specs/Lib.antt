@@ -2,6 +2,7 @@ pub mod Announced
 pub mod Applying
 pub mod Carrying
 pub mod Effects
+pub mod Grouping
 pub mod Statements
 pub mod Stores
 pub mod Ties

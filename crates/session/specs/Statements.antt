@@ -3,9 +3,12 @@
 --     TreeIsWellFormed tree
 --     StatementIsWellFormed statement
 use Rattle.std.specs.Prelude.{◌<◌, ◌≤◌, ◌^◌, List, length, All}
+use Rattle.sql_tree.specs.declared.tree.ColumnRef.{ColumnRef}
+use Rattle.sql_tree.specs.declared.tree.GroupItem.{GroupItem}
 use Rattle.sql_tree.specs.declared.tree.Literal.{Literal}
 use Rattle.sql_tree.specs.declared.tree.Statement.{Statement}
-use Rattle.sql_tree.specs.declared.tree.Statement.TheVariants.{CreateTable, CreateAccess, DropAccess, Load, Insert, Delete, DiscoverGroup, DiscoverPairs, Select, Explain}
+use Rattle.sql_tree.specs.declared.tree.Statement.TheVariants.{CreateTable, CreateAccess, DropAccess, Load, Insert, Delete, DiscoverGroup, DiscoverPairs, Select, Explain, ScanOk, Grouped, Specialise}
+use Rattle.sql_tree.specs.Grouping.{IsGroupedOver}
 use Rattle.sql_tree.specs.Trees.{Tree}
 use Rattle.binder.specs.Binding.{blocks_of}
 
@@ -18,6 +21,11 @@ pub record TuplesAreFew (tuples : List (List Literal)) : Type 0 where
   pub few : length tuples < 2 ^ 32
   pub narrow : All (λ tuple. length tuple < 2 ^ 32) tuples
 
+-- its keys and the columns of its items are a query of one block
+pub record GroupedIsWellFormed (items : List GroupItem) (keys : List ColumnRef) (inner : Tree) : Type 0 where
+  pub tree : TreeIsWellFormed inner
+  pub over : IsGroupedOver items keys inner
+
 abbrev pub StatementIsWellFormed : Statement → Type 0
 StatementIsWellFormed (CreateTable name columns) = 1 ≤ length columns
 StatementIsWellFormed (CreateAccess spec) = 1 ≤ length spec.fetched
@@ -25,6 +33,9 @@ StatementIsWellFormed (Insert table tuples) = TuplesAreFew tuples
 StatementIsWellFormed (Delete table conditions) = length conditions < 2 ^ 32
 StatementIsWellFormed (Select tree) = TreeIsWellFormed tree
 StatementIsWellFormed (Explain tree) = TreeIsWellFormed tree
+StatementIsWellFormed (ScanOk tree) = TreeIsWellFormed tree
+StatementIsWellFormed (Grouped items keys inner) = GroupedIsWellFormed items keys inner
+StatementIsWellFormed (Specialise tree) = TreeIsWellFormed tree
 StatementIsWellFormed (DropAccess name) = Unit {0}
 StatementIsWellFormed (Load table file) = Unit {0}
 StatementIsWellFormed (DiscoverGroup table key fetched) = Unit {0}

@@ -10,7 +10,7 @@ use Rattle.std.specs.Prelude.{◌≤◌, ℕ, Bool, true, false, List, fold, sum
 use Rattle.std.specs.List.{enumerate_from, filter_map, flat_map, list_any}
 use Rattle.catalogue.specs.Database.{Database}
 use Rattle.report.specs.declared.reports.Report.{Report}
-use Rattle.report.specs.declared.reports.Report.TheVariants.{Done, Changed, Greatest, Pairs, Explained, Answered, Refused}
+use Rattle.report.specs.declared.reports.Report.TheVariants.{Done, Changed, Greatest, Pairs, Explained, Answered, Grouped, Specialised, Opened, Probed, Refused}
 use Rattle.report.specs.Reports.{report_text}
 use Rattle.session.specs.declared.loading.LoadOutcome.{LoadOutcome}
 use Rattle.session.specs.Effects.{Action, Does, Effect, Loads}
@@ -36,6 +36,10 @@ is_refusal (Greatest most) = false
 is_refusal (Pairs found) = false
 is_refusal (Explained bound plan) = false
 is_refusal (Answered bound plan header rows reads) = false
+is_refusal (Grouped bound plan header rows reads) = false
+is_refusal (Specialised places) = false
+is_refusal (Opened session bound) = false
+is_refusal (Probed session) = false
 
 -- statements are numbered from 1
 abbrev pub out_of : List Turn → List ℕ
@@ -53,12 +57,16 @@ database_after db turns = fold (λ before t. t.effect.db) db turns
 abbrev pub loads_of : List Turn → List FileLoad
 loads_of turns = filter_map (λ t. t.load) turns
 
--- the reads of an answered query are at most the number that its report announces; no other report announces one
+-- the reads of an answered query, in groups too, are at most the number that its report announces
 abbrev pub IsWithin : Report → Type 0
 IsWithin (Answered bound plan header rows reads) = reads ≤ bound
+IsWithin (Grouped bound plan header rows reads) = reads ≤ bound
 IsWithin Done = Unit {0}
 IsWithin (Changed rows) = Unit {0}
 IsWithin (Greatest most) = Unit {0}
 IsWithin (Pairs found) = Unit {0}
 IsWithin (Explained bound plan) = Unit {0}
+IsWithin (Specialised places) = Unit {0}
+IsWithin (Opened session bound) = Unit {0}
+IsWithin (Probed session) = Unit {0}
 IsWithin (Refused why) = Unit {0}

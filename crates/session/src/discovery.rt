@@ -89,7 +89,8 @@ fn known_limit(alloc: Global, digits: &Text) -> Result<u32, Fail>
     }
 }
 
-fn name_at(alloc: Global, columns: &[Column], column: ColumnId) -> Result<Name, NoMemory>
+/// The name of a column.
+pub fn name_at(alloc: Global, columns: &[Column], column: ColumnId) -> Result<Name, NoMemory>
     requires { column.0 < length columns.now }
     ensures { IfOk result (λ name. name ≡ name_at columns.now column) }
 {

@@ -3,10 +3,13 @@
 
 mod changes;
 mod discovery;
+mod grouping;
 mod loading;
 mod queries;
+mod scanning;
 mod session;
 mod settings;
+mod specialising;
 mod stored;
 mod tables;
 

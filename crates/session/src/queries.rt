@@ -5,7 +5,7 @@ ghost use Rattle.beas_core.specs.Full.{full_of};
 ghost use Rattle.beas_core.specs.Types.{TableRows};
 ghost use Rattle.beas_core.specs.Results.{Gives};
 ghost use Rattle.catalogue.specs.Database.{rows_at, schema_of};
-ghost use Rattle.catalogue.specs.Queries.{RowsAreWide};
+ghost use Rattle.catalogue.specs.Queries.{QueryIsOver, RowsAreWide};
 ghost use Rattle.report.specs.Plans.{plan_text};
 ghost use Rattle.session.specs.Stores.{database_in};
 ghost use Rattle.session.specs.Announced.{announcement, binding, within_budget};
@@ -53,6 +53,7 @@ pub fn announcement(
     ensures plan { IfOk result (PlanFits catalogue.now.accesses) }
     ensures fits { IfOk result (λ prepared. (rows : TableRows) → RowsAreWide catalogue.now rows
         → Fits catalogue.now.accesses rows prepared) }
+    ensures over { IfOk result (λ prepared. QueryIsOver catalogue.now prepared.query) }
 {
     let query = bind(alloc, catalogue, settings.limits, tree)?;
     let prepared = prepare(alloc, catalogue, query)?;
@@ -60,7 +61,7 @@ pub fn announcement(
 }
 
 /// What is announced of a query over the store, whose rows it fits.
-fn prepared_over(
+pub fn prepared_over(
     alloc: Global,
     store: &Store,
     settings: &Settings,
@@ -71,6 +72,7 @@ fn prepared_over(
         (announcement settings.now.limits.now settings.now.budget (schema_of (database_in store.now)) tree.now) }
     ensures plan { IfOk result (PlanFits store.now.catalogue.accesses) }
     ensures fits { IfOk result (Fits store.now.catalogue.accesses (rows_at (database_in store.now))) }
+    ensures over { IfOk result (λ prepared. QueryIsOver store.now.catalogue prepared.query) }
 {
     announcement(alloc, &store.catalogue, settings, tree)
 }
@@ -83,7 +85,7 @@ fn plan_lines(alloc: Global, store: &Store, prepared: &Prepared) -> Result<Text,
 }
 
 /// The plan lines of a query where they are wanted.
-fn plan_shown(
+pub fn plan_shown(
     alloc: Global,
     store: &Store,
     prepared: &Prepared,
@@ -100,7 +102,7 @@ fn plan_shown(
 }
 
 /// The answer of a query, from the indexes of the constraints.
-fn answer<L: Ledger>(
+pub fn answer<L: Ledger>(
     alloc: Global,
     store: &Store,
     prepared: &Prepared,

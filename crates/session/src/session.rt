@@ -4,20 +4,24 @@ ghost use Rattle.beas_core.specs.Fits.{Fits};
 ghost use Rattle.beas_core.specs.Results.{Gives};
 ghost use Rattle.outside.specs.Counts.{raised};
 ghost use Rattle.outside.specs.Seen.{IsLater};
-ghost use Rattle.session.specs.Announced.{announcement};
+ghost use Rattle.session.specs.Announced.{announcement, scan_announcement};
 ghost use Rattle.session.specs.Carrying.{Performs, reported};
-ghost use Rattle.session.specs.Effects.{Effect, Does, action_of};
+ghost use Rattle.session.specs.Effects.{Effect, Does, action_of, sizes_in};
 ghost use Rattle.session.specs.Statements.{StatementIsWellFormed, TreeIsWellFormed};
 ghost use Rattle.session.specs.Turns.{IsWithin};
 
 use crate::changes::{delete, insert, load};
 use crate::discovery::{discover_group, discover_pairs};
+use crate::grouping::grouped;
 use crate::queries::{announcement, explain, select};
+use crate::scanning::{announced_over, scan_ok};
 use crate::settings::Settings;
+use crate::specialising::specialise_block;
 use crate::stored::Store;
 use crate::tables::{create_access, create_table, drop_access};
 use beas_core::{Fail, Limits, NoMemory, Prepared, Steps};
 use outside::Files;
+use partial_plan::ScanPlan;
 use report::Report;
 use sql_tree::{SelectTree, Statement};
 use std::alloc::Global;
@@ -36,7 +40,8 @@ pub struct Session {
 }
 
 impl Session {
-    ghost use Rattle.catalogue.specs.Database.{rows_at};
+    ghost use Rattle.catalogue.specs.Database.{rows_at, schema_of};
+    ghost use Rattle.partial_plan.specs.ScanPlans.{ScanPlanFits};
     ghost use Rattle.session.specs.Applying.{IsApplied, MayCost, MayLoad, database_of, settings_in, settings_of};
 
     /// A session without tables. It takes no memory.
@@ -72,6 +77,18 @@ impl Session {
         ensures fits { IfOk result (Fits self.now.guarded.catalogue.accesses (rows_at (database_of self.now))) }
     {
         announcement(alloc, &self.guarded.catalogue, &self.settings(), tree)
+    }
+
+    /// What is announced of a query whose tables may be scanned: the query as it is prepared with its scans, or its
+    /// refusal. It reads no row, and of the tables their numbers of rows alone matter.
+    pub fn announce_scan(&self, alloc: Global, tree: &SelectTree) -> Result<ScanPlan, Fail>
+        requires { TreeIsWellFormed tree.now }
+        ensures announced { Gives result (scan_announcement self.now.limits self.now.budget
+            (schema_of (database_of self.now)) (sizes_in (database_of self.now)) tree.now) }
+        ensures fits { IfOk result (ScanPlanFits
+            self.now.guarded.catalogue.accesses (rows_at (database_of self.now)) self.now.guarded.rows) }
+    {
+        announced_over(alloc, &self.guarded, &self.settings(), tree)
     }
 
     /// Carries out a statement, and reports it. A refused statement changes nothing. Out of memory, the session is as
@@ -157,6 +174,11 @@ impl Session {
             }
             Statement::Select { tree } => select(alloc, store, &settings, tree, steps),
             Statement::Explain { tree } => explain(alloc, store, &settings, tree),
+            Statement::ScanOk { tree } => scan_ok(alloc, store, &settings, tree, steps),
+            Statement::Grouped { items, keys, inner } => {
+                grouped(alloc, store, &settings, items, keys, inner, steps)
+            }
+            Statement::Specialise { tree } => specialise_block(alloc, store, limits, tree),
         }
     }
 }

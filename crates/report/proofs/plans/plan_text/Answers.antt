@@ -1,13 +1,3 @@
-use Rattle.std.proofs.Common.{arith}
-use Rattle.report.proofs.PlanFacts.{plan_whole, told}
+use Rattle.std.proofs.Common.{◌∙◌}
+use Rattle.report.proofs.PlanFacts.{no_scans}
 use Rattle.report.proofs.plans.plan_text.Goals as goal
-
-pub push_blocks-requires : goal.push_blocks-requires
-push_blocks-requires c =
-    rw (c.as_slice-derivations.ensures, c.as_slice-guided.ensures) (told c.args.catalogue.now.accesses c.args.prepared.now c.requires (omega arith))
-
-pub returns : goal.returns
-returns c =
-    let lines = rw (c.new-text.ensures, c.new.ensures, c.as_slice-derivations.ensures, c.as_slice-guided.ensures) at c.in_ok-push_blocks.ensures.text in
-    plan_whole c.args.catalogue.now c.args.prepared.now _ _ _ _ lines c.in_ok-push_str.ensures.ok c.in_ok-push_answer.ensures.text
-    c.in_ok-push_str-2.ensures.ok

@@ -1,12 +1,12 @@
 use Rattle.std.proofs.Common.{◌≡◌, ◌++◌, drop}
 use Rattle.std.specs.Prelude.{map}
 use Rattle.std.specs.List.{flat_map}
-use Rattle.report.specs.Reports.{field_text, record_line}
+use Rattle.report.specs.Reports.{record_line}
 use Rattle.report.specs.Records.{IsBetweenRecords, text_of_writer}
 use Rattle.report.proofs.records.write_rows.Given as goal
 
 -- what is written and then the rows left is the whole
 abbrev pub invariant-loop-row : goal.invariant-loop-row
-invariant-loop-row l = IsBetweenRecords l.writer
-    × (text_of_writer l.writer ++ flat_map record_line (map (λ row. map field_text row) (drop l.row-index l.rows))
-    ≡ text_of_writer l.fn.writer ++ flat_map record_line (map (λ row. map field_text row) l.rows))
+invariant-loop-row g l = IsBetweenRecords l.writer
+    × (text_of_writer l.writer ++ flat_map record_line (map (λ row. map g.F.Field.field row) (drop l.row-index l.rows))
+    ≡ text_of_writer l.fn.writer ++ flat_map record_line (map (λ row. map g.F.Field.field row) l.rows))

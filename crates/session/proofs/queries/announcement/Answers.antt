@@ -1,10 +1,13 @@
-use Rattle.std.proofs.Common.{sym, subst, Ok}
+use Rattle.std.proofs.Common.{◌∙◌, ap, sym, subst, Ok}
 use Rattle.std.proofs.lemmas.Result.{err_from_is_err_and}
 use Rattle.beas_core.specs.declared.errors.Fail.TheVariants.{Refused}
 use Rattle.beas_core.specs.declared.plan.Prepared.{Prepared}
 use Rattle.beas_core.specs.Fits.{Fits, PlanFits}
+use Rattle.beas_core.specs.Trees.{QueryTree}
+use Rattle.catalogue.specs.Queries.{QueryIsOver}
 use Rattle.session.proofs.AnnouncedFacts.{announced, announced_unbound, announced_unprepared, within_same}
 use Rattle.session.proofs.CarryFacts.{failed}
+use Rattle.session.proofs.OutputFacts.{query_kept}
 use Rattle.session.proofs.queries.announcement.Goals as goal
 
 pub returns-in_err-query-clause-announced : goal.returns-in_err-query-clause-announced
@@ -55,3 +58,12 @@ returns-clause-fits c =
     let kept = c.in_ok-refuse_above.field-0 in
     λ rows wide. subst (λ (q : Prepared). Fits c.args.catalogue.now.accesses rows q)
     (sym (within_same c.args.settings.now.budget prepared kept (sym c.in_ok-refuse_above.ensures))) (c.in_ok-prepared.ensures.fits rows wide)
+
+pub returns-clause-over : goal.returns-clause-over
+returns-clause-over c =
+    let query = c.in_ok-query.query in
+    let prepared = c.in_ok-prepared.prepared in
+    let kept = c.in_ok-refuse_above.field-0 in
+    let same = ap (λ (p : Prepared). p.query) (within_same c.args.settings.now.budget prepared kept (sym c.in_ok-refuse_above.ensures))
+    ∙ query_kept c.args.catalogue.now query prepared c.in_ok-prepared.ensures.prepared in
+    subst (λ (t : QueryTree). QueryIsOver c.args.catalogue.now t) (sym same) c.in_ok-query.ensures.over
