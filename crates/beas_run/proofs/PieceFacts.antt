@@ -1,6 +1,6 @@
 -- What is done for one piece, by what its parts say.
 use Rattle.std.proofs.Common.{◌≡◌, ◌++◌, ◌⊎◌, inl, inr, ap, subst, sym, refl, ℕ, Bool, true, List, [], ◌∷◌, Result, Ok, Err, arith, append-nil}
-use Rattle.std.specs.Prelude.{IfErr, IfOk}
+use Rattle.std.specs.Prelude.{IfErr, IfOk, IsErrOf}
 use Rattle.beas_core.specs.declared.errors.NoMemory.{NoMemory}
 use Rattle.outside.specs.Counts.{raised}
 use Rattle.outside.specs.Parts.{SentPart}
@@ -15,11 +15,12 @@ use Rattle.sql_tree.specs.declared.tree.Statement.{Statement}
 use Rattle.session.specs.declared.loading.LoadOutcome.TheVariants.{Failed}
 use Rattle.session.specs.Applying.{IsApplied, MayCost, MayLoad}
 use Rattle.session.specs.Effects.{Settings, Action, Does, Loads, action_of, refusal_effect}
-use Rattle.outside.specs.Seen.{Seen, IsLater}
+use Rattle.outside.specs.Seen.{Seen, Sent, IsLater}
 use Rattle.session.specs.Turns.{is_refusal, IsWithin}
 use Rattle.beas_run.specs.declared.ending.Ending.{Ending}
 use Rattle.beas_run.specs.declared.ending.Ending.TheVariants.{Fault, NoMemory as Want}
 use Rattle.beas_run.specs.Pieces.{IsTurn, IsReported, IsUnreported}
+use Rattle.beas_run.specs.Endings.{TellsFault}
 use Rattle.beas_run.specs.Scripts.{action_for}
 use Rattle.beas_run.specs.Walks.{Moment}
 use Rattle.beas_run.proofs.TieFacts.{tied_none}
@@ -117,3 +118,16 @@ none_sent sent text = record { part = []; left = text; sent = sym (append-nil se
 pub whichever : {A E : Type 0} (P : E → Type 0) (result : Result A E) → ((why : E) → P why) → IfErr result P
 whichever P (Ok answer) h = tt
 whichever P (Err why) h = h why
+
+-- what is answered with a report tells no fault, whatever the answer
+no_error : {A P : Type 0} (answer : A) (why : Ending) → IsErrOf (Ok answer) why → P
+no_error answer why is = cc
+
+pub told_of_answer : {A B : Type 0} (answer : A) (other : B) (before after : Sent) → TellsFault (Ok answer) before after
+    → TellsFault (Ok other) before after
+told_of_answer answer other before after told = record {
+  later = told.later;
+  no_fault = told.no_fault;
+  no_memory = λ is. no_error other Want is;
+  fault = λ is. no_error other Fault is;
+}

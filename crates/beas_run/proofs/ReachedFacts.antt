@@ -15,7 +15,7 @@ use Rattle.report.specs.declared.reports.Report.{Report}
 use Rattle.report.specs.Reports.{report_text}
 use Rattle.beas_run.specs.Readings.{Reading}
 use Rattle.sql_tree.specs.declared.tree.Statement.{Statement}
-use Rattle.sql_tree.specs.declared.tree.Statement.TheVariants.{CreateTable, CreateAccess, DropAccess, Load, Insert, Delete, DiscoverGroup, DiscoverPairs, Select, Explain}
+use Rattle.sql_tree.specs.declared.tree.Statement.TheVariants.{CreateTable, CreateAccess, DropAccess, Load, Insert, Delete, DiscoverGroup, DiscoverPairs, Select, Explain, ScanOk, Grouped, Specialise}
 use Rattle.session.specs.declared.loading.LoadOutcome.{LoadOutcome}
 use Rattle.session.specs.declared.loading.LoadOutcome.TheVariants.{Failed}
 use Rattle.session.specs.Applying.{MayCost, MayLoad}
@@ -28,7 +28,7 @@ use Rattle.beas_run.specs.declared.ending.Ending.TheVariants.{Fault, NoMemory}
 use Rattle.beas_run.specs.Endings.{status_of}
 use Rattle.beas_run.specs.Pieces.{IsTurn, IsReported, IsUnreported, IsUndone}
 use Rattle.beas_run.specs.Scripts.{next, action_for, turns}
-use Rattle.beas_run.specs.Walks.{Moment, AreWithin, Did, Stopped, whole_status, Follows, Walked}
+use Rattle.beas_run.specs.Walks.{Moment, AreWithin, Did, whole_status, Follows, Walked}
 use Rattle.beas_run.proofs.TieFacts.{later_twice, tied_none, tied_twice, tied_later}
 use Rattle.beas_run.proofs.TurnFacts.{out_from, out-append, out-more, cost-append, refused-append, database-append, loads-append, loads_more, puts_more, taken_by, turns_taken, no_loads}
 
@@ -270,6 +270,9 @@ free_action s db (DiscoverGroup table key fetched) = tt
 free_action s db (DiscoverPairs table limit) = tt
 free_action s db (Select tree) = tt
 free_action s db (Explain tree) = tt
+free_action s db (ScanOk tree) = tt
+free_action s db (Grouped items keys inner) = tt
+free_action s db (Specialise tree) = tt
 
 free_for : (s : Settings) (db : Database) (reading : Reading) → FreeLoads (action_for s db reading)
 unfolding action_for

@@ -1,20 +1,24 @@
 -- What tokens spell has no more parts than there are tokens, and those that a statement asks for.
-use Rattle.std.proofs.Common.{ℕ, ◌+◌, ◌-◌, ◌^◌, ◌<◌, ◌≤◌, List, [], ◌∷◌, ◌++◌, length, All, true, false, Ok, arith}
+use Rattle.std.proofs.Common.{ℕ, ◌+◌, ◌-◌, ◌^◌, ◌<◌, ◌≤◌, List, [], ◌∷◌, ◌++◌, length, All, true, false, Ok, arith, refl}
 use Rattle.std.proofs.lemmas.List.{length-append, length-map}
 use Rattle.std.proofs.lemmas.List.Elements.{All-cons, All-nil, All-weaker}
 use Rattle.sql_parser.specs.Outcome.{Parses}
 use Rattle.sql_text.specs.declared.token.Token.{Token}
+use Rattle.sql_tree.specs.declared.tree.BlockTree.{BlockTree}
+use Rattle.sql_tree.specs.declared.tree.ColumnRef.{ColumnRef}
 use Rattle.sql_tree.specs.declared.tree.Cond.{Cond}
+use Rattle.sql_tree.specs.declared.tree.GroupItem.{GroupItem}
 use Rattle.sql_tree.specs.declared.tree.Literal.{Literal}
 use Rattle.sql_tree.specs.declared.tree.Statement.{Statement}
-use Rattle.sql_tree.specs.Grammar.{Commas, last, comma, IsId, IsTuple, tuple, IsWhere, alone, no_join, joined_source, all_rows, all_columns, select_output, from_sources, select_block, single, term, IsQuery, Spells, create_table, create_access, drop_access, load, insert, delete, discover_group, discover_pairs, over_query, IsOverQuery, select, explain, block_of, body_of}
+use Rattle.sql_tree.specs.Grammar.{Commas, last, comma, IsId, IsTuple, tuple, IsWhere, alone, no_join, joined_source, all_rows, all_columns, select_output, from_sources, select_block, single, term, IsQuery, Spells, create_table, create_access, drop_access, load, insert, delete, discover_group, discover_pairs, grouped, over_query, IsOverQuery, select, explain, scan_ok, specialise, Body, IsBody, block_of, body_of}
+use Rattle.sql_tree.specs.Grouping.{grouped_block}
 use Rattle.sql_tree.specs.Symbols.{Symbol, symbol_of, symbols}
 use Rattle.sql_tree.specs.Trees.{Tree, Block}
-use Rattle.sql_tree.specs.Words.{OPEN, CLOSE, COMMA, INSERT, INTO, VALUES, DELETE, FROM, SELECT, STAR}
+use Rattle.sql_tree.specs.Words.{BY, GROUP, OPEN, CLOSE, COMMA, INSERT, INTO, VALUES, DELETE, FROM, SELECT, STAR}
 use Rattle.binder.specs.Binding.{blocks_of}
 use Rattle.binder.proofs.BindFacts.{all_of}
 use Rattle.binder.proofs.SpelledTrees.{IsFew, query_few}
-use Rattle.session.specs.Statements.{StatementIsWellFormed, TreeIsWellFormed}
+use Rattle.session.specs.Statements.{GroupedIsWellFormed, StatementIsWellFormed, TreeIsWellFormed}
 
 -- ---- lists
 
@@ -60,10 +64,32 @@ tree_is n t few below = record {
   some_table = all_of (λ b. 1 ≤ length b.from_items) (blocks_of t) few.atoms;
 }
 
-over_well_formed : {words a : List Symbol} {t : Tree} {s : Statement} → IsOverQuery words t s → IsQuery a t → length (words ++ a) < 2 ^ 32 - 1
-    → StatementIsWellFormed s
-over_well_formed {a = a} {t = t} select q le = tree_is (length a) t (query_few a t q) (omega arith)
-over_well_formed {a = a} {t = t} explain q le = tree_is (length a) t (query_few a t q) (omega arith)
+over_well_formed : {a : List Symbol} {t : Tree} {s : Statement} → IsOverQuery a t s → length a < 2 ^ 32 - 1 → StatementIsWellFormed s
+over_well_formed (select {a = a} {t = t} q) le = tree_is (length a) t (query_few a t q) (omega (arith, le))
+over_well_formed (explain {a = a} {t = t} q) le = tree_is (length a) t (query_few a t q) (omega (arith, le))
+over_well_formed (scan_ok {a = a} {t = t} q) le = tree_is (length a) t (query_few a t q) (omega (arith, le))
+over_well_formed (specialise {a = a} {b = b} k) le = tree_is (length a) (Block b) (query_few a (Block b) (term (single k))) (omega (arith, le))
+
+-- a grouped statement has the conditions of a query over the same tables
+body_few : (b : List Symbol) (body : Body) → IsBody b body → IsFew (length ((SELECT ∷ STAR ∷ []) ++ b)) (Block (block_of false true [] body))
+body_few b body k = query_few _ _ (term (single (select_block (select_output all_rows all_columns) k)))
+
+grouped_formed : (b : List Symbol) (body : Body) (items : List GroupItem) (keys : List ColumnRef) → IsBody b body → length b < 2 ^ 32 - 2
+    → GroupedIsWellFormed items keys (Block (grouped_block items keys body.0 body.1))
+grouped_formed b body items keys k le =
+    let few = body_few b body k in
+    let tree : BlockTree = grouped_block items keys body.0 body.1 in
+    let conditions : length body.1 ≤ length ((SELECT ∷ STAR ∷ []) ++ b) = few.conditions.0 in
+    let atoms : 1 ≤ length body.0 = few.atoms.0 in
+    record {
+      tree = record {
+        few_blocks = omega arith;
+        few_conditions = All-cons (λ (x : BlockTree). length x.conditions < 2 ^ 32) tree [] (omega (arith, conditions, le))
+            (All-nil (λ (x : BlockTree). length x.conditions < 2 ^ 32));
+        some_table = All-cons (λ (x : BlockTree). 1 ≤ length x.from_items) tree [] atoms (All-nil (λ (x : BlockTree). 1 ≤ length x.from_items));
+      };
+      over = record { from_items = body.0; conditions = body.1; is_block = refl };
+    }
 
 pub well_formed : (a : List Symbol) (s : Statement) → Spells a s → length a < 2 ^ 32 - 1 → StatementIsWellFormed s
 well_formed a s (create_table {b = y} {cs = columns} n h) le = commas_some _ y columns h
@@ -81,7 +107,9 @@ well_formed a s (delete {a = x} {b = y} {t = t} {cs = cs} n w) le =
     omega (arith, where_few x y t cs n w, length-append (DELETE ∷ FROM ∷ x) y)
 well_formed a s (discover_group t key fetched) le = tt
 well_formed a s (discover_pairs t) le = tt
-well_formed a s (over_query o q d) le = over_well_formed o q le
+well_formed a s (grouped {a = x} {b = y} {c = z} {items = items} {body = body} {keys = keys} h k r) le =
+    grouped_formed y body items keys k (omega (arith, le, length-append ((SELECT ∷ x) ++ y) (GROUP ∷ BY ∷ z), length-append (SELECT ∷ x) y))
+well_formed a s (over_query o d) le = over_well_formed o le
 
 -- the same of what the tokens of a piece are read as
 pub parsed_well : (tokens : List Token) (s : Statement) → Parses (symbols tokens) (Ok s) → length tokens < 2 ^ 32 - 1 → StatementIsWellFormed s

@@ -10,7 +10,7 @@ use Rattle.demo_gen.specs.declared.summary.Outcome.TheVariants.{Answered as Answ
 use Rattle.demo_gen.specs.Summaries.{Totals, totals_of}
 use Rattle.outside.specs.Seen.{Sent}
 use Rattle.report.specs.declared.reports.Report.{Report}
-use Rattle.report.specs.declared.reports.Report.TheVariants.{Done, Changed, Greatest, Pairs, Explained, Answered, Refused}
+use Rattle.report.specs.declared.reports.Report.TheVariants.{Done, Changed, Greatest, Pairs, Explained, Answered, Grouped, Specialised, Opened, Probed, Refused}
 use Rattle.session.specs.Turns.{Turn}
 
 abbrev pub reports_in : List Turn → List Report
@@ -33,6 +33,10 @@ counted (Changed rows) = Other
 counted (Greatest most) = Other
 counted (Pairs found) = Other
 counted (Explained bound plan) = Other
+counted (Grouped bound plan header rows reads) = Other
+counted (Specialised places) = Other
+counted (Opened session bound) = Other
+counted (Probed session) = Other
 
 -- the totals of these reports
 abbrev pub totals_over : List Report → Totals

@@ -1,11 +1,12 @@
 // Who takes the reports of a script: the output that they are written to, or totals that they are counted in.
 ghost use Rattle.std.specs.Prelude.{◌≡◌, ◌⊎◌, ◌++◌, ◌∷◌, [], true, List, OnOk, IsErrOf};
-ghost use Rattle.outside.specs.Counts.{Rose, raised};
+ghost use Rattle.outside.specs.Counts.{raised};
 ghost use Rattle.outside.specs.Parts.{SentPart};
-ghost use Rattle.outside.specs.Seen.{IsLaterSink, Sent};
+ghost use Rattle.outside.specs.Seen.{Sent};
 ghost use Rattle.report.specs.declared.reports.Report.{Report};
 ghost use Rattle.report.specs.Reports.{report_text};
 ghost use Rattle.beas_run.specs.Audiences.{HasTaken, counted, totals_over, unshown};
+ghost use Rattle.beas_run.specs.Endings.{TellsFault};
 
 use crate::ending::Ending;
 use beas_core::NoMemory;
@@ -39,12 +40,7 @@ pub trait Audience {
             (shown (O.seen out.old)).bytes (shown (O.seen out.new)).bytes (report_text number report.now) }
         ensures unsent { IsErrOf result Ending.NoMemory → (shown (O.seen out.old)).told ≡ true
             → (shown (O.seen out.new)).bytes ≡ (shown (O.seen out.old)).bytes }
-        ensures no_fault { OnOk result ((shown (O.seen out.new)).faults ≡ (shown (O.seen out.old)).faults) }
-        ensures no_memory { IsErrOf result Ending.NoMemory
-            → (shown (O.seen out.new)).faults ≡ (shown (O.seen out.old)).faults }
-        ensures fault { IsErrOf result Ending.Fault
-            → Rose (shown (O.seen out.old)).faults (shown (O.seen out.new)).faults }
-        ensures later { IsLaterSink (shown (O.seen out.old)) (shown (O.seen out.new)) }
+        ensures out { TellsFault result (shown (O.seen out.old)) (shown (O.seen out.new)) }
         ensures put { OnOk result ((shown (O.seen out.new)).puts ≡ raised 1 (shown (O.seen out.old)).puts) }
         ensures put_fault { IsErrOf result Ending.Fault
             → (shown (O.seen out.new)).puts ≡ raised 1 (shown (O.seen out.old)).puts }
@@ -75,10 +71,7 @@ impl Audience for Writer {
             (O.seen out.old).bytes (O.seen out.new).bytes (report_text number report.now) }
         ensures unsent { IsErrOf result Ending.NoMemory → (O.seen out.old).told ≡ true
             → (O.seen out.new).bytes ≡ (O.seen out.old).bytes }
-        ensures no_fault { OnOk result ((O.seen out.new).faults ≡ (O.seen out.old).faults) }
-        ensures no_memory { IsErrOf result Ending.NoMemory → (O.seen out.new).faults ≡ (O.seen out.old).faults }
-        ensures fault { IsErrOf result Ending.Fault → Rose (O.seen out.old).faults (O.seen out.new).faults }
-        ensures later { IsLaterSink (O.seen out.old) (O.seen out.new) }
+        ensures out { TellsFault result (O.seen out.old) (O.seen out.new) }
         ensures put { OnOk result ((O.seen out.new).puts ≡ raised 1 (O.seen out.old).puts) }
         ensures put_fault { IsErrOf result Ending.Fault → (O.seen out.new).puts ≡ raised 1 (O.seen out.old).puts }
         ensures put_once { ((O.seen out.new).puts ≡ (O.seen out.old).puts)
@@ -116,7 +109,11 @@ fn counted(report: &Report) -> Outcome
         | Report::Changed { .. }
         | Report::Greatest { .. }
         | Report::Pairs { .. }
-        | Report::Explained { .. } => Outcome::Other,
+        | Report::Explained { .. }
+        | Report::Grouped { .. }
+        | Report::Specialised { .. }
+        | Report::Opened { .. }
+        | Report::Probed { .. } => Outcome::Other,
     }
 }
 

@@ -1,11 +1,11 @@
 // A script, statement by statement, before one that takes the reports.
-ghost use Rattle.std.specs.Prelude.{◌≡◌, ◌≢◌, ◌<◌, ◌≤◌, ◌+◌, ◌-◌, ◌^◌, ◌⊎◌, [], length, All, IfOk, IfErr, OnOk, OnErr, IsErrOf};
+ghost use Rattle.std.specs.Prelude.{◌≡◌, ◌≢◌, ◌<◌, ◌≤◌, ◌+◌, ◌-◌, ◌^◌, ◌⊎◌, [], length, All, IfOk, IfErr, OnErr};
 ghost use Rattle.outside.specs.Counts.{Rose};
 ghost use Rattle.outside.specs.Seen.{IsLater, IsLaterSink, Sent};
 ghost use Rattle.session.specs.Applying.{IsApplied, MayCost, MayLoad, settings_of};
 ghost use Rattle.session.specs.Turns.{is_refusal, IsWithin};
 ghost use Rattle.beas_run.specs.Audiences.{HasTaken, unshown};
-ghost use Rattle.beas_run.specs.Endings.{status_of};
+ghost use Rattle.beas_run.specs.Endings.{TellsFault, status_of};
 ghost use Rattle.beas_run.specs.Pieces.{IsReported, IsUnreported, IsUndone};
 ghost use Rattle.beas_run.specs.Readings.{reading_of, readings_of, readings_at};
 ghost use Rattle.beas_run.specs.Scripts.{action_for};
@@ -85,12 +85,7 @@ fn carry_out<A: Audience, F: Files, O: Sink, L: Ledger>(
         ⊎ IsUnreported session.old.limits.file action number why before after) }
     ensures settings { settings_of session.new ≡ settings_of session.old }
     ensures files { IsLater (F.seen files.old) (F.seen files.new) }
-    ensures out { IsLaterSink (A.shown (O.seen out.old)) (A.shown (O.seen out.new)) }
-    ensures no_fault { OnOk result ((A.shown (O.seen out.new)).faults ≡ (A.shown (O.seen out.old)).faults) }
-    ensures no_memory { IsErrOf result Ending.NoMemory
-        → (A.shown (O.seen out.new)).faults ≡ (A.shown (O.seen out.old)).faults }
-    ensures fault { IsErrOf result Ending.Fault
-        → Rose (A.shown (O.seen out.old)).faults (A.shown (O.seen out.new)).faults }
+    ensures out { TellsFault result (A.shown (O.seen out.old)) (A.shown (O.seen out.new)) }
     ensures unused { ((sent : Sent) → A.shown sent ≡ unshown) → out.new ≡ out.old }
 {
     let report = report_on(alloc, session, tokens, files, steps)?;
@@ -121,12 +116,7 @@ fn carry_out_all<A: Audience, F: Files, O: Sink, L: Ledger>(
         (moment session.new steps.new (A.shown (O.seen out.new)) (F.seen files.new)) }
     ensures settings { settings_of session.new ≡ settings_of session.old }
     ensures files { IsLater (F.seen files.old) (F.seen files.new) }
-    ensures out { IsLaterSink (A.shown (O.seen out.old)) (A.shown (O.seen out.new)) }
-    ensures no_fault { OnOk result ((A.shown (O.seen out.new)).faults ≡ (A.shown (O.seen out.old)).faults) }
-    ensures no_memory { IsErrOf result Ending.NoMemory
-        → (A.shown (O.seen out.new)).faults ≡ (A.shown (O.seen out.old)).faults }
-    ensures fault { IsErrOf result Ending.Fault
-        → Rose (A.shown (O.seen out.old)).faults (A.shown (O.seen out.new)).faults }
+    ensures out { TellsFault result (A.shown (O.seen out.old)) (A.shown (O.seen out.new)) }
     ensures unused { ((sent : Sent) → A.shown sent ≡ unshown) → out.new ≡ out.old }
 {
     let mut refused = false;
@@ -159,12 +149,7 @@ pub fn walk<A: Audience, F: Files, O: Sink, L: Ledger>(
         (moment session.new steps.new (A.shown (O.seen out.new)) (F.seen files.new)) }
     ensures settings { settings_of session.new ≡ settings_of session.old }
     ensures files { IsLater (F.seen files.old) (F.seen files.new) }
-    ensures out { IsLaterSink (A.shown (O.seen out.old)) (A.shown (O.seen out.new)) }
-    ensures no_fault { OnOk result ((A.shown (O.seen out.new)).faults ≡ (A.shown (O.seen out.old)).faults) }
-    ensures no_memory { IsErrOf result Ending.NoMemory
-        → (A.shown (O.seen out.new)).faults ≡ (A.shown (O.seen out.old)).faults }
-    ensures fault { IsErrOf result Ending.Fault
-        → Rose (A.shown (O.seen out.old)).faults (A.shown (O.seen out.new)).faults }
+    ensures out { TellsFault result (A.shown (O.seen out.old)) (A.shown (O.seen out.new)) }
     ensures unused { ((sent : Sent) → A.shown sent ≡ unshown) → out.new ≡ out.old }
 {
     match cut_script(alloc, script) {

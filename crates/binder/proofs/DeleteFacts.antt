@@ -9,12 +9,12 @@ use Rattle.sql_tree.specs.declared.tree.FromItem.{FromItem}
 use Rattle.binder.specs.Binding.{delete_block}
 use Rattle.binder.specs.LookedUp.{looked_up, output_kinds, BlockIsSmall}
 use Rattle.binder.specs.Meanings.{sources, meaning, condition}
-use Rattle.binder.specs.Refusing.{repeated_names, repeated_among}
+use Rattle.binder.specs.Refusing.{repeated_among}
 use Rattle.binder.proofs.BindFacts.{block_small}
 
 -- one alias doesn't stand twice
 pub one_alias : (item : FromItem) → repeated_among (item ∷ []) ≡ []
-unfolding repeated_names
+unfolding repeated_among
 one_alias item = refl
 
 one_atom : (schema : Schema) (table : List ℕ) (conditions : List Cond) → length (looked_up schema (delete_block table conditions)).atoms ≤ 16

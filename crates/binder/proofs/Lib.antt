@@ -1,7 +1,7 @@
 mod Digits
 pub mod Numbered
 pub mod ScopeFacts
-pub mod Repeats
+pub mod AliasFacts
 pub mod FirstFacts
 pub mod LookedUpFacts
 pub mod PartFacts

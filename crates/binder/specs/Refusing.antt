@@ -1,13 +1,12 @@
 -- Why a query, rows or a delete are refused: for each kind of refusal its places in reading order.
 --     unknown_tables schema block       the tables of a block that there are not
---     repeated_aliases block            the aliases that stand among those before them
+--     repeated_aliases block            the first alias that stands among those before it
 --     places kind limits shape block    the places of a kind in a block with its names looked up, which has a number;
 --                                       shape is the types of the outputs of the first block
 --     first refusals                    the first, if there is one
-use Rattle.std.specs.Prelude.{ℕ, if◌then◌else◌, Bool, true, false, not, nat_lt, List, [], ◌∷◌, ◌++◌, length, map, filter, take, Option, Some, None}
+use Rattle.std.specs.Prelude.{ℕ, if◌then◌else◌, Bool, true, false, not, nat_lt, List, [], ◌∷◌, ◌++◌, length, map, Option, Some, None}
 use Rattle.std.specs.Option.{option_to_list}
-use Rattle.std.specs.List.{enumerate_from, flat_map, list_any}
-use Rattle.std.specs.Str.{bytes_eq}
+use Rattle.std.specs.List.{enumerate_from, flat_map}
 use Rattle.beas_core.specs.declared.limits.Limits.{Limits}
 use Rattle.beas_core.specs.declared.refusal.Counted.TheVariants.{Blocks, Atoms, Outputs}
 use Rattle.beas_core.specs.declared.refusal.Refusal.{Refusal}
@@ -16,7 +15,7 @@ use Rattle.beas_core.specs.declared.schema.ColType.{ColType}
 use Rattle.beas_core.specs.declared.schema.ColType.TheVariants as type
 use Rattle.beas_core.specs.declared.value.Value.TheVariants.{Int, Str}
 use Rattle.beas_core.specs.Results.{refused_if}
-use Rattle.catalogue.specs.Refusing.{unknown_table}
+use Rattle.catalogue.specs.Refusing.{repeated_name, unknown_table}
 use Rattle.catalogue.specs.Schema.{Schema}
 use Rattle.sql_tree.specs.declared.tree.BlockTree.{BlockTree}
 use Rattle.sql_tree.specs.declared.tree.FromItem.{FromItem}
@@ -42,13 +41,9 @@ table_refusals schema name = option_to_list (unknown_table schema name)
 abbrev pub unknown_tables : Schema → BlockTree → List Refusal
 unknown_tables schema block = flat_map (λ item. table_refusals schema item.table) block.from_items
 
--- the names that stand among those before them
-unfoldable pub repeated_names : List (List ℕ) → List (List ℕ)
-repeated_names names =
-    map (λ n. n.1) (filter (λ n. list_any (λ earlier. bytes_eq earlier n.1) (take n.0 names)) (enumerate_from 0 names))
-
-abbrev pub repeated_among : List FromItem → List Refusal
-repeated_among items = map refusal.DuplicateName (repeated_names (map (λ item. item.alias) items))
+-- the first alias that stands among those before it
+unfoldable pub repeated_among : List FromItem → List Refusal
+repeated_among items = option_to_list (repeated_name (map (λ item. item.alias) items))
 
 abbrev pub repeated_aliases : BlockTree → List Refusal
 repeated_aliases block = repeated_among block.from_items

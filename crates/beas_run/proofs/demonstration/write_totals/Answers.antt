@@ -15,5 +15,5 @@ returns-in-Ok-clause-demonstrated g c =
 pub returns-in-Err-clause-demonstrated : goal.returns-in-Err-clause-demonstrated
 returns-in-Err-clause-demonstrated g c =
     let same = ap g.O.Sink.seen (c.walk.ensures.unused (λ _. refl)) in
-    unfinished _ _ c.walk.new.audience.summary _ _ _ c.in-Err.ensures.walked (λ e. c.in-Err.ensures.fault (ap Err e)) (λ _. ap (λ (m : Sent). m.bytes) same)
+    unfinished _ _ c.walk.new.audience.summary _ _ _ c.in-Err.ensures.walked (λ e. c.in-Err.ensures.out.fault (ap Err e)) (λ _. ap (λ (m : Sent). m.bytes) same)
     (ap (λ (m : Sent). m.puts) same)

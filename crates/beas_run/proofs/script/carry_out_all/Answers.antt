@@ -64,11 +64,11 @@ loop-place-preserved g c =
     record {
       walking =
           walk_more _ _ _ _ _ _ _ _ _ _ _ _ _ (at_place _ _ _ _ _ (record { from = 0; to = 0 }) _ _ _ c.loop-place-test.true i.walking)
-          i.settings e.reported e.files e.out.told;
+          i.settings e.reported e.files e.out.later.told;
       settings = e.settings ∙ i.settings;
       files = later_twice _ _ _ i.files e.files;
-      out = sink_later_twice _ _ _ i.out e.out;
-      faults = e.no_fault ∙ i.faults;
+      out = sink_later_twice _ _ _ i.out e.out.later;
+      faults = e.out.no_fault ∙ i.faults;
       unused = λ none. e.unused none ∙ i.unused none;
     }
 

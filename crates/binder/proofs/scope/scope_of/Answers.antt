@@ -4,7 +4,7 @@ use Rattle.std.proofs.lemmas.List.{take_all}
 use Rattle.beas_core.specs.declared.refusal.Refusal.TheVariants.{DuplicateName}
 use Rattle.binder.specs.Meanings.{sources}
 use Rattle.binder.specs.Scopes.{found_at, IsScope}
-use Rattle.binder.proofs.Repeats.{repeated_here, fresh_here, none_repeated, sources_to, count_to}
+use Rattle.binder.proofs.AliasFacts.{repeated_here, fresh_here, none_repeated, sources_to, count_to}
 use Rattle.binder.proofs.ScopeFacts.{names_are}
 use Rattle.binder.proofs.scope.scope_of.Goals as goal
 

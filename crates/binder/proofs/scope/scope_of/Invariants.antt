@@ -1,12 +1,12 @@
 use Rattle.std.proofs.Common.{take, map}
 use Rattle.binder.specs.Meanings.{sources}
 use Rattle.binder.specs.Scopes.{IsScope}
-use Rattle.binder.proofs.Repeats.{NoneBelow}
+use Rattle.binder.proofs.AliasFacts.{OnceBelow}
 use Rattle.binder.proofs.scope.scope_of.Given as goal
 
 -- the atoms so far, none of whose aliases stands twice
 abbrev pub invariant-loop-atom : goal.invariant-loop-atom
 invariant-loop-atom l = record {
   so_far : IsScope (sources l.catalogue (take l.atom l.items)) l.scope;
-  once : NoneBelow (map (λ item. item.alias) l.items) l.atom;
+  once : OnceBelow l.items l.atom;
 }
