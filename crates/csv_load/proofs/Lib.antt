@@ -1,4 +1,5 @@
 pub mod FieldFacts
+pub mod FitFacts
 pub mod HeaderFacts
 pub mod RecordFacts
 pub mod RowFacts

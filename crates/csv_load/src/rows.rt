@@ -1,11 +1,12 @@
 // The rows of the records under a header.
-ghost use Rattle.std.specs.Prelude.{◌≡◌, ◌≤◌, ◌<◌, ◌+◌, ◌^◌, not, None, false, map, length, slice_get, option_map, IfOk};
+ghost use Rattle.std.specs.Prelude.{◌≡◌, ◌≤◌, ◌<◌, ◌+◌, ◌^◌, not, None, false, map, length, slice_get, option_map, All, IfOk};
 ghost use Rattle.std.specs.Option.{is_some, option_and_then, option_map_or};
 ghost use Rattle.csv.specs.Records.{fields_of};
 ghost use Rattle.csv_load.specs.Fields.{cell};
 ghost use Rattle.csv_load.specs.CsvRows.{is_bad, bad_column, fault_in, fault_under, fault_of, rows_in};
 ghost use Rattle.csv_load.specs.Layouts.{row_of_slots, the_columns, value_at as value_in_slot};
 ghost use Rattle.beas_core.specs.Results.{IsRefusedAs};
+ghost use Rattle.catalogue.specs.Database.{RowFits};
 ghost use Rattle.csv_load.specs.Reading.{weight};
 
 use crate::fields::{field_at, has_value, value_of};
@@ -126,7 +127,7 @@ fn rows_left(
 ///
 /// One leading mark EF BB BF is dropped. The first record is the header: its fields are the column names, in any order
 /// and any case. A value of an INTEGER column is an optional sign and digits, of a TEXT column UTF-8 of at most
-/// `limits.text` bytes.
+/// `limits.text` bytes. So each row has the columns' number of values, each of its column's kind.
 ///
 /// # Errors
 ///
@@ -141,6 +142,7 @@ pub fn rows_of(
 ) -> Result<List<Row>, Fail>
     requires { length bytes.now < 2 ^ 32 }
     ensures rows { IfOk result (λ rows. rows ≡ rows_in limits.now.text columns.now bytes.now) }
+    ensures fit { IfOk result (All (RowFits columns.now)) }
     ensures refused { IsRefusedAs result (fault_of limits.now.text columns.now bytes.now) }
 {
     let mut records = Records::of(alloc, bytes);

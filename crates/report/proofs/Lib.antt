@@ -1,3 +1,4 @@
+pub mod LiveFacts
 pub mod PlanFacts
 pub mod RecordsAreText
 pub mod WriterFacts

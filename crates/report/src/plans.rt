@@ -1,5 +1,5 @@
 // The plan lines of a prepared query.
-ghost use Rattle.std.specs.Prelude.{◌≡◌, if◌then◌else◌, ◌<◌, ◌+◌, ◌^◌, ◌==◌, ◌++◌, find, length, option_copied, IsTrue, IfOk, OnOk};
+ghost use Rattle.std.specs.Prelude.{◌≡◌, if◌then◌else◌, ◌<◌, ◌+◌, ◌^◌, ◌==◌, ◌++◌, find, length, option_copied, AllPairs, IsTrue, IfOk, OnOk};
 ghost use Rattle.std.specs.List.{flat_map};
 ghost use Rattle.beas_core.specs.Derivations.{access_in, is_live};
 ghost use Rattle.beas_core.specs.Fits.{PlanFits};
@@ -357,20 +357,32 @@ fn access_of<'a>(catalogue: &'a Catalogue, scans: &'a [Access], id: AccessId) ->
     ensures access { result.now ≡ access_in (catalogue.now.accesses ++ scans.now) id }
     ensures table { result.now.table.0 < length catalogue.now.tables }
 {
-    match with_id(catalogue.accesses().as_slice(), id) {
+    match live_with_id(catalogue.accesses().as_slice(), id) {
         Some(access) => access,
-        None => match with_id(scans, id) {
+        None => match scan_with_id(scans, id) {
             Some(access) => access,
             None => unreachable!(),
         },
     }
 }
 
-/// The first constraint with this id.
-fn with_id(accesses: &[Access], id: AccessId) -> Option<&Access>
+/// The live constraint with this id, found by halves, since their ids rise.
+fn live_with_id(accesses: &[Access], id: AccessId) -> Option<&Access>
+    requires { AllPairs (λ a b. a.id.0 < b.id.0) accesses.now }
     ensures { option_copied result ≡ find (λ a. a.id.0 == id.0) accesses.now }
 {
-    accesses.iter().find(|access| access.id.0 == id.0)
+    let place = accesses.partition_point(|access| access.id.0 < id.0);
+    match accesses.get(place) {
+        Some(access) if access.id.0 == id.0 => Some(access),
+        _ => None,
+    }
+}
+
+/// The first scan with this id. There are few: at most one for each atom.
+fn scan_with_id(scans: &[Access], id: AccessId) -> Option<&Access>
+    ensures { option_copied result ≡ find (λ a. a.id.0 == id.0) scans.now }
+{
+    scans.iter().find(|scan| scan.id.0 == id.0)
 }
 
 /// Adds how the blocks of a query, numbered from `first` on, make the answer, and tells the next number.

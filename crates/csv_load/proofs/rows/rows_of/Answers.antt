@@ -5,6 +5,7 @@ use Rattle.csv.specs.Records.{fields_of}
 use Rattle.csv_load.specs.CsvRows.{is_header, records_of}
 use Rattle.csv_load.specs.Layouts.{IsLayout}
 use Rattle.csv_load.specs.Reading.{weight}
+use Rattle.csv_load.proofs.FitFacts.{rows_fit}
 use Rattle.csv_load.proofs.RowFacts.{no_header, other_header, fault_is, rows_are, room}
 use Rattle.csv_load.proofs.rows.rows_of.Goals as goal
 
@@ -74,3 +75,7 @@ returns-clause-refused c =
     (at_some c.in_ok-layout.field-0 c.in-Some.layout _ _ c.in-Some.is c.in_ok-layout.ensures) in
     subst (IsRefusedAs c.rows_left.result) (sym (fault_is c.args.limits.now.text c.args.columns.now c.args.bytes.now (fields_of c.read.new.fields)
     c.read.new.self all c.in-Some.layout l)) c.rows_left.ensures.refused
+
+pub returns-clause-fit : goal.returns-clause-fit
+returns-clause-fit c =
+    rows_fit c.args.limits.now.text c.args.columns.now c.args.bytes.now c.rows_left.result (returns-clause-rows c) (returns-clause-refused c)

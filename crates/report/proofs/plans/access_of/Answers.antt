@@ -5,13 +5,13 @@ use Rattle.report.proofs.plans.access_of.Goals as goal
 
 pub unreachable-requires : goal.unreachable-requires
 unreachable-requires c =
-    let first = rw (c.as_slice.ensures, c.accesses.ensures.accesses) at c.with_id.ensures in
+    let first = rw (c.as_slice.ensures, c.accesses.ensures.accesses) at c.live_with_id.ensures in
     found_one c.args.catalogue.now.accesses c.args.scans.now c.args.id (sym first ∙ ap option_copied c.in-None.is)
-    (sym c.with_id-in-None.ensures ∙ ap option_copied c.in-None-with_id.is) c.requires.live
+    (sym c.scan_with_id.ensures ∙ ap option_copied c.in-None-scan_with_id.is) c.requires.live
 
 pub returns-in-Some-clause-access : goal.returns-in-Some-clause-access
 returns-in-Some-clause-access c =
-    let first = rw (c.as_slice.ensures, c.accesses.ensures.accesses) at c.with_id.ensures in
+    let first = rw (c.as_slice.ensures, c.accesses.ensures.accesses) at c.live_with_id.ensures in
     found_live c.args.catalogue.now.accesses c.args.scans.now c.args.id c.in-Some.access.now (sym first ∙ ap option_copied c.in-Some.is)
 
 pub returns-in-Some-clause-table : goal.returns-in-Some-clause-table
@@ -19,13 +19,13 @@ returns-in-Some-clause-table c =
     rw (returns-in-Some-clause-access c)
     (found_table c.args.catalogue.now c.args.scans.now c.args.id c.accesses.ensures.sound c.requires.tables c.requires.live)
 
-pub returns-in-Some-with_id-clause-access : goal.returns-in-Some-with_id-clause-access
-returns-in-Some-with_id-clause-access c =
-    let first = rw (c.as_slice.ensures, c.accesses.ensures.accesses) at c.with_id.ensures in
-    found_scan c.args.catalogue.now.accesses c.args.scans.now c.args.id c.in-Some-with_id.access.now (sym first ∙ ap option_copied c.in-None.is)
-    (sym c.with_id-in-None.ensures ∙ ap option_copied c.in-Some-with_id.is)
+pub returns-in-Some-scan_with_id-clause-access : goal.returns-in-Some-scan_with_id-clause-access
+returns-in-Some-scan_with_id-clause-access c =
+    let first = rw (c.as_slice.ensures, c.accesses.ensures.accesses) at c.live_with_id.ensures in
+    found_scan c.args.catalogue.now.accesses c.args.scans.now c.args.id c.in-Some-scan_with_id.access.now (sym first ∙ ap option_copied c.in-None.is)
+    (sym c.scan_with_id.ensures ∙ ap option_copied c.in-Some-scan_with_id.is)
 
-pub returns-in-Some-with_id-clause-table : goal.returns-in-Some-with_id-clause-table
-returns-in-Some-with_id-clause-table c =
-    rw (returns-in-Some-with_id-clause-access c)
+pub returns-in-Some-scan_with_id-clause-table : goal.returns-in-Some-scan_with_id-clause-table
+returns-in-Some-scan_with_id-clause-table c =
+    rw (returns-in-Some-scan_with_id-clause-access c)
     (found_table c.args.catalogue.now c.args.scans.now c.args.id c.accesses.ensures.sound c.requires.tables c.requires.live)
