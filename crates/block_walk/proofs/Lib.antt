@@ -1,5 +1,12 @@
-pub mod PartFacts
-pub mod ProbeOrder
-mod StageFacts
+mod ChildFacts
+pub mod DescentFacts
+mod DueFacts
+mod EntryFacts
+pub mod LoopFacts
+mod ProbeOrder
+mod SameFacts
+mod StartFacts
 pub mod SumFacts
-mod TurnFacts
+mod VisitFacts
+mod WalkFacts
+mod WorldFacts

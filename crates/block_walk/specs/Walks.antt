@@ -1,104 +1,128 @@
--- A block's walk through its derivation, between two probes.
---     Route                      a block's normal form, what guides it, and the steps of its derivation
---     fetched_in walk            what the walk has fetched: step by step, and the keys of a step in order
---     IsTidy route walk          a step that is under way has probed some of its keys, and not all
---     Stands route walk          in every world that agrees with what was fetched the walk stands where the definitions say:
---                                its valuations are those after the finished steps, and its probes are the first of the block's
-use Rattle.std.specs.Prelude.{◌≡◌, ◌+◌, ◌<◌, ◌≤◌, ℕ, false, List, [], ◌∷◌, ◌++◌, ◌⊎◌, length, map, zip, take, drop, slice_index_or, Option, Some, None, is_some}
+-- A block's walk, depth first, between two probes.
+--     fetched_in walk       what the walk has fetched, by step and then key
+--     classes_at walk n     the classes that are bound before step n, where the steps before it were begun
+--     IsTidy route walk     what is kept of each step that was begun is as the block says; it has probed some key
+--     Stands route walk     in every world that agrees with what was fetched, the outputs that are through and those that the pending
+--                           valuations lead to are the answers; the probes that were made and those that they want are the block's
+use Rattle.std.specs.Prelude.{◌≡◌, ◌+◌, ◌<◌, ◌≤◌, ◌⊎◌, ℕ, List, [], ◌∷◌, length, map, flat_map, take, drop, slice_index_or}
+use Rattle.std.specs.Ordering.{nat_cmp, ordering_then}
+use Rattle.std.specs.declared.cmp.Ordering.{Ordering}
+use Rattle.std.specs.BTreeMap.{IsOrdered}
 use Rattle.beas_core.specs.declared.schema.Access.{Access}
 use Rattle.beas_core.specs.declared.plan.DStep.{DStep}
 use Rattle.beas_core.specs.declared.plan.Normal.{Normal}
 use Rattle.beas_core.specs.Types.{Row, ClassSet, Guide}
-use Rattle.beas_core.specs.Coverage.{start_classes}
-use Rattle.beas_core.specs.Derivations.{access_in, bound_by, bound_after, IsSound}
-use Rattle.beas_core.specs.Valuations.{valuations}
-use Rattle.beas_core.specs.Reads.{Probe, probes, probes_after, keys_for}
-use Rattle.evaluation_facts.specs.Extensions.{extensions, keep_met}
-use Rattle.plan_ops.specs.declared.valuations.Valuations.{Valuations}
-use Rattle.plan_ops.specs.Over.{IsOver, bound_set}
-use Rattle.block_walk.specs.declared.walking.StepFetched.{StepFetched}
-use Rattle.block_walk.specs.declared.walking.Walk.{Walk}
+use Rattle.beas_core.specs.Order.{row_cmp}
+use Rattle.beas_core.specs.Derivations.{access_in, bound_after}
+use Rattle.beas_core.specs.Valuations.{answers_of, classes_in, output_row}
+use Rattle.beas_core.specs.Reads.{Probe, key_for}
+use Rattle.beas_core.proofs.Sets.{Has}
+use Rattle.evaluation_facts.specs.Extensions.{group_for}
+use Rattle.plan_ops.specs.declared.stages.Stage.{Stage}
+use Rattle.plan_ops.specs.Stages.{IsStage}
 use Rattle.block_walk.specs.Worlds.{World, Fetched, made, AgreesWith}
-
-pub record Route : Type 0 where
-  pub normal : Normal
-  pub guide : Guide
-  pub steps : List DStep
-
-abbrev pub route : Normal → Guide → List DStep → Route
-route normal guide steps = record { normal = normal; guide = guide; steps = steps }
-
-abbrev pub first_classes : Route → ClassSet
-first_classes r = start_classes r.normal (is_some r.guide)
-
--- what is asked of a route in a world
-abbrev pub IsSoundIn : World → Route → Type 0
-IsSoundIn w r = IsSound r.normal w.accesses (first_classes r) r.steps
-
-abbrev pub all_probes : World → Route → List Probe
-all_probes w r = probes w.rows r.normal w.accesses r.guide r.steps
-
--- the step at a place
-abbrev pub step_at : Route → ℕ → DStep
-step_at r n = slice_index_or r.steps n (record { atom = 0; access = record { 0 = 0 }; adds = false })
+use Rattle.block_walk.specs.Routes.{Route, route, first_classes, IsSoundIn, all_probes, step_at, probe_at}
+use Rattle.block_walk.specs.declared.walking.Pending.{Pending}
+use Rattle.block_walk.specs.declared.walking.Walk.{Walk}
+use Rattle.block_walk.specs.Descents.{kept_from, reached, wanted, work}
 
 -- ---- what was fetched
 
-abbrev pub probe_at : ℕ → Row → Probe
-probe_at n key = record { step = n; key = key }
+-- a step and a key, and the tuples found
+abbrev pub Entry : Type 0
+Entry = (ℕ × Row) × List Row
 
-abbrev pub pair_at : ℕ → Access → Row × List Row → Fetched
-pair_at n access e = record { probe = probe_at n e.0; access = access; tuples = e.1 }
+abbrev pub entry_cmp : ℕ × Row → ℕ × Row → Ordering
+entry_cmp x y = ordering_then (nat_cmp x.0 y.0) (row_cmp x.1 y.1)
 
--- of step n: each key that was probed with its group
-abbrev pub pairs : ℕ → StepFetched → List Fetched
-pairs n s = map (pair_at n s.access) (zip s.keys s.groups)
+abbrev pub no_access : Access
+no_access = record { id = record { 0 = 0 }; name = []; table = record { 0 = 0 }; key = []; fetched = []; bound = 0 }
 
-abbrev pub pairs_from : ℕ → List StepFetched → List Fetched
-pairs_from n [] = []
-pairs_from n (s ∷ ss) = pairs n s ++ pairs_from (n + 1) ss
+abbrev pub accesses_in : List Stage → List Access
+accesses_in stages = map (λ (s : Stage). s.access) stages
 
-abbrev pub pairs_under_way : ℕ → Option StepFetched → List Fetched
-pairs_under_way n None = []
-pairs_under_way n (Some s) = pairs n s
+abbrev pub fetched_at : List Stage → Entry → Fetched
+fetched_at stages e = record { probe = probe_at e.0.0 e.0.1; access = slice_index_or (accesses_in stages) e.0.0 no_access; tuples = e.1 }
 
 abbrev pub fetched_in : Walk → List Fetched
-fetched_in walk = pairs_from 0 walk.finished ++ pairs_under_way (length walk.finished) walk.under_way
+fetched_in walk = map (fetched_at walk.stages.items) walk.known.entries
+
+abbrev pub WasMade : List Fetched → Probe → Type 0
+WasMade fetched p = Has (made fetched) p
+
+-- ---- what is kept
+
+abbrev pub classes_at : List ℕ → List Stage → ℕ → List ℕ
+classes_at first stages n = slice_index_or (first ∷ map (λ (s : Stage). s.join.classes) stages) n []
+
+pub record IsStageAt (r : Route) (first : List ℕ) (stages : List Stage) (n : ℕ) (s : Stage) : Type 0 where
+  pub stage : IsStage r.normal s
+  pub atom : s.atom ≡ (step_at r n).atom
+  pub from : s.from ≡ classes_at first stages n
+
+pub record IsTidy (r : Route) (walk : Walk) : Type 0 where
+  pub first : walk.first ≡ classes_in (first_classes r)
+  pub few : length walk.stages.items ≤ length r.steps
+  pub stages : (n : ℕ) (d : Stage) → n < length walk.stages.items
+      → IsStageAt r walk.first walk.stages.items n (slice_index_or walk.stages.items n d)
+  pub steps : (e : Entry) → Has walk.known.entries e → e.0.0 < length walk.stages.items
+  pub each : (n : ℕ) → n < length walk.stages.items → (e : Entry) × (Has walk.known.entries e) × (e.0.0 ≡ n)
+  pub pending : (p : Pending) → Has walk.pending.items p → p.step ≤ length walk.stages.items
+  pub wide : (p : Pending) → Has walk.pending.items p → length p.row ≡ length (classes_at walk.first walk.stages.items p.step)
+  pub ordered : IsOrdered entry_cmp walk.known
 
 -- ---- where a walk stands
 
-pub record IsPartly (count : ℕ) (r : Route) (s : StepFetched) : Type 0 where
-  pub more : count < length r.steps
-  pub some : 0 < length s.groups
-  pub not_all : length s.groups < length s.keys
+-- the classes that are bound before step n
+abbrev pub set_at : World → Route → ℕ → ClassSet
+set_at w r n = bound_after r.normal w.accesses (first_classes r) (take n r.steps)
 
-abbrev pub IsUnderWay : ℕ → Route → Option StepFetched → Type 0
-IsUnderWay count r None = Unit {0}
-IsUnderWay count r (Some s) = IsPartly count r s
+abbrev pub pending_at : ℕ → Row → Pending
+pending_at n row = record { step = n; row = row }
 
-pub record IsTidy (r : Route) (walk : Walk) : Type 0 where
-  pub over : IsOver (bound_set r.normal walk.from) walk.from
-  pub few : length walk.finished ≤ length r.steps
-  pub under_way : IsUnderWay (length walk.finished) r walk.under_way
+abbrev pub children : Pending → List Row → List Pending
+children at rows = map (pending_at (at.step + 1)) rows
 
--- the probes of the steps from number n on
-abbrev pub probes_from : World → Route → ℕ → List Probe
-probes_from w r n = probes_after w.rows r.normal w.accesses r.guide (take n r.steps) (drop n r.steps)
+-- what a pending valuation gives to its step, finds there, and leads to
+abbrev pub probe_of : World → Route → Pending → Probe
+probe_of w r p = probe_at p.step (key_for r.normal w.accesses (step_at r p.step) (set_at w r p.step) p.row)
 
--- step n is under way: its keys are those of the valuations before it, and are probed after those of the finished steps
-pub record IsStaged (w : World) (r : Route) (finished : List StepFetched) (from : Valuations) (s : StepFetched) : Type 0 where
-  pub keys : s.keys ≡ keys_for r.normal w.accesses (step_at r (length finished)) (bound_set r.normal from) from.rows
-  pub probes : all_probes w r
-      ≡ made (pairs_from 0 finished) ++ (map (probe_at (length finished)) s.keys ++ probes_from w r (length finished + 1))
+abbrev pub found_at : World → Route → Pending → Fetched
+found_at w r p = record {
+  probe = probe_of w r p;
+  access = access_in w.accesses (step_at r p.step).access;
+  tuples = group_for w.rows r.normal w.accesses (step_at r p.step) (set_at w r p.step) p.row;
+}
 
-abbrev pub StageIs : World → Route → List StepFetched → Valuations → Option StepFetched → Type 0
-StageIs w r finished from None = all_probes w r ≡ made (pairs_from 0 finished) ++ probes_from w r (length finished)
-StageIs w r finished from (Some s) = IsStaged w r finished from s
+abbrev pub next_at : World → Route → Pending → List Row
+next_at w r p = kept_from w.rows r.normal w.accesses (step_at r p.step) (set_at w r p.step) p.row
 
-pub record IsWalk (w : World) (r : Route) (walk : Walk) : Type 0 where
-  pub over : IsOver (bound_after r.normal w.accesses (first_classes r) (take (length walk.finished) r.steps)) walk.from
-  pub rows : walk.from.rows ≡ valuations w.rows r.normal w.accesses r.guide (take (length walk.finished) r.steps)
-  pub stage : StageIs w r walk.finished walk.from walk.under_way
+abbrev pub reached_from : World → Route → Pending → List Row
+reached_from w r p = reached w.rows r.normal w.accesses (drop p.step r.steps) (set_at w r p.step) p.row
+
+abbrev pub outputs_from : World → Route → Pending → List Row
+outputs_from w r p = map (output_row r.normal (set_at w r (length r.steps))) (reached_from w r p)
+
+abbrev pub wanted_from : World → Route → Pending → List Probe
+wanted_from w r p = wanted w.rows r.normal w.accesses p.step (drop p.step r.steps) (set_at w r p.step) p.row
+
+abbrev pub work_from : World → Route → Pending → ℕ
+work_from w r p = work w.rows r.normal w.accesses (drop p.step r.steps) (set_at w r p.step) p.row
+
+abbrev pub IsAnswer : World → Route → Row → Type 0
+IsAnswer w r y = Has (answers_of w.rows r.normal w.accesses r.guide r.steps) y
+
+abbrev pub IsProbe : World → Route → Probe → Type 0
+IsProbe w r p = Has (all_probes w r) p
+
+pub record StandsAt (w : World) (r : Route) (through : List Row) (pending : List Pending) (fetched : List Fetched) : Type 0 where
+  pub rows_all : (y : Row) → IsAnswer w r y → Has through y ⊎ Has (flat_map (outputs_from w r) pending) y
+  pub rows_only : (y : Row) → Has through y ⊎ Has (flat_map (outputs_from w r) pending) y → IsAnswer w r y
+  pub probes_all : (p : Probe) → IsProbe w r p → WasMade fetched p ⊎ Has (flat_map (wanted_from w r) pending) p
+  pub probes_only : (p : Probe) → WasMade fetched p ⊎ Has (flat_map (wanted_from w r) pending) p → IsProbe w r p
+
+abbrev pub IsWalk : World → Route → Walk → Type 0
+IsWalk w r walk = StandsAt w r walk.through walk.pending.items (fetched_in walk)
 
 abbrev pub Stands : Route → Walk → Type 0
 Stands r walk = (w : World) → IsSoundIn w r → AgreesWith w r.steps (fetched_in walk) → IsWalk w r walk
@@ -110,45 +134,6 @@ IsTidyForAll normal guide walk = (steps : List DStep) → IsTidy (route normal g
 abbrev pub StandsForAll : Normal → Guide → Walk → Type 0
 StandsForAll normal guide walk = (steps : List DStep) → Stands (route normal guide steps) walk
 
--- ---- the stage that a turn goes on with
-
--- no step is under way, and there is no further one, or no valuation to go on from
-pub record HasEnded (r : Route) (walk : Walk) : Type 0 where
-  pub idle : walk.under_way ≡ None
-  pub end : (length r.steps ≤ length walk.finished) ⊎ (walk.from.rows ≡ [])
-
--- a step that was begun in this turn, and has probed nothing yet
-pub record IsBegun (w : World) (r : Route) (old : Walk) (s : StepFetched) : Type 0 where
-  pub idle : old.under_way ≡ None
-  pub more : length old.finished < length r.steps
-  pub some : 0 < length s.keys
-  pub access : s.access ≡ access_in w.accesses (step_at r (length old.finished)).access
-  pub keys : s.keys ≡ keys_for r.normal w.accesses (step_at r (length old.finished)) (bound_set r.normal old.from) old.from.rows
-  pub groups : s.groups ≡ []
-
-abbrev pub StageOf : World → Route → Walk → StepFetched → Type 0
-StageOf w r old s = (old.under_way ≡ Some s) ⊎ IsBegun w r old s
-
-abbrev pub NextStage : World → Route → Walk → Option StepFetched → Type 0
-NextStage w r old None = HasEnded r old
-NextStage w r old (Some s) = StageOf w r old s
-
--- a step with one more key probed: it stays under way
-pub record GoesOn (s : StepFetched) (finished : List StepFetched) (from : Valuations) (new : Walk) : Type 0 where
-  pub less : length s.groups < length s.keys
-  pub finished_are : new.finished ≡ finished
-  pub under_way : new.under_way ≡ Some s
-  pub from_is : new.from ≡ from
-
--- or all are, and it is finished
-pub record IsFinished (w : World) (normal : Normal) (step : DStep) (s : StepFetched) (finished : List StepFetched) (from : Valuations) (new : Walk)
-    : Type 0 where
-  pub all : length s.groups ≡ length s.keys
-  pub finished_are : new.finished ≡ finished ++ s ∷ []
-  pub under_way : new.under_way ≡ None
-  pub over : IsOver (bound_by normal w.accesses (bound_set normal from) step) new.from
-  pub rows : new.from.rows ≡ keep_met normal (bound_by normal w.accesses (bound_set normal from) step)
-      (extensions w.rows normal w.accesses step (bound_set normal from) from.rows)
-
-abbrev pub IsPutBack : World → Normal → DStep → StepFetched → List StepFetched → Valuations → Walk → Type 0
-IsPutBack w normal step s finished from new = GoesOn s finished from new ⊎ IsFinished w normal step s finished from new
+-- no valuation is left to go on from
+abbrev pub HasEnded : Walk → Type 0
+HasEnded walk = walk.pending.items ≡ []

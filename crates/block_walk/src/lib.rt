@@ -1,10 +1,8 @@
-//! The walk of one block through its derivation, one probe a turn: from the start each step is probed with the distinct
-//! keys of the valuations before it, and then extends them by what was found.
-//!
-//! Between turns a walk keeps what it has fetched and nothing of the port, so that it may go on over any port that
-//! agrees with what was fetched.
+//! The walk of one block through its derivation, depth first, one probe a turn.
 #![tactic(auto)]
 
+mod laws;
 mod walking;
 
-pub use walking::{StepFetched, Walk, answer, begin, turn};
+pub use laws::law_walk;
+pub use walking::{Pending, Walk, answer, begin, turn};

@@ -10,12 +10,12 @@ use Rattle.beas_core.specs.Types.{Row, Guide}
 use Rattle.beas_core.specs.Coverage.{ClassesInRange, ConstantsInRange}
 use Rattle.beas_core.specs.Valuations.{answers_of}
 use Rattle.evaluation_facts.specs.Guides.{GuideFits}
-use Rattle.depth_walk.specs.declared.walking.Walk.{Walk}
+use Rattle.block_walk.specs.declared.walking.Walk.{Walk}
 use Rattle.block_walk.specs.Worlds.{World, Fetched, AgreesWith}
-use Rattle.block_walk.specs.Walks.{Route, route, IsSoundIn}
+use Rattle.block_walk.specs.Routes.{Route, route, IsSoundIn}
 use Rattle.block_walk.specs.Turns.{SpentOnce}
-use Rattle.depth_walk.specs.Walks.{IsTidy, Stands, HasEnded, fetched_in}
-use Rattle.depth_walk.specs.Turns as walk
+use Rattle.block_walk.specs.Walks.{IsTidy, Stands, HasEnded, fetched_in}
+use Rattle.block_walk.specs.Turns as walk
 use Rattle.cursor_executor.specs.declared.courses.Course.{Course}
 use Rattle.cursor_executor.specs.declared.operations.Operation.TheVariants.{Block}
 use Rattle.cursor_executor.specs.Fetching.{AllAgree, IsWorld, steps_of}

@@ -7,10 +7,10 @@ use Rattle.std.specs.Prelude.{◌≡◌, ◌+◌, false, true, Bool, if◌then�
 use Rattle.beas_core.specs.declared.plan.Prepared.{Prepared}
 use Rattle.beas_core.specs.Types.{Row}
 use Rattle.beas_core.specs.Queries.{BlockProbe, query_answers}
-use Rattle.depth_walk.specs.declared.walking.Walk.{Walk}
+use Rattle.block_walk.specs.declared.walking.Walk.{Walk}
 use Rattle.block_walk.specs.Worlds.{World, Fetched}
-use Rattle.block_walk.specs.Walks.{Route}
-use Rattle.depth_walk.specs.Walks.{IsTidy, Stands, fetched_in}
+use Rattle.block_walk.specs.Routes.{Route}
+use Rattle.block_walk.specs.Walks.{IsTidy, Stands, fetched_in}
 use Rattle.cursor_executor.specs.declared.courses.Course.{Course}
 use Rattle.cursor_executor.specs.declared.operations.Operation.{Operation}
 use Rattle.cursor_executor.specs.declared.operations.Operation.TheVariants.{Block, Unite, Subtract}

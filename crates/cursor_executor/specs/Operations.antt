@@ -19,7 +19,7 @@ use Rattle.beas_core.specs.Queries.{BlockProbe, is_guided}
 use Rattle.beas_core.specs.Valuations.{answers_of}
 use Rattle.evaluation_facts.specs.Guides.{GuideFits}
 use Rattle.block_walk.specs.Worlds.{World}
-use Rattle.block_walk.specs.Walks.{Route, route, IsSoundIn, all_probes}
+use Rattle.block_walk.specs.Routes.{Route, route, IsSoundIn, all_probes}
 use Rattle.cursor_executor.specs.declared.operations.Operation.{Operation}
 use Rattle.cursor_executor.specs.declared.operations.Operation.TheVariants.{Block, Unite, Subtract}
 use Rattle.cursor_executor.specs.Fetching.{steps_of}

@@ -1,35 +1,17 @@
--- Steps over groups that were fetched before.
-use Rattle.std.proofs.Common.{◌≡◌, ◌<◌, ◌+◌, ◌++◌, ◌∷◌, [], ℕ, pos, List, length, map, take, get_or, All, ap, sym, subst, ◌∙◌, arith}
-use Rattle.std.proofs.lemmas.List.{take_more}
+-- Tuples that a probe found, copied one after another.
+use Rattle.std.proofs.Common.{◌≡◌, ◌<◌, ◌≤◌, ◌+◌, ◌*◌, ◌++◌, ◌∷◌, [], ℕ, zero, suc, pos, List, length, take, drop, get_or, refl, ap, sym, subst, ◌∙◌, arith}
+use Rattle.std.proofs.lemmas.List.{drop-append-le, drop-drop, length-drop, take-append-le, take_all, take_more}
+use Rattle.std.proofs.lemmas.Nat.{mul-le}
+use Rattle.beas_core.specs.declared.value.Value.{Value}
 use Rattle.beas_core.specs.declared.value.Value.TheVariants.{Int}
 use Rattle.beas_core.specs.Found.{Found}
 use Rattle.beas_core.specs.declared.schema.Access.{Access}
 use Rattle.beas_core.specs.declared.schema.ColumnId.{ColumnId}
-use Rattle.beas_core.specs.declared.plan.DStep.{DStep}
-use Rattle.beas_core.specs.declared.plan.Normal.{Normal}
-use Rattle.beas_core.specs.Types.{Row, TableRows}
-use Rattle.beas_core.specs.Order.{row_cmp}
-use Rattle.beas_core.specs.Sets.{distinct}
-use Rattle.beas_core.specs.Groups.{group_of, member_columns, project, value_in}
-use Rattle.beas_core.specs.Coverage.{class_at}
+use Rattle.beas_core.specs.Types.{Row}
+use Rattle.beas_core.specs.Groups.{member_columns, value_in}
 use Rattle.beas_core.specs.Derivations.{access_in}
-use Rattle.beas_core.specs.Reads.{keys_for}
-use Rattle.beas_core.specs.Valuations.{classes_in}
-use Rattle.plan_ops.specs.declared.joining.Join.{Join}
-use Rattle.plan_ops.specs.Joins.{HitsAre, IsTuple, IsWithin}
-use Rattle.plan_ops.specs.Over.{set_of}
-use Rattle.plan_ops.specs.Places.{column_of}
-use Rattle.plan_ops.proofs.MeetFacts.{all_picked}
-use Rattle.plan_ops.proofs.ProbeFacts.{group_tuples}
-
--- the keys of a step, where its columns and the valuations are read through slices
-pub keys_found : (normal : Normal) (accesses : List Access) (s : DStep) (classes : List ℕ) (found : List Row)
-    → classes ≡ classes_in (set_of normal classes) → All (λ row. length row ≡ length classes) found
-    → (key : List ColumnId) → key ≡ map (λ c. column_of classes (class_at normal s.atom c)) (access_in accesses s.access).key
-    → distinct row_cmp (map (project key) found) ≡ keys_for normal accesses s (set_of normal classes) found
-keys_found normal accesses s classes found are wide key is =
-    ap (λ k. distinct row_cmp (map (project k) found)) is
-    ∙ ap (distinct row_cmp) (all_picked (set_of normal classes) classes (class_at normal s.atom) (access_in accesses s.access).key found are wide)
+use Rattle.plan_ops.specs.Fetched.{rows_in}
+use Rattle.plan_ops.specs.Joins.{HitsAre, IsTuple}
 
 module _ (columns : List ColumnId) (tuple : Row) (is : IsTuple columns tuple) where
   -- a tuple, copied value by value
@@ -47,11 +29,38 @@ pub tuple_at : (accesses : List Access) (stands : Found → Type 0) (members : F
 tuple_at accesses stands members hits are columns is i l =
     subst (λ cs. IsTuple cs (get_or (members hits) i [])) (sym is) (are.tuples i [] (omega (arith, l, are.count)))
 
--- the group of a key is of tuples that a join takes
-pub group_within : (rows : TableRows) (access : Access) (join : Join) (row key : Row) (tuples : List Row)
-    → join.columns.items ≡ member_columns access → IsWithin (length row + length join.columns.items) join
-    → tuples ≡ group_of (rows access.table) access key → All (λ tuple. IsWithin (length row + length tuple) join) tuples
-group_within rows access join row key tuples columns within is i d l =
-    let t = get_or tuples i d in
-    let fit = subst (All (IsTuple (member_columns access))) (sym is) (group_tuples (rows access.table) access key) i d l in
-    subst (λ n. IsWithin (length row + n) join) (ap length columns ∙ sym fit.wide) within
+-- ---- rows that are cut from one list
+
+pub length-rows_in : (width count : ℕ) (values : List Value) → length (rows_in width count values) ≡ count
+length-rows_in width zero values = refl
+length-rows_in width (suc count) values = ap suc (length-rows_in width count (drop width values))
+
+pub row_at : (width count : ℕ) (values : List Value) (at : ℕ) → at < count → get_or (rows_in width count values) at [] ≡ take width (drop (at * width) values)
+row_at width zero values at l = absurd (omega (arith, l))
+row_at width (suc count) values zero l =
+    let none : 0 * width ≡ 0 = omega arith in
+    ap (λ n. take width (drop n values)) (sym none)
+row_at width (suc count) values (suc at) l =
+    let more : width + at * width ≡ suc at * width = omega arith in
+    row_at width count (drop width values) at (omega (arith, l)) ∙ ap (take width) (drop-drop (at * width) width values)
+    ∙ ap (λ n. take width (drop n values)) more
+
+-- a row ends within the list
+pub row_within : (width count at : ℕ) → at < count → at * width + width ≤ count * width
+row_within width count at l =
+    let m = mul-le (at + 1) width count width (omega (arith, l)) (omega arith) in
+    omega (arith, m)
+
+-- a row more
+pub rows_more : (width count : ℕ) (values tuple : List Value) → length values ≡ count * width → length tuple ≡ width
+    → rows_in width (count + 1) (values ++ tuple) ≡ rows_in width count values ++ tuple ∷ []
+rows_more width zero [] tuple whole wide = ap (λ t. t ∷ []) (take_all width tuple (omega (arith, wide)))
+rows_more width zero (v ∷ values) tuple whole wide = absurd (omega (arith, whole))
+rows_more width (suc count) values tuple whole wide =
+    let l : width ≤ length values = omega (arith, whole) in
+    let rest : length (drop width values) ≡ count * width = (let d = length-drop width values in omega (arith, d, whole, l)) in
+    let more : suc count + 1 ≡ suc (count + 1) = omega arith in
+    ap (λ n. rows_in width n (values ++ tuple)) more
+    ∙ ap (λ t. t ∷ rows_in width (count + 1) (drop width (values ++ tuple))) (take-append-le width values tuple l)
+    ∙ ap (λ vs. take width values ∷ rows_in width (count + 1) vs) (drop-append-le width values tuple l)
+    ∙ ap (λ rs. take width values ∷ rs) (rows_more width count (drop width values) tuple rest wide)

@@ -1,9 +1,9 @@
--- Groups that were fetched before.
---     IsGroupOf rows access key tuples     the tuples are the constraint's group of this key
-use Rattle.std.specs.Prelude.{◌≡◌, List}
-use Rattle.beas_core.specs.declared.schema.Access.{Access}
-use Rattle.beas_core.specs.Types.{Row, TableRows}
-use Rattle.beas_core.specs.Groups.{group_of}
+-- Tuples that were fetched, whose values lie one after another.
+--     rows_in width count values     so many rows of a width, cut from a list of values
+use Rattle.std.specs.Prelude.{ℕ, zero, suc, List, [], ◌∷◌, take, drop}
+use Rattle.beas_core.specs.declared.value.Value.{Value}
+use Rattle.beas_core.specs.Types.{Row}
 
-abbrev pub IsGroupOf : TableRows → Access → Row → List Row → Type 0
-IsGroupOf rows access key tuples = tuples ≡ group_of (rows access.table) access key
+abbrev pub rows_in : ℕ → ℕ → List Value → List Row
+rows_in width zero values = []
+rows_in width (suc count) values = take width values ∷ rows_in width count (drop width values)

@@ -24,8 +24,8 @@ use beas_core::{
 use std::alloc::Global;
 use std::sync::ledger::Ledger;
 
-/// How the tuples of a step join valuations.
-pub fn join_of_step(
+// How the tuples of a step join valuations.
+fn join_of_step(
     alloc: Global,
     block: &Normal,
     step: &DStep,
@@ -39,8 +39,8 @@ pub fn join_of_step(
     join_of(alloc, block, step.atom, access, from.classes.as_slice())
 }
 
-/// The columns of a step's key in valuations.
-pub fn key_of_step(
+// The columns of a step's key in valuations.
+fn key_of_step(
     alloc: Global,
     block: &Normal,
     step: &DStep,

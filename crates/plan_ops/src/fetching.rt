@@ -1,39 +1,50 @@
 // What one probe fetches, to be kept.
-ghost use Rattle.std.specs.Prelude.{◌≡◌, ◌+◌, ◌<◌, length, slice_index_or, [], IfOk, IsTrue};
+ghost use Rattle.std.specs.Prelude.{◌≡◌, ◌+◌, ◌++◌, ◌<◌, length, slice_index_or, [], IfOk, IsTrue, OnOk};
 ghost use Rattle.beas_core.specs.Derivations.{access_in, is_live};
 ghost use Rattle.beas_core.specs.Groups.{group_of, has_column, member_columns, value_in};
-ghost use Rattle.beas_core.specs.Reads.{keys_for, probe_reads};
+ghost use Rattle.beas_core.specs.Reads.{probe_reads};
 ghost use Rattle.plan_ops.specs.Joins.{HitsAre};
-ghost use Rattle.plan_ops.specs.Over.{IsOver, bound_set};
 
-use crate::extending::key_of_step;
-use crate::joining::columns_of;
-use crate::picking::distinct_values;
-use crate::valuations::Valuations;
-use beas_core::{
-    AccessId, AccessPort, ColumnId, DStep, Duplicate, Hits, List, NoMemory, Normal, Row, Steps,
-    Value,
-};
+use beas_core::{AccessId, AccessPort, ColumnId, Duplicate, Hits, NoMemory, Steps, Value};
 use std::alloc::Global;
+use std::marker::Model;
 use std::sync::ledger::Ledger;
 
-/// The distinct keys that valuations give to a step, in order. It probes nothing.
-pub fn keys_of<P: AccessPort>(
-    alloc: Global,
-    port: &P,
-    block: &Normal,
-    step: &DStep,
-    from: &Valuations,
-) -> Result<List<Row>, NoMemory>
-    requires live { IsTrue (is_live (P.accesses port.now) step.now.access) }
-    requires over { IsOver (bound_set block.now from.now) from.now }
-    ensures { IfOk result (λ keys. keys ≡ keys_for block.now (P.accesses port.now) step.now
-        (bound_set block.now from.now) from.now.rows) }
-{
-    let access = port.access(step.access);
-    let key = key_of_step(alloc, block, step, access, from)?;
-    let keys = distinct_values(alloc, &key, from.rows.as_slice())?;
-    Ok(List::from_vec(keys))
+/// Tuples of one width. Their values lie one after another in one piece of memory.
+#[derive(Drop)]
+pub struct Tuples {
+    width: usize,
+    count: usize,
+    values: Vec<Value>,
+}
+
+impl Model for Tuples {
+    ghost use Rattle.std.specs.Prelude.{List, ◌≡◌, ◌*◌, length};
+    ghost use Rattle.beas_core.specs.Types.{Row};
+    ghost use Rattle.plan_ops.specs.Fetched.{rows_in};
+
+    ghost Value = { List Row };
+
+    ghost view = { λ s. rows_in s.width s.count s.values.items };
+
+    ghost invariant = { λ s. length s.values.items ≡ s.count * s.width };
+}
+
+impl Tuples {
+    pub fn len(&self) -> usize
+        ensures { result ≡ length self.now }
+    {
+        self.count
+    }
+
+    /// The tuple at a place.
+    pub fn get(&self, at: usize) -> &[Value]
+        requires { at < length self.now }
+        ensures { result.now ≡ slice_index_or self.now at [] }
+    {
+        let from = at * self.width;
+        &self.values[from..from + self.width]
+    }
 }
 
 // A copy of a value of a tuple that a probe found.
@@ -54,24 +65,24 @@ fn copied_value<P: AccessPort>(
     value.copy(alloc)
 }
 
-// A copy of one tuple that a probe found.
-fn copied_tuple<P: AccessPort>(
+// Adds the values of one tuple that a probe found.
+fn push_tuple<P: AccessPort>(
     alloc: Global,
     port: &P,
     columns: &[ColumnId],
     hits: &Hits,
     i: u32,
-) -> Result<Row, NoMemory>
+    values: &mut Vec<Value>,
+) -> Result<(), NoMemory>
     requires hits { HitsAre (P.accesses port.now) (P.stands port.now) (P.members port.now) hits.now }
     requires columns { columns.now ≡ member_columns (access_in (P.accesses port.now) hits.now.access) }
     requires member { i < hits.now.len }
-    ensures { IfOk result (λ tuple. tuple ≡ slice_index_or (P.members port.now hits.now) i []) }
+    ensures { OnOk result (values.new.items ≡ values.old.items ++ slice_index_or (P.members port.now hits.now) i []) }
 {
-    let mut tuple = Vec::with_capacity(alloc, columns.len())?;
     for column in columns {
-        tuple.push_reserved(copied_value(alloc, port, hits, i, column)?);
+        values.push(copied_value(alloc, port, hits, i, column)?)?;
     }
-    Ok(List::from_vec(tuple))
+    Ok(())
 }
 
 // Copies of the tuples that a probe found.
@@ -80,28 +91,36 @@ fn copied_tuples<P: AccessPort>(
     port: &P,
     columns: &[ColumnId],
     hits: &Hits,
-) -> Result<Vec<Row>, NoMemory>
+) -> Result<Tuples, NoMemory>
     requires hits { HitsAre (P.accesses port.now) (P.stands port.now) (P.members port.now) hits.now }
     requires columns { columns.now ≡ member_columns (access_in (P.accesses port.now) hits.now.access) }
-    ensures { IfOk result (λ tuples. tuples.items ≡ P.members port.now hits.now) }
+    ensures { IfOk result (λ tuples. tuples ≡ P.members port.now hits.now) }
 {
-    let mut tuples = Vec::new(alloc);
+    let width = columns.len();
+    let count = hits.len() as usize;
+    let mut values = Vec::with_capacity(alloc, width.saturating_mul(count))?;
     for i in 0..hits.len() {
-        tuples.push(copied_tuple(alloc, port, columns, hits, i)?)?;
+        push_tuple(alloc, port, columns, hits, i, &mut values)?;
     }
-    Ok(tuples)
+    Ok(Tuples {
+        width,
+        count,
+        values,
+    })
 }
 
-/// The tuples of a key's group, copied. It is one probe, which counts the greater of 1 and the number of the tuples,
-/// out of memory too.
+/// The tuples of a key's group, copied, over the columns of the constraint. It is one probe, which counts the greater of
+/// 1 and the number of the tuples, out of memory too.
 pub fn fetch<P: AccessPort, L: Ledger>(
     alloc: Global,
     port: &P,
     id: AccessId,
+    columns: &[ColumnId],
     key: &[Value],
     steps: &mut Steps<L>,
-) -> Result<List<Row>, NoMemory>
+) -> Result<Tuples, NoMemory>
     requires live { IsTrue (is_live (P.accesses port.now) id) }
+    requires columns { columns.now ≡ member_columns (access_in (P.accesses port.now) id) }
     requires width { length key.now ≡ length (access_in (P.accesses port.now) id).key }
     ensures tuples { let access = access_in (P.accesses port.now) id in
         IfOk result (λ tuples. tuples ≡ group_of (P.rows port.now access.table) access key.now) }
@@ -109,8 +128,5 @@ pub fn fetch<P: AccessPort, L: Ledger>(
         ≡ steps.old + probe_reads (P.rows port.now) (access_in (P.accesses port.now) id) key.now }
 {
     let hits = port.probe(id, key, steps);
-    let access = port.access(id);
-    let columns = columns_of(alloc, access)?;
-    let tuples = copied_tuples(alloc, port, &columns, &hits)?;
-    Ok(List::from_vec(tuples))
+    copied_tuples(alloc, port, columns, &hits)
 }

@@ -29,7 +29,8 @@ pub struct Join {
 pub fn columns_of(alloc: Global, access: &Access) -> Result<Vec<ColumnId>, NoMemory>
     ensures { IfOk result (λ columns. columns.items ≡ member_columns access.now) }
 {
-    let mut columns = Vec::new(alloc);
+    let count = access.key.len().saturating_add(access.fetched.len());
+    let mut columns = Vec::with_capacity(alloc, count)?;
     columns.extend_from_slice(access.key.as_slice())?;
     columns.extend_from_slice(access.fetched.as_slice())?;
     Ok(columns)
@@ -46,7 +47,8 @@ fn classes_joined(
     ensures { IfOk result (λ joined. joined.items
         ≡ classes.now ++ map (class_of_column block.now atom) columns.now) }
 {
-    let mut joined = Vec::new(alloc);
+    let count = classes.len().saturating_add(columns.len());
+    let mut joined = Vec::with_capacity(alloc, count)?;
     joined.extend_from_slice(classes)?;
     for column in columns {
         joined.push(class_at(block, atom, *column))?;

@@ -6,11 +6,11 @@
 #![tactic(auto)]
 
 mod extending;
-mod fetched;
 mod fetching;
 mod joining;
 mod keeping;
 mod matching;
+mod pairs;
 mod picking;
 mod places;
 mod probing;
@@ -22,12 +22,13 @@ mod tables;
 mod valuations;
 
 pub use extending::extend;
-pub use fetched::extend_fetched;
-pub use fetching::{fetch, keys_of};
+pub use fetching::{Tuples, fetch};
 pub use joining::Join;
 pub use keeping::keep;
 pub use projecting::project;
 pub use sets::{subtract, unite};
-pub use stages::{Stage, joined, joined_output, key_of_row, leads, output_of, stage_of};
+pub use stages::{
+    Stage, is_joined_output, joined, joined_output, key_of_row, leads, output_of, stage_of,
+};
 pub use starting::{start, start_block};
 pub use valuations::Valuations;

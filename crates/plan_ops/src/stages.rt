@@ -1,5 +1,5 @@
 // One step from one valuation.
-ghost use Rattle.std.specs.Prelude.{◌≡◌, ◌<◌, ◌+◌, length, pos, slice_index_or, IfOk, IsTrue};
+ghost use Rattle.std.specs.Prelude.{◌≡◌, ◌↔◌, ◌<◌, ◌+◌, length, pos, slice_index_or, IfOk, IsTrue};
 ghost use Rattle.beas_core.specs.declared.value.Value.TheVariants.{Int};
 ghost use Rattle.beas_core.specs.Coverage.{ClassesInRange, holds_classes, key_classes};
 ghost use Rattle.beas_core.specs.Groups.{project, value_at};
@@ -9,9 +9,9 @@ ghost use Rattle.plan_ops.specs.Joins.{IsWithin, joined_by};
 ghost use Rattle.plan_ops.specs.Over.{set_of};
 ghost use Rattle.plan_ops.specs.Stages.{IsPair, IsStage, bound_with, joined_row, key_by, leads_to, set_before, use_at};
 
-use crate::fetched::{joined_pair, pair_fits, value_in_pair};
 use crate::joining::{Join, join_of};
 use crate::keeping::{place_among, sign_holds};
+use crate::pairs::{joined_pair, pair_fits, value_in_pair};
 use crate::picking::values_in;
 use crate::places::{columns_at, columns_in};
 use beas_core::{
@@ -211,6 +211,52 @@ pub fn joined_output(
         (joined_row normal (use_at stage.now) (set_before normal stage.now) row.now tuple.now)) }
 {
     output_values(alloc, &stage.join, row, tuple, &stage.output)
+}
+
+// Whether a joined row has a value in a column. One past its end has a made-up one, since nothing reaches it.
+fn has_value(join: &Join, row: &[Value], tuple: &[Value], column: ColumnId, value: &Value) -> bool
+    requires within { IsWithin (length row.now + length tuple.now) join.now }
+    ensures { IsTrue result ↔ (value.now ≡ value_at (joined_by join.now.sources.items row.now tuple.now) column) }
+{
+    let column = usize::from(column.0);
+    if column < join.sources.len() {
+        *value == *joined_value(join, row, tuple, column)
+    } else {
+        *value == Value::Int(0)
+    }
+}
+
+// Whether a joined row has these values in some columns.
+fn has_values(
+    join: &Join,
+    row: &[Value],
+    tuple: &[Value],
+    columns: &[ColumnId],
+    values: &[Value],
+) -> bool
+    requires within { IsWithin (length row.now + length tuple.now) join.now }
+    ensures { IsTrue result ↔ (values.now ≡ project columns.now (joined_by join.now.sources.items row.now tuple.now)) }
+{
+    if values.len() != columns.len() {
+        return false;
+    }
+    for (i, value) in values.iter().enumerate() {
+        if !has_value(join, row, tuple, columns[i], value) {
+            return false;
+        }
+    }
+    true
+}
+
+/// Whether a row is the output row of the valuation with the values of a tuple that its key finds. It makes no row and
+/// takes no memory.
+pub fn is_joined_output(stage: &Stage, row: &[Value], tuple: &[Value], output: &[Value]) -> bool
+    requires within { IsWithin (length row.now + length tuple.now) stage.now.join }
+    ensures { (normal : Normal) → IsStage normal stage.now → IsPair normal stage.now row.now tuple.now
+        → (IsTrue result ↔ (output.now ≡ output_row normal (bound_with normal (use_at stage.now) (set_before normal stage.now))
+        (joined_row normal (use_at stage.now) (set_before normal stage.now) row.now tuple.now))) }
+{
+    has_values(&stage.join, row, tuple, &stage.output, output)
 }
 
 /// The output row of a valuation of these classes.

@@ -1,19 +1,14 @@
-use Rattle.std.proofs.Common.{◌<◌, ◌≤◌, ◌∙◌, length, sym, subst}
+use Rattle.std.proofs.Common.{rules, ◌≡◌, ◌∙◌, ap}
 use Rattle.std.specs.Option.{option_copied}
-use Rattle.block_walk.specs.Walks.{route}
-use Rattle.block_walk.proofs.PartFacts.{if_ok}
-use Rattle.block_walk.proofs.StageFacts.{ended_answers, ended_nothing}
+use Rattle.beas_core.specs.Order.{row_cmp}
+use Rattle.beas_core.specs.Sets.{distinct}
+use Rattle.block_walk.specs.Routes.{route}
+use Rattle.block_walk.proofs.LoopFacts.{ended_answers}
 use Rattle.block_walk.proofs.walking.answer.Goals as goal
 
-pub returns-then-done-plan : goal.returns-then-done-plan
-returns-then-done-plan c = λ w sound agree.
+pub returns-clause-rows : goal.returns-clause-rows
+returns-clause-rows c = λ w sound agree.
     let r = route c.args.block.now (option_copied c.args.guide) c.args.plan.now in
-    c.new.ensures ∙ sym (ended_nothing w r c.requires.classes c.requires.constants c.requires.fits sound c.args.walk.now
-    (c.requires.stands w sound agree) c.requires.ended
-    (subst (λ n. n < length c.args.plan.now) c.len-done.ensures c.if-done-plan.true))
-
-pub returns : goal.returns
-returns c = if_ok c.project.result (λ rows h. λ w sound agree.
-    let r = route c.args.block.now (option_copied c.args.guide) c.args.plan.now in
-    h ∙ ended_answers w r c.requires.classes c.requires.constants c.requires.fits sound c.args.walk.now
-    (c.requires.stands w sound agree) (subst (λ n. length c.args.plan.now ≤ n) c.len-done.ensures c.if-done-plan.false)) c.project.ensures
+    let taken : c.replace-rows.result ≡ c.args.walk.now.through = search rules in
+    c.from_vec.ensures ∙ c.sort_distinct.ensures ∙ ap (distinct row_cmp) (c.into_vec.ensures ∙ taken)
+    ∙ ended_answers w r c.args.walk.now (c.requires.stands w sound agree) c.requires.ended

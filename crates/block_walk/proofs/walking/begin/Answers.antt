@@ -1,23 +1,18 @@
+use Rattle.std.proofs.Common.{refl}
 use Rattle.std.specs.Option.{option_copied}
-use Rattle.std.proofs.Common.{None, refl}
 use Rattle.block_walk.specs.declared.walking.Walk.{Walk}
-use Rattle.block_walk.proofs.TurnFacts.{first_fetched, first_stands, first_tidy}
+use Rattle.block_walk.proofs.StartFacts.{first_stands, first_tidy}
 use Rattle.block_walk.proofs.walking.begin.Goals as goal
-
-pub returns-clause-fetched : goal.returns-clause-fetched
-returns-clause-fetched c =
-    let walk : Walk = record { finished = c.new.result; under_way = None; from = c.in_ok-from.from } in
-    first_fetched c.args.block.now (option_copied c.args.guide) c.in_ok-from.from c.in_ok-from.ensures.over c.in_ok-from.ensures.rows walk
-    c.new.ensures refl refl
 
 pub returns-clause-tidy : goal.returns-clause-tidy
 returns-clause-tidy c =
-    let walk : Walk = record { finished = c.new.result; under_way = None; from = c.in_ok-from.from } in
+    let walk : Walk = record { first = c.in_ok-from.from.classes; stages = c.new.result; known = c.new-2.result; pending = c.in_ok-pending.pending; through = c.new-3.result } in
     first_tidy c.args.block.now (option_copied c.args.guide) c.in_ok-from.from c.in_ok-from.ensures.over c.in_ok-from.ensures.rows walk
-    c.new.ensures refl refl
+    refl c.new.ensures.items c.new-2.ensures.empty c.new-2.ensures.ordered c.in_ok-pending.ensures c.new-3.ensures
 
 pub returns-clause-stands : goal.returns-clause-stands
 returns-clause-stands c =
-    let walk : Walk = record { finished = c.new.result; under_way = None; from = c.in_ok-from.from } in
+    let walk : Walk = record { first = c.in_ok-from.from.classes; stages = c.new.result; known = c.new-2.result; pending = c.in_ok-pending.pending; through = c.new-3.result } in
     first_stands c.args.block.now (option_copied c.args.guide) c.in_ok-from.from c.in_ok-from.ensures.over c.in_ok-from.ensures.rows walk
-    c.new.ensures refl refl
+    refl c.new.ensures.items c.new-2.ensures.empty c.new-2.ensures.ordered c.in_ok-pending.ensures c.new-3.ensures
+    c.requires.classes c.requires.constants c.requires.fits

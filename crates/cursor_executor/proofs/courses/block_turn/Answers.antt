@@ -1,8 +1,8 @@
 use Rattle.std.proofs.Common.{◌≡◌, ◌∙◌, Option, Some, ap, subst, sym}
 use Rattle.std.specs.Option.{option_copied}
-use Rattle.block_walk.specs.Walks.{Route, route}
-use Rattle.depth_walk.specs.declared.walking.Walk.{Walk}
-use Rattle.depth_walk.specs.Walks.{IsTidy}
+use Rattle.block_walk.specs.Routes.{Route, route}
+use Rattle.block_walk.specs.declared.walking.Walk.{Walk}
+use Rattle.block_walk.specs.Walks.{IsTidy}
 use Rattle.cursor_executor.specs.Courses.{StandsOn}
 use Rattle.cursor_executor.proofs.courses.block_turn.Goals.{in-Some, in-None+in_ok-walk-in-None}
 use Rattle.cursor_executor.proofs.courses.block_turn.Goals as goal

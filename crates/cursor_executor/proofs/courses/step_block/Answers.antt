@@ -1,7 +1,7 @@
 use Rattle.std.proofs.Common.{◌∙◌, ◌<◌, Some, length, refl, ap, sym, subst}
 use Rattle.std.specs.Option.{option_copied}
 use Rattle.block_walk.specs.Worlds.{world}
-use Rattle.depth_walk.proofs.LoopFacts.{on_err}
+use Rattle.block_walk.proofs.LoopFacts.{on_err}
 use Rattle.cursor_executor.specs.Fetching.{steps_of}
 use Rattle.cursor_executor.specs.Operations.{guide_at, normal_at}
 use Rattle.cursor_executor.proofs.StepFacts.{block_fits, place_inside, step_agrees, step_classes, step_constants, step_course, step_ended, step_finished, step_guide, step_ran, step_sound, step_spent, step_stands, step_stepped}

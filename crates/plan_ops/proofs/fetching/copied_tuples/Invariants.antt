@@ -1,5 +1,9 @@
-use Rattle.std.proofs.Common.{◌≡◌, take}
+use Rattle.std.proofs.Common.{◌≡◌, ◌*◌, length, take}
+use Rattle.plan_ops.specs.Fetched.{rows_in}
 use Rattle.plan_ops.proofs.fetching.copied_tuples.Given as goal
 
 abbrev pub invariant-loop-i : goal.invariant-loop-i
-invariant-loop-i g l = l.tuples.items ≡ take l.i (g.P.AccessPort.members l.port l.hits)
+invariant-loop-i g l = record {
+  cut : rows_in (length l.columns) l.i l.values.items ≡ take l.i (g.P.AccessPort.members l.port l.hits);
+  whole : length l.values.items ≡ l.i * length l.columns;
+}

@@ -1,3 +1,0 @@
-pub mod Descents
-pub mod Turns
-pub mod Walks

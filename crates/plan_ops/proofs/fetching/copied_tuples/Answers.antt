@@ -1,0 +1,25 @@
+use Rattle.std.proofs.Common.{rules, ◌≡◌, ◌<◌, ◌+◌, ◌*◌, ◌++◌, ◌∷◌, ◌∙◌, [], length, take, get_or, sym, ap, arith, length-append}
+use Rattle.std.proofs.lemmas.List.{take_more}
+use Rattle.plan_ops.specs.Fetched.{rows_in}
+use Rattle.plan_ops.proofs.FetchedFacts.{rows_more, tuple_at}
+use Rattle.plan_ops.proofs.fetching.copied_tuples.Goals as goal
+
+pub loop-i-preserved : goal.loop-i-preserved
+loop-i-preserved g c =
+    let members = g.P.AccessPort.members c.args.port.now in
+    let hits = c.args.hits.now in
+    let columns = c.args.columns.now in
+    let i = c.loop-i.i in
+    let values = c.loop-i.values.items in
+    let tuple = get_or (members hits) i [] in
+    let below : i < hits.len = search rules in
+    let count = c.requires.hits.count in
+    let wide = (tuple_at (g.P.AccessPort.accesses c.args.port.now) (g.P.AccessPort.stands c.args.port.now) members hits c.requires.hits columns
+    c.requires.columns i below).wide in
+    let pushed = c.in_ok-push_tuple.ensures in
+    let whole = c.loop-i.invariant.whole in
+    let sum = length-append values tuple in record {
+      cut = ap (rows_in (length columns) (i + 1)) pushed ∙ rows_more (length columns) i values tuple whole wide
+          ∙ ap (λ rows. rows ++ tuple ∷ []) c.loop-i.invariant.cut ∙ sym (take_more (members hits) i [] (omega (arith, below, count)));
+      whole = ap length pushed ∙ omega (arith, sum, whole, wide);
+    }
