@@ -43,7 +43,7 @@ impl Model for AccessIndex {
 }
 
 /// The columns of a constraint's tuples.
-fn joined_columns(alloc: Global, access: &Access) -> Result<List<ColumnId>, NoMemory>
+pub fn joined_columns(alloc: Global, access: &Access) -> Result<List<ColumnId>, NoMemory>
     ensures { IfOk result (λ columns. columns ≡ member_columns access.now) }
 {
     let mut columns = access.key.as_slice().to_vec(alloc)?;

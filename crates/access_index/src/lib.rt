@@ -8,5 +8,6 @@ mod lending;
 mod tally;
 mod values;
 
-pub use index::AccessIndex;
+pub use index::{AccessIndex, joined_columns};
+pub use lending::{Lent, lend_in_order, lend_new_in_order};
 pub use tally::Tally;

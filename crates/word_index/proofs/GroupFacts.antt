@@ -1,17 +1,21 @@
 -- A group over codes, read by the values of the codes, and its edits.
-use Rattle.std.proofs.Common.{◌≡◌, ◌≢◌, ◌≤◌, ◌<◌, ◌+◌, ℕ, zero, suc, Bool, true, false, cond, inl, inr, List, [], ◌∷◌, length, get_or, refl, ap, sym, ◌∙◌, subst, arith}
+use Rattle.std.proofs.Common.{◌≡◌, ◌≢◌, ◌≤◌, ◌<◌, ◌+◌, ◌⊎◌, ℕ, zero, suc, Bool, true, false, cond, inl, inr, List, [], ◌∷◌, length, get_or, refl, ap, sym, ◌∙◌, subst, arith}
 use Rattle.std.specs.List.{AllByRecursion, filter, insert, remove}
 use Rattle.std.proofs.Math.ListN.{set}
 use Rattle.std.proofs.lemmas.List.{get_or-map}
 use Rattle.std.proofs.lemmas.List.Sums.{sum_by-cons}
+use Rattle.std.specs.Ordering.{is_lt}
+use Rattle.std.specs.declared.cmp.Ordering.{Ordering}
+use Rattle.std.specs.declared.cmp.Ordering.TheVariants.{Less, Equal, Greater}
 use Rattle.beas_core.specs.declared.value.Value.{Value}
-use Rattle.beas_core.specs.Order.{row_cmp}
+use Rattle.beas_core.specs.Order.{row_cmp, row_cmp_total}
 use Rattle.beas_core.specs.Sets.{IsInOrder}
 use Rattle.beas_core.specs.Groups.{same_row}
 use Rattle.beas_core.proofs.Groups.{same_row_true}
 use Rattle.beas_core.proofs.Sets.{Has}
 use Rattle.access_index.specs.declared.tally.Tally.{Tally}
 use Rattle.access_index.specs.Buckets.{tuples_in, count_for, count_in, AllCounted, IsGap, IsOneMore}
+use Rattle.access_index.proofs.Places.{tuple_place}
 use Rattle.access_index.proofs.Counting.{raised, lowered, put_in, taken_out}
 use Rattle.word_index.specs.declared.coded.Coded.{Coded}
 use Rattle.word_index.specs.Codes.{AreDistinct}
@@ -120,3 +124,44 @@ filter_read codes test (c ∷ g) = by (test (read_tally codes c)) (filter_read c
         ≡ length (cond b (read_tally codes c ∷ filter test (read_group codes g)) (filter test (read_group codes g)))
     by true h = ap suc h
     by false h = h
+
+less_is : (o : Ordering) → is_lt o ≡ true → o ≡ Less
+less_is Less e = refl
+less_is Equal e = cc
+less_is Greater e = cc
+
+-- where the last tuple stands before another one, all do
+pub end_gap : (x : List Value) (ts : List Tally) → IsInOrder row_cmp (tuples_in ts) → (last : ℕ) → last + 1 ≡ length ts
+    → ((d : Tally) → row_cmp (get_or ts last d).tuple x ≡ Less) → IsGap ts x (length ts)
+end_gap x ts o last at e = record {
+  within = omega arith;
+  before = λ k d l. less_is (row_cmp (get_or ts k d).tuple x) (tuple_place x ts o k last d (omega (arith, l, at)) (omega (arith, at)) (ap is_lt (e d)));
+  after = λ k d h l. absurd (omega (arith, h, l));
+}
+
+not_before_itself : (x : List Value) → row_cmp x x ≡ Less → ⊥
+not_before_itself x e = let r = row_cmp_total.antisymm x x in cc
+
+before_or_not : (m n : ℕ) → (m < n) ⊎ (n ≤ m)
+before_or_not zero zero = inr (omega arith)
+before_or_not zero (suc n) = inl (omega arith)
+before_or_not (suc m) zero = inr (omega arith)
+before_or_not (suc m) (suc n) = elim (before_or_not m n) [ inl h ↦ inl (omega arith) | inr h ↦ inr (omega arith) ]
+
+not_in_gap : (x : List Value) (ts : List Tally) (at : ℕ) → IsGap ts x at → (k : ℕ) (d : Tally) → k < length ts → (get_or ts k d).tuple ≡ x → ⊥
+not_in_gap x ts at gap k d l e = elim (before_or_not k at) [
+  | inl b ↦ not_before_itself x (ap (λ y. row_cmp y x) (sym e) ∙ gap.before k d b)
+  | inr a ↦ not_before_itself x (ap (row_cmp x) (sym e) ∙ gap.after k d a l)
+]
+
+none_has : (codes : List Value) (words : List ℕ) (g : List Coded)
+    → ((k : ℕ) (d : Tally) → k < length (read_group codes g) → (get_or (read_group codes g) k d).tuple ≡ read codes words → ⊥)
+    → AllByRecursion (λ (c : Coded). c.words ≢ words) g
+none_has codes words [] f = tt
+none_has codes words (c ∷ g) f =
+    (λ e. f 0 (read_tally codes c) (omega arith) (ap (read codes) e), none_has codes words g (λ k d l e. f (suc k) d (omega (arith, l)) e))
+
+-- where a tuple would go in, no tuple has its words
+pub gap_lacks : (codes : List Value) (words : List ℕ) (g : List Coded) (at : ℕ) → IsGap (read_group codes g) (read codes words) at
+    → AllByRecursion (λ (c : Coded). c.words ≢ words) g
+gap_lacks codes words g at gap = none_has codes words g (not_in_gap (read codes words) (read_group codes g) at gap)

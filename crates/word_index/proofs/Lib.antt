@@ -1,5 +1,6 @@
 pub mod Changing
 pub mod CodeFacts
+pub mod CopyFacts
 pub mod Greatest
 pub mod GroupFacts
 pub mod Growth

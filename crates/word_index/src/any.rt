@@ -1,5 +1,5 @@
 // The index of an access constraint by the width of its key.
-ghost use Rattle.std.specs.Prelude.{◌≡◌, ◌+◌, ◌<◌, ◌≤◌, ◌^◌, ◌↔◌, ◌++◌, ◌∷◌, [], ℕ, List, length, map, slice_index_or, IsTrue, IfSome, MatchOption, OnOk, OnErr};
+ghost use Rattle.std.specs.Prelude.{◌≡◌, ◌+◌, ◌<◌, ◌≤◌, ◌^◌, ◌↔◌, ◌++◌, ◌∷◌, [], ℕ, List, length, map, slice_index_or, IsTrue, IfSome, MatchOption, IfOk, OnOk, OnErr};
 ghost use Rattle.beas_core.specs.declared.value.Value.{Value};
 ghost use Rattle.beas_core.specs.Groups.{Holds, greatest, group_of, member_columns, has_column};
 ghost use Rattle.access_index.specs.Index.{IsIndexOf, WouldHold};
@@ -82,7 +82,9 @@ impl AnyIndex {
     }
 
     /// Whether the row's tuple is there or its group has fewer members than the bound. It takes no memory.
-    pub fn would_hold(&self, words: &[u64]) -> bool
+    pub fn would_hold(&self, interner: &Interner, words: &[u64]) -> bool
+        requires in_order { IsInOrderFor interner.now (index_in self.now) }
+        requires known { AllKnown interner.now (pick (member_columns (index_in self.now).access) words.now) }
         ensures exactly { (codes row : List Value) → IsInOrderFor codes (index_in self.now)
             → Spells codes (member_columns (index_in self.now).access) words.now row
             → (IsTrue result ↔ WouldHold (read_index codes (index_in self.now)) row) }
@@ -91,11 +93,13 @@ impl AnyIndex {
             → IsIndexOf (read_index codes (index_in self.now)) rows → Holds rows (index_in self.now).access
             → (IsTrue result ↔ Holds (rows ++ row ∷ []) (index_in self.now).access) }
     {
-        of_any!(self, index => index.would_hold(words))
+        of_any!(self, index => index.would_hold(interner, words))
     }
 
     /// Counts one row fewer, wherever among the rows it stood. The tuple goes with its last row. It takes no memory.
-    pub fn remove(&mut self, words: &[u64])
+    pub fn remove(&mut self, interner: &Interner, words: &[u64])
+        requires in_order { IsInOrderFor interner.now (index_in self.old) }
+        requires known { AllKnown interner.now (pick (member_columns (index_in self.old).access) words.now) }
         ensures access { (index_in self.new).access ≡ (index_in self.old).access }
         ensures total { (index_in self.new).total ≤ (index_in self.old).total }
         ensures in_order { (codes : List Value) → IsInOrderFor codes (index_in self.old) → IsInOrderFor codes (index_in self.new) }
@@ -104,7 +108,7 @@ impl AnyIndex {
             → IsIndexOf (read_index codes (index_in self.old)) (front ++ row ∷ back)
             → IsIndexOf (read_index codes (index_in self.new)) (front ++ back) }
     {
-        of_any!(self, index => index.remove(words))
+        of_any!(self, index => index.remove(interner, words))
     }
 
     /// The place and the length of a key's group, or none where it is empty. It takes no memory.
@@ -138,5 +142,19 @@ impl AnyIndex {
             → result ≡ greatest rows (index_in self.now).access.key (index_in self.now).access.fetched }
     {
         of_any!(self, index => index.greatest())
+    }
+
+    /// An equal index, in a time that grows with its size.
+    pub fn copy(&self, alloc: Global) -> Result<AnyIndex, NoMemory>
+        ensures { IfOk result (λ copy. index_in copy ≡ index_in self.now) }
+    {
+        match self {
+            AnyIndex::Zero(index) => Ok(AnyIndex::Zero(index.copy(alloc)?)),
+            AnyIndex::One(index) => Ok(AnyIndex::One(index.copy(alloc)?)),
+            AnyIndex::Two(index) => Ok(AnyIndex::Two(index.copy(alloc)?)),
+            AnyIndex::Three(index) => Ok(AnyIndex::Three(index.copy(alloc)?)),
+            AnyIndex::Four(index) => Ok(AnyIndex::Four(index.copy(alloc)?)),
+            AnyIndex::Long(index) => Ok(AnyIndex::Long(index.copy(alloc)?)),
+        }
     }
 }

@@ -6,10 +6,10 @@ ghost use Rattle.access_index.specs.Index.{IsIndexOf, WouldHold};
 ghost use Rattle.word_index.specs.Codes.{AreDistinct};
 ghost use Rattle.word_index.specs.Reading.{read, read_index, pick, AllKnown, Spells, IsInOrderFor, words_at, word_in};
 
-use crate::group::{Group, count_down, count_up, of_one, position_of};
+use crate::group::{Group, count_down, count_up, of_one, position_of, put_copy};
 use crate::interner::Interner;
 use crate::words::{array_of, key_of, word_of};
-use beas_core::{Access, ColumnId, List, NoMemory};
+use beas_core::{Access, ColumnId, Duplicate, List, NoMemory};
 use indexmap::IndexMap;
 use std::alloc::Global;
 use std::marker::Model;
@@ -32,6 +32,24 @@ impl<const K: usize> Model for FixedIndex<K> {
 
     ghost invariant = { λ s. (length s.access.key ≡ K) × (K ≤ 4)
         × IsOrdered (record { access = s.access; total = s.total; groups = s.groups.entries }) };
+}
+
+/// The same groups under the same keys.
+fn copy_groups<const K: usize>(
+    alloc: Global,
+    groups: &IndexMap<[u64; K], Group>,
+) -> Result<IndexMap<[u64; K], Group>, NoMemory>
+    requires small { K ≤ 4 }
+    ensures { IfOk result (λ copy. copy.entries ≡ groups.now.entries) }
+{
+    let mut copy = IndexMap::new(alloc);
+    for i in 0..groups.len() {
+        let Some((key, group)) = groups.get_index(i) else {
+            unreachable!()
+        };
+        put_copy(alloc, &mut copy, *key, group)?;
+    }
+    Ok(copy)
 }
 
 impl<const K: usize> FixedIndex<K> {
@@ -86,7 +104,9 @@ impl<const K: usize> FixedIndex<K> {
     }
 
     /// Whether the row's tuple is there or its group has fewer members than the bound. It takes no memory.
-    pub fn would_hold(&self, words: &[u64]) -> bool
+    pub fn would_hold(&self, interner: &Interner, words: &[u64]) -> bool
+        requires in_order { IsInOrderFor interner.now self.now }
+        requires known { AllKnown interner.now (pick (member_columns self.now.access) words.now) }
         ensures exactly { (codes row : List Value) → IsInOrderFor codes self.now
             → Spells codes (member_columns self.now.access) words.now row
             → (IsTrue result ↔ WouldHold (read_index codes self.now) row) }
@@ -102,13 +122,15 @@ impl<const K: usize> FixedIndex<K> {
                 if group.len() < self.access.bound as usize {
                     return true;
                 }
-                position_of(group, &self.access, words).is_some()
+                position_of(interner, group, &self.access, words).is_some()
             }
         }
     }
 
     /// Counts one row fewer, wherever among the rows it stood. The tuple goes with its last row. It takes no memory.
-    pub fn remove(&mut self, words: &[u64])
+    pub fn remove(&mut self, interner: &Interner, words: &[u64])
+        requires in_order { IsInOrderFor interner.now self.old }
+        requires known { AllKnown interner.now (pick (member_columns self.old.access) words.now) }
         ensures access { self.new.access ≡ self.old.access }
         ensures total { self.new.total ≤ self.old.total }
         ensures in_order { (codes : List Value) → IsInOrderFor codes self.old → IsInOrderFor codes self.new }
@@ -122,7 +144,7 @@ impl<const K: usize> FixedIndex<K> {
             Some(group) => group,
             None => return,
         };
-        let at = match position_of(group, &self.access, words) {
+        let at = match position_of(interner, group, &self.access, words) {
             Some(at) => at,
             None => return,
         };
@@ -180,5 +202,18 @@ impl<const K: usize> FixedIndex<K> {
             best = (self.groups[i].len() as u32).max(best);
         }
         best
+    }
+
+    /// An equal index, in a time that grows with its size.
+    pub fn copy(&self, alloc: Global) -> Result<FixedIndex<K>, NoMemory>
+        ensures { IfOk result (λ copy. copy ≡ self.now) }
+    {
+        let access = self.access.copy(alloc)?;
+        let groups = copy_groups(alloc, &self.groups)?;
+        Ok(FixedIndex {
+            access,
+            total: self.total,
+            groups,
+        })
     }
 }

@@ -1,22 +1,26 @@
 // A group: the tuples of one key in the order of their values, each with how many rows have it.
-ghost use Rattle.std.specs.Prelude.{◌≡◌, ◌≢◌, ◌+◌, ◌<◌, ◌≤◌, ◌^◌, [], ◌∷◌, ℕ, List, length, slice_index_or, MatchResult, MatchOption, OnOk, OnErr, IfOk};
+ghost use Rattle.std.specs.Prelude.{◌≡◌, ◌≢◌, ◌+◌, ◌<◌, ◌≤◌, ◌^◌, [], ◌∷◌, ℕ, List, length, slice_index_or, MatchResult, MatchOption, IsTrue, OnOk, OnErr, IfOk};
 ghost use Rattle.std.specs.Ordering.{is_lt};
 ghost use Rattle.std.specs.List.{AllByRecursion};
 ghost use Rattle.beas_core.specs.declared.value.Value.{Value};
 ghost use Rattle.beas_core.specs.Order.{row_cmp};
 ghost use Rattle.beas_core.specs.Groups.{member_columns};
 ghost use Rattle.beas_core.specs.Sets.{IsInOrder};
+ghost use Rattle.word_index.specs.Codes.{AreDistinct};
 ghost use Rattle.access_index.specs.Buckets.{tuples_in, counts_in, AllCounted, IsGap, IsOneMore};
 ghost use Rattle.word_index.specs.declared.coded.Coded.{Coded};
+ghost use Rattle.indexmap.specs.IndexMap.{insert_entry};
 ghost use Rattle.word_index.specs.Reading.{read, read_group, pick, AllKnown, AllWordsKnown};
 
 use crate::coded::Coded;
 use crate::interner::Interner;
-use crate::words::{compare_tuple, is_tuple, tuple_words};
-use beas_core::{Access, NoMemory};
+use crate::words::{compare_tuple, tuple_words};
+use beas_core::{Access, Duplicate, NoMemory};
 use blocked_list::{Before, BlockedList};
+use indexmap::IndexMap;
 use std::alloc::Global;
 use std::cmp::Ordering;
+use std::hash::Hash;
 
 pub type Group = BlockedList<Coded>;
 
@@ -37,6 +41,22 @@ impl Before<Coded> for TuplePlace<'_> {
     }
 }
 
+/// Whether all tuples of a group come before a row's, which the last one tells.
+fn ends_before(codes: &Interner, group: &Group, access: &Access, words: &[u64]) -> bool
+    requires { IsInOrder row_cmp (tuples_in (read_group codes.now group.now)) }
+    ensures { IsTrue result → IsGap (read_group codes.now group.now)
+        (read codes.now (pick (member_columns access.now) words.now)) (length group.now) }
+{
+    let len = group.len();
+    if len == 0 {
+        return false;
+    }
+    match compare_tuple(codes, group.get(len - 1).words.as_slice(), access, words) {
+        Ordering::Less => true,
+        _ => false,
+    }
+}
+
 /// Where a tuple is by the values of its words, or else where it goes in.
 pub fn search(
     codes: &Interner,
@@ -50,12 +70,16 @@ pub fn search(
         ≡ read codes.now (pick (member_columns access.now) words.now)))
         (λ at. IsGap (read_group codes.now group.now) (read codes.now (pick (member_columns access.now) words.now)) at) }
 {
+    let end = group.len();
+    if ends_before(codes, group, access, words) {
+        return Err(end);
+    }
     let at = group.place_of(&TuplePlace {
         codes,
         access,
         words,
     });
-    if at == group.len() {
+    if at == end {
         return Err(at);
     }
     match compare_tuple(codes, group.get(at).words.as_slice(), access, words) {
@@ -64,18 +88,20 @@ pub fn search(
     }
 }
 
-/// Where a tuple is by its words alone.
-pub fn position_of(group: &Group, access: &Access, words: &[u64]) -> Option<usize>
+/// Where a tuple is by its words: by halves, in the order of the values of words.
+pub fn position_of(codes: &Interner, group: &Group, access: &Access, words: &[u64]) -> Option<usize>
+    requires ordered { IsInOrder row_cmp (tuples_in (read_group codes.now group.now)) }
+    requires distinct { AreDistinct codes.now }
+    requires known { AllWordsKnown codes.now group.now }
+    requires tuple { AllKnown codes.now (pick (member_columns access.now) words.now) }
     ensures { MatchOption result
         (AllByRecursion (λ (c : Coded). c.words ≢ pick (member_columns access.now) words.now) group.now)
         (λ at. (at < length group.now) × ((d : Coded) → (slice_index_or group.now at d).words ≡ pick (member_columns access.now) words.now)) }
 {
-    for i in 0..group.len() {
-        if is_tuple(group.get(i).words.as_slice(), access, words) {
-            return Some(i);
-        }
+    match search(codes, group, access, words) {
+        Ok(at) => Some(at),
+        Err(_) => None,
     }
-    None
 }
 
 /// A group that counts a tuple once.
@@ -133,4 +159,29 @@ pub fn count_down(group: &mut Group, at: usize)
     } else {
         group.remove(at);
     }
+}
+
+/// An equal group.
+pub fn copy_group(alloc: Global, group: &Group) -> Result<Group, NoMemory>
+    ensures { IfOk result (λ copy. copy ≡ group.now) }
+{
+    let mut copy = BlockedList::new(alloc);
+    for i in 0..group.len() {
+        copy.insert(alloc, i, group.get(i).copy(alloc)?)?;
+    }
+    Ok(copy)
+}
+
+/// Puts a copy of a group under a key.
+pub fn put_copy<K: Eq + Hash + Drop>(
+    alloc: Global,
+    groups: &mut IndexMap<K, Group>,
+    key: K,
+    group: &Group,
+) -> Result<(), NoMemory>
+    ensures { OnOk result (groups.new.entries ≡ insert_entry K.eq groups.old.entries key group.now) }
+{
+    let copy = copy_group(alloc, group)?;
+    groups.insert(key, copy)?;
+    Ok(())
 }

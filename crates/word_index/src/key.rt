@@ -11,7 +11,7 @@ ghost use Rattle.word_index.specs.Spelling.{AllHaveCodes, AreCodesOf};
 use crate::interner::Interner;
 use crate::spelling::code_in;
 use crate::words::word_at;
-use beas_core::{ColumnId, NoMemory, Value};
+use beas_core::{ColumnId, Duplicate, NoMemory, Value};
 use indexmap::Equivalent;
 use std::alloc::Global;
 use std::hash::{Hash, Hasher};
@@ -117,6 +117,12 @@ impl LongKey {
         Ok(LongKey {
             words: words.to_vec(alloc)?,
         })
+    }
+}
+
+impl Duplicate for LongKey {
+    fn copy(&self, alloc: Global) -> Result<LongKey, NoMemory> {
+        LongKey::of(alloc, self.words.as_slice())
     }
 }
 

@@ -19,5 +19,5 @@ pub use coded::Coded;
 pub use fixed::FixedIndex;
 pub use interner::Interner;
 pub use long::LongIndex;
-pub use rows::{add_row, find_group, remove_row, would_hold};
+pub use rows::{add_if_holds, add_row, find_group, remove_row, would_hold};
 pub use words::word_at;

@@ -6,11 +6,11 @@ ghost use Rattle.access_index.specs.Index.{IsIndexOf, WouldHold};
 ghost use Rattle.word_index.specs.Codes.{AreDistinct};
 ghost use Rattle.word_index.specs.Reading.{read, read_index, pick, AllKnown, Spells, IsInOrderFor, words_at, word_in};
 
-use crate::group::{Group, count_down, count_up, of_one, position_of};
+use crate::group::{Group, count_down, count_up, of_one, position_of, put_copy};
 use crate::interner::Interner;
 use crate::key::{KeyWords, LongKey};
 use crate::words::word_of;
-use beas_core::{Access, ColumnId, List, NoMemory};
+use beas_core::{Access, ColumnId, Duplicate, List, NoMemory};
 use indexmap::IndexMap;
 use std::alloc::Global;
 use std::marker::Model;
@@ -33,6 +33,23 @@ impl Model for LongIndex {
 
     ghost invariant = { λ s. (length s.access.key ≤ 64)
         × IsOrdered (record { access = s.access; total = s.total; groups = s.groups.entries }) };
+}
+
+/// The same groups under the same keys.
+fn copy_groups(
+    alloc: Global,
+    groups: &IndexMap<LongKey, Group>,
+) -> Result<IndexMap<LongKey, Group>, NoMemory>
+    ensures { IfOk result (λ copy. copy.entries ≡ groups.now.entries) }
+{
+    let mut copy = IndexMap::new(alloc);
+    for i in 0..groups.len() {
+        let Some((key, group)) = groups.get_index(i) else {
+            unreachable!()
+        };
+        put_copy(alloc, &mut copy, key.copy(alloc)?, group)?;
+    }
+    Ok(copy)
 }
 
 impl LongIndex {
@@ -88,7 +105,9 @@ impl LongIndex {
     }
 
     /// Whether the row's tuple is there or its group has fewer members than the bound. It takes no memory.
-    pub fn would_hold(&self, words: &[u64]) -> bool
+    pub fn would_hold(&self, interner: &Interner, words: &[u64]) -> bool
+        requires in_order { IsInOrderFor interner.now self.now }
+        requires known { AllKnown interner.now (pick (member_columns self.now.access) words.now) }
         ensures exactly { (codes row : List Value) → IsInOrderFor codes self.now
             → Spells codes (member_columns self.now.access) words.now row
             → (IsTrue result ↔ WouldHold (read_index codes self.now) row) }
@@ -105,13 +124,15 @@ impl LongIndex {
                 if group.len() < self.access.bound as usize {
                     return true;
                 }
-                position_of(group, &self.access, words).is_some()
+                position_of(interner, group, &self.access, words).is_some()
             }
         }
     }
 
     /// Counts one row fewer, wherever among the rows it stood. The tuple goes with its last row. It takes no memory.
-    pub fn remove(&mut self, words: &[u64])
+    pub fn remove(&mut self, interner: &Interner, words: &[u64])
+        requires in_order { IsInOrderFor interner.now self.old }
+        requires known { AllKnown interner.now (pick (member_columns self.old.access) words.now) }
         ensures access { self.new.access ≡ self.old.access }
         ensures total { self.new.total ≤ self.old.total }
         ensures in_order { (codes : List Value) → IsInOrderFor codes self.old → IsInOrderFor codes self.new }
@@ -126,7 +147,7 @@ impl LongIndex {
             Some(group) => group,
             None => return,
         };
-        let at = match position_of(group, &self.access, words) {
+        let at = match position_of(interner, group, &self.access, words) {
             Some(at) => at,
             None => return,
         };
@@ -183,5 +204,18 @@ impl LongIndex {
             best = (self.groups[i].len() as u32).max(best);
         }
         best
+    }
+
+    /// An equal index, in a time that grows with its size.
+    pub fn copy(&self, alloc: Global) -> Result<LongIndex, NoMemory>
+        ensures { IfOk result (λ copy. copy ≡ self.now) }
+    {
+        let access = self.access.copy(alloc)?;
+        let groups = copy_groups(alloc, &self.groups)?;
+        Ok(LongIndex {
+            access,
+            total: self.total,
+            groups,
+        })
     }
 }

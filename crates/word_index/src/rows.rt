@@ -1,5 +1,5 @@
 // Rows of values that come into and go out of an index of words.
-ghost use Rattle.std.specs.Prelude.{◌≡◌, ◌≤◌, ◌<◌, ◌+◌, ◌^◌, ◌↔◌, ◌++◌, ◌∷◌, [], List, length, map, IsTrue, IfOk, IfSome, OnOk, OnErr, MatchOption};
+ghost use Rattle.std.specs.Prelude.{◌≡◌, ◌≤◌, ◌<◌, ◌+◌, ◌^◌, ◌↔◌, ◌++◌, ◌∷◌, [], List, length, map, IsTrue, IfOk, IfSome, OnOk, OnErr, MatchOption, if◌then◌else◌};
 ghost use Rattle.beas_core.specs.declared.value.Value.{Value};
 ghost use Rattle.beas_core.specs.Groups.{Holds, group_of, project};
 ghost use Rattle.beas_core.specs.Shapes.{AccessIsWellFormed};
@@ -57,7 +57,7 @@ pub fn would_hold(codes: &Interner, index: &AnyIndex, row: &[Value]) -> bool
         → (IsTrue result ↔ Holds (rows ++ row.now ∷ []) (index_in index.now).access) }
 {
     match known_words(codes, index.access(), row) {
-        Some(words) => index.would_hold(&words),
+        Some(words) => index.would_hold(codes, &words),
         None => group_len(codes, index, row) < index.access().bound,
     }
 }
@@ -74,7 +74,7 @@ pub fn remove_row(codes: &Interner, index: &mut AnyIndex, row: &[Value])
         → IsIndexOf (read_index codes.now (index_in index.new)) (front ++ back) }
 {
     match known_words(codes, index.access(), row) {
-        Some(words) => index.remove(&words),
+        Some(words) => index.remove(codes, &words),
         None => {}
     }
 }
@@ -101,4 +101,46 @@ pub fn add_row(
 {
     let words = interned_words(alloc, codes, index.access(), row)?;
     index.add(alloc, codes, &words)
+}
+
+/// Counts one row more, wherever among the rows it stands, where the constraint, if it held, holds with this row too, and
+/// else changes nothing. After an error the index is as it was.
+pub fn add_if_holds(
+    alloc: Global,
+    codes: &mut Interner,
+    index: &mut AnyIndex,
+    row: &[Value],
+) -> Result<bool, NoMemory>
+    requires in_order { IsInOrderFor codes.old (index_in index.old) }
+    requires form { AccessIsWellFormed 64 (index_in index.old).access }
+    requires room { (index_in index.old).total + 1 < 2 ^ 32 }
+    ensures kept { KeepsCodes codes.old codes.new }
+    ensures access { (index_in index.new).access ≡ (index_in index.old).access }
+    ensures total { IfOk result (λ held. (index_in index.new).total ≡ (index_in index.old).total + (if held then 1 else 0)) }
+    ensures in_order { IsInOrderFor codes.new (index_in index.new) }
+    ensures index { IfOk result (λ held. (front back : List (List Value))
+        → IsIndexOf (read_index codes.old (index_in index.old)) (front ++ back)
+        → IsIndexOf (read_index codes.new (index_in index.new)) (if held then front ++ row.now ∷ back else front ++ back)) }
+    ensures holds { IfOk result (λ held. (rows : List (List Value))
+        → IsIndexOf (read_index codes.old (index_in index.old)) rows → Holds rows (index_in index.old).access
+        → (IsTrue held ↔ Holds (rows ++ row.now ∷ []) (index_in index.old).access)) }
+    ensures err { OnErr result (index_in index.new ≡ index_in index.old) }
+{
+    match known_words(codes, index.access(), row) {
+        // Its values' codes are looked up once for both.
+        Some(words) => {
+            if !index.would_hold(codes, &words) {
+                return Ok(false);
+            }
+            index.add(alloc, codes, &words)?;
+            Ok(true)
+        }
+        None => {
+            if !would_hold(codes, index, row) {
+                return Ok(false);
+            }
+            add_row(alloc, codes, index, row)?;
+            Ok(true)
+        }
+    }
 }

@@ -19,15 +19,6 @@ fn has_place(access: &Access, i: usize) -> bool
     i < keys || i - keys < access.fetched.len()
 }
 
-/// Whether a length is that of a constraint's tuples.
-#[tactic(auto, using(crate::proofs::Members::members_long))]
-fn is_width(access: &Access, len: usize) -> bool
-    ensures { IsTrue result ↔ (len ≡ length (member_columns access.now)) }
-{
-    let keys = access.key.len();
-    len >= keys && len - keys == access.fetched.len()
-}
-
 /// The column of a constraint's tuples at a place.
 #[tactic(auto, using(crate::proofs::Members::members_long, crate::proofs::Members::in_key, crate::proofs::Members::in_fetched))]
 pub fn column_at(access: &Access, i: usize) -> ColumnId
@@ -89,21 +80,6 @@ pub fn compare_tuple(codes: &Interner, left: &[u64], access: &Access, words: &[u
         return Ordering::Less;
     }
     Ordering::Equal
-}
-
-/// Whether a tuple is that of a row, by its words alone.
-pub fn is_tuple(left: &[u64], access: &Access, words: &[u64]) -> bool
-    ensures { IsTrue result ↔ (left.now ≡ pick (member_columns access.now) words.now) }
-{
-    if !is_width(access, left.len()) {
-        return false;
-    }
-    for (i, code) in left.iter().enumerate() {
-        if *code != word_at(words, column_at(access, i)) {
-            return false;
-        }
-    }
-    true
 }
 
 /// Adds a row's words in some columns to a tuple.

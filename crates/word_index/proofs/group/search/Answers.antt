@@ -1,10 +1,11 @@
-use Rattle.std.proofs.Common.{◌<◌, length, ap, sym, ◌∙◌, arith}
+use Rattle.std.proofs.Common.{◌<◌, length, ap, sym, ◌∙◌, subst, arith}
 use Rattle.std.specs.Ordering.{is_lt}
 use Rattle.std.proofs.lemmas.List.{get_or_default}
 use Rattle.beas_core.specs.Order.{row_cmp}
 use Rattle.beas_core.proofs.ValueOrder.{row_cmp_tells}
 use Rattle.access_index.proofs.Places.{tuple_place, gap_at, place_le, stands_before}
 use Rattle.access_index.specs.declared.tally.Tally.{Tally}
+use Rattle.access_index.specs.Buckets.{IsGap}
 use Rattle.beas_core.specs.Groups.{member_columns}
 use Rattle.word_index.specs.declared.coded.Coded.{Coded}
 use Rattle.word_index.specs.Reading.{read, read_group, read_tally, pick}
@@ -21,20 +22,20 @@ place_of-at-requires c i j d le lt e =
     ∙ tuple_place x (read_group codes g) c.requires i j (read_tally codes d) le (omega (arith, lt, len))
     (ap (λ (t : Tally). is_lt (row_cmp t.tuple x)) (read_at codes g j d (read_tally codes d) lt) ∙ e)
 
-pub returns-then-at-len : goal.returns-then-at-len
-returns-then-at-len c =
+pub returns-then-at-end : goal.returns-then-at-end
+returns-then-at-end c =
     let codes = c.args.codes.now in
     let g = c.args.group.now in
     let x = read codes (pick (member_columns c.args.access.now) c.args.words.now) in
     gap_at x (read_group codes g) c.place_of-at.result c.requires (c.place_of-at.ensures ∙ filter_read codes (stands_before x) g)
-    (λ d l e. omega (arith, l, c.if-at-len.true, c.len.ensures, length_group codes g))
+    (λ d l e. omega (arith, l, c.if-at-end.true, c.len-end.ensures, length_group codes g))
 
 pub get-requires : goal.get-requires
 get-requires c =
     let codes = c.args.codes.now in
     let g = c.args.group.now in
     let x = read codes (pick (member_columns c.args.access.now) c.args.words.now) in
-    omega (arith, c.if-at-len.false, c.len.ensures, c.place_of-at.ensures, filter_read codes (stands_before x) g, place_le x (read_group codes g), length_group codes g)
+    omega (arith, c.if-at-end.false, c.len-end.ensures, c.place_of-at.ensures, filter_read codes (stands_before x) g, place_le x (read_group codes g), length_group codes g)
 
 pub returns-in-Equal : goal.returns-in-Equal
 returns-in-Equal c =
@@ -42,7 +43,7 @@ returns-in-Equal c =
     let g = c.args.group.now in
     let x = read codes (pick (member_columns c.args.access.now) c.args.words.now) in
     let within : c.place_of-at.result < length g =
-    omega (arith, c.if-at-len.false, c.len.ensures, c.place_of-at.ensures, filter_read codes (stands_before x) g, place_le x (read_group codes g), length_group codes g) in (
+    omega (arith, c.if-at-end.false, c.len-end.ensures, c.place_of-at.ensures, filter_read codes (stands_before x) g, place_le x (read_group codes g), length_group codes g) in (
       within,
       λ d. ap (λ (k : Coded). read codes k.words) (get_or_default g c.place_of-at.result d c.get.result.now within ∙ sym c.get.ensures)
           ∙ ap (read codes) (sym c.as_slice.ensures)
@@ -61,3 +62,9 @@ returns-in_default c =
     ∙ ap (λ ws. row_cmp (read codes ws) x) (c.as_slice.ensures ∙ ap (λ (k : Coded). k.words) c.get.ensures)
     ∙ ap (λ (t : Tally). row_cmp t.tuple x) (sym (read_at codes g at c.get.result.now d (omega (arith, l, length_group codes g))))
     ∙ e))
+
+pub returns-then-ends_before : goal.returns-then-ends_before
+returns-then-ends_before c =
+    let codes = c.args.codes.now in
+    let x = read codes (pick (member_columns c.args.access.now) c.args.words.now) in
+    subst (λ n. IsGap (read_group codes c.args.group.now) x n) (sym c.len-end.ensures) (c.ends_before.ensures c.if-ends_before.true)

@@ -364,3 +364,28 @@ returns-clause-rest c codes row front back o s is =
     (omega (arith, count, c.if-max-gt1.false, c.max.ensures, ap (λ (t : Tally). t.count) at_is, ap (λ (t : Coded). t.count) c.get.ensures))
     (omega (arith, n, c.if-max-gt1.false, c.max.ensures, c.len.ensures))) in
     (left codes o).rest row front back s is
+
+pub position_of-requires-clause-ordered : goal.position_of-requires-clause-ordered
+position_of-requires-clause-ordered c =
+    let access = c.self.inside.access in
+    let es = c.self.inside.groups.entries in
+    let total = c.self.inside.total in
+    let codes = c.args.interner.now in
+    let o = subst (IsInOrderFor codes) (sym c.self.view_is) c.requires.in_order in
+    let g0 = c.in-Some.group.now in
+    let found : lookup (pointwise nat_eq (c.as_slice-key.result.now)) es ≡ Some g0 = sym c.in-Some.ensures.value in
+    (group_holds access codes total es (c.as_slice-key.result.now) o g0 found).ordered
+
+pub position_of-requires-clause-distinct : goal.position_of-requires-clause-distinct
+position_of-requires-clause-distinct c = c.requires.in_order.distinct
+
+pub position_of-requires-clause-known : goal.position_of-requires-clause-known
+position_of-requires-clause-known c =
+    let access = c.self.inside.access in
+    let es = c.self.inside.groups.entries in
+    let total = c.self.inside.total in
+    let codes = c.args.interner.now in
+    let o = subst (IsInOrderFor codes) (sym c.self.view_is) c.requires.in_order in
+    let g0 = c.in-Some.group.now in
+    let found : lookup (pointwise nat_eq (c.as_slice-key.result.now)) es ≡ Some g0 = sym c.in-Some.ensures.value in
+    known_group access codes total es (c.as_slice-key.result.now) o g0 found

@@ -1,0 +1,5 @@
+pub mod Skips
+pub mod MarkFacts
+pub mod OrderFacts
+pub mod KeyFacts
+pub mod SpreadFacts

@@ -1,0 +1,8 @@
+use Rattle.std.proofs.Common.{◌-◌, ◌<◌}
+use Rattle.marked_list.proofs.marks.roomy_stretch.Given as goal
+
+abbrev pub invariant-loop-reach : goal.invariant-loop-reach
+invariant-loop-reach l = record { far : 0 < l.reach; some : 0 < l.least }
+
+abbrev pub decreases-loop-reach : goal.decreases-loop-reach
+decreases-loop-reach l = l.len - l.reach

@@ -1,0 +1,25 @@
+use Rattle.std.proofs.Common.{rules, ◌≤◌, ◌-◌, ◌^◌, sym, ◌∙◌, refl, subst}
+use Rattle.marked_list.specs.Marks.{ArePlaces, in_order}
+use Rattle.marked_list.proofs.SpreadFacts.{spread_rises, spread_sits}
+use Rattle.marked_list.proofs.marks.spread_around.Goals as goal
+
+pub returns-clause-marked : goal.returns-clause-marked
+returns-clause-marked c =
+    let slots = c.args.slots.now in
+    let s = c.roomy_stretch-stretch in
+    let top : s.result.high ≤ 2 ^ 64 - 1 = search (rules, s.type_inv) in
+    let long = c.spread-2.ensures.same_length ∙ c.spread.ensures.same_length in
+    record {
+      places = subst (λ n. ArePlaces n slots) (sym long) c.requires.marked.places;
+      marks = spread_rises (in_order c.args.tuples.now.entries slots) (in_order c.spread.new.tuples.entries slots) (in_order c.spread-2.new.tuples.entries slots) c.args.at s.result c.even_step-step.result _
+          c.requires.marked.marks s.ensures.is s.ensures.before s.ensures.after (c.even_step-step.ensures.some s.ensures.room) c.even_step-step.ensures.fits top refl c.spread.ensures.spread c.spread-2.ensures.spread;
+      few = c.requires.marked.few;
+    }
+
+pub returns-clause-sits : goal.returns-clause-sits
+returns-clause-sits c =
+    let slots = c.args.slots.now in
+    let s = c.roomy_stretch-stretch in
+    let top : s.result.high ≤ 2 ^ 64 - 1 = search (rules, s.type_inv) in
+    spread_sits (in_order c.args.tuples.now.entries slots) (in_order c.spread.new.tuples.entries slots) (in_order c.spread-2.new.tuples.entries slots) c.args.at s.result c.even_step-step.result _
+    c.requires.marked.marks s.ensures.is s.ensures.before s.ensures.after (c.even_step-step.ensures.some s.ensures.room) c.even_step-step.ensures.fits top refl c.spread.ensures.spread c.spread-2.ensures.spread

@@ -1,0 +1,169 @@
+// A list in a time that grows with the logarithm of its length.
+ghost use Rattle.std.specs.Prelude.{◌≡◌, ◌≢◌, ◌<◌, ◌≤◌, ◌+◌, ◌++◌, ◌∷◌, ◌^◌, [], List, length, insert, remove, slice_index_or, slice_set, MatchOption, IfOk, OnOk, OnErr};
+ghost use Rattle.std.specs.List.{AllByRecursion};
+ghost use Rattle.marked_list.specs.Marks.{Item, AreDistinct, IsMarked, SitsAt, in_order, items_of};
+ghost use Rattle.marked_list.specs.declared.slot.Standing.{Standing};
+
+use crate::marks::make_mark;
+use crate::places::{Tuples, count_at, mark_at, place_of_entry, write};
+use crate::slot::{Slot, Standing};
+use crate::words::TupleWords;
+use beas_core::NoMemory;
+use blocked_list::BlockedList;
+use indexmap::IndexMap;
+use std::alloc::Global;
+use std::marker::Model;
+
+/// Distinct tuples, each with how many rows have it.
+#[derive(Drop)]
+pub struct MarkedList {
+    slots: BlockedList<Slot>,
+    tuples: IndexMap<TupleWords, Standing>,
+}
+
+impl Model for MarkedList {
+    ghost use Rattle.std.specs.Prelude.{List};
+    ghost use Rattle.marked_list.specs.Marks.{Item, items_of, IsMarked};
+
+    ghost Value = { List Item };
+
+    ghost view = { λ s. items_of s.tuples.entries s.slots };
+
+    ghost invariant = { λ s. IsMarked s.tuples.entries s.slots };
+}
+
+/// Puts a tuple that isn't there in at a place. After an error all is as before.
+fn put(
+    tuples: &mut Tuples,
+    slots: &mut BlockedList<Slot>,
+    alloc: Global,
+    at: usize,
+    key: TupleWords,
+    standing: Standing,
+) -> Result<(), NoMemory>
+    requires marked { IsMarked tuples.old.entries slots.old }
+    requires within { at ≤ length slots.old }
+    requires room { length slots.old + 1 < 2 ^ 32 }
+    requires absent { AllByRecursion (λ (item : Item). item.words ≢ key) (items_of tuples.old.entries slots.old) }
+    requires sits { SitsAt (in_order tuples.old.entries slots.old) at standing.mark }
+    ensures marked { IsMarked tuples.new.entries slots.new }
+    ensures ok { OnOk result (in_order tuples.new.entries slots.new
+        ≡ insert (in_order tuples.old.entries slots.old) at (key, standing)) }
+    ensures err { OnErr result (items_of tuples.new.entries slots.new ≡ items_of tuples.old.entries slots.old) }
+{
+    let entry = tuples.len() as u32;
+    slots.insert(alloc, at, Slot { entry })?;
+    match tuples.insert(key, standing) {
+        Ok(_) => Ok(()),
+        Err(_) => {
+            slots.remove(at);
+            Err(NoMemory)
+        }
+    }
+}
+
+impl MarkedList {
+    /// A list of no tuples, which takes no memory.
+    pub fn new(alloc: Global) -> MarkedList
+        ensures { result ≡ [] }
+    {
+        MarkedList {
+            slots: BlockedList::new(alloc),
+            tuples: IndexMap::new(alloc),
+        }
+    }
+
+    /// How many tuples there are, of which no two have the same words. It takes no memory.
+    pub fn len(&self) -> usize
+        ensures len { result ≡ length self.now }
+        ensures few { result < 2 ^ 32 }
+        ensures distinct { AreDistinct self.now }
+    {
+        self.tuples.len()
+    }
+
+    /// The words of the tuple at a place. It takes no memory.
+    pub fn words(&self, at: usize) -> &[u64]
+        requires { at < length self.now }
+        ensures { (d : Item) → result.now ≡ (slice_index_or self.now at d).words }
+    {
+        match self.tuples.get_index(self.slots.get(at).entry as usize) {
+            Some((words, _)) => words.as_slice(),
+            None => unreachable!(),
+        }
+    }
+
+    /// How many rows have the tuple at a place. It takes no memory.
+    pub fn count(&self, at: usize) -> u32
+        requires { at < length self.now }
+        ensures { (d : Item) → result ≡ (slice_index_or self.now at d).count }
+    {
+        count_at(&self.tuples, &self.slots, at)
+    }
+
+    /// Where a tuple is by its words alone. It takes no memory.
+    pub fn position_of(&self, words: &[u64]) -> Option<usize>
+        ensures { MatchOption result
+            (AllByRecursion (λ (item : Item). item.words ≢ words.now) self.now)
+            (λ at. (at < length self.now) × ((d : Item) → (slice_index_or self.now at d).words ≡ words.now)) }
+    {
+        match self.tuples.get_index_of(words) {
+            None => None,
+            Some(entry) => Some(place_of_entry(&self.tuples, &self.slots, entry)),
+        }
+    }
+
+    /// Puts a tuple that isn't there in at a place. After an error all is as before.
+    pub fn insert(
+        &mut self,
+        alloc: Global,
+        at: usize,
+        words: &[u64],
+        count: u32,
+    ) -> Result<(), NoMemory>
+        requires within { at ≤ length self.old }
+        requires room { length self.old + 1 < 2 ^ 32 }
+        requires absent { AllByRecursion (λ (item : Item). item.words ≢ words.now) self.old }
+        ensures ok { OnOk result (self.new ≡ insert self.old at (record { words = words.now; count = count })) }
+        ensures err { OnErr result (self.new ≡ self.old) }
+    {
+        let key = TupleWords::of(alloc, words)?;
+        let mark = make_mark(&mut self.tuples, &self.slots, at);
+        let standing = Standing { count, mark };
+        put(&mut self.tuples, &mut self.slots, alloc, at, key, standing)
+    }
+
+    /// Writes how many rows have the tuple at a place. It takes no memory.
+    pub fn recount(&mut self, at: usize, count: u32)
+        requires { at < length self.old }
+        ensures { (d : Item) → self.new ≡ slice_set self.old at (record { words = (slice_index_or self.old at d).words; count = count }) }
+    {
+        let mark = mark_at(&self.tuples, &self.slots, at);
+        write(&mut self.tuples, &self.slots, at, Standing { count, mark });
+    }
+
+    /// Drops the tuple at a place. It takes no memory.
+    pub fn remove(&mut self, at: usize)
+        requires { at < length self.old }
+        ensures { self.new ≡ remove self.old at }
+    {
+        let entry = self.slots.get(at).entry;
+        let last = self.tuples.len() - 1;
+        // The last tuple of the map comes to the place of the one that goes, so its slot names that place from now on.
+        let place = place_of_entry(&self.tuples, &self.slots, last);
+        self.slots.recount(place, entry);
+        self.slots.remove(at);
+        self.tuples.swap_remove_index(entry as usize);
+    }
+
+    /// An equal list, in a time that grows with its length.
+    pub fn copy(&self, alloc: Global) -> Result<MarkedList, NoMemory>
+        ensures { IfOk result (λ copy. copy ≡ self.now) }
+    {
+        let mut copy = MarkedList::new(alloc);
+        for i in 0..self.len() {
+            copy.insert(alloc, i, self.words(i), self.count(i))?;
+        }
+        Ok(copy)
+    }
+}

@@ -1,0 +1,179 @@
+// Marks for new tuples.
+ghost use Rattle.std.specs.Prelude.{◌≡◌, ◌<◌, ◌≤◌, ◌+◌, ◌-◌, ◌*◌, ◌^◌, length};
+ghost use Rattle.marked_list.specs.Marks.{ArePlaces, IsMarked, SitsAt, in_order, items_of, mark_in};
+ghost use Rattle.marked_list.specs.Spreads.{IsStretch, IsSpread, HasRoom};
+
+use crate::places::{Tuples, count_at, mark_at, write};
+use crate::slot::{Slot, Standing};
+use crate::stretch::Stretch;
+use blocked_list::BlockedList;
+
+/// How far from the last mark the next one stands at either end of the list: millions of tuples find room there.
+const STEP: u64 = 1 << 38;
+
+/// A stretch reaches so far to either side of a place at first.
+const NEAR: usize = 16;
+
+/// So far apart the marks of the first stretch come to stand at least, so that many more tuples find room there before the
+/// marks are spread again. A stretch of twice the length may be twice as dense.
+const WIDE: u64 = 1 << 24;
+
+/// The mark of the tuple before a place, or 0 at the front.
+fn mark_before(tuples: &Tuples, slots: &BlockedList<Slot>, at: usize) -> u64
+    requires places { ArePlaces (length tuples.now.entries) slots.now }
+    requires within { at ≤ length slots.now }
+    ensures front { at ≡ 0 → result ≡ 0 }
+    ensures inner { 0 < at → result ≡ mark_in (in_order tuples.now.entries slots.now) (at - 1) }
+{
+    if at == 0 {
+        return 0;
+    }
+    mark_at(tuples, slots, at - 1)
+}
+
+/// The mark of the tuple at a place, or the greatest number past the end.
+fn mark_after(tuples: &Tuples, slots: &BlockedList<Slot>, at: usize) -> u64
+    requires places { ArePlaces (length tuples.now.entries) slots.now }
+    ensures end { length slots.now ≤ at → result ≡ 2 ^ 64 - 1 }
+    ensures inner { at < length slots.now → result ≡ mark_in (in_order tuples.now.entries slots.now) at }
+{
+    if slots.len() <= at {
+        return u64::MAX;
+    }
+    mark_at(tuples, slots, at)
+}
+
+/// The tuples from one place to another with the marks around them.
+fn stretch_of(tuples: &Tuples, slots: &BlockedList<Slot>, first: usize, end: usize) -> Stretch
+    requires marked { IsMarked tuples.now.entries slots.now }
+    requires ordered { first ≤ end }
+    requires within { end ≤ length slots.now }
+    ensures first { result.first ≡ first }
+    ensures end { result.end ≡ end }
+    ensures is { IsStretch (in_order tuples.now.entries slots.now) result }
+    ensures whole { first ≡ 0 → end ≡ length slots.now → (result.low ≡ 0) × (result.high ≡ 2 ^ 64 - 1) }
+{
+    let low = mark_before(tuples, slots, first);
+    let high = mark_after(tuples, slots, end);
+    Stretch {
+        first,
+        end,
+        low,
+        high,
+    }
+}
+
+/// How far apart the marks of a stretch come to stand where they and one more are spread evenly.
+fn even_step(stretch: &Stretch) -> u64
+    requires ordered { stretch.now.first ≤ stretch.now.end }
+    requires few { stretch.now.end < 2 ^ 32 }
+    requires open_between { stretch.now.low < stretch.now.high }
+    ensures fits { result * (stretch.now.end - stretch.now.first + 2) ≤ stretch.now.high - stretch.now.low }
+    ensures some { HasRoom stretch.now → 0 < result }
+    ensures room { 0 < result → HasRoom stretch.now }
+{
+    let parts = (stretch.end - stretch.first) as u64 + 2;
+    (stretch.high - stretch.low) / parts
+}
+
+/// A stretch around a place that has room for one more tuple. It grows until its marks are far enough apart, at most to
+/// the whole list, so that the work is spread over many inserts.
+fn roomy_stretch(tuples: &Tuples, slots: &BlockedList<Slot>, at: usize) -> Stretch
+    requires marked { IsMarked tuples.now.entries slots.now }
+    requires within { at ≤ length slots.now }
+    ensures is { IsStretch (in_order tuples.now.entries slots.now) result }
+    ensures before { result.first ≤ at }
+    ensures after { at ≤ result.end }
+    ensures room { HasRoom result }
+{
+    let len = slots.len();
+    let mut reach = NEAR;
+    let mut least = WIDE;
+    while reach < len {
+        let stretch = stretch_of(
+            tuples,
+            slots,
+            at.saturating_sub(reach),
+            (at + reach).min(len),
+        );
+        if even_step(&stretch) >= least {
+            return stretch;
+        }
+        reach *= 2;
+        least = (least / 2).max(1);
+    }
+    stretch_of(tuples, slots, 0, len)
+}
+
+/// Gives the tuples from one place to another the marks `low + step`, `low + 2 step` and so on.
+fn spread(
+    tuples: &mut Tuples,
+    slots: &BlockedList<Slot>,
+    first: usize,
+    end: usize,
+    low: u64,
+    step: u64,
+)
+    requires places { ArePlaces (length tuples.old.entries) slots.now }
+    requires ordered { first ≤ end }
+    requires within { end ≤ length slots.now }
+    requires fits { low + step * (end - first) < 2 ^ 64 }
+    ensures same_length { length tuples.new.entries ≡ length tuples.old.entries }
+    ensures spread { IsSpread (in_order tuples.old.entries slots.now) (in_order tuples.new.entries slots.now) first end low step }
+{
+    let mut mark = low;
+    for i in first..end {
+        mark += step;
+        let count = count_at(tuples, slots, i);
+        write(tuples, slots, i, Standing { count, mark });
+    }
+}
+
+/// Spreads the marks around a place evenly, and gives the one that is left free there.
+fn spread_around(tuples: &mut Tuples, slots: &BlockedList<Slot>, at: usize) -> u64
+    requires marked { IsMarked tuples.old.entries slots.now }
+    requires within { at ≤ length slots.now }
+    ensures marked { IsMarked tuples.new.entries slots.now }
+    ensures same { items_of tuples.new.entries slots.now ≡ items_of tuples.old.entries slots.now }
+    ensures sits { SitsAt (in_order tuples.new.entries slots.now) at result }
+{
+    let stretch = roomy_stretch(tuples, slots, at);
+    let step = even_step(&stretch);
+    let mark = stretch.low + step * ((at - stretch.first) as u64 + 1);
+    spread(tuples, slots, stretch.first, at, stretch.low, step);
+    spread(tuples, slots, at, stretch.end, mark, step);
+    mark
+}
+
+/// How far above the mark before a place its new mark stands, where there is a gap of this width.
+fn step_into(gap: u64, at: usize, len: usize) -> u64
+    requires { 2 ≤ gap }
+    ensures some { 0 < result }
+    ensures less { result < gap }
+{
+    let half = gap / 2;
+    if 0 < len && at == len {
+        return half.min(STEP);
+    }
+    if 0 < len && at == 0 {
+        return gap - half.min(STEP);
+    }
+    half
+}
+
+/// A mark for a new tuple at a place. Where there is none between its neighbours, the marks around are spread first, which
+/// callers of the list don't see. It takes no memory.
+pub fn make_mark(tuples: &mut Tuples, slots: &BlockedList<Slot>, at: usize) -> u64
+    requires marked { IsMarked tuples.old.entries slots.now }
+    requires within { at ≤ length slots.now }
+    ensures marked { IsMarked tuples.new.entries slots.now }
+    ensures same { items_of tuples.new.entries slots.now ≡ items_of tuples.old.entries slots.now }
+    ensures sits { SitsAt (in_order tuples.new.entries slots.now) at result }
+{
+    let around = stretch_of(tuples, slots, at, at);
+    let gap = around.high - around.low;
+    if gap < 2 {
+        return spread_around(tuples, slots, at);
+    }
+    around.low + step_into(gap, at, slots.len())
+}

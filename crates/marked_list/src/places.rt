@@ -1,0 +1,74 @@
+// Where a tuple stands in the list, by its place in the map.
+ghost use Rattle.std.specs.Prelude.{◌≡◌, ◌<◌, length, nat_lt, slice_index_or, slice_set};
+ghost use Rattle.marked_list.specs.Marks.{ArePlaces, IsMarked, entry_at, in_order, no_tuple};
+ghost use Rattle.marked_list.specs.declared.slot.Slot.{Slot};
+
+use crate::slot::{Slot, Standing};
+use crate::words::TupleWords;
+use blocked_list::{Before, BlockedList};
+use indexmap::IndexMap;
+
+/// Each tuple's count and mark by its words.
+pub type Tuples = IndexMap<TupleWords, Standing>;
+
+/// The place of a mark.
+#[derive(Drop)]
+struct MarkPlace<'a> {
+    tuples: &'a Tuples,
+    mark: u64,
+}
+
+impl Before<Slot> for MarkPlace<'_> {
+    ghost before = { λ wanted slot. nat_lt (entry_at wanted.tuples.now.entries slot).1.mark wanted.mark };
+
+    fn is_before(&self, slot: &Slot) -> bool {
+        match self.tuples.get_index(slot.entry as usize) {
+            Some((_, standing)) => standing.mark < self.mark,
+            None => 0 < self.mark,
+        }
+    }
+}
+
+/// Which slot names this place of the map, by its mark.
+pub fn place_of_entry(tuples: &Tuples, slots: &BlockedList<Slot>, entry: usize) -> usize
+    requires marked { IsMarked tuples.now.entries slots.now }
+    requires within { entry < length tuples.now.entries }
+    ensures within { result < length slots.now }
+    ensures named { (d : Slot) → (slice_index_or slots.now result d).entry ≡ entry }
+{
+    let mark = tuples[entry].mark;
+    slots.place_of(&MarkPlace { tuples, mark })
+}
+
+/// The mark of the tuple at a place.
+pub fn mark_at(tuples: &Tuples, slots: &BlockedList<Slot>, at: usize) -> u64
+    requires places { ArePlaces (length tuples.now.entries) slots.now }
+    requires within { at < length slots.now }
+    ensures { result ≡ (slice_index_or (in_order tuples.now.entries slots.now) at no_tuple).1.mark }
+{
+    tuples[slots.get(at).entry as usize].mark
+}
+
+/// How many rows have the tuple at a place.
+pub fn count_at(tuples: &Tuples, slots: &BlockedList<Slot>, at: usize) -> u32
+    requires places { ArePlaces (length tuples.now.entries) slots.now }
+    requires within { at < length slots.now }
+    ensures { result ≡ (slice_index_or (in_order tuples.now.entries slots.now) at no_tuple).1.count }
+{
+    tuples[slots.get(at).entry as usize].count
+}
+
+/// Writes the count and the mark of the tuple at a place.
+pub fn write(tuples: &mut Tuples, slots: &BlockedList<Slot>, at: usize, standing: Standing)
+    requires places { ArePlaces (length tuples.old.entries) slots.now }
+    requires within { at < length slots.now }
+    ensures same_length { length tuples.new.entries ≡ length tuples.old.entries }
+    ensures written { in_order tuples.new.entries slots.now ≡ slice_set (in_order tuples.old.entries slots.now) at
+        ((slice_index_or (in_order tuples.old.entries slots.now) at no_tuple).0, standing) }
+{
+    let entry = slots.get(at).entry as usize;
+    let Some(place) = tuples.get_index_mut(entry) else {
+        unreachable!()
+    };
+    *place = standing;
+}

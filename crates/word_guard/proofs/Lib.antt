@@ -1,0 +1,2 @@
+mod PartFacts
+mod PlaceFacts

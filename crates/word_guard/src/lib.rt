@@ -1,0 +1,12 @@
+//! The store whose indexes keep codes of values: tables with their rows, each constraint with its index, and updates that
+//! keep every constraint. A table can be frozen: a copy that stands by itself, with its constraints and their indexes.
+#![tactic(auto)]
+
+mod freezing;
+mod frozen;
+mod frozen_port;
+mod guarded;
+mod port;
+
+pub use frozen::Frozen;
+pub use guarded::WordGuarded;

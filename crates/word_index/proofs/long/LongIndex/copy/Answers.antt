@@ -1,0 +1,16 @@
+use Rattle.std.proofs.Common.{◌≡◌, ◌≤◌, ◌∙◌, length, sym, subst}
+use Rattle.word_index.specs.Reading.{IsOrdered}
+use Rattle.word_index.proofs.long.LongIndex.copy.Goals as goal
+
+pub invariant_of-result : goal.invariant_of-result
+invariant_of-result c =
+    let same : record { access = c.in_ok-access.access; total = c.self.inside.total; groups = c.in_ok-groups.groups.entries }
+    ≡ record { access = c.self.inside.access; total = c.self.inside.total; groups = c.self.inside.groups.entries } =
+    (λ j. record { access = c.in_ok-access.ensures j; total = c.self.inside.total; groups = c.in_ok-groups.ensures j }) in (
+      subst (λ access. length access.key ≤ 64) (sym c.in_ok-access.ensures) c.self.invariant.0,
+      subst IsOrdered (sym same) c.self.invariant.1,
+    )
+
+pub returns : goal.returns
+returns c =
+    (λ j. record { access = c.in_ok-access.ensures j; total = c.self.inside.total; groups = c.in_ok-groups.ensures j }) ∙ c.self.view_is
