@@ -5,6 +5,7 @@ pub mod CarryFacts
 pub mod FileFacts
 pub mod GivenFacts
 pub mod GroupFacts
+pub mod LoadFacts
 pub mod OutputFacts
 pub mod PairFacts
 pub mod PlaceFacts

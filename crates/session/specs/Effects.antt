@@ -4,14 +4,15 @@
 --     Action                              what a statement does at once, or by what the load of its file gives
 --     action_of settings db statement     what the statement does
 -- The rules of refusals are those of the catalogue, the binder and the files; here stands which comes first.
-use Rattle.std.specs.Prelude.{◌+◌, ◌-◌, if◌then◌else◌, ℕ, Bool, List, [], length, map, slice_index_or, unwrap_or, Option, Some, None, option_map, Result, Ok, Err}
-use Rattle.std.specs.Option.{ok_or}
+use Rattle.std.specs.Prelude.{◌+◌, ◌-◌, if◌then◌else◌, nat_lt, ℕ, Bool, List, [], length, map, slice_index_or, unwrap_or, Option, Some, None, option_map, Result, Ok, Err}
+use Rattle.std.specs.Option.{ok_or, option_or}
 use Rattle.beas_core.specs.declared.limits.Limits.{Limits}
 use Rattle.beas_core.specs.declared.plan.Prepared.{Prepared}
 use Rattle.beas_core.specs.declared.query.Block.{Block}
 use Rattle.beas_core.specs.declared.query.Place.{Place}
 use Rattle.beas_core.specs.declared.refusal.Refusal.{Refusal}
-use Rattle.beas_core.specs.declared.refusal.Refusal.TheVariants.{UnknownTable, BadLimit, Unreadable, FileTooLong}
+use Rattle.beas_core.specs.declared.refusal.Refusal.TheVariants.{UnknownTable, BadLimit, Unreadable, FileTooLong, TooMany}
+use Rattle.beas_core.specs.declared.refusal.Counted.TheVariants.{Rows}
 use Rattle.beas_core.specs.declared.schema.Access.{Access}
 use Rattle.beas_core.specs.declared.schema.AccessSpec.{AccessSpec}
 use Rattle.beas_core.specs.declared.schema.Column.{Column}
@@ -20,11 +21,12 @@ use Rattle.beas_core.specs.declared.schema.TableId.{TableId}
 use Rattle.beas_core.specs.Full.{full_of}
 use Rattle.beas_core.specs.Groups.{greatest}
 use Rattle.beas_core.specs.Queries.{query_reads}
+use Rattle.beas_core.specs.Results.{refused_if}
 use Rattle.beas_core.specs.Spelling.{limit_in}
 use Rattle.beas_core.specs.Types.{Row}
 use Rattle.catalogue.specs.Database.{Database, schema_of, rows_at, with_table, with_access, without_access, with_more_rows, with_rows_kept, kept_rows, block_table}
-use Rattle.catalogue.specs.Refusing.{add_table_refusal, resolve_refusal, admit_refusal, drop_access_refusal, insert_refusal, already_broken, new_access, columns_of_named, column_ids}
-use Rattle.catalogue.specs.Schema.{Schema, table_named, columns_at}
+use Rattle.catalogue.specs.Refusing.{add_table_refusal, resolve_refusal, admit_refusal, drop_access_refusal, insert_refusal, already_broken, broken_bound, new_access, columns_of_named, column_ids}
+use Rattle.catalogue.specs.Schema.{Schema, accesses_on, table_named, columns_at}
 use Rattle.sql_tree.specs.declared.tree.Cond.{Cond}
 use Rattle.sql_tree.specs.declared.tree.Literal.{Literal}
 use Rattle.sql_tree.specs.declared.tree.Statement.{Statement}
@@ -115,10 +117,13 @@ drop_access_effect db name =
 
 -- ---- INSERT, LOAD, DELETE
 
+-- rows are added at the end of a table, unless there is a refusal
+abbrev pub adding_rows : Option Refusal → Database → TableId → List Row → Effect
+adding_rows refusal db id rows =
+    unless refusal db (record { report = Changed (length rows); cost = 0; db = with_more_rows db id rows })
+
 abbrev pub add_rows_effect : Limits → Database → TableId → List Row → Effect
-add_rows_effect limits db id rows =
-    unless (insert_refusal limits db id rows) db
-    (record { report = Changed (length rows); cost = 0; db = with_more_rows db id rows })
+add_rows_effect limits db id rows = adding_rows (insert_refusal limits db id rows) db id rows
 
 abbrev pub tuples_binding : Limits → List (List Literal) → Result (List Row) Refusal
 tuples_binding limits tuples = unless_refused (row_refusals limits tuples) (bound_rows tuples)
@@ -133,11 +138,20 @@ insert_effect limits db table tuples =
 abbrev pub file_rows : Limits → List Column → List ℕ → Result (List Row) Refusal
 file_rows limits columns bytes = or_refusal (fault_of limits.text columns bytes) (rows_in limits.text columns bytes)
 
+-- why the rows of a file aren't added, if they aren't: they are too many, or one breaks a bound. They have their table's width and kinds
+abbrev pub load_refusal : Limits → Database → TableId → List Row → Option Refusal
+load_refusal limits db id rows =
+    option_or (refused_if (nat_lt limits.rows (length (rows_at db id) + length rows)) (TooMany Rows limits.rows))
+    (broken_bound (accesses_on db.accesses id) (rows_at db id) rows)
+
+abbrev pub load_rows_effect : Limits → Database → TableId → List Row → Effect
+load_rows_effect limits db id rows = adding_rows (load_refusal limits db id rows) db id rows
+
 abbrev pub load_effect : Limits → Database → List ℕ → TableId → LoadOutcome → Effect
 load_effect limits db file id Failed = refusal_effect db (Unreadable file)
 load_effect limits db file id TooLong = refusal_effect db (FileTooLong limits.file)
 load_effect limits db file id (Content bytes) =
-    with_answer (file_rows limits (columns_at (schema_of db) id) bytes) db (λ rows. add_rows_effect limits db id rows)
+    with_answer (file_rows limits (columns_at (schema_of db) id) bytes) db (λ rows. load_rows_effect limits db id rows)
 
 abbrev pub load_action : Limits → Database → Result TableId Refusal → List ℕ → Action
 load_action limits db (Err why) file = Does (refusal_effect db why)

@@ -2,11 +2,11 @@
 --     Store
 --     database_in store      the database that it stands for
 use Rattle.catalogue.specs.Database.{Database}
-use Rattle.update_guard.specs.declared.guarded.Guarded.{Guarded}
-use Rattle.update_guard.specs.Stored.{database_in as database_of}
+use Rattle.word_guard.specs.declared.guarded.WordGuarded.{WordGuarded}
+use Rattle.word_guard.specs.Stored.{database_in as database_of}
 
 abbrev pub Store : Type 0
-Store = Guarded
+Store = WordGuarded
 
 abbrev pub database_in : Store → Database
 database_in store = database_of store

@@ -2,13 +2,13 @@
 ghost use Rattle.std.specs.Prelude.{◌≡◌, ◌<◌, ◌≤◌, ◌⊎◌, ◌^◌, length, All, IfOk};
 ghost use Rattle.beas_core.specs.Shapes.{BlockIsWellFormed, width_of};
 ghost use Rattle.beas_core.specs.Results.{Gives};
-ghost use Rattle.catalogue.specs.Database.{block_table, schema_of};
+ghost use Rattle.catalogue.specs.Database.{RowFits, block_table, schema_of};
 ghost use Rattle.outside.specs.Counts.{raised};
 ghost use Rattle.outside.specs.Seen.{IsLater};
 ghost use Rattle.catalogue.specs.Schema.{columns_at};
 ghost use Rattle.session.specs.Stores.{database_in};
 ghost use Rattle.session.specs.Carrying.{CarriesOut, Performs};
-ghost use Rattle.session.specs.Effects.{Effect, Does, add_rows_effect, delete_binding, delete_effect, file_rows, insert_effect, load_action, load_effect, table_or_refusal, tuples_binding};
+ghost use Rattle.session.specs.Effects.{Effect, Does, add_rows_effect, delete_binding, delete_effect, file_rows, insert_effect, load_action, load_effect, load_rows_effect, table_or_refusal, tuples_binding};
 ghost use Rattle.session.specs.Statements.{TuplesAreFew};
 ghost use Rattle.session.specs.Ties.{LoadIsShort};
 ghost use Rattle.session.specs.Turns.{IsWithin};
@@ -43,6 +43,25 @@ fn add_rows(
 {
     let rows = store.insert(alloc, limits, table, rows)?;
     Ok(Report::Changed { rows })
+}
+
+/// Adds the rows of a file at the end of its table, all or none. They fit the table's columns.
+fn add_file_rows(
+    alloc: Global,
+    store: &mut Store,
+    limits: &Limits,
+    table: TableId,
+    rows: List<Row>,
+) -> Result<Report, Fail>
+    requires live { table.0 < length (database_in store.old).tables }
+    requires few { length rows < 2 ^ 32 }
+    requires narrow { All (λ row. length row < 2 ^ 32) rows }
+    requires fit { All (RowFits (columns_at (schema_of (database_in store.old)) table)) rows }
+    ensures carried { CarriesOut (load_rows_effect limits.now (database_in store.old) table rows)
+        (database_in store.old) result (database_in store.new) 0 0 }
+    ensures within { IfOk result IsWithin }
+{
+    add_rows(alloc, store, limits, table, rows)
 }
 
 /// The rows of an INSERT.
@@ -90,6 +109,7 @@ fn rows_in_file(
     requires short { length bytes.now ≤ limits.now.file }
     ensures read { Gives result (file_rows limits.now
         (columns_at (schema_of (database_in store.now)) table) bytes.now) }
+    ensures fit { IfOk result (All (RowFits (columns_at (schema_of (database_in store.now)) table))) }
     ensures few { IfOk result (λ rows. length rows < 2 ^ 32) }
     ensures narrow { IfOk result (All (λ row. length row < 2 ^ 32)) }
 {
@@ -114,7 +134,7 @@ fn load_rows(
     match outcome {
         LoadOutcome::Content(bytes) => {
             let rows = rows_in_file(alloc, store, limits, table, bytes)?;
-            add_rows(alloc, store, limits, table, rows)
+            add_file_rows(alloc, store, limits, table, rows)
         }
         LoadOutcome::Failed => Err(Fail::Refused(Refusal::Unreadable {
             file: file.copy(alloc)?,

@@ -15,3 +15,4 @@ mod tables;
 
 pub use loading::{LoadOutcome, load_file};
 pub use session::Session;
+pub use stored::Store;

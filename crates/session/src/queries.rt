@@ -17,9 +17,10 @@ ghost use Rattle.session.specs.Turns.{IsWithin};
 
 use crate::settings::Settings;
 use crate::stored::Store;
-use beas_core::{Answer, Fail, NoMemory, Prepared, Refusal, Steps, Text};
+use beas_core::{Answer, Duplicate, Fail, NoMemory, Prepared, Refusal, Steps, Text};
 use binder::bind;
 use catalogue::Catalogue;
+use cursor_executor::Cursor;
 use plan_builder::prepare;
 use plan_executor::execute;
 use report::{Report, plan_text};
@@ -101,7 +102,7 @@ pub fn plan_shown(
     }
 }
 
-/// The answer of a query, from the indexes of the constraints.
+/// The answer of a query, by the operations of its derivations.
 pub fn answer<L: Ledger>(
     alloc: Global,
     store: &Store,
@@ -120,6 +121,26 @@ pub fn answer<L: Ledger>(
     execute(alloc, store, prepared, steps)
 }
 
+/// The answer of a query, by a cursor that goes on until no probe is due.
+fn answer_by_cursor<L: Ledger>(
+    alloc: Global,
+    store: &Store,
+    prepared: Prepared,
+    steps: &mut Steps<L>,
+) -> Result<Answer, NoMemory>
+    requires { Fits store.now.catalogue.accesses (rows_at (database_in store.now)) prepared }
+    ensures rows { IfOk result (λ answer. answer.rows ≡ full_of (rows_at (database_in store.now)) prepared.query) }
+    ensures reads { IfOk result (λ answer. answer.reads ≡ reads_in (database_in store.now) prepared) }
+    ensures within { IfOk result (λ answer. answer.reads ≤ prepared.bound) }
+    ensures cost { OnOk result (steps.new ≡ steps.old + reads_in (database_in store.now) prepared) }
+    ensures at_most { steps.new ≤ steps.old + reads_in (database_in store.now) prepared }
+    ensures no_fewer { steps.old ≤ steps.new }
+{
+    let mut cursor = Cursor::begin(alloc, prepared)?;
+    cursor.complete(alloc, store, steps)?;
+    Ok(cursor.finish())
+}
+
 /// The report of a query that is announced.
 fn answer_report<L: Ledger>(
     alloc: Global,
@@ -134,12 +155,14 @@ fn answer_report<L: Ledger>(
         (database_in store.now) result (database_in store.now) steps.old steps.new }
     ensures within { IfOk result IsWithin }
 {
+    let bound = prepared.bound;
     let plan = plan_shown(alloc, store, &prepared, explain)?;
-    let answer = answer(alloc, store, &prepared, steps)?;
+    let header = prepared.header.copy(alloc)?;
+    let answer = answer_by_cursor(alloc, store, prepared, steps)?;
     Ok(Report::Answered {
-        bound: prepared.bound,
+        bound,
         plan,
-        header: prepared.header,
+        header,
         rows: answer.rows,
         reads: answer.reads,
     })
