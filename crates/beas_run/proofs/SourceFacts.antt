@@ -15,7 +15,7 @@ use Rattle.beas_run.specs.declared.no_script.NoScript.{NoScript}
 use Rattle.beas_run.specs.declared.no_script.NoScript.TheVariants.{Words, Unread, TooLong, NotText, NoMemory}
 use Rattle.beas_run.specs.declared.script_source.Source.{Source}
 use Rattle.beas_run.specs.NoScripts.{status_of}
-use Rattle.beas_run.specs.Runs.{seed_of, demo_seed, settings_for, settings_of_words, longest_script, HasLoaded, HasRun, IsNoText, IsScriptOf, IsTooLong, IsWith, WalkedFor}
+use Rattle.beas_run.specs.Runs.{path_of, seed_of, demo_seed, settings_for, settings_of_words, longest_script, HasLoaded, HasRun, IsNoText, IsScriptOf, IsTooLong, IsWith, WalkedFor}
 use Rattle.beas_run.specs.Readings.{readings_of}
 use Rattle.beas_run.specs.Sources.{HasNoScript, IsSource, LoadsScript, RanOver}
 use Rattle.beas_run.specs.Walks.{Moment}
@@ -72,6 +72,13 @@ file_unread path budget explain why before after named unread too_long not_text 
 }
 
 -- ---- the way and the settings that are asked for
+
+pub names_a_file : (args : Args) (path : List ℕ) (budget : Option ℕ) (explain : Bool) → args ≡ Script path budget explain → path_of args ≡ None → ⊥
+names_a_file args path budget explain e none = some≢none path (sym (ap path_of e) ∙ none)
+
+-- what is asked for names no file where the words name none
+pub none_named : (asked : Option Args) (args : Args) → asked ≡ Some args → option_and_then path_of asked ≡ None → path_of args ≡ None
+none_named asked args e none = sym (ap (option_and_then path_of) e) ∙ none
 
 pub way_for : (args asked : Args) (limits : Limits) (text : List ℕ) (status : ℕ) (before after : Moment) → args ≡ asked
     → WalkedFor (Some asked) (settings_for limits asked) (readings_of text) status before after

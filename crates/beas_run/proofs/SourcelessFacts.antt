@@ -20,7 +20,7 @@ use Rattle.beas_run.specs.declared.no_script.NoScript.{NoScript}
 use Rattle.beas_run.specs.declared.no_script.NoScript.TheVariants.{Words, Unread, TooLong, NotText, NoMemory}
 use Rattle.beas_run.specs.NoScripts.{status_of}
 use Rattle.beas_run.specs.Runs.{seed_of, demo_seed, settings_for, settings_of_words, with_files, HasLoaded, HasScript, HasRun, IsContent, IsScriptOf, IsWith, IsWithout, WalkedFor, longest_script}
-use Rattle.beas_run.specs.Demonstrations.{Demonstrated, summary_of, without_output}
+use Rattle.beas_run.specs.Demonstrations.{Demonstrated, empty_files, summary_of, without_outside}
 use Rattle.beas_run.specs.Walks.{Moment, Walked}
 use Rattle.beas_run.proofs.ReachedFacts.{same_later, unstarted}
 use Rattle.beas_run.proofs.ReadingFacts.{found}
@@ -80,7 +80,7 @@ idle (Some (Script path budget explain)) s before after status sent steps db put
 idle (Some (Demo seed budget explain)) s before after status sent steps db puts loads later early fault (inl none) = absurd (some≢none seed none)
 idle (Some (Demo seed budget explain)) s before after status sent steps db puts loads later early fault (inr five) = record {
   ended = 5;
-  walked = unstarted s [] (without_output before) (without_output after) 5 (λ _. refl) steps db refl loads later (omega arith) (omega arith);
+  walked = unstarted s [] (without_outside before) (without_outside after) 5 (λ _. refl) steps db refl refl (same_later empty_files) (omega arith) (omega arith);
   whole = λ below. absurd (omega arith);
   part = λ on. rw (sent on) (none_of before.out.bytes (summary_of []));
   unsent = λ _ _. sent;

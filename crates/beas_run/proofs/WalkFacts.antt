@@ -11,7 +11,7 @@ use Rattle.session.specs.Turns.{Turn, turn_of}
 use Rattle.beas_run.specs.declared.ending.Ending.{Ending}
 use Rattle.beas_run.specs.declared.ending.Ending.TheVariants.{Fault, NoMemory}
 use Rattle.beas_run.specs.Audiences.{HasTaken, reports_in, totals_in, totals_over}
-use Rattle.beas_run.specs.Demonstrations.{Demonstrated, summary_of, without_output}
+use Rattle.beas_run.specs.Demonstrations.{Demonstrated, summary_of, without_outside}
 use Rattle.beas_run.specs.Endings.{status_of}
 use Rattle.beas_run.specs.Pieces.{IsReported, IsUndone, IsUnreported}
 use Rattle.beas_run.specs.Readings.{Reading}
@@ -120,7 +120,7 @@ never_failed rose = omega arith
 -- what the statements did, whatever stands on the output
 abbrev pub Counted : Settings → List Reading → ℕ → Totals → Moment → Moment → Type 0
 Counted s readings ended sum before after =
-    WalkedBefore (λ reports. sum ≡ totals_over reports) s readings ended (without_output before) (without_output after)
+    WalkedBefore (λ reports. sum ≡ totals_over reports) s readings ended (without_outside before) (without_outside after)
 
 -- what was put of the line
 pub record IsPut (status : ℕ) (sum : Totals) (before after : Sent) : Type 0 where

@@ -1,10 +1,12 @@
 -- What the run of a demonstration does: it writes no reports, and at its end one line of their totals.
 --     summary_of turns         the line of the totals
---     without_output moment    a moment, with no word on what the output was sent
+--     empty_files              files that are all empty, which a demonstration has in the place of any other
+--     without_outside moment   a moment with these files, and with no word on what the output was sent
 --     Demonstrated ..          all statements were carried out and the line was written, or as far as that went
-use Rattle.std.specs.Prelude.{◌≡◌, ◌≢◌, ◌<◌, ◌≤◌, ◌++◌, ◌⊎◌, ℕ, true, List}
+use Rattle.std.specs.Prelude.{◌≡◌, ◌≢◌, ◌<◌, ◌≤◌, ◌-◌, ◌^◌, ◌++◌, ◌⊎◌, ℕ, true, List, [], Some}
 use Rattle.outside.specs.Counts.{raised}
 use Rattle.outside.specs.Parts.{SentPart}
+use Rattle.outside.specs.Seen.{Seen}
 use Rattle.demo_gen.specs.Summaries.{summary_text}
 use Rattle.session.specs.Effects.{Settings}
 use Rattle.session.specs.Turns.{Turn}
@@ -16,14 +18,18 @@ use Rattle.beas_run.specs.Walks.{Moment, Walked}
 abbrev pub summary_of : List Turn → List ℕ
 summary_of turns = summary_text (totals_in turns)
 
-abbrev pub without_output : Moment → Moment
-without_output moment = record moment { out = unshown }
+-- no load of them fails; their count of loads stands at its last value, which tells nothing of them
+abbrev pub empty_files : Seen
+empty_files = record { told = true; content = λ _. Some []; faults = λ _. 0; taken = 0; loads = 2 ^ 64 - 1 }
+
+abbrev pub without_outside : Moment → Moment
+without_outside moment = record moment { out = unshown; files = empty_files }
 
 pub record Demonstrated (settings : Settings) (readings : List Reading) (status : ℕ) (before after : Moment)
     : Type 0 where
   -- how the statements ended: by memory, or in the status that their reports make
   pub ended : ℕ
-  pub walked : Walked settings readings ended (without_output before) (without_output after)
+  pub walked : Walked settings readings ended (without_outside before) (without_outside after)
   pub whole : status < 2 → (status ≡ ended)
       × (before.out.told ≡ true
       → after.out.bytes ≡ before.out.bytes ++ summary_of (turns settings before.state readings walked.outcomes))

@@ -220,6 +220,8 @@ pub record Stays (words : List (List ℕ)) (status : ℕ) (settings_before setti
   -- its budget and its flag, unless there is a script: then they are those of the words
   pub settings : IsWith status → settings_after ≡ settings_of_words settings_before.limits words
   pub settings_without : IsWithout status → settings_after ≡ settings_before
+  -- words that are refused leave them too, out of memory as well
+  pub settings_unasked : args_of words ≡ None → settings_after ≡ settings_before
   -- out of memory, one of the two
   pub settings_out_of_memory : status ≡ 5 → (settings_after ≡ settings_before)
       ⊎ (settings_after ≡ settings_of_words settings_before.limits words)

@@ -3,21 +3,33 @@ ghost use Rattle.std.specs.Prelude.{◌≡◌, ◌≢◌, ◌<◌, ◌≤◌, �
 ghost use Rattle.demo_gen.specs.Summaries.{summary_text};
 ghost use Rattle.outside.specs.Counts.{Rose, raised};
 ghost use Rattle.outside.specs.Parts.{SentPart};
-ghost use Rattle.outside.specs.Seen.{IsLater, IsLaterSink};
+ghost use Rattle.outside.specs.Seen.{IsLaterSink, Seen};
 ghost use Rattle.session.specs.Applying.{settings_of};
-ghost use Rattle.beas_run.specs.Demonstrations.{Demonstrated};
+ghost use Rattle.beas_run.specs.Demonstrations.{Demonstrated, empty_files};
 ghost use Rattle.beas_run.specs.Endings.{status_of};
 ghost use Rattle.beas_run.specs.Readings.{readings_of};
 ghost use Rattle.beas_run.specs.Walks.{moment};
 
 use crate::audience::Counter;
 use crate::script::walk;
-use beas_core::Steps;
+use beas_core::{Bytes, Steps};
 use demo_gen::Summary;
-use outside::{Files, Sink, SinkError};
+use outside::{Files, FilesError, Sink, SinkError};
 use session::Session;
 use std::alloc::Global;
 use std::sync::ledger::Ledger;
+
+/// Files that are all empty, in the place of those that a run has: a demonstration loads none.
+#[derive(Drop)]
+struct EmptyFiles;
+
+impl Files for EmptyFiles {
+    ghost seen = { λ _. empty_files };
+
+    fn load(&mut self, alloc: Global, _name: &str, _limit: u64) -> Result<Bytes, FilesError> {
+        Ok(Bytes::from_vec(Vec::new(alloc)))
+    }
+}
 
 /// Writes the line of the totals.
 fn put_summary<O: Sink>(alloc: Global, refused: bool, summary: &Summary, out: &mut O) -> u8
@@ -44,23 +56,20 @@ fn put_summary<O: Sink>(alloc: Global, refused: bool, summary: &Summary, out: &m
     }
 }
 
-/// Runs a script over a session, and writes one line of the totals of its reports: 0 where no report is a refusal, 1
-/// where one is, 4 where the output failed, 5 where memory ran out.
-pub fn write_totals<F: Files, O: Sink, L: Ledger>(
+/// Runs a script over a session and no files but empty ones, and writes one line of the totals of its reports: 0 where
+/// no report is a refusal, 1 where one is, 4 where the output failed, 5 where memory ran out.
+pub fn write_totals<O: Sink, L: Ledger>(
     alloc: Global,
     session: &mut Session,
     script: &str,
-    files: &mut F,
     out: &mut O,
     steps: &mut Steps<L>,
 ) -> u8
     requires { length script.now ≤ 16777216 }
-    ensures demonstrated { Demonstrated (settings_of session.old) (readings_of script.now) result
-        (moment session.old steps.old (O.seen out.old) (F.seen files.old))
-        (moment session.new steps.new (O.seen out.new) (F.seen files.new)) }
+    ensures demonstrated { (files : Seen) → Demonstrated (settings_of session.old) (readings_of script.now) result
+        (moment session.old steps.old (O.seen out.old) files) (moment session.new steps.new (O.seen out.new) files) }
     ensures statuses { (result < 2) ⊎ (result ≡ 4) ⊎ (result ≡ 5) }
     ensures settings { settings_of session.new ≡ settings_of session.old }
-    ensures files { IsLater (F.seen files.old) (F.seen files.new) }
     ensures out { IsLaterSink (O.seen out.old) (O.seen out.new) }
     ensures no_fault { result ≢ 4 → (O.seen out.new).faults ≡ (O.seen out.old).faults }
     ensures fault { result ≡ 4 → Rose (O.seen out.old).faults (O.seen out.new).faults }
@@ -68,7 +77,8 @@ pub fn write_totals<F: Files, O: Sink, L: Ledger>(
     let mut counter = Counter {
         summary: Summary::new(),
     };
-    match walk(alloc, session, script, &mut counter, files, out, steps) {
+    let mut files = EmptyFiles;
+    match walk(alloc, session, script, &mut counter, &mut files, out, steps) {
         Ok(refused) => put_summary(alloc, refused, &counter.summary, out),
         // A count doesn't fail, so memory ran out.
         Err(_) => 5,

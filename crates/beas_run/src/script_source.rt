@@ -1,11 +1,11 @@
 // What the statements of a run come from: the words, and the text that they ask for.
-ghost use Rattle.std.specs.Prelude.{◌≡◌, ◌≤◌, Some, length, map, IfOk, IfErr, IsErrOf};
+ghost use Rattle.std.specs.Prelude.{◌≡◌, ◌≤◌, None, Some, length, map, IfOk, IfErr, IsErrOf};
 ghost use Rattle.std.specs.Str.{IsUtf8};
 ghost use Rattle.std.specs.String.{string_bytes};
 ghost use Rattle.command_words.specs.Words.{args_of};
 ghost use Rattle.outside.specs.Counts.{Rose, raised};
 ghost use Rattle.outside.specs.Seen.{IsLater};
-ghost use Rattle.beas_run.specs.Runs.{longest_script, IsContent, IsNoText, IsScriptOf, IsTooLong};
+ghost use Rattle.beas_run.specs.Runs.{longest_script, path_of, script_name, IsContent, IsNoText, IsScriptOf, IsTooLong};
 ghost use Rattle.beas_run.specs.Sources.{HasNoScript, IsSource, LoadsScript};
 
 use crate::no_script::NoScript;
@@ -67,6 +67,7 @@ fn text_for<F: Files>(alloc: Global, args: &Args, files: &mut F) -> Result<Text,
         (F.seen files.old) (F.seen files.new)) }
     ensures loaded { LoadsScript args.now (F.seen files.old) (F.seen files.new) }
     ensures later { IsLater (F.seen files.old) (F.seen files.new) }
+    ensures unused { path_of args.now ≡ None → files.new ≡ files.old }
 {
     match args {
         Args::Script { path, .. } => load_named(alloc, path.as_str(), files),
@@ -83,6 +84,7 @@ fn source_for<F: Files>(alloc: Global, args: Args, files: &mut F) -> Result<Sour
         (F.seen files.old) (F.seen files.new)) }
     ensures none { IfErr result (λ why. HasNoScript (Some args) why
         (F.seen files.old) (F.seen files.new)) }
+    ensures unused { path_of args ≡ None → files.new ≡ files.old }
 {
     match text_for(alloc, &args, files) {
         Ok(text) => Ok(Source { args, text }),
@@ -100,6 +102,7 @@ pub fn source_of<F: Files>(
         (F.seen files.old) (F.seen files.new)) }
     ensures none { IfErr result (λ why. HasNoScript (args_of (map string_bytes words.now)) why
         (F.seen files.old) (F.seen files.new)) }
+    ensures unused { script_name (map string_bytes words.now) ≡ None → files.new ≡ files.old }
 {
     match args(alloc, words) {
         Ok(args) => source_for(alloc, args, files),

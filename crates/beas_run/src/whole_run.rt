@@ -1,8 +1,8 @@
 // The whole run: from the words to the status of the program.
-ghost use Rattle.std.specs.Prelude.{◌≡◌, ◌≤◌, length, map};
+ghost use Rattle.std.specs.Prelude.{◌≡◌, ◌≤◌, None, length, map};
 ghost use Rattle.std.specs.String.{string_bytes};
 ghost use Rattle.session.specs.Applying.{settings_of};
-ghost use Rattle.beas_run.specs.Runs.{HasCause, HasRun, IsComplete, IsWith, IsWithout, Says, Stays};
+ghost use Rattle.beas_run.specs.Runs.{path_of, script_name, HasCause, HasRun, IsComplete, IsWith, IsWithout, Says, Stays};
 ghost use Rattle.beas_run.specs.Sources.{RanOver};
 ghost use Rattle.beas_run.specs.Walks.{moment};
 
@@ -28,9 +28,10 @@ fn run_over<F: Files, O: Sink, L: Ledger>(
     steps: &mut Steps<L>,
 ) -> u8
     requires { length text.now ≤ 16777216 }
-    ensures { RanOver args.now text.now session.old.limits result (settings_of session.new)
+    ensures ran { RanOver args.now text.now session.old.limits result (settings_of session.new)
         (moment session.old steps.old (O.seen out.old) (F.seen files.old))
         (moment session.new steps.new (O.seen out.new) (F.seen files.new)) }
+    ensures unused { path_of args.now ≡ None → files.new ≡ files.old }
 {
     match args {
         Args::Script {
@@ -49,7 +50,7 @@ fn run_over<F: Files, O: Sink, L: Ledger>(
         } => {
             session.budget = *budget;
             session.explain = *explain;
-            write_totals(alloc, session, text, files, out, steps)
+            write_totals(alloc, session, text, out, steps)
         }
     }
 }
@@ -81,10 +82,12 @@ pub fn run<F: Files, O: Sink, E: Sink, L: Ledger>(
         (moment session.old steps.old (O.seen out.old) (F.seen files.old))
         (moment session.new steps.new (O.seen out.new) (F.seen files.new)) }
 
-    // A run without a script says why on `err` and puts nothing to `out`; a run with one puts nothing to `err`.
+    // A run without a script says why on `err` and puts nothing to `out`; a run with one puts nothing to `err`. Where the
+    // words name no file, none is loaded.
     ensures says { Says result (E.seen err.old) (E.seen err.new) }
     ensures out_unused { IsWithout result → out.new ≡ out.old }
     ensures err_unused { IsWith result → err.new ≡ err.old }
+    ensures files_unused { script_name (map string_bytes words.now) ≡ None → files.new ≡ files.old }
 
     // What stays, and which settings the session has afterwards.
     ensures stays { Stays (map string_bytes words.now) result (settings_of session.old) (settings_of session.new)

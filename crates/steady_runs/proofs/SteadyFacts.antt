@@ -1,5 +1,5 @@
 -- What never fails has no fault.
-use Rattle.std.proofs.Common.{◌≡◌, ℕ, List, Option, Some, None, arith}
+use Rattle.std.proofs.Common.{◌≡◌, ℕ, List, Option, Some, None, arith, refl}
 use Rattle.std.specs.Prelude.{IsSomeAnd}
 use Rattle.command_words.specs.declared.arguments.Args.{Args}
 use Rattle.command_words.specs.declared.arguments.Args.TheVariants.{Script, Demo}
@@ -19,14 +19,16 @@ pub no_fault : (named : Option (List ℕ)) → IsSomeAnd named (λ n. Rose 0 0) 
 no_fault None h = h
 no_fault (Some n) h = none_rose h
 
-pub none_at : (n before : ℕ) → RoseBy n before 0 → n ≡ 0
-none_at n before h = omega arith
+none_rose_by : (n before now : ℕ) → now ≡ 0 → RoseBy n before now → n ≡ 0
+none_rose_by n before now zero h = omega arith
 
--- whatever is asked for, the failures of a name are at most the rise of its count
+-- whatever is asked for, no load of a name failed whose count of faults stands at 0
 pub walked_failures : (asked : Option Args) (s : Settings) (readings : List Reading) (status : ℕ) (before after : Moment)
-    (walked : WalkedFor asked s readings status before after) (name : List ℕ)
-    → RoseBy (failures name (loads_of (turns s before.state readings (outcomes_in asked s readings status before after walked))))
-    (before.files.faults name) (after.files.faults name)
-walked_failures None s readings status before after walked name = walked.follows.tied.failed name
-walked_failures (Some (Script path budget explain)) s readings status before after walked name = walked.follows.tied.failed name
-walked_failures (Some (Demo seed budget explain)) s readings status before after walked name = walked.walked.follows.tied.failed name
+    (walked : WalkedFor asked s readings status before after) (name : List ℕ) → after.files.faults name ≡ 0
+    → failures name (loads_of (turns s before.state readings (outcomes_in asked s readings status before after walked))) ≡ 0
+walked_failures None s readings status before after walked name zero =
+    none_rose_by _ _ _ zero (walked.follows.tied.failed name)
+walked_failures (Some (Script path budget explain)) s readings status before after walked name zero =
+    none_rose_by _ _ _ zero (walked.follows.tied.failed name)
+walked_failures (Some (Demo seed budget explain)) s readings status before after walked name zero =
+    none_rose_by _ _ _ refl (walked.walked.follows.tied.failed name)

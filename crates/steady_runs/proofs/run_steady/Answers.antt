@@ -1,4 +1,4 @@
-use Rattle.steady_runs.proofs.SteadyFacts.{no_fault, none_at, none_rose, walked_failures}
+use Rattle.steady_runs.proofs.SteadyFacts.{no_fault, none_rose, walked_failures}
 use Rattle.std.proofs.Common.{refl}
 use Rattle.steady_runs.proofs.run_steady.Goals as goal
 
@@ -19,4 +19,4 @@ returns-clause-complete_without g c = λ name named. c.run.ensures.complete.comp
 pub returns-clause-loads : goal.returns-clause-loads
 returns-clause-loads g c =
     let run = c.run.ensures.ran in
-    record { run = run; none = λ name. none_at _ _ (walked_failures _ _ _ _ _ _ run.walked name) }
+    record { run = run; none = λ name. walked_failures _ _ _ _ _ _ run.walked name refl }

@@ -4,7 +4,7 @@ use Rattle.beas_run.proofs.WalkFacts.{IsPut, demonstrated, unfinished}
 use Rattle.beas_run.proofs.demonstration.write_totals.Goals as goal
 
 pub returns-in-Ok-clause-demonstrated : goal.returns-in-Ok-clause-demonstrated
-returns-in-Ok-clause-demonstrated g c =
+returns-in-Ok-clause-demonstrated g c = λ files.
     let e = c.put_summary.ensures in
     let put : IsPut c.put_summary.result c.walk.new.audience.summary (g.O.Sink.seen c.walk.new.out) (g.O.Sink.seen c.put_summary.new.out) =
     record { whole = e.whole; part = e.part; unsent = e.unsent; puts = e.puts } in
@@ -13,7 +13,7 @@ returns-in-Ok-clause-demonstrated g c =
     (ap g.O.Sink.seen (c.walk.ensures.unused (λ _. refl))) put)
 
 pub returns-in-Err-clause-demonstrated : goal.returns-in-Err-clause-demonstrated
-returns-in-Err-clause-demonstrated g c =
+returns-in-Err-clause-demonstrated g c = λ files.
     let same = ap g.O.Sink.seen (c.walk.ensures.unused (λ _. refl)) in
     unfinished _ _ c.walk.new.audience.summary _ _ _ c.in-Err.ensures.walked (λ e. c.in-Err.ensures.out.fault (ap Err e)) (λ _. ap (λ (m : Sent). m.bytes) same)
     (ap (λ (m : Sent). m.puts) same)

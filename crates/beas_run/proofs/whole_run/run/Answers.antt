@@ -1,8 +1,8 @@
-use Rattle.std.proofs.Common.{refl, inl, inr, ap, arith, length}
+use Rattle.std.proofs.Common.{refl, inl, inr, ap, arith, length, ◌∙◌}
 use Rattle.beas_run.proofs.CompleteFacts.{completes, completes_demo, completes_without}
 use Rattle.beas_run.proofs.SourcelessFacts.{early_said, not_without, ran_nothing}
 use Rattle.beas_run.proofs.PieceFacts.{none_sent}
-use Rattle.beas_run.proofs.SourceFacts.{but_faults, limits_stay, most, most_said, none_or_five, not_asked, not_with, ran_over, settings_are_words, seven_is_no_text, six_is_too_long, three_is_unread, two_is_words, two_or_five}
+use Rattle.beas_run.proofs.SourceFacts.{but_faults, limits_stay, most, most_said, none_named, none_or_five, not_asked, not_with, ran_over, settings_are_words, seven_is_no_text, six_is_too_long, three_is_unread, two_is_words, two_or_five}
 use Rattle.beas_run.proofs.TieFacts.{later_twice, sink_later}
 use Rattle.beas_run.proofs.whole_run.run.Goals as goal
 
@@ -12,7 +12,7 @@ run_over-requires g c = let fits = c.in-Ok.ensures.source.fits in let same = ap 
 pub returns-in-Ok : goal.returns-in-Ok
 returns-in-Ok g c =
     let e = c.in-Ok.ensures.source in
-    let o = c.run_over.ensures in
+    let o = c.run_over.ensures.ran in
     let run = ran_over _ _ _ _ _ _ _ _ _ _ _ _ e c.as_str-text.ensures c.as_str-text.utf8 o in
     let settled = settings_are_words _ _ _ _ e.asked_is o.settings_are in
     record {
@@ -45,11 +45,13 @@ returns-in-Ok g c =
       };
       out_unused = λ w. absurd (not_without _ o.statuses w);
       err_unused = λ _. refl;
+      files_unused = λ none. c.run_over.ensures.unused (none_named _ _ e.asked_is none) ∙ c.source_of.ensures.unused none;
       stays = record {
         untouched = λ w. absurd (not_without _ o.statuses w);
         limits = limits_stay _ _ _ o.settings_are;
         settings = λ _. settled;
         settings_without = λ w. absurd (not_without _ o.statuses w);
+        settings_unasked = λ none. absurd (not_asked _ _ e.asked_is none);
         settings_out_of_memory = λ _. inr settled;
         files = later_twice _ _ _ e.later o.files;
         out = o.out;
@@ -91,11 +93,13 @@ returns-in-Err g c =
       says = s.says;
       out_unused = λ _. refl;
       err_unused = λ w. absurd (not_with why _ s.status w);
+      files_unused = c.source_of.ensures.unused;
       stays = record {
         untouched = λ _. record { sent = λ _. refl; steps = refl; db = refl };
         limits = refl;
         settings = λ w. absurd (not_with why _ s.status w);
         settings_without = λ _. refl;
+        settings_unasked = λ _. refl;
         settings_out_of_memory = λ _. inl refl;
         files = e.later;
         out = sink_later _;
