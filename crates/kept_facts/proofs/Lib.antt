@@ -1,0 +1,5 @@
+pub mod KeepingFacts
+pub mod PartFacts
+pub mod ProbeFacts
+pub mod QueryFacts
+pub mod UpdateFacts

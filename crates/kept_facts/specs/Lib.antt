@@ -1,0 +1,3 @@
+pub mod Frames
+pub mod Keeping
+pub mod OpenQueries

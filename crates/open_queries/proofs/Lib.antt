@@ -1,0 +1,4 @@
+pub mod WorldFacts
+pub mod TurnFacts
+pub mod FreezingFacts
+pub mod LoopFacts
