@@ -2,10 +2,9 @@
 use crate::outcomes::{Outcome, outcome_of};
 use beas_core::{Fail, Limits, List, NoMemory, Query, QueryNode, Row, Steps};
 use drawn_scenes::{Twin, bound_query, draw_query, fill_scene};
-use session::Session;
+use session::{Session, Store};
 use std::alloc::Global;
 use std::sync::ledger::Ledger;
-use update_guard::Guarded;
 
 /// So many queries are drawn for one session.
 const QUERIES: u32 = 10;
@@ -83,7 +82,7 @@ fn drop_columns(alloc: Global, query: &mut Query) {
 /// What comes of the query that a text spells, without columns.
 fn try_query<L: Ledger>(
     alloc: Global,
-    guarded: &Guarded,
+    guarded: &Store,
     tables: &[List<Row>],
     spelled: &str,
     steps: &mut Steps<L>,
@@ -101,7 +100,7 @@ fn try_query<L: Ledger>(
 /// Tries drawn queries over a store with these rows.
 fn try_drawn<L: Ledger>(
     alloc: Global,
-    guarded: &Guarded,
+    guarded: &Store,
     twin: &mut Twin,
     tables: &[List<Row>],
     before: Tally,

@@ -4,11 +4,10 @@ use crate::scripts::script_of;
 use beas_core::{Access, Limits, NoMemory, Steps};
 use drawn_scenes::reports;
 use named_blocks::{NamedCase, Wrong, cases_of};
-use session::Session;
+use session::{Session, Store};
 use std::alloc::Global;
 use std::io;
 use std::sync::ledger::Ledger;
-use update_guard::Guarded;
 
 /// What came of some cases.
 #[derive(Clone, Copy)]
@@ -47,7 +46,7 @@ fn is_access(left: &Access, right: &Access) -> bool {
 }
 
 /// Whether a store has the constraints of a case.
-fn has_accesses(guarded: &Guarded, case: &NamedCase) -> bool {
+fn has_accesses(guarded: &Store, case: &NamedCase) -> bool {
     let live = guarded.catalogue.accesses().as_slice();
     let wanted = case.accesses.as_slice();
     live.len() == wanted.len()

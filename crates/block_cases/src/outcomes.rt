@@ -5,7 +5,7 @@ ghost use Rattle.beas_core.specs.Shapes.{QueryIsWellFormed};
 ghost use Rattle.beas_core.specs.Trees.{blocks_of};
 ghost use Rattle.catalogue.specs.Database.{rows_at};
 ghost use Rattle.catalogue.specs.Queries.{QueryIsOver};
-ghost use Rattle.update_guard.specs.Stored.{database_in};
+ghost use Rattle.session.specs.Stores.{database_in};
 
 use crate::shapes::is_right;
 use beas_core::{Answer, Fail, List, NoMemory, Prepared, Query, Refusal, Row, Steps};
@@ -14,9 +14,9 @@ use plan_executor::execute;
 use reference_coverage::BlockPlans;
 use reference_evaluation::{PlansOnTables, full_of};
 use reference_queries::{Planned, QueryPlans, Run, plan_query, run_of};
+use session::Store;
 use std::alloc::Global;
 use std::sync::ledger::Ledger;
-use update_guard::Guarded;
 
 /// What came of a query.
 #[derive(Clone, Copy)]
@@ -40,7 +40,7 @@ pub enum Outcome {
 }
 
 /// A query as it is prepared over a store, which it fits.
-fn prepared_over(alloc: Global, guarded: &Guarded, query: Query) -> Result<Prepared, Fail>
+fn prepared_over(alloc: Global, guarded: &Store, query: Query) -> Result<Prepared, Fail>
     requires well_formed { QueryIsWellFormed query }
     requires over { QueryIsOver guarded.now.catalogue query }
     requires few { length (blocks_of query) < 2 ^ 32 }
@@ -52,7 +52,7 @@ fn prepared_over(alloc: Global, guarded: &Guarded, query: Query) -> Result<Prepa
 /// What the reference programs give for a query by these plans over tables.
 fn wanted_run(
     alloc: Global,
-    guarded: &Guarded,
+    guarded: &Store,
     tables: &[List<Row>],
     query: &Query,
     plans: &QueryPlans,
@@ -89,7 +89,7 @@ fn outcome_of_runs(
 /// What comes of a query that was prepared, and that the reference programs plan so.
 fn outcome_by_plans<L: Ledger>(
     alloc: Global,
-    guarded: &Guarded,
+    guarded: &Store,
     tables: &[List<Row>],
     prepared: &Prepared,
     plans: &QueryPlans,
@@ -107,7 +107,7 @@ fn outcome_by_plans<L: Ledger>(
 /// What comes of a query that was prepared, and of which the reference programs say this.
 fn outcome_within<L: Ledger>(
     alloc: Global,
-    guarded: &Guarded,
+    guarded: &Store,
     tables: &[List<Row>],
     prepared: &Prepared,
     wanted: &Planned,
@@ -140,7 +140,7 @@ fn outcome_of_refusal(why: &Refusal, wanted: &Planned) -> Outcome {
 /// What comes of a query of the right shape, of which the reference programs say this.
 fn outcome_where<L: Ledger>(
     alloc: Global,
-    guarded: &Guarded,
+    guarded: &Store,
     tables: &[List<Row>],
     query: Query,
     wanted: &Planned,
@@ -161,7 +161,7 @@ fn outcome_where<L: Ledger>(
 /// What comes of a query over a store whose tables have these rows. Above the budget it isn't executed.
 pub fn outcome_of<L: Ledger>(
     alloc: Global,
-    guarded: &Guarded,
+    guarded: &Store,
     tables: &[List<Row>],
     query: Query,
     budget: u128,

@@ -7,8 +7,8 @@ ghost use Rattle.catalogue.specs.Queries.{AtomIsOver, BlockIsOver, QueryIsOver};
 
 use beas_core::{Atom, Block, Comparison, NoMemory, Operand, Place, Query, Sign, Value};
 use normal_form::blocks;
+use session::Store;
 use std::alloc::Global;
-use update_guard::Guarded;
 
 /// A query of more blocks isn't right, since no statement may have more.
 const MOST_BLOCKS: usize = 64;
@@ -76,14 +76,14 @@ fn are_places(atoms: &[Atom], places: &[Place]) -> bool
 }
 
 /// How many tables a store has.
-fn table_count(guarded: &Guarded) -> usize
+fn table_count(guarded: &Store) -> usize
     ensures { result ≡ length guarded.now.catalogue.tables }
 {
     guarded.rows.len()
 }
 
 /// Whether an atom is of a table of the store, and as wide as that is.
-fn is_atom(guarded: &Guarded, atom: Atom) -> bool
+fn is_atom(guarded: &Store, atom: Atom) -> bool
     ensures shape { IsTrue result → AtomIsWellFormed atom }
     ensures over { IsTrue result → AtomIsOver guarded.now.catalogue atom }
 {
@@ -95,7 +95,7 @@ fn is_atom(guarded: &Guarded, atom: Atom) -> bool
     }
 }
 
-fn are_atoms(guarded: &Guarded, atoms: &[Atom]) -> bool
+fn are_atoms(guarded: &Store, atoms: &[Atom]) -> bool
     ensures shape { IsTrue result → All AtomIsWellFormed atoms.now }
     ensures over { IsTrue result → All (AtomIsOver guarded.now.catalogue) atoms.now }
 {
@@ -119,7 +119,7 @@ fn are_parts(block: &Block) -> bool
 }
 
 /// Whether a block is right, and its output has so many columns.
-fn is_block(guarded: &Guarded, width: usize, block: &Block) -> bool
+fn is_block(guarded: &Store, width: usize, block: &Block) -> bool
     ensures { IsTrue result → IsRight guarded.now.catalogue width block.now }
 {
     let atoms = block.atoms.as_slice();
@@ -130,14 +130,14 @@ fn is_block(guarded: &Guarded, width: usize, block: &Block) -> bool
         && block.output.len() == width
 }
 
-fn are_blocks(guarded: &Guarded, width: usize, blocks: &[&Block]) -> bool
+fn are_blocks(guarded: &Store, width: usize, blocks: &[&Block]) -> bool
     ensures { IsTrue result → All (λ b. IsRight guarded.now.catalogue width b.now) blocks.now }
 {
     blocks.iter().all(|block| is_block(guarded, width, block))
 }
 
 /// Whether a query of at most 64 blocks has the shape that `prepare` asks of it.
-pub fn is_right(alloc: Global, guarded: &Guarded, query: &Query) -> Result<bool, NoMemory>
+pub fn is_right(alloc: Global, guarded: &Store, query: &Query) -> Result<bool, NoMemory>
     ensures well_formed { IfOk result (λ is. IsTrue is → QueryIsWellFormed query.now) }
     ensures over { IfOk result (λ is. IsTrue is → QueryIsOver guarded.now.catalogue query.now) }
     ensures few { IfOk result (λ is. IsTrue is → length (blocks_of query.now) < 2 ^ 32) }

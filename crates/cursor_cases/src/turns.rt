@@ -4,7 +4,7 @@ ghost use Rattle.beas_core.specs.Fits.{Fits};
 ghost use Rattle.block_walk.specs.Worlds.{world};
 ghost use Rattle.catalogue.specs.Database.{rows_at};
 ghost use Rattle.cursor_executor.specs.Fetching.{AllAgree};
-ghost use Rattle.update_guard.specs.Stored.{database_in};
+ghost use Rattle.session.specs.Stores.{database_in};
 
 use beas_core::{AccessPort, Answer, Fail, NoMemory, Prepared, Refusal, Steps};
 use cursor_executor::{Cursor, Turn};

@@ -32,6 +32,6 @@ pub use plain::{Plain, Rule};
 pub use queries::draw_query;
 pub use refusals::refusal_of_block;
 pub use statements::{fill_scene, reports, reports_over, statement_of};
-pub use tables::{Fact, TABLES, column_name, table_name, value};
-pub use updates::{Batch, Twin, Update, creations};
+pub use tables::{Fact, Shape, TABLES, column_name, table_name, value};
+pub use updates::{Batch, Twin, Update, creations, script_of};
 pub use words::{number_at, out_of_memory, word_at};

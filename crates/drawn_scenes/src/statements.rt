@@ -3,7 +3,8 @@ ghost use Rattle.std.specs.Prelude.{◌-◌, ◌<◌, ◌≤◌, ◌^◌, length
 ghost use Rattle.session.specs.Statements.{StatementIsWellFormed};
 
 use crate::scenes::{draw_scene, tables_of};
-use crate::updates::{Twin, creations};
+use crate::tables::Shape;
+use crate::updates::{Twin, creations, script_of};
 use beas_core::{Fail, List, NoMemory, Refusal, Row, Steps, Text};
 use outside::MemoryFiles;
 use report::{Report, text};
@@ -112,7 +113,8 @@ pub fn reports<L: Ledger>(
 
 /// Statements that make the tables and add drawn rows and constraints.
 fn scene_of(alloc: Global, twin: &mut Twin) -> Result<Text, NoMemory> {
-    let mut script = creations(alloc)?;
+    let statements = creations(alloc, Shape::narrow())?;
+    let mut script = script_of(alloc, &statements)?;
     script.push_str(draw_scene(alloc, twin)?.script.as_str())?;
     Ok(script)
 }

@@ -1,5 +1,6 @@
-// The tables of drawn cases, r, s and t. Each has the columns a and b of INTEGER, and c and d of TEXT. Their values are
-// drawn as numbers below 6, which stand for values of either type in value order.
+// The tables of drawn cases, r, s and t. Each has the columns a and b of INTEGER, and c and d of TEXT; where they are
+// wide, also e and f of INTEGER, and g and h of TEXT. Their values are drawn as numbers below 6, which stand for values
+// of either type in value order.
 use crate::draws::Draws;
 use beas_core::{List, NoMemory, Row, Text, Value};
 use std::alloc::Global;
@@ -7,17 +8,28 @@ use std::alloc::Global;
 /// How many tables there are.
 pub const TABLES: u8 = 3;
 
-/// How many columns each table has.
+/// How many columns each table has that isn't wide.
 pub const COLUMNS: u8 = 4;
+
+/// How many columns a wide table has.
+const WIDEST: u8 = 8;
 
 /// How many values there are of each type.
 pub const VALUES: u8 = 6;
+
+/// How many columns tables have, how many values are drawn in each, and in how many turns at most a key is drawn.
+#[derive(Clone, Copy)]
+pub struct Shape {
+    pub columns: u8,
+    pub values: u8,
+    pub key_turns: u8,
+}
 
 /// A row of a table, as the numbers that stand for its values.
 #[derive(Clone, Copy)]
 pub struct Fact {
     pub table: u8,
-    numbers: [u8; 4],
+    numbers: [u8; WIDEST as usize],
 }
 
 /// The name of a table by its number, from 0 on.
@@ -35,8 +47,17 @@ pub fn column_name(column: u8) -> &'static str {
         0 => "a",
         1 => "b",
         2 => "c",
-        _ => "d",
+        3 => "d",
+        4 => "e",
+        5 => "f",
+        6 => "g",
+        _ => "h",
     }
+}
+
+/// Whether a column is of INTEGER.
+fn is_integer(column: u8) -> bool {
+    column % 4 < 2
 }
 
 fn integer(number: u8) -> i64 {
@@ -64,7 +85,7 @@ fn words(number: u8) -> (&'static str, &'static str) {
 
 /// The value that a number stands for in a column.
 pub fn value(alloc: Global, column: u8, number: u8) -> Result<Value, NoMemory> {
-    if column < 2 {
+    if is_integer(column) {
         Ok(Value::Int(integer(number)))
     } else {
         Ok(Value::Str(Text::from_str(alloc, words(number).0)?))
@@ -78,7 +99,7 @@ pub fn push_literal(
     column: u8,
     number: u8,
 ) -> Result<(), NoMemory> {
-    if column < 2 {
+    if is_integer(column) {
         text.push_str(format!(in alloc; "{}", integer(number))?.as_str())
     } else {
         text.push_str(words(number).1)
@@ -100,12 +121,43 @@ pub fn push_columns(text: &mut Text, columns: &[u8]) -> Result<(), NoMemory> {
     text.push_str(")")
 }
 
+impl Shape {
+    /// The tables of scenes.
+    pub fn narrow() -> Shape {
+        Shape {
+            columns: COLUMNS,
+            values: VALUES,
+            key_turns: 4,
+        }
+    }
+
+    /// Wide tables with few values, so that rows have long keys in common.
+    pub fn wide() -> Shape {
+        Shape {
+            columns: WIDEST,
+            values: 3,
+            key_turns: 14,
+        }
+    }
+}
+
+/// Adds the columns of a table with their types in parentheses.
+pub fn push_creation(text: &mut Text, shape: Shape) -> Result<(), NoMemory> {
+    text.push_str("(")?;
+    for column in 0..shape.columns {
+        text.push_str(comma(usize::from(column)))?;
+        text.push_str(column_name(column))?;
+        text.push_str(if is_integer(column) { " INT" } else { " TEXT" })?;
+    }
+    text.push_str(")")
+}
+
 impl Fact {
     /// A row of a table with drawn values.
-    pub fn draw(draws: &mut Draws, table: u8) -> Fact {
-        let mut numbers = [0; 4];
-        for number in numbers.iter_mut() {
-            *number = draws.below(VALUES);
+    pub fn draw(draws: &mut Draws, table: u8, shape: Shape) -> Fact {
+        let mut numbers = [0; WIDEST as usize];
+        for number in numbers.iter_mut().take(usize::from(shape.columns)) {
+            *number = draws.below(shape.values.max(1));
         }
         Fact { table, numbers }
     }

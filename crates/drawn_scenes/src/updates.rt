@@ -2,8 +2,8 @@
 use crate::conditions::push_conditions;
 use crate::draws::Draws;
 use crate::plain::{Plain, Rule};
-use crate::tables::{COLUMNS, Fact, TABLES, comma, push_columns, table_name};
-use beas_core::{NoMemory, Text};
+use crate::tables::{Fact, Shape, TABLES, comma, push_columns, push_creation, table_name};
+use beas_core::{Duplicate, NoMemory, Text};
 use std::alloc::Global;
 
 /// A statement, and what is to be reported of it.
@@ -18,26 +18,47 @@ pub struct Update {
 pub struct Twin {
     pub draws: Draws,
     pub plain: Plain,
+    pub shape: Shape,
 }
 
-/// Statements, with the lines that are to be reported of them, and how many are refused.
+/// Statements, each by itself and as a script, with the lines that are to be reported of them, and how many are refused.
 #[derive(Drop)]
 pub struct Batch {
+    pub statements: Vec<Text>,
     pub script: Text,
     pub wanted: Text,
     pub refused: u32,
 }
 
-/// The script that creates the tables of drawn scenes, r, s and t, without rows. Each has the columns a and b of
-/// INTEGER, and c and d of TEXT.
-pub fn creations(alloc: Global) -> Result<Text, NoMemory> {
-    let mut script = Text::new(alloc);
+/// The statements that create the tables r, s and t without rows.
+pub fn creations(alloc: Global, shape: Shape) -> Result<Vec<Text>, NoMemory> {
+    let mut statements = Vec::new(alloc);
     for table in 0..TABLES {
-        let name = table_name(table);
-        let source = format!(in alloc; "CREATE TABLE {name} (a INT, b INT, c TEXT, d TEXT);")?;
-        script.push_str(source.as_str())?;
+        let create = format!(in alloc; "CREATE TABLE {} ", table_name(table))?;
+        let mut source = Text::from_string(create);
+        push_creation(&mut source, shape)?;
+        statements.push(source)?;
+    }
+    Ok(statements)
+}
+
+/// Statements as a script.
+pub fn script_of(alloc: Global, statements: &[Text]) -> Result<Text, NoMemory> {
+    let mut script = Text::new(alloc);
+    for statement in statements {
+        script.push_str(statement.as_str())?;
+        script.push_str(";")?;
     }
     Ok(script)
+}
+
+/// The columns of a table.
+fn all_columns(alloc: Global, shape: Shape) -> Result<Vec<u8>, NoMemory> {
+    let mut columns = Vec::new(alloc);
+    for column in 0..shape.columns {
+        columns.push(column)?;
+    }
+    Ok(columns)
 }
 
 /// A constraint without a key and without a limit that fetches all columns of r.
@@ -68,6 +89,7 @@ impl Batch {
     /// No statements.
     pub fn new(alloc: Global) -> Batch {
         Batch {
+            statements: Vec::new(alloc),
             script: Text::new(alloc),
             wanted: Text::new(alloc),
             refused: 0,
@@ -77,6 +99,7 @@ impl Batch {
     /// Adds an update as the statement with this number in the lines of reports.
     pub fn add(&mut self, alloc: Global, number: u32, update: &Update) -> Result<(), NoMemory> {
         let report = update.report.as_str();
+        self.statements.push(update.source.copy(alloc)?)?;
         self.refused = self
             .refused
             .saturating_add(u32::from(report.starts_with("refused")));
@@ -90,7 +113,13 @@ impl Batch {
 impl Twin {
     /// Tables without rows and constraints, and the draws of a seed.
     pub fn new(alloc: Global, seed: u64) -> Twin {
+        Twin::shaped(alloc, seed, Shape::narrow())
+    }
+
+    /// The same of tables of another shape.
+    pub fn shaped(alloc: Global, seed: u64, shape: Shape) -> Twin {
         Twin {
+            shape,
             draws: Draws::new(seed),
             plain: Plain {
                 rows: Vec::new(alloc),
@@ -107,10 +136,11 @@ impl Twin {
         source: &mut Text,
     ) -> Result<Text, NoMemory> {
         let mut rows = Vec::new(alloc);
+        let columns = all_columns(alloc, self.shape)?;
         for place in 0..self.draws.below(3) + 1 {
-            let row = Fact::draw(&mut self.draws, table);
+            let row = Fact::draw(&mut self.draws, table, self.shape);
             source.push_str(comma(usize::from(place)))?;
-            row.push_tuple(alloc, source, &[0, 1, 2, 3])?;
+            row.push_tuple(alloc, source, &columns)?;
             rows.push(row)?;
         }
         self.plain.insert(alloc, &rows)
@@ -151,7 +181,7 @@ impl Twin {
     fn columns(&mut self, alloc: Global, turns: u8) -> Result<Vec<u8>, NoMemory> {
         let mut columns = Vec::new(alloc);
         for _ in 0..turns {
-            let column = self.draws.below(COLUMNS);
+            let column = self.draws.below(self.shape.columns.max(1));
             if !columns.iter().any(|other| *other == column) {
                 columns.push(column)?;
             }
@@ -183,7 +213,11 @@ impl Twin {
     ) -> Result<Update, NoMemory> {
         let table = self.draws.below(TABLES);
         let bound = self.draws.below(most.max(1));
-        let key_turns = self.draws.below(4).min(self.draws.below(4));
+        let most_turns = self.shape.key_turns.max(1);
+        let key_turns = self
+            .draws
+            .below(most_turns)
+            .min(self.draws.below(most_turns));
         let fetched_turns = self.draws.below(wide.max(1)).max(1);
         let rule = Rule {
             name,

@@ -5,7 +5,7 @@ use beas_core::{Fail, Limits, List, NoMemory, Refusal, Row, Steps, Text};
 use drawn_scenes::{
     bound_query, files_in, names_in, out_of_memory, reports_over, statement_of, text_in,
 };
-use full_meaning::evaluate;
+use full_meaning::{evaluate, plain_store};
 use outside::MemoryFiles;
 use report::{Report, text};
 use session::Session;
@@ -51,12 +51,12 @@ fn said_of<L: Ledger>(
 /// The rows that `evaluate` gives for a query.
 fn rows_of<L: Ledger>(
     alloc: Global,
-    guarded: &Guarded,
+    plain: &Guarded,
     spelled: &str,
     steps: &mut Steps<L>,
 ) -> Result<List<Row>, Fail> {
-    let query = bound_query(alloc, &guarded.catalogue, spelled)?;
-    Ok(evaluate(alloc, guarded, &query, steps)?)
+    let query = bound_query(alloc, &plain.catalogue, spelled)?;
+    Ok(evaluate(alloc, plain, &query, steps)?)
 }
 
 /// Whether a report has these rows, if it is of an answer.
@@ -79,12 +79,12 @@ fn is_refused_as(report: &Report, why: &Refusal) -> bool {
 /// where the query can't be bound.
 fn agrees<L: Ledger>(
     alloc: Global,
-    guarded: &Guarded,
+    plain: &Guarded,
     spelled: &str,
     report: &Report,
     steps: &mut Steps<L>,
 ) -> Result<bool, NoMemory> {
-    match rows_of(alloc, guarded, spelled, steps) {
+    match rows_of(alloc, plain, spelled, steps) {
         Ok(rows) => Ok(has_rows(report, &rows)),
         Err(Fail::Refused(why)) => Ok(is_refused_as(report, &why)),
         Err(Fail::NoMemory) => Err(NoMemory),
@@ -101,14 +101,14 @@ impl Lines {
     fn add_report<L: Ledger>(
         &mut self,
         alloc: Global,
-        guarded: &Guarded,
+        plain: &Guarded,
         number: u32,
         spelled: &str,
         report: &Report,
         steps: &mut Steps<L>,
     ) -> Result<(), NoMemory> {
         self.push(alloc, number, report)?;
-        self.agree &= agrees(alloc, guarded, spelled, report, steps)?;
+        self.agree &= agrees(alloc, plain, spelled, report, steps)?;
         Ok(())
     }
 
@@ -117,19 +117,21 @@ impl Lines {
         &mut self,
         alloc: Global,
         session: &mut Session,
+        plain: &Guarded,
         number: u32,
         spelled: &str,
         steps: &mut Steps<L>,
     ) -> Result<(), NoMemory> {
         let report = said_of(alloc, session, spelled, steps)?;
-        self.add_report(alloc, &session.guarded, number, spelled, &report, steps)
+        self.add_report(alloc, plain, number, spelled, &report, steps)
     }
 }
 
-/// The lines of queries, each on a line of its own.
-fn lines_of<L: Ledger>(
+/// The lines of queries, each on a line of its own, over a session's store and a plain one with the same rows.
+fn lines_by<L: Ledger>(
     alloc: Global,
     session: &mut Session,
+    plain: &Guarded,
     queries: &str,
     steps: &mut Steps<L>,
 ) -> Result<Lines, NoMemory> {
@@ -140,9 +142,26 @@ fn lines_of<L: Ledger>(
     let mut number: u32 = 0;
     for spelled in queries.lines() {
         number = number.saturating_add(1);
-        lines.add(alloc, session, number, spelled, steps)?;
+        lines.add(alloc, session, plain, number, spelled, steps)?;
     }
     Ok(lines)
+}
+
+/// The lines of queries. Where the store can't be made anew there are none, and they don't agree.
+fn lines_of<L: Ledger>(
+    alloc: Global,
+    session: &mut Session,
+    queries: &str,
+    steps: &mut Steps<L>,
+) -> Result<Lines, NoMemory> {
+    let store = &session.guarded;
+    match plain_store(alloc, &store.catalogue, store.rows.as_slice(), steps)? {
+        Some(plain) => lines_by(alloc, session, &plain, queries, steps),
+        None => Ok(Lines {
+            said: Text::new(alloc),
+            agree: false,
+        }),
+    }
 }
 
 /// Has a session carry out a script, which loads the files of a folder.

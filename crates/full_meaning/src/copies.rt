@@ -7,7 +7,7 @@ use std::alloc::Global;
 use std::sync::ledger::Ledger;
 
 /// The rows of a table. Each is read once.
-fn copied_rows<L: Ledger>(
+pub fn copied_rows<L: Ledger>(
     alloc: Global,
     rows: &Rows,
     steps: &mut Steps<L>,

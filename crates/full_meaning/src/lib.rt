@@ -1,8 +1,9 @@
 //! The full answer of a query over the store, by reading all of its rows. It serves to compare: answers of plans are
-//! found through the indexes.
+//! found through the indexes. `plain_store` makes a store of plain indexes with the rows of another store.
 #![tactic(auto)]
 
 mod copies;
+mod stores;
 
 ghost use Rattle.std.specs.Prelude.{◌≡◌, ◌+◌, ◌≤◌, length, sum_by, IfOk, OnOk};
 ghost use Rattle.beas_core.specs.Full.{full_of};
@@ -14,6 +15,7 @@ use beas_core::{List, NoMemory, Query, Row, Steps};
 use reference_evaluation::full_of;
 use std::alloc::Global;
 use std::sync::ledger::Ledger;
+pub use stores::plain_store;
 use update_guard::Guarded;
 
 /// The full answer of a query over the rows of all tables, in order. It reads each row of the store once, whether or

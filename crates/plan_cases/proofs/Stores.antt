@@ -10,13 +10,12 @@ use Rattle.beas_laws.proofs.MoreConstraints.{still_fits}
 use Rattle.catalogue.specs.Database.{Database, rows_at, with_access}
 use Rattle.catalogue.specs.Schema.{SchemaIsSound}
 use Rattle.plan_builder.proofs.PreparationFacts.{ids_once}
-use Rattle.update_guard.specs.declared.guarded.Guarded.{Guarded}
-use Rattle.update_guard.specs.Stored.{database_in}
+use Rattle.session.specs.Stores.{Store, database_in}
 
-abbrev pub FitsStore : Guarded → Prepared → Type 0
+abbrev pub FitsStore : Store → Prepared → Type 0
 FitsStore guarded prepared = Fits guarded.catalogue.accesses (rows_at (database_in guarded)) prepared
 
-module _ (old new : Guarded) (prepared : Prepared) (fits : FitsStore old prepared) where
+module _ (old new : Store) (prepared : Prepared) (fits : FitsStore old prepared) where
   abbrev FitsDatabase : Database → Type 0
   FitsDatabase db = Fits db.accesses (rows_at db) prepared
 

@@ -1,18 +1,18 @@
 // Constraints that are made after a query was prepared.
 ghost use Rattle.beas_core.specs.Fits.{Fits};
 ghost use Rattle.catalogue.specs.Database.{rows_at};
-ghost use Rattle.update_guard.specs.Stored.{database_in};
+ghost use Rattle.session.specs.Stores.{database_in};
 
 use beas_core::{AccessSpec, Fail, Limits, NoMemory, Prepared, Steps};
+use session::Store;
 use std::alloc::Global;
 use std::sync::ledger::Ledger;
-use update_guard::Guarded;
 
 /// Makes a constraint where it fetches a column and holds, and says whether it does. A prepared query that fitted the
 /// store before fits it after.
 fn add_constraint<L: Ledger>(
     alloc: Global,
-    guarded: &mut Guarded,
+    guarded: &mut Store,
     spec: &AccessSpec,
     prepared: &Prepared,
     steps: &mut Steps<L>,
@@ -36,7 +36,7 @@ fn add_constraint<L: Ledger>(
 /// Makes constraints, and says how many were made. A prepared query that fitted the store before fits it after.
 pub fn add_constraints<L: Ledger>(
     alloc: Global,
-    guarded: &mut Guarded,
+    guarded: &mut Store,
     specs: &[AccessSpec],
     prepared: &Prepared,
     steps: &mut Steps<L>,

@@ -1,16 +1,16 @@
 // What comes of a prepared query, compared with what the reference programs give for its plans.
 ghost use Rattle.beas_core.specs.Fits.{Fits};
 ghost use Rattle.catalogue.specs.Database.{rows_at};
-ghost use Rattle.update_guard.specs.Stored.{database_in};
+ghost use Rattle.session.specs.Stores.{database_in};
 
 use beas_core::{List, NoMemory, Prepared, Row, Steps};
 use plan_executor::execute;
 use reference_coverage::BlockPlans;
 use reference_evaluation::{PlansOnTables, full_of};
 use reference_queries::{GuidedBlocks, Run, run_of};
+use session::Store;
 use std::alloc::Global;
 use std::sync::ledger::Ledger;
-use update_guard::Guarded;
 
 /// What came of a prepared query: whether it is as by the reference programs, and what its guided blocks found.
 #[derive(Clone, Copy)]
@@ -22,7 +22,7 @@ pub struct Outcome {
 /// What the reference programs give for a prepared query over tables.
 fn wanted_run(
     alloc: Global,
-    guarded: &Guarded,
+    guarded: &Store,
     tables: &[List<Row>],
     prepared: &Prepared,
 ) -> Result<Option<Run>, NoMemory> {
@@ -38,7 +38,7 @@ fn wanted_run(
 /// that are the full answer; and no more reads than announced.
 pub fn outcome_of<L: Ledger>(
     alloc: Global,
-    guarded: &Guarded,
+    guarded: &Store,
     tables: &[List<Row>],
     prepared: &Prepared,
     steps: &mut Steps<L>,

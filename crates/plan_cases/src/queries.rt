@@ -2,7 +2,7 @@
 ghost use Rattle.std.specs.Prelude.{IfOk};
 ghost use Rattle.beas_core.specs.Fits.{Fits};
 ghost use Rattle.catalogue.specs.Database.{rows_at};
-ghost use Rattle.update_guard.specs.Stored.{database_in};
+ghost use Rattle.session.specs.Stores.{database_in};
 
 use crate::additions::add_constraints;
 use crate::announced::{is_canonical, is_prepared_so, is_refused_so};
@@ -12,11 +12,10 @@ use crate::tallies::{BUDGET, Tally};
 use beas_core::{AccessSpec, Fail, Limits, List, NoMemory, Prepared, Refusal, Row, Steps};
 use drawn_scenes::{Twin, bound_query, draw_query, fill_scene, statement_of};
 use reference_queries::{Planned, plan_query};
-use session::Session;
+use session::{Session, Store};
 use sql_tree::Statement;
 use std::alloc::Global;
 use std::sync::ledger::Ledger;
-use update_guard::Guarded;
 
 /// So many queries are drawn for one session.
 const QUERIES: u32 = 14;
@@ -43,7 +42,7 @@ fn shortened_in(wanted: &Planned) -> u32 {
 /// before they were.
 fn executed<L: Ledger>(
     alloc: Global,
-    guarded: &mut Guarded,
+    guarded: &mut Store,
     specs: &[AccessSpec],
     tables: &[List<Row>],
     prepared: &Prepared,
@@ -68,7 +67,7 @@ fn executed<L: Ledger>(
 }
 
 /// What the reference programs plan for the query that a text spells, over the constraints as they are.
-fn planned_query(alloc: Global, guarded: &Guarded, spelled: &str) -> Result<Planned, Fail> {
+fn planned_query(alloc: Global, guarded: &Store, spelled: &str) -> Result<Planned, Fail> {
     let query = bound_query(alloc, &guarded.catalogue, spelled)?;
     let accesses = guarded.catalogue.accesses().as_slice();
     Ok(plan_query(alloc, accesses, &query)?)

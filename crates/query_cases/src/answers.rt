@@ -4,6 +4,7 @@ ghost use Rattle.beas_core.specs.Shapes.{QueryIsWellFormed};
 
 use crate::coverage::is_agreed;
 use beas_core::{Block, Fail, List, Name, NoMemory, Query, Refusal, Row, Steps, Text};
+use catalogue::Catalogue;
 use drawn_scenes::{bound_query, column_name, refusal_of_block};
 use full_meaning::evaluate;
 use normal_form::blocks;
@@ -14,6 +15,14 @@ use report::Report;
 use std::alloc::Global;
 use std::sync::ledger::Ledger;
 use update_guard::Guarded;
+
+/// A session's tables and constraints, and its rows as plain tables and in a plain store.
+#[derive(Clone, Copy)]
+pub struct Scene<'a> {
+    pub catalogue: &'a Catalogue,
+    pub plain: &'a Guarded,
+    pub tables: &'a [List<Row>],
+}
 
 /// What is to be reported of a query, and what its guided blocks find.
 #[derive(Drop)]
@@ -52,13 +61,12 @@ fn first_header(alloc: Global, query: &Query) -> Result<List<Name>, NoMemory> {
 /// The full answer of a query, which both programs that read all rows have to give.
 fn answer_of<L: Ledger>(
     alloc: Global,
-    guarded: &Guarded,
-    tables: &[List<Row>],
+    scene: Scene<'_>,
     query: &Query,
     steps: &mut Steps<L>,
 ) -> Result<List<Row>, Fail> {
-    let rows = full_of(alloc, tables, query)?;
-    let stored = evaluate(alloc, guarded, query, steps)?;
+    let rows = full_of(alloc, scene.tables, query)?;
+    let stored = evaluate(alloc, scene.plain, query, steps)?;
     if rows == stored {
         Ok(rows)
     } else {
@@ -92,8 +100,7 @@ fn answered(
 /// What is to be reported of a covered query within a budget.
 fn wanted_by<L: Ledger>(
     alloc: Global,
-    guarded: &Guarded,
-    tables: &[List<Row>],
+    scene: Scene<'_>,
     query: &Query,
     plans: &QueryPlans,
     budget: u64,
@@ -105,34 +112,35 @@ fn wanted_by<L: Ledger>(
     if bound > u128::from(budget) {
         return Ok(refused(Refusal::OverBudget { bound, budget }));
     }
-    let rows = answer_of(alloc, guarded, tables, query, steps)?;
+    let rows = answer_of(alloc, scene, query, steps)?;
     let plans = BlockPlans {
-        accesses: guarded.catalogue.accesses().as_slice(),
+        accesses: scene.catalogue.accesses().as_slice(),
         guided: plans.guided.as_slice(),
         derivations: plans.derivations.as_slice(),
     };
-    answered(alloc, &PlansOnTables { tables, plans }, query, bound, rows)
+    let over = PlansOnTables {
+        tables: scene.tables,
+        plans,
+    };
+    answered(alloc, &over, query, bound, rows)
 }
 
 /// What is to be reported of a query within a budget by the reference programs. A query that they don't agree on is refused
 /// as 1.
 pub fn wanted_of<L: Ledger>(
     alloc: Global,
-    guarded: &Guarded,
-    tables: &[List<Row>],
+    scene: Scene<'_>,
     spelled: &str,
     budget: u64,
     steps: &mut Steps<L>,
 ) -> Result<Wanted, Fail> {
-    let query = bound_query(alloc, &guarded.catalogue, spelled)?;
-    let planned = plan_query(alloc, guarded.catalogue.accesses().as_slice(), &query)?;
-    if !is_agreed(alloc, guarded.catalogue.accesses(), &query, &planned)? {
+    let query = bound_query(alloc, scene.catalogue, spelled)?;
+    let planned = plan_query(alloc, scene.catalogue.accesses().as_slice(), &query)?;
+    if !is_agreed(alloc, scene.catalogue.accesses(), &query, &planned)? {
         return Ok(refused(Refusal::Syntax));
     }
     match planned {
-        Planned::Covered(plans) => {
-            wanted_by(alloc, guarded, tables, &query, &plans, budget, steps)
-        }
+        Planned::Covered(plans) => wanted_by(alloc, scene, &query, &plans, budget, steps),
         Planned::Uncovered(found) => Ok(refused(refusal_of_block(alloc, found.block, found.why)?)),
         Planned::TooWide => Ok(refused(Refusal::Syntax)),
     }

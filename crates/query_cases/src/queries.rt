@@ -1,13 +1,13 @@
 // Drawn queries over small drawn tables.
-use crate::answers::{Wanted, wanted_of};
+use crate::answers::{Scene, Wanted, wanted_of};
 use beas_core::{Fail, Limits, List, NoMemory, Row, Steps, Text};
 use drawn_scenes::{Draws, Twin, draw_query, fill_scene, reports};
+use full_meaning::plain_store;
 use reference_queries::GuidedBlocks;
 use report::{Report, text};
-use session::Session;
+use session::{Session, Store};
 use std::alloc::Global;
 use std::sync::ledger::Ledger;
-use update_guard::Guarded;
 
 /// So many queries are drawn for one session.
 const QUERIES: u32 = 25;
@@ -71,12 +71,11 @@ impl Tally {
 /// What is to be reported of a query. One that the reference programs don't agree on is refused as 1.
 fn wanted_report<L: Ledger>(
     alloc: Global,
-    guarded: &Guarded,
-    tables: &[List<Row>],
+    scene: Scene<'_>,
     spelled: &str,
     steps: &mut Steps<L>,
 ) -> Result<Wanted, NoMemory> {
-    match wanted_of(alloc, guarded, tables, spelled, BUDGET, steps) {
+    match wanted_of(alloc, scene, spelled, BUDGET, steps) {
         Ok(wanted) => Ok(wanted),
         Err(Fail::Refused(why)) => Ok(Wanted {
             report: Report::Refused { why },
@@ -109,16 +108,7 @@ impl Queries {
         let report = text(alloc, number, &wanted.report)?;
         self.wanted.push_str(report.as_str())
     }
-}
 
-/// A session's store, and the same rows as plain tables.
-#[derive(Clone, Copy)]
-struct Scene<'a> {
-    guarded: &'a Guarded,
-    tables: &'a [List<Row>],
-}
-
-impl Queries {
     /// Adds a drawn query.
     fn draw<L: Ledger>(
         &mut self,
@@ -129,7 +119,7 @@ impl Queries {
         steps: &mut Steps<L>,
     ) -> Result<(), NoMemory> {
         let query = draw_query(alloc, draws)?;
-        let wanted = wanted_report(alloc, scene.guarded, scene.tables, query.as_str(), steps)?;
+        let wanted = wanted_report(alloc, scene, query.as_str(), steps)?;
         self.add(alloc, number, &query, &wanted)
     }
 }
@@ -164,6 +154,32 @@ fn are_answered<L: Ledger>(
     Ok(said.as_str() == queries.wanted.as_str())
 }
 
+/// Drawn queries over the rows that a session has. Where its store can't be made anew there are none.
+fn queries_over<L: Ledger>(
+    alloc: Global,
+    store: &Store,
+    draws: &mut Draws,
+    tables: &[List<Row>],
+    tally: Tally,
+    steps: &mut Steps<L>,
+) -> Result<Queries, NoMemory> {
+    match plain_store(alloc, &store.catalogue, store.rows.as_slice(), steps)? {
+        Some(plain) => {
+            let scene = Scene {
+                catalogue: &store.catalogue,
+                plain: &plain,
+                tables,
+            };
+            draw_queries(alloc, scene, draws, tally, steps)
+        }
+        None => Ok(Queries {
+            script: Text::new(alloc),
+            wanted: Text::from_str(alloc, "a store that is made anew")?,
+            tally,
+        }),
+    }
+}
+
 /// Has drawn queries answered by a session whose tables have these rows.
 fn try_drawn<L: Ledger>(
     alloc: Global,
@@ -173,11 +189,7 @@ fn try_drawn<L: Ledger>(
     tally: Tally,
     steps: &mut Steps<L>,
 ) -> Result<Tally, NoMemory> {
-    let scene = Scene {
-        guarded: &session.guarded,
-        tables,
-    };
-    let queries = draw_queries(alloc, scene, draws, tally, steps)?;
+    let queries = queries_over(alloc, &session.guarded, draws, tables, tally, steps)?;
     let is_same = are_answered(alloc, session, &queries, steps)?;
     Ok(Tally {
         differing: queries.tally.differing.saturating_add(u32::from(!is_same)),

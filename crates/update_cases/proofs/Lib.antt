@@ -1,1 +1,2 @@
+mod BlockFacts
 mod Members

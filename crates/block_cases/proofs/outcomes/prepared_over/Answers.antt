@@ -5,7 +5,7 @@ use Rattle.beas_core.specs.Types.{TableRows}
 use Rattle.catalogue.specs.Database.{rows_at}
 use Rattle.catalogue.specs.Queries.{RowsAreWide}
 use Rattle.session.proofs.StoreFacts.{stored_rows_are_wide}
-use Rattle.update_guard.specs.Stored.{database_in}
+use Rattle.session.specs.Stores.{database_in}
 use Rattle.block_cases.proofs.outcomes.prepared_over.Goals as goal
 
 pub returns : goal.returns

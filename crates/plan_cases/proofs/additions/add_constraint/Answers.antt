@@ -1,6 +1,6 @@
 use Rattle.catalogue.specs.Database.{schema_of}
 use Rattle.catalogue.specs.Refusing.{new_access}
-use Rattle.update_guard.specs.Stored.{database_in}
+use Rattle.session.specs.Stores.{database_in}
 use Rattle.plan_cases.proofs.Stores.{fits_with_access}
 use Rattle.plan_cases.proofs.additions.add_constraint.Goals as goal
 
