@@ -1,2 +1,0 @@
-mod BlockFacts
-mod Members
