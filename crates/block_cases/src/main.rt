@@ -5,7 +5,7 @@
 //! - The named cases of standard input, in the words of `named_blocks`, are built as they stand there, over stores that
 //!   statements fill with their tables, constraints and rows. They are those of `reference_cases`.
 //!
-//! Each query is prepared and executed over a `Guarded`, and its number, its reads and its rows are compared with what
+//! Each query is prepared and executed over a session's store, and its number, its reads and its rows are compared with what
 //! the reference programs give, from the normal form on. A query that they find not covered, or whose number passes
 //! 2^128 - 1, has to be refused so. Before it is prepared, a query is seen to have the shape that the layers ask of it.
 //!

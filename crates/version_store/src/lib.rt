@@ -1,4 +1,4 @@
-//! Sessions that take turns at one database.
+//! The program's store as one whose tables can be kept, as they are, for queries that are open.
 #![tactic(auto)]
 
 mod store;
