@@ -2,7 +2,7 @@
 use session::Session;
 
 /// A session has these four fields and no other, so no copy of its rows: with a further field this would not compile.
-pub fn session_fields(session: Session) {
+pub fn session_fields(session: &Session) {
     let Session {
         guarded: _guarded,
         limits: _limits,

@@ -8,4 +8,3 @@ mod SourcelessFacts
 mod TieFacts
 mod TurnFacts
 mod WalkFacts
-pub mod WellFormedFacts

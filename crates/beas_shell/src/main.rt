@@ -42,7 +42,7 @@ fn run_words<L: Ledger>(rt: &HostRuntime, words: &[String], steps: &mut Steps<L>
     let mut files = RealFiles::new(rt);
     let mut out = RealSink::new(rt.stdout());
     let mut err = RealSink::new(rt.stderr());
-    run(
+    let status = run(
         rt.alloc(),
         &mut session,
         words,
@@ -50,7 +50,9 @@ fn run_words<L: Ledger>(rt: &HostRuntime, words: &[String], steps: &mut Steps<L>
         &mut out,
         &mut err,
         steps,
-    )
+    );
+    session.discard();
+    status
 }
 
 /// Runs what the words of the command line ask for, with one counter of reads.

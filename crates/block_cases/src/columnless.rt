@@ -134,7 +134,9 @@ fn try_session<L: Ledger>(
     steps: &mut Steps<L>,
 ) -> Result<Tally, NoMemory> {
     let mut session = Session::new(alloc, Limits::standard(), None, false);
-    try_scene(alloc, &mut session, seed, before, steps)
+    let tally = try_scene(alloc, &mut session, seed, before, steps);
+    session.discard();
+    tally
 }
 
 /// Tries drawn queries over so many sessions, and says what came of them and what differed.

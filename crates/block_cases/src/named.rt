@@ -90,7 +90,9 @@ fn try_case<L: Ledger>(
     steps: &mut Steps<L>,
 ) -> Result<Outcome, Wrong> {
     let mut session = Session::new(alloc, Limits::standard(), None, false);
-    try_over(alloc, &mut session, case, steps)
+    let outcome = try_over(alloc, &mut session, case, steps);
+    session.discard();
+    outcome
 }
 
 /// The line of a case.

@@ -13,11 +13,12 @@ pub fn run_of<L: Ledger>(
     files: &mut SteadyFiles,
     steps: &mut Steps<L>,
 ) -> Result<String, NoMemory> {
-    let mut session = Session::new(alloc, Limits::standard(), None, false);
     let mut out = SteadySink::new(alloc);
     let mut words = Vec::new(alloc);
     words.push(String::from_str(alloc, name)?)?;
+    let mut session = Session::new(alloc, Limits::standard(), None, false);
     let status = run_steady(alloc, &mut session, &words, files, &mut out, steps);
+    session.discard();
     let sent = str::from_utf8(out.bytes());
     Ok(format!(in alloc; "status {status}, sent {sent:?}")?)
 }

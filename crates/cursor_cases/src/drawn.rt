@@ -59,6 +59,19 @@ fn try_queries<L: Ledger>(
     Ok(tally)
 }
 
+/// Tries drawn queries over a session without tables, which gets drawn ones.
+fn try_scene<L: Ledger>(
+    alloc: Global,
+    session: &mut Session,
+    seed: u64,
+    before: Tally,
+    steps: &mut Steps<L>,
+) -> Result<Tally, NoMemory> {
+    let mut twin = Twin::new(alloc, seed);
+    fill_scene(alloc, session, &mut twin, steps)?;
+    try_queries(alloc, session, &mut twin.draws, before, steps)
+}
+
 fn try_session<L: Ledger>(
     alloc: Global,
     seed: u64,
@@ -66,9 +79,9 @@ fn try_session<L: Ledger>(
     steps: &mut Steps<L>,
 ) -> Result<Tally, NoMemory> {
     let mut session = Session::new(alloc, Limits::standard(), Some(BUDGET), false);
-    let mut twin = Twin::new(alloc, seed);
-    fill_scene(alloc, &mut session, &mut twin, steps)?;
-    try_queries(alloc, &session, &mut twin.draws, before, steps)
+    let tally = try_scene(alloc, &mut session, seed, before, steps);
+    session.discard();
+    tally
 }
 
 /// Tries drawn queries over so many sessions, and says what came of them and what differed.

@@ -40,7 +40,19 @@ fn lines_of<L: Ledger>(
     Ok(lines)
 }
 
-/// The lines of some queries over the store that a script makes.
+/// The lines of some queries over the store that a session makes of a script.
+fn lines_by<L: Ledger>(
+    alloc: Global,
+    session: &mut Session,
+    script: &str,
+    queries: &str,
+    steps: &mut Steps<L>,
+) -> Result<Text, NoMemory> {
+    reports(alloc, session, script, steps)?;
+    lines_of(alloc, session, queries, steps)
+}
+
+/// The same by a session that is made for them.
 fn lines_over<L: Ledger>(
     alloc: Global,
     script: &str,
@@ -48,8 +60,9 @@ fn lines_over<L: Ledger>(
     steps: &mut Steps<L>,
 ) -> Result<Text, NoMemory> {
     let mut session = Session::new(alloc, Limits::standard(), None, false);
-    reports(alloc, &mut session, script, steps)?;
-    lines_of(alloc, &session, queries, steps)
+    let lines = lines_by(alloc, &mut session, script, queries, steps);
+    session.discard();
+    lines
 }
 
 /// Tries the case of a folder. True where its lines are as wanted; where they aren't, it says what they are.

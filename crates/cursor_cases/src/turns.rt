@@ -1,17 +1,14 @@
 // A query answered by cursors and by the executor.
-ghost use Rattle.std.specs.Prelude.{◌≡◌, false, IfOk, IsTrue, OnOk, is_some};
+ghost use Rattle.std.specs.Prelude.{◌≡◌, false, IsTrue, OnOk, is_some};
 ghost use Rattle.beas_core.specs.Fits.{Fits};
 ghost use Rattle.block_walk.specs.Worlds.{world};
-ghost use Rattle.catalogue.specs.Database.{rows_at};
 ghost use Rattle.cursor_executor.specs.Fetching.{AllAgree};
-ghost use Rattle.session.specs.Stores.{database_in};
 
-use beas_core::{AccessPort, Answer, Fail, NoMemory, Prepared, Refusal, Steps};
+use beas_core::{AccessPort, Answer, Fail, NoMemory, Prepared, Steps};
 use cursor_executor::{Cursor, Turn};
-use drawn_scenes::statement_of;
+use drawn_scenes::announced_query;
 use plan_executor::execute;
 use session::Session;
-use sql_tree::Statement;
 use std::alloc::Global;
 use std::sync::ledger::Ledger;
 
@@ -23,16 +20,6 @@ pub struct Turned {
     pub rows: usize,
     pub reads: u128,
     pub agrees: bool,
-}
-
-/// A query as it is announced over the constraints as they are.
-fn prepared_query(alloc: Global, session: &Session, spelled: &str) -> Result<Prepared, Fail>
-    ensures { IfOk result (Fits session.now.guarded.catalogue.accesses (rows_at (database_in session.now.guarded))) }
-{
-    match statement_of(alloc, spelled)? {
-        Statement::Select { tree } => session.announce(alloc, &tree),
-        _ => Err(Fail::Refused(Refusal::Syntax)),
-    }
 }
 
 /// Drives a cursor turn by turn until no probe is due. Gives how many turns made one.
@@ -96,10 +83,10 @@ pub fn turned_query<L: Ledger>(
     steps: &mut Steps<L>,
 ) -> Result<Turned, Fail> {
     let guarded = &session.guarded;
-    let prepared = prepared_query(alloc, session, spelled)?;
+    let prepared = announced_query(alloc, session, spelled)?;
     let executed = execute(alloc, guarded, &prepared, steps)?;
     let (answer, probes) = turn_by_turn(alloc, guarded, prepared, steps)?;
-    let again = prepared_query(alloc, session, spelled)?;
+    let again = announced_query(alloc, session, spelled)?;
     let whole = completed(alloc, guarded, again, steps)?;
     Ok(Turned {
         probes,

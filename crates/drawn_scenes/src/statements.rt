@@ -19,7 +19,7 @@ use std::sync::ledger::Ledger;
 const LONGEST: usize = 16_777_216;
 
 /// The statement that some tokens spell.
-#[tactic(auto, using(beas_run::proofs::WellFormedFacts::parsed_well))]
+#[tactic(auto, using(parsed_facts::proofs::WellFormedFacts::parsed_well))]
 fn parse_well(alloc: Global, tokens: &[Token]) -> Result<Statement, Fail>
     requires { length tokens.now < 2 ^ 32 - 1 }
     ensures { IfOk result StatementIsWellFormed }
@@ -36,6 +36,20 @@ pub fn statement_of(alloc: Global, spelled: &str) -> Result<Statement, Fail>
     }
     let tokens = lex(alloc, spelled)?;
     parse_well(alloc, tokens.as_slice())
+}
+
+/// Carries out the statement that a text spells, which loads no file, and says what is reported of it.
+pub fn report_by<L: Ledger>(
+    alloc: Global,
+    session: &mut Session,
+    spelled: &str,
+    steps: &mut Steps<L>,
+) -> Result<Report, NoMemory> {
+    match statement_of(alloc, spelled) {
+        Ok(statement) => session.apply(alloc, &mut MemoryFiles::new(alloc), &statement, steps),
+        Err(Fail::Refused(why)) => Ok(Report::Refused { why }),
+        Err(Fail::NoMemory) => Err(NoMemory),
+    }
 }
 
 /// Carries out the statement that some tokens spell, and says what is reported of it.

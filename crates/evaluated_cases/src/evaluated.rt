@@ -1,15 +1,11 @@
 // Queries whose answers a person worked out, as folders of files.
-ghost use Rattle.session.specs.Statements.{StatementIsWellFormed};
-
 use beas_core::{Fail, Limits, List, NoMemory, Refusal, Row, Steps, Text};
 use drawn_scenes::{
-    bound_query, files_in, names_in, out_of_memory, reports_over, statement_of, text_in,
+    bound_query, files_in, names_in, out_of_memory, report_by, reports_over, text_in,
 };
 use full_meaning::{evaluate, plain_store};
-use outside::MemoryFiles;
 use report::{Report, text};
 use session::Session;
-use sql_tree::Statement;
 use std::alloc::Global;
 use std::io;
 use std::sync::ledger::Ledger;
@@ -20,32 +16,6 @@ use update_guard::Guarded;
 struct Lines {
     said: Text,
     agree: bool,
-}
-
-/// What a session reports of a statement that loads no file.
-fn report_of<L: Ledger>(
-    alloc: Global,
-    session: &mut Session,
-    statement: &Statement,
-    steps: &mut Steps<L>,
-) -> Result<Report, NoMemory>
-    requires { StatementIsWellFormed statement.now }
-{
-    session.apply(alloc, &mut MemoryFiles::new(alloc), statement, steps)
-}
-
-/// What a session reports of a query.
-fn said_of<L: Ledger>(
-    alloc: Global,
-    session: &mut Session,
-    spelled: &str,
-    steps: &mut Steps<L>,
-) -> Result<Report, NoMemory> {
-    match statement_of(alloc, spelled) {
-        Ok(statement) => report_of(alloc, session, &statement, steps),
-        Err(Fail::Refused(why)) => Ok(Report::Refused { why }),
-        Err(Fail::NoMemory) => Err(NoMemory),
-    }
 }
 
 /// The rows that `evaluate` gives for a query.
@@ -122,7 +92,7 @@ impl Lines {
         spelled: &str,
         steps: &mut Steps<L>,
     ) -> Result<(), NoMemory> {
-        let report = said_of(alloc, session, spelled, steps)?;
+        let report = report_by(alloc, session, spelled, steps)?;
         self.add_report(alloc, plain, number, spelled, &report, steps)
     }
 }
@@ -156,7 +126,11 @@ fn lines_of<L: Ledger>(
 ) -> Result<Lines, NoMemory> {
     let store = &session.guarded;
     match plain_store(alloc, &store.catalogue, store.rows.as_slice(), steps)? {
-        Some(plain) => lines_by(alloc, session, &plain, queries, steps),
+        Some(plain) => {
+            let lines = lines_by(alloc, session, &plain, queries, steps);
+            plain.discard();
+            lines
+        }
         None => Ok(Lines {
             said: Text::new(alloc),
             agree: false,
@@ -199,11 +173,23 @@ fn lines_over<L: Ledger>(
     lines_of(rt.alloc(), session, queries.as_str(), steps).map_err(out_of_memory)
 }
 
-/// The lines of the queries of a case over the store that its script makes.
+/// The lines of the queries of a case over the store that a session makes by its script.
+fn lines_by_session<L: Ledger>(
+    rt: &HostRuntime,
+    folder: &str,
+    session: &mut Session,
+    steps: &mut Steps<L>,
+) -> io::Result<Lines> {
+    make_store(rt, folder, session, steps)?;
+    lines_over(rt, folder, session, steps)
+}
+
+/// The same by a session that is made for it.
 fn lines_in<L: Ledger>(rt: &HostRuntime, folder: &str, steps: &mut Steps<L>) -> io::Result<Lines> {
     let mut session = Session::new(rt.alloc(), Limits::standard(), None, false);
-    make_store(rt, folder, &mut session, steps)?;
-    lines_over(rt, folder, &mut session, steps)
+    let lines = lines_by_session(rt, folder, &mut session, steps);
+    session.discard();
+    lines
 }
 
 /// Whether the lines are as wanted. Where they aren't, it says what they are.

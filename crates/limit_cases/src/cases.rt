@@ -54,12 +54,6 @@ fn session_of(alloc: Global, lines: &str) -> Session {
     session
 }
 
-/// A session without tables, with the limits of a case.
-fn session_in(rt: &HostRuntime, folder: &str) -> io::Result<Session> {
-    let settings = text_in(rt, folder, "limits")?;
-    Ok(session_of(rt.alloc(), settings.as_str()))
-}
-
 /// What a session reports of the script of a case.
 fn reports_in<L: Ledger>(
     rt: &HostRuntime,
@@ -72,10 +66,13 @@ fn reports_in<L: Ledger>(
     reports_over(rt.alloc(), session, &mut files, script.as_str(), steps).map_err(out_of_memory)
 }
 
-/// What is reported of a case.
+/// What is reported of a case, by a session without tables.
 fn wrote_in<L: Ledger>(rt: &HostRuntime, folder: &str, steps: &mut Steps<L>) -> io::Result<Text> {
-    let mut session = session_in(rt, folder)?;
-    reports_in(rt, folder, &mut session, steps)
+    let settings = text_in(rt, folder, "limits")?;
+    let mut session = session_of(rt.alloc(), settings.as_str());
+    let wrote = reports_in(rt, folder, &mut session, steps);
+    session.discard();
+    wrote
 }
 
 /// Tries a case, and says what it wrote where that isn't as wanted. Whether it is.

@@ -1,5 +1,4 @@
 // Drawn queries, prepared over small drawn tables and executed after more constraints were made.
-ghost use Rattle.std.specs.Prelude.{IfOk};
 ghost use Rattle.beas_core.specs.Fits.{Fits};
 ghost use Rattle.catalogue.specs.Database.{rows_at};
 ghost use Rattle.session.specs.Stores.{database_in};
@@ -9,26 +8,15 @@ use crate::announced::{is_canonical, is_prepared_so, is_refused_so};
 use crate::constraints::draw_constraints;
 use crate::outcomes::outcome_of;
 use crate::tallies::{BUDGET, Tally};
-use beas_core::{AccessSpec, Fail, Limits, List, NoMemory, Prepared, Refusal, Row, Steps};
-use drawn_scenes::{Twin, bound_query, draw_query, fill_scene, statement_of};
+use beas_core::{AccessSpec, Fail, Limits, List, NoMemory, Prepared, Row, Steps};
+use drawn_scenes::{Twin, announced_query, bound_query, draw_query, fill_scene};
 use reference_queries::{Planned, plan_query};
 use session::{Session, Store};
-use sql_tree::Statement;
 use std::alloc::Global;
 use std::sync::ledger::Ledger;
 
 /// So many queries are drawn for one session.
 const QUERIES: u32 = 14;
-
-/// A query as it is announced over the constraints as they are.
-fn prepared_query(alloc: Global, session: &Session, spelled: &str) -> Result<Prepared, Fail>
-    ensures { IfOk result (Fits session.now.guarded.catalogue.accesses (rows_at (database_in session.now.guarded))) }
-{
-    match statement_of(alloc, spelled)? {
-        Statement::Select { tree } => session.announce(alloc, &tree),
-        _ => Err(Fail::Refused(Refusal::Syntax)),
-    }
-}
 
 /// How many derivations lost steps in what the reference programs plan.
 fn shortened_in(wanted: &Planned) -> u32 {
@@ -82,7 +70,7 @@ fn try_query<L: Ledger>(
     steps: &mut Steps<L>,
 ) -> Result<Tally, Fail> {
     let wanted = planned_query(alloc, &session.guarded, spelled)?;
-    match prepared_query(alloc, session, spelled) {
+    match announced_query(alloc, session, spelled) {
         Ok(prepared) => {
             let guarded = &mut session.guarded;
             Ok(executed(alloc, guarded, specs, tables, &prepared, &wanted, steps)?)
@@ -150,7 +138,9 @@ fn try_session<L: Ledger>(
     steps: &mut Steps<L>,
 ) -> Result<Tally, NoMemory> {
     let mut session = Session::new(alloc, Limits::standard(), Some(BUDGET), false);
-    try_scene(alloc, &mut session, seed, before, steps)
+    let tally = try_scene(alloc, &mut session, seed, before, steps);
+    session.discard();
+    tally
 }
 
 /// Tries drawn queries over so many sessions, and says what came of them and what differed.

@@ -170,7 +170,9 @@ fn queries_over<L: Ledger>(
                 plain: &plain,
                 tables,
             };
-            draw_queries(alloc, scene, draws, tally, steps)
+            let queries = draw_queries(alloc, scene, draws, tally, steps);
+            plain.discard();
+            queries
         }
         None => Ok(Queries {
             script: Text::new(alloc),
@@ -218,7 +220,9 @@ fn try_session<L: Ledger>(
     steps: &mut Steps<L>,
 ) -> Result<Tally, NoMemory> {
     let mut session = Session::new(alloc, Limits::standard(), Some(BUDGET), false);
-    try_seed(alloc, &mut session, seed, tally, steps)
+    let tally = try_seed(alloc, &mut session, seed, tally, steps);
+    session.discard();
+    tally
 }
 
 /// Has drawn queries answered by so many sessions, and says what came of them and what differed.

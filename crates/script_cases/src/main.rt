@@ -101,10 +101,10 @@ fn run_counted<O: Sink, L: Ledger>(
     requires parts { blank.parts ≡ L.parts }
     requires some { 0 < blank.parts }
 {
-    let mut session = Session::new(alloc, Limits::standard(), None, false);
     let mut files = files_of(alloc, case)?;
     let mut err = MemorySink::new(alloc);
     let mut steps = Steps::<L>::start(blank);
+    let mut session = Session::new(alloc, Limits::standard(), None, false);
     run_before(alloc, case, &mut session, &mut files, &mut steps);
     let status = run(
         alloc,
@@ -115,6 +115,7 @@ fn run_counted<O: Sink, L: Ledger>(
         &mut err,
         &mut steps,
     );
+    session.discard();
     Ok((status, err))
 }
 

@@ -57,6 +57,12 @@ impl Session {
         }
     }
 
+    /// Lets the session go. A crate in which a session is let go by the end of its scope proves anew what that does to
+    /// each part of the store, and one that calls this doesn't.
+    pub fn discard(self) {
+        self.guarded.discard();
+    }
+
     /// What its statements are decided by.
     fn settings(&self) -> Settings<'_>
         ensures { settings_in result ≡ settings_of self.now }

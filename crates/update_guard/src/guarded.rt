@@ -186,4 +186,7 @@ impl Guarded {
         self.indexes = List::from_vec(indexes);
         gone
     }
+
+    /// Lets the database go.
+    pub fn discard(self) {}
 }

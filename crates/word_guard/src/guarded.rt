@@ -176,4 +176,9 @@ impl WordGuarded {
         self.rows = List::from_vec(stores);
         gone
     }
+
+    /// Lets the database go.
+    pub fn discard(self) {
+        self.indexes.discard();
+    }
 }

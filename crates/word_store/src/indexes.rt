@@ -86,6 +86,9 @@ impl WordIndexes {
         let indexes = copy_places(alloc, self.indexes.as_slice(), places)?;
         Ok(WordIndexes { codes, indexes })
     }
+
+    /// Lets the indexes go.
+    pub fn discard(self) {}
 }
 
 impl Indexes for WordIndexes {

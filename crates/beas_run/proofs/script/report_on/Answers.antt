@@ -1,5 +1,5 @@
 use Rattle.beas_run.proofs.PieceFacts.{applied, may_cost, may_load, none_loaded, refused}
-use Rattle.beas_run.proofs.WellFormedFacts.{parsed_well}
+use Rattle.parsed_facts.proofs.WellFormedFacts.{parsed_well}
 use Rattle.beas_run.proofs.script.report_on.Goals as goal
 
 pub apply-requires : goal.apply-requires

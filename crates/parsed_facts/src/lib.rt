@@ -1,0 +1,20 @@
+//! What is true of the statements that tokens spell: lemmas that the crates above cite, and the law that they give.
+//!
+//! The lemmas are in proofs/: such a statement has no more parts than there are tokens, and none that it needs is missing.
+#![tactic(auto)]
+
+ghost use Rattle.std.specs.Prelude.{◌-◌, ◌<◌, ◌^◌, length, Ok};
+ghost use Rattle.session.specs.Statements.{StatementIsWellFormed};
+ghost use Rattle.sql_parser.specs.Outcome.{Parses};
+ghost use Rattle.sql_tree.specs.Symbols.{symbols};
+
+use sql_text::Token;
+use sql_tree::Statement;
+
+/// A statement that fewer than 2^32 - 1 tokens spell has what a session asks of the statements that it carries out.
+#[tactic(auto, using(crate::proofs::WellFormedFacts::parsed_well))]
+pub fn law_parsed_well(tokens: &[Token], statement: &Statement)
+    requires few { length tokens.now < 2 ^ 32 - 1 }
+    requires spelled { Parses (symbols tokens.now) (Ok statement.now) }
+    ensures { StatementIsWellFormed statement.now }
+{}
