@@ -28,8 +28,10 @@ use Rattle.kept_facts.proofs.KeepingFacts.{keeps_its_constraints, keeps_its_rows
 use Rattle.kept_facts.proofs.QueryFacts.{full_stays}
 use Rattle.kept_facts.specs.OpenQueries.{OpenQuery, answer_of, probes_of, reads_of}
 use Rattle.desk_model.specs.Desks.{AtOnce, DeskAction, DeskEffect, State, answered_effect, at_desk, is_of, new_query, opened_effect, probed_effect, query_effect, query_of, refused, said_action, statement_action, stepped_effect, with_effect, with_query, without_query}
-use Rattle.desk_model.specs.Pieces.{DeskTurn, Next, Plain, after_cost, and_step, and_steps, answered_if_opened, next, opens, piece_action, probes_due, seen_turns, turns, with_answer}
-use Rattle.desk_model.specs.PlainScripts.{NextTurn, as_plain, beside, next_turn, reading_action, statement_turns}
+use Rattle.piece_reader.specs.declared.saying.Saying.TheVariants.{Plain}
+use Rattle.piece_reader.specs.Sayings.{as_plain}
+use Rattle.desk_model.specs.Pieces.{DeskTurn, Next, after_cost, and_step, and_steps, answered_if_opened, next, opens, piece_action, probes_due, seen_turns, turns, with_answer}
+use Rattle.desk_model.specs.PlainScripts.{NextTurn, beside, next_turn, reading_action, statement_turns}
 use Rattle.desk_model.proofs.AnnouncedFits.{announced_fits}
 use Rattle.desk_model.proofs.Places.{find-last, remove-last, set-last}
 use Rattle.desk_model.proofs.SoundFacts.{stays_sound}

@@ -1,5 +1,4 @@
 -- What the pieces of a script do at a desk.
---     Saying                                   what a piece says: a statement; a statement of a session, as in `@2 SELECT ..`; or `@2 STEP`
 --     opens session before after               the session has an open query after, and had none before
 --     after_cost cost effect                   an effect after one that cost so much, as one effect
 --     and_step session effect                  an effect after which the session's query goes on by one event; and_steps by more
@@ -13,21 +12,16 @@
 --     seen_turn turn, seen_turns turns         the same turns, with the database that each leaves: what is written for them is the `out_of`
 --                                              these turns, and what they cost is the `cost_of` these. So a query that isn't answered costs
 --                                              nothing: what its probes read stands beside the cost
-use Rattle.std.specs.Prelude.{◌+◌, ◌&&◌, not, if◌then◌else◌, ℕ, zero, suc, Bool, List, [], ◌∷◌, length, map, Option, Some, None, is_some, option_map, Result, Ok, Err}
+use Rattle.std.specs.Prelude.{◌+◌, ◌&&◌, not, if◌then◌else◌, ℕ, zero, suc, Bool, List, [], ◌∷◌, length, map, Option, Some, None, is_some, option_map, Ok, Err}
 use Rattle.std.specs.Option.{option_map_or}
-use Rattle.beas_core.specs.declared.refusal.Refusal.{Refusal}
-use Rattle.sql_tree.specs.declared.tree.Statement.{Statement}
+use Rattle.piece_reader.specs.declared.saying.Saying.TheVariants as saying
+use Rattle.piece_reader.specs.Sayings.{Reading}
 use Rattle.session.specs.declared.loading.LoadOutcome.{LoadOutcome}
 use Rattle.session.specs.Effects.{Settings}
 use Rattle.session.specs.Turns.{FileLoad, Turn}
 use Rattle.desk_model.specs.declared.event.Event.TheVariants.{Said, Stepped}
 use Rattle.kept_facts.specs.OpenQueries.{probes_of}
 use Rattle.desk_model.specs.Desks.{DeskAction, AtOnce, ByLoad, DeskEffect, State, action_of_event, query_of, refused, stepped_effect}
-
-pub data Saying : Type 0 where
-  Plain : Statement → Saying
-  SaidBy : ℕ → Statement → Saying
-  SteppedBy : ℕ → Saying
 
 -- ---- a statement that names no session
 
@@ -62,11 +56,11 @@ with_answer before (ByLoad name effect) = ByLoad name effect
 
 -- ---- each piece
 
-abbrev pub piece_action : Settings → State → Result Saying Refusal → Option DeskAction
+abbrev pub piece_action : Settings → State → Reading → Option DeskAction
 piece_action settings state (Err why) = Some (AtOnce (refused state why))
-piece_action settings state (Ok (Plain statement)) = option_map (with_answer state) (action_of_event settings state (Said 0 statement))
-piece_action settings state (Ok (SaidBy session statement)) = action_of_event settings state (Said session statement)
-piece_action settings state (Ok (SteppedBy session)) = action_of_event settings state (Stepped session)
+piece_action settings state (Ok (saying.Plain statement)) = option_map (with_answer state) (action_of_event settings state (Said 0 statement))
+piece_action settings state (Ok (saying.Said session statement)) = action_of_event settings state (Said session statement)
+piece_action settings state (Ok (saying.Stepped session)) = action_of_event settings state (Stepped session)
 
 pub record DeskTurn : Type 0 where
   pub effect : DeskEffect
@@ -86,7 +80,7 @@ next (Some (ByLoad name effect)) (outcome ∷ outcomes) =
     Some (record { turn = record { effect = effect outcome; load = Some (record { name = name; outcome = outcome }) }; left = outcomes })
 
 -- up to the first load without an outcome: more outcomes only make the list longer
-abbrev pub turns : Settings → State → List (Result Saying Refusal) → List LoadOutcome → List DeskTurn
+abbrev pub turns : Settings → State → List Reading → List LoadOutcome → List DeskTurn
 turns settings state [] outcomes = []
 turns settings state (reading ∷ readings) outcomes =
     option_map_or (λ n. n.turn ∷ turns settings n.turn.effect.state readings n.left) (next (piece_action settings state reading) outcomes) []

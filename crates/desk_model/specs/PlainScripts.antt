@@ -2,7 +2,6 @@
 --     reading_action settings db reading                what one reading does to the database: a refusal does nothing
 --     NextTurn, next_turn action outcomes               the turn that an action makes, and the outcomes of the loads after it
 --     statement_turns settings db readings outcomes     what its statements do to the database one after another
---     as_plain reading                                  the same reading, as that of a piece
 --     beside queries turn                               the same turn at a desk, where these queries are open before it and after
 use Rattle.std.specs.Prelude.{List, [], ◌∷◌, Option, Some, None, Result, Ok, Err}
 use Rattle.std.specs.Option.{option_map_or}
@@ -13,7 +12,7 @@ use Rattle.session.specs.declared.loading.LoadOutcome.{LoadOutcome}
 use Rattle.session.specs.Effects.{Action, Does, Loads, Settings, action_of, refusal_effect}
 use Rattle.session.specs.Turns.{Turn, turn_of}
 use Rattle.kept_facts.specs.OpenQueries.{OpenQuery}
-use Rattle.desk_model.specs.Pieces.{DeskTurn, Saying, Plain}
+use Rattle.desk_model.specs.Pieces.{DeskTurn}
 
 abbrev pub reading_action : Settings → Database → Result Statement Refusal → Action
 reading_action settings db (Ok statement) = action_of settings db statement
@@ -34,10 +33,6 @@ abbrev pub statement_turns : Settings → Database → List (Result Statement Re
 statement_turns settings db [] outcomes = []
 statement_turns settings db (reading ∷ readings) outcomes =
     option_map_or (λ n. n.turn ∷ statement_turns settings n.turn.effect.db readings n.left) (next_turn (reading_action settings db reading) outcomes) []
-
-abbrev pub as_plain : Result Statement Refusal → Result Saying Refusal
-as_plain (Ok statement) = Ok (Plain statement)
-as_plain (Err why) = Err why
 
 -- a turn, where these queries are open before it and after
 abbrev pub beside : List OpenQuery → Turn → DeskTurn

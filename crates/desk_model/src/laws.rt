@@ -8,6 +8,8 @@ ghost use Rattle.beas_core.specs.declared.schema.TableId.{TableId};
 ghost use Rattle.beas_core.specs.Shapes.{EachIdOnce};
 ghost use Rattle.catalogue.specs.Database.{Database, rows_at, schema_of};
 ghost use Rattle.catalogue.specs.Schema.{Schema, SchemaIsSound};
+ghost use Rattle.piece_reader.specs.declared.saying.Saying.TheVariants.{Plain};
+ghost use Rattle.piece_reader.specs.Sayings.{as_plain};
 ghost use Rattle.report.specs.declared.reports.Report.{Report};
 ghost use Rattle.session.specs.declared.loading.LoadOutcome.{LoadOutcome};
 ghost use Rattle.session.specs.Announced.{announcement};
@@ -21,8 +23,8 @@ ghost use Rattle.kept_facts.specs.Frames.{SameOn};
 ghost use Rattle.desk_model.specs.Changes.{changes};
 ghost use Rattle.desk_model.specs.Desks.{DeskAction, OneEach, State, action_of_event, at_desk, opened_effect, query_of, wanting};
 ghost use Rattle.desk_model.specs.declared.event.Event.{Event};
-ghost use Rattle.desk_model.specs.Pieces.{Plain, piece_action, seen_turns, turns};
-ghost use Rattle.desk_model.specs.PlainScripts.{as_plain, beside, statement_turns};
+ghost use Rattle.desk_model.specs.Pieces.{piece_action, seen_turns, turns};
+ghost use Rattle.desk_model.specs.PlainScripts.{beside, statement_turns};
 
 /// What is announced of a query fits the constraints over which it is announced.
 pub fn law_announced_fits()

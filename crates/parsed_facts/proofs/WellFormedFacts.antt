@@ -1,5 +1,5 @@
 -- What tokens spell has no more parts than there are tokens, and those that a statement asks for.
-use Rattle.std.proofs.Common.{ℕ, ◌+◌, ◌-◌, ◌^◌, ◌<◌, ◌≤◌, List, [], ◌∷◌, ◌++◌, length, All, true, false, Ok, arith, refl}
+use Rattle.std.proofs.Common.{ℕ, ◌+◌, ◌-◌, ◌^◌, ◌<◌, ◌≤◌, ◌≡◌, List, [], ◌∷◌, ◌++◌, length, All, true, false, Some, Ok, arith, refl}
 use Rattle.std.proofs.lemmas.List.{length-append, length-map}
 use Rattle.std.proofs.lemmas.List.Elements.{All-cons, All-nil, All-weaker}
 use Rattle.sql_parser.specs.Outcome.{Parses}
@@ -18,6 +18,9 @@ use Rattle.sql_tree.specs.Words.{BY, GROUP, OPEN, CLOSE, COMMA, INSERT, INTO, VA
 use Rattle.binder.specs.Binding.{blocks_of}
 use Rattle.binder.proofs.BindFacts.{all_of}
 use Rattle.binder.proofs.SpelledTrees.{IsFew, query_few}
+use Rattle.piece_reader.specs.declared.saying.Saying.{Saying}
+use Rattle.piece_reader.specs.Sayings.{IsReadAs, statement_in}
+use Rattle.piece_reader.proofs.SayingFacts.{statement_is_in}
 use Rattle.session.specs.Statements.{GroupedIsWellFormed, StatementIsWellFormed, TreeIsWellFormed}
 
 -- ---- lists
@@ -116,3 +119,11 @@ pub parsed_well : (tokens : List Token) (s : Statement) → Parses (symbols toke
 parsed_well tokens s spelled few =
     let same = length-map tokens (λ (token : Token). symbol_of token.kind token.text) in
     well_formed (symbols tokens) s spelled.1 (omega arith)
+
+-- and of a statement that a piece says, of a session or of none
+pub said_well : (tokens : List Token) (saying : Saying) (s : Statement) → IsReadAs tokens (Ok saying) → statement_in saying ≡ Some s
+    → length tokens < 2 ^ 32 - 1 → StatementIsWellFormed s
+said_well tokens saying s reading stated few =
+    let same = length-map tokens (λ (token : Token). symbol_of token.kind token.text) in
+    let spelled = statement_is_in (symbols tokens) (Ok saying) reading s stated in
+    well_formed spelled.part s spelled.parses.1 (omega (arith, spelled.few))

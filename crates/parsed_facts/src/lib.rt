@@ -3,11 +3,13 @@
 //! The lemmas are in proofs/: such a statement has no more parts than there are tokens, and none that it needs is missing.
 #![tactic(auto)]
 
-ghost use Rattle.std.specs.Prelude.{◌-◌, ◌<◌, ◌^◌, length, Ok};
+ghost use Rattle.std.specs.Prelude.{◌≡◌, ◌-◌, ◌<◌, ◌^◌, length, Ok, Some};
+ghost use Rattle.piece_reader.specs.Sayings.{IsReadAs, statement_in};
 ghost use Rattle.session.specs.Statements.{StatementIsWellFormed};
 ghost use Rattle.sql_parser.specs.Outcome.{Parses};
 ghost use Rattle.sql_tree.specs.Symbols.{symbols};
 
+use piece_reader::Saying;
 use sql_text::Token;
 use sql_tree::Statement;
 
@@ -16,5 +18,14 @@ use sql_tree::Statement;
 pub fn law_parsed_well(tokens: &[Token], statement: &Statement)
     requires few { length tokens.now < 2 ^ 32 - 1 }
     requires spelled { Parses (symbols tokens.now) (Ok statement.now) }
+    ensures { StatementIsWellFormed statement.now }
+{}
+
+/// So has a statement that a piece of fewer than 2^32 - 1 tokens says, of a session or of none.
+#[tactic(auto, using(crate::proofs::WellFormedFacts::said_well))]
+pub fn law_said_well(tokens: &[Token], saying: &Saying, statement: &Statement)
+    requires few { length tokens.now < 2 ^ 32 - 1 }
+    requires said { IsReadAs tokens.now (Ok saying.now) }
+    requires stated { statement_in saying.now ≡ Some statement.now }
     ensures { StatementIsWellFormed statement.now }
 {}
