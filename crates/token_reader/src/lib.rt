@@ -5,6 +5,7 @@
 //! memory ran out.
 #![tactic(auto)]
 
+mod names;
 mod reader;
 
 pub use reader::{ReadError, Reader};

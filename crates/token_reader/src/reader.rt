@@ -5,7 +5,8 @@ ghost use Rattle.std.specs.List.{list_any};
 ghost use Rattle.sql_tree.specs.Symbols.{word, mark, symbols};
 ghost use Rattle.sql_tree.specs.Words.{OPEN};
 
-use beas_core::{Duplicate, Name, NoMemory, Sign, Text, is_name};
+use crate::names::is_name;
+use beas_core::{Duplicate, Name, NoMemory, Sign, Text};
 use sql_text::{Token, TokenKind};
 use std::alloc::{AllocError, AllocFailed, Global};
 use std::marker::Model;
