@@ -1,8 +1,8 @@
 //! Cases of calls that no script makes by themselves: for each line of standard input, what the call gives that it
 //! spells.
 //!
-//! A line is words with one space between them. Files, outputs and a table are there from the start, empty, and each
-//! call leaves them to the next. A line that begins with `#` is a comment.
+//! A line is words with one space between them. Files, outputs, a table and a session are there from the start, empty, and
+//! each call leaves them to the next. A line that begins with `#` is a comment.
 //!
 //! - `add NAME BYTES` gives both kinds of files in memory a file, `fail N` lets the load with this number fail, from 0
 //!   on, `read NAME LIMIT` loads a file of both kinds, and `faults NAME` tells how many of its loads failed.
@@ -10,8 +10,8 @@
 //!   and `sent` tells what both took and how often a put failed.
 //! - `push N LIMIT`, `append N,N,.. LIMIT`, `swap I J`, `remove I` and `truncate LEN` change the rows of a table, of
 //!   one integer each, and tell them.
-//! - `run NAME` runs the script with this name over the files that never fail, and tells the status and
-//!   what was sent.
+//! - `run NAME` runs the script with this name over the files that never fail and the one session, and tells the status
+//!   and what was sent.
 #![tactic(auto)]
 
 ghost use Rattle.std.specs.Prelude.{◌≡◌, ◌<◌};
@@ -21,10 +21,11 @@ mod outputs;
 mod runs;
 mod table;
 
-use beas_core::{NoMemory, Steps};
+use beas_core::{Limits, NoMemory, Steps};
 use files::Shelves;
 use outputs::Outputs;
 use runs::run_of;
+use session::Session;
 use std::alloc::Global;
 use std::io;
 use std::marker::Brand;
@@ -48,6 +49,7 @@ fn number_of(word: &str) -> u32 {
 fn answer_to<L: Ledger>(
     alloc: Global,
     scene: &mut Scene,
+    session: &mut Session,
     call: (&str, &str, &str),
     steps: &mut Steps<L>,
 ) -> Result<String, NoMemory> {
@@ -61,7 +63,7 @@ fn answer_to<L: Ledger>(
         "put" => scene.outputs.put(alloc, first),
         "full" => scene.outputs.fail_after(alloc, u64::from(number)),
         "sent" => scene.outputs.line(alloc),
-        "run" => run_of(alloc, first, &mut scene.shelves.steady, steps),
+        "run" => run_of(alloc, first, session, &mut scene.shelves.steady, steps),
         _ => {
             scene.table.change(alloc, name, first, number_of(second))?;
             scene.table.line(alloc, steps)
@@ -76,7 +78,27 @@ fn call_of(line: &str) -> (&str, &str, &str) {
     (name, first, second)
 }
 
-/// Makes the calls of standard input with one counter of reads.
+/// Makes the calls of standard input, one after another.
+fn answer_all<L: Ledger>(
+    rt: &HostRuntime,
+    scene: &mut Scene,
+    session: &mut Session,
+    steps: &mut Steps<L>,
+) -> io::Result<()> {
+    let alloc = rt.alloc();
+    for line in rt.lines(alloc) {
+        let line = line?;
+        if !line.starts_with('#') {
+            match answer_to(alloc, scene, session, call_of(line.as_str()), steps) {
+                Ok(said) => println!(rt; "{said}")?,
+                Err(NoMemory) => println!(rt; "out of memory")?,
+            }
+        }
+    }
+    Ok(())
+}
+
+/// Makes the calls with one counter of reads.
 fn make_calls<L: Ledger>(rt: &HostRuntime, blank: Blank) -> io::Result<()>
     requires name { blank.name ≡ L.name }
     requires parts { blank.parts ≡ L.parts }
@@ -89,16 +111,10 @@ fn make_calls<L: Ledger>(rt: &HostRuntime, blank: Blank) -> io::Result<()>
         outputs: Outputs::new(alloc),
         table: Table::new(alloc),
     };
-    for line in rt.lines(alloc) {
-        let line = line?;
-        if !line.starts_with('#') {
-            match answer_to(alloc, &mut scene, call_of(line.as_str()), &mut steps) {
-                Ok(said) => println!(rt; "{said}")?,
-                Err(NoMemory) => println!(rt; "out of memory")?,
-            }
-        }
-    }
-    Ok(())
+    let mut session = Session::new(alloc, Limits::standard(), None, false);
+    let ended = answer_all(rt, &mut scene, &mut session, &mut steps);
+    session.discard();
+    ended
 }
 
 fn main(rt: HostRuntime) -> io::Result<()> {

@@ -14,7 +14,7 @@
 //! by itself, which is to be one report, and then over outputs that fail earlier, at each length or, where there are
 //! more than 400, at so many of them: then the status is 4 and the output is what comes before the failure. A
 //! demonstration has one put for all its statements, and is let fail at a few lengths alone, since each takes a whole
-//! run.
+//! run. Where something is wanted on standard error, that is let fail at each length too: then the status stays.
 #![tactic(auto)]
 
 ghost use Rattle.std.specs.Prelude.{◌≡◌, ◌<◌};
@@ -89,12 +89,13 @@ fn run_before<L: Ledger>(
     );
 }
 
-/// Runs a case over a session without tables and this output, with a counter of its own. It gives the status, and what
-/// was said on standard error.
+/// Runs a case over a session without tables and this output, with a counter of its own and a standard error that fails
+/// after so many bytes. It gives the status, and what was said on standard error.
 fn run_counted<O: Sink, L: Ledger>(
     alloc: Global,
     case: &Case,
     out: &mut O,
+    error_total: u64,
     blank: Blank,
 ) -> io::Result<(u8, MemorySink)>
     requires name { blank.name ≡ L.name }
@@ -103,6 +104,7 @@ fn run_counted<O: Sink, L: Ledger>(
 {
     let mut files = files_of(alloc, case)?;
     let mut err = MemorySink::new(alloc);
+    err.fail_after(error_total);
     let mut steps = Steps::<L>::start(blank);
     let mut session = Session::new(alloc, Limits::standard(), None, false);
     run_before(alloc, case, &mut session, &mut files, &mut steps);
@@ -119,18 +121,24 @@ fn run_counted<O: Sink, L: Ledger>(
     Ok((status, err))
 }
 
-/// Runs a case over an output that fails after so many bytes.
-fn run_case(alloc: Global, case: &Case, total: u64) -> io::Result<Ending> {
+/// Runs a case over an output and a standard error that fail after so many bytes each.
+fn run_case(alloc: Global, case: &Case, total: u64, error_total: u64) -> io::Result<Ending> {
     let mut out = MemorySink::new(alloc);
     out.fail_after(total);
-    let (status, err) = run_counted::<MemorySink, Brand>(alloc, case, &mut out, Blank::new(1))?;
+    let (status, err) = run_counted::<MemorySink, Brand>(
+        alloc,
+        case,
+        &mut out,
+        error_total,
+        Blank::new(1),
+    )?;
     Ok(Ending { status, out, err })
 }
 
 /// The first put of a run of the case that isn't one report, or a second one of a demonstration.
 fn wrong_put(alloc: Global, case: &Case) -> io::Result<Option<usize>> {
     let mut out = Puts::new(alloc);
-    run_counted::<Puts, Brand>(alloc, case, &mut out, Blank::new(1))?;
+    run_counted::<Puts, Brand>(alloc, case, &mut out, u64::MAX, Blank::new(1))?;
     if case.is_demonstration {
         return Ok(out.second_put());
     }
@@ -139,7 +147,7 @@ fn wrong_put(alloc: Global, case: &Case) -> io::Result<Option<usize>> {
 
 /// Whether a run of the case is as it is to be, over an output with room for just what is wanted.
 fn is_as_wanted(alloc: Global, case: &Case) -> io::Result<bool> {
-    let ending = run_case(alloc, case, case.output.len() as u64)?;
+    let ending = run_case(alloc, case, case.output.len() as u64, u64::MAX)?;
     let status = ending.status == case.status;
     let out = ending.out.bytes() == case.output.as_slice();
     let err = ending.err.bytes() == case.error.as_slice();
@@ -160,10 +168,23 @@ fn step_of(case: &Case) -> usize
 /// The first length at which the output fails otherwise than it is to.
 fn wrong_length(alloc: Global, case: &Case) -> io::Result<Option<usize>> {
     for total in (0..case.output.len()).step_by(step_of(case)) {
-        let ending = run_case(alloc, case, total as u64)?;
+        let ending = run_case(alloc, case, total as u64, u64::MAX)?;
         let is_prefix = case.output.starts_with(ending.out.bytes())
             && ending.out.bytes().len() == total;
         if ending.status != 4 || !is_prefix {
+            return Ok(Some(total));
+        }
+    }
+    Ok(None)
+}
+
+/// The first length at which standard error fails otherwise than it is to.
+fn wrong_error_length(alloc: Global, case: &Case) -> io::Result<Option<usize>> {
+    for total in 0..case.error.len() {
+        let ending = run_case(alloc, case, u64::MAX, total as u64)?;
+        let is_prefix = case.error.starts_with(ending.err.bytes())
+            && ending.err.bytes().len() == total;
+        if ending.status != case.status || !is_prefix {
             return Ok(Some(total));
         }
     }
@@ -174,7 +195,7 @@ fn wrong_length(alloc: Global, case: &Case) -> io::Result<Option<usize>> {
 fn try_case(rt: &HostRuntime, case: &Case) -> io::Result<bool> {
     let name = case.name.as_str();
     if !is_as_wanted(rt.alloc(), case)? {
-        let ending = run_case(rt.alloc(), case, u64::MAX)?;
+        let ending = run_case(rt.alloc(), case, u64::MAX, u64::MAX)?;
         let wrote = String::from_utf8_lossy(rt.alloc(), ending.out.bytes())?;
         println!(rt; "{name}: status {}, and it wrote\n{wrote}", ending.status)?;
         return Ok(false);
@@ -185,6 +206,10 @@ fn try_case(rt: &HostRuntime, case: &Case) -> io::Result<bool> {
     }
     if let Some(total) = wrong_length(rt.alloc(), case)? {
         println!(rt; "{name}: wrong where the output fails after {total} bytes")?;
+        return Ok(false);
+    }
+    if let Some(total) = wrong_error_length(rt.alloc(), case)? {
+        println!(rt; "{name}: wrong where standard error fails after {total} bytes")?;
         return Ok(false);
     }
     Ok(true)
