@@ -86,7 +86,7 @@ pub fn conditions_of(
 ) -> Result<List<Condition>, NoMemory>
     ensures { IfOk result (λ bound. bound ≡ map (condition (names_of scope.now)) conditions.now) }
 {
-    let mut all = List::new(alloc);
+    let mut all = List::from_vec(Vec::with_capacity(alloc, conditions.len())?);
     for condition in conditions {
         all.push(scope.condition(alloc, condition)?)?;
     }

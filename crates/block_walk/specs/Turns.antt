@@ -2,12 +2,20 @@
 -- exactly where the pairs that are fetched are fewer than the block's probes, since no pair is fetched twice.
 --     share w r p                            what a probe counts: the greater of 1 and the size of its group
 --     fetched_reads fetched                  what the probes of these pairs counted
---     Fetches one old new                    the new list has one pair more than the old one, and otherwise the same
+--     Fetches A one old new                  the new list has one item more than the old one, and otherwise the same
+--     IsDue w r fetched p                    a probe of the block that hasn't been made
+--     IsWithin w r fetched p                 with it the probes that were made take no more reads than all
 --     ProbedOne w r reads old new ..         exactly one due probe was made, and is fetched now; it took so many reads
---     SpentOnce w r old before after         a turn that failed counted nothing, or one probe that was due
+--     SpentDue w r fetched before after      one probe that was due was counted
+--     SpentOnce w r fetched before after     a turn that failed counted nothing, or one probe that was due
 --     IsDone r old walk ..                   no probe was due, and none was made
 --     TurnIs w r reads old walk ..           a turn made exactly one due probe, or none was due
+--     probed reads                           whether a probe was made
+--     share_at w r at                        what the probe of a pending valuation counts
+--     GoesOn count at rows outputs ..        what becomes of the valuations that one leads to, in a derivation of so many steps
+--     outputs_at w r at                      their outputs
 --     Visited w r at did old new             what visiting one pending valuation does: `did` says whether a probe was made
+--     VisitCosts, VisitSpent                 what a visit counted, and what one that failed did
 use Rattle.std.specs.Prelude.{◌≡◌, ◌+◌, ◌<◌, ◌≤◌, ◌⊎◌, ◌++◌, Bool, true, false, ℕ, List, length, map, max, sum_by, Contains, Option, Some, None}
 use Rattle.beas_core.specs.Types.{Row}
 use Rattle.beas_core.specs.Derivations.{access_in}

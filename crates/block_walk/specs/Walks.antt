@@ -1,9 +1,21 @@
 -- A block's walk, depth first, between two probes.
---     fetched_in walk       what the walk has fetched, by step and then key
---     classes_at walk n     the classes that are bound before step n, where the steps before it were begun
---     IsTidy route walk     what is kept of each step that was begun is as the block says; it has probed some key
---     Stands route walk     in every world that agrees with what was fetched, the outputs that are through and those that the pending
---                           valuations lead to are the answers; the probes that were made and those that they want are the block's
+--     Entry, entry_cmp              a step and a key with the tuples found, and how two of these are ordered: by step and then key
+--     fetched_in walk               what the walk has fetched, by step and then key; `fetched_at` is one entry of it
+--     WasMade fetched p             the probe was made
+--     classes_at first stages n     the classes that are bound before step n, where the steps before it were begun
+--     IsStageAt ..                  what is kept of a step that was begun is as the block says
+--     IsTidy route walk             so it is of each step that was begun; it has probed some key
+--     set_at w route n              the classes that are bound before step n, as a set
+--     pending_at n row              a valuation before step n; `children at rows` are those before the step after that of `at`
+--     probe_of, found_at, next_at   the probe that a pending valuation wants, what it finds, and the valuations that it leads to
+--     reached_from, outputs_from    the valuations after the last step that it leads to, and their outputs
+--     wanted_from, work_from        the probes on the way there, and how many valuations there are on it
+--     IsAnswer, IsProbe             an answer of the block, and a probe of its derivation
+--     StandsAt ..                   the outputs that are through and those that the pending valuations lead to are the answers, and the
+--                                   probes that were made and those that they want are the block's; `IsWalk` says so of a walk
+--     Stands route walk             so it is in every world that agrees with what was fetched
+--     IsTidyForAll, StandsForAll    so it is whatever the steps are
+--     HasEnded walk                 no valuation is left to go on from
 use Rattle.std.specs.Prelude.{◌≡◌, ◌+◌, ◌<◌, ◌≤◌, ◌⊎◌, ℕ, List, [], ◌∷◌, length, map, flat_map, take, drop, slice_index_or}
 use Rattle.std.specs.Ordering.{nat_cmp, ordering_then}
 use Rattle.std.specs.declared.cmp.Ordering.{Ordering}

@@ -2,7 +2,16 @@
 -- fetched are fewer than the query's probes, since no pair is fetched twice.
 --     IsDue w prepared fetched p                         a probe of the query that hasn't been made
 --     ProbedOne w prepared reads old new before after    exactly one due probe was made, and is fetched now; it took so many reads
+--     SpentDue w prepared fetched before after           one probe that was due was counted
 --     QuerySpent w prepared fetched before after         what failed counted nothing, or one probe that was due
+--     SpentWithin w prepared reads before after          what failed counted nothing, or no more than the reads that were left
+--     HasRun old new before after                        an operation of a course that made no probe has run
+--     Stepped w prepared reads old new before after      what carrying out one operation did
+--     HasEnded old new before after                      all operations have run, and none made a probe
+--     Went w prepared reads old new before after         what carrying out operations up to the next probe did
+--     HasGone w prepared probed old new before after     the same, where only whether a probe was made is told
+--     IsProbed, IsDone                                   a cursor made one probe that was due, or none was due and its answer is there
+--     Did w turn old new before after                    which of the two, by what the turn says
 --     TurnIs w turn old new before after                 what a cursor's turn did
 use Rattle.std.specs.Prelude.{◌≡◌, ◌+◌, ◌<◌, ◌≤◌, ◌⊎◌, Bool, true, false, ℕ, List, [], length, Contains, Option, Some, None}
 use Rattle.beas_core.specs.declared.plan.Prepared.{Prepared}

@@ -51,9 +51,10 @@ pub fn unite(alloc: Global, left: List<Row>, right: List<Row>) -> Result<List<Ro
     requires right { IsInOrder row_cmp right }
     ensures { IfOk result (λ rows. rows ≡ set_union left right) }
 {
+    let count = left.len().saturating_add(right.len());
+    let mut rows = List::from_vec(Vec::with_capacity(alloc, count)?);
     let mut left = VecDeque::from(left.into_vec());
     let mut right = VecDeque::from(right.into_vec());
-    let mut rows = List::new(alloc);
     while let Some(row) = take_least(&mut left, &mut right) {
         rows.push(row)?;
     }

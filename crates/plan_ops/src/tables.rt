@@ -35,7 +35,7 @@ pub fn classes_of(
     requires places { places.now ≡ places_in block.now.count classes.now }
     ensures { IfOk result (λ found. found ≡ classes_in (set_of block.now classes.now)) }
 {
-    let mut found = List::new(alloc);
+    let mut found = List::from_vec(Vec::with_capacity(alloc, classes.len())?);
     for class in 0..block.count {
         if places[usize::from(class)] < classes.len() {
             found.push(class)?;
