@@ -11,7 +11,8 @@ use Rattle.std.proofs.lemmas.List.{get_or-map, get_or_default, length-map, map-a
 use Rattle.std.proofs.lemmas.List.Quantifiers.{position-Some}
 use Rattle.marked_list.specs.declared.slot.Slot.{Slot}
 use Rattle.marked_list.specs.declared.slot.Standing.{Standing}
-use Rattle.marked_list.specs.Marks.{Item, AreDistinct, no_tuple, entry_at, in_order, item_of, items_of, ArePlaces, IsMarked, Rises, SitsAt}
+use Rattle.marked_list.specs.declared.coded.Coded.{Coded}
+use Rattle.marked_list.specs.Marks.{AreDistinct, no_tuple, entry_at, in_order, item_of, items_of, ArePlaces, IsMarked, Rises, SitsAt}
 use Rattle.marked_list.proofs.Skips.{length_insert}
 use Rattle.marked_list.proofs.MarkFacts.{order_at, length_order, rises_removed, rises_inserted}
 use Rattle.marked_list.proofs.OrderFacts.{Tuple, left, slots', removed_order, removed_places, removed_length, swapped, own, more, inserted_order, inserted_places}
@@ -20,7 +21,7 @@ pub length_items : (es : List Tuple) (slots : List Slot) → length (items_of es
 length_items es slots = length-map (in_order es slots) item_of ∙ length_order es slots
 
 -- what callers see at a place
-pub item_at : (es : List Tuple) (slots : List Slot) (at : ℕ) (d : Item) (s : Slot) → at < length slots → get_or (items_of es slots) at d ≡ item_of (entry_at es (get_or slots at s))
+pub item_at : (es : List Tuple) (slots : List Slot) (at : ℕ) (d : Coded) (s : Slot) → at < length slots → get_or (items_of es slots) at d ≡ item_of (entry_at es (get_or slots at s))
 item_at es slots at d s l =
     get_or-map item_of (in_order es slots) at no_tuple d (omega (arith, l, length_order es slots)) ∙ ap item_of (order_at es slots at s l)
 
@@ -50,31 +51,31 @@ not_words a b out = by (pointwise nat_eq a b) refl
     by false e = e
 
 -- words that the map doesn't have are no item's
-pub none_seen : (es : List Tuple) (slots : List Slot) (self : List Item) (words : List ℕ) → ArePlaces (length es) slots → items_of es slots ≡ self
-    → None ≡ position (pointwise nat_eq words) (keys_of es) → AllByRecursion (λ (item : Item). item.words ≢ words) self
+pub none_seen : (es : List Tuple) (slots : List Slot) (self : List Coded) (words : List ℕ) → ArePlaces (length es) slots → items_of es slots ≡ self
+    → None ≡ position (pointwise nat_eq words) (keys_of es) → AllByRecursion (λ (item : Coded). item.words ≢ words) self
 none_seen es slots self words p v e =
-    subst (AllByRecursion (λ (item : Item). item.words ≢ words)) v
-    (all_by_places (λ (item : Item). item.words ≢ words) (items_of es slots) (λ i d l.
+    subst (AllByRecursion (λ (item : Coded). item.words ≢ words)) v
+    (all_by_places (λ (item : Coded). item.words ≢ words) (items_of es slots) (λ i d l.
     let s : Slot = record { entry = 0 } in
     let h : i < length slots = omega (arith, l, length_items es slots) in
     let w = p.within i s h in
     let out = place_of_all (λ k. pointwise nat_eq words k ≡ false) (keys_of es) (Missing-position (pointwise nat_eq words) es (sym e)).absent
     (get_or slots i s).entry [] (omega (arith, w, length_keys es)) in
     λ same. other_words words (get_or (keys_of es) (get_or slots i s).entry []) out
-    (key_at es (get_or slots i s).entry [] w ∙ sym (ap (λ (x : Item). x.words) (item_at es slots i d s h)) ∙ same)))
+    (key_at es (get_or slots i s).entry [] w ∙ sym (ap (λ (x : Coded). x.words) (item_at es slots i d s h)) ∙ same)))
 
 -- and words that it has are those of the slot that names their place
-pub one_seen : (es : List Tuple) (slots : List Slot) (self : List Item) (words : List ℕ) (entry place : ℕ) → items_of es slots ≡ self
+pub one_seen : (es : List Tuple) (slots : List Slot) (self : List Coded) (words : List ℕ) (entry place : ℕ) → items_of es slots ≡ self
     → Some entry ≡ position (pointwise nat_eq words) (keys_of es) → place < length slots → ((d : Slot) → (get_or slots place d).entry ≡ entry)
-    → (place < length self) × ((d : Item) → (get_or self place d).words ≡ words)
+    → (place < length self) × ((d : Coded) → (get_or self place d).words ≡ words)
 one_seen es slots self words entry place v e l named =
     let s : Slot = record { entry = 0 } in
     let w = (Found-position (pointwise nat_eq words) es entry (sym e)).within in
     let hit = position-Some (pointwise nat_eq words) (keys_of es) entry [] (sym e) in (
       omega (arith, l, length_items es slots, ap length v),
       λ d.
-          ap (λ (xs : List Item). (get_or xs place d).words) (sym v)
-          ∙ ap (λ (x : Item). x.words) (item_at es slots place d s l)
+          ap (λ (xs : List Coded). (get_or xs place d).words) (sym v)
+          ∙ ap (λ (x : Coded). x.words) (item_at es slots place d s l)
           ∙ ap (λ n. (get_or es n no_tuple).0) (named s)
           ∙ sym (key_at es entry [] w)
           ∙ sym ((bytes_decides words (get_or (keys_of es) entry [])).0 hit.1),
@@ -89,7 +90,7 @@ distinct_at (k ∷ ks) u zero (suc j) d h l = place_of_all (λ y. pointwise nat_
 distinct_at (k ∷ ks) u (suc i) (suc j) d h l = distinct_at ks u.1 i j d (omega arith) (omega arith)
 
 -- no two items have the same words
-pub items_distinct : (es : List Tuple) (slots : List Slot) (self : List Item) → ArePlaces (length es) slots → IsDistinct (pointwise nat_eq) (keys_of es)
+pub items_distinct : (es : List Tuple) (slots : List Slot) (self : List Coded) → ArePlaces (length es) slots → IsDistinct (pointwise nat_eq) (keys_of es)
     → items_of es slots ≡ self → AreDistinct self
 items_distinct es slots self p u v = subst AreDistinct v (λ i j d h l same.
     let s : Slot = record { entry = 0 } in
@@ -98,7 +99,7 @@ items_distinct es slots self p u v = subst AreDistinct v (λ i j d h l same.
     let a = (get_or slots i s).entry in
     let b = (get_or slots j s).entry in
     let keys : (get_or es a no_tuple).0 ≡ (get_or es b no_tuple).0 =
-    sym (ap (λ (x : Item). x.words) (item_at es slots i d s k)) ∙ same ∙ ap (λ (x : Item). x.words) (item_at es slots j d s m) in
+    sym (ap (λ (x : Coded). x.words) (item_at es slots i d s k)) ∙ same ∙ ap (λ (x : Coded). x.words) (item_at es slots j d s m) in
     let alike = key_at es a [] (p.within i s k) ∙ keys ∙ sym (key_at es b [] (p.within j s m)) in
     elim (cases_lt a b) [
       | inl f ↦ other_words (get_or (keys_of es) a []) (get_or (keys_of es) b [])
@@ -129,7 +130,7 @@ pub record IsAdded (es new : List Tuple) (slots more_slots : List Slot) (at : �
 
 -- a tuple that isn't there put in at a place
 pub added : (es new : List Tuple) (slots more_slots : List Slot) (at n : ℕ) (key : List ℕ) (w : Standing) → IsMarked es slots → at ≤ length slots → length slots + 1 < 2 ^ 32
-    → AllByRecursion (λ (item : Item). item.words ≢ key) (items_of es slots) → SitsAt (in_order es slots) at w.mark → n ≡ length es
+    → AllByRecursion (λ (item : Coded). item.words ≢ key) (items_of es slots) → SitsAt (in_order es slots) at w.mark → n ≡ length es
     → new ≡ insert_entry (pointwise nat_eq) es key w → more_slots ≡ insert slots at (record { entry = n })
     → IsAdded es new slots more_slots at key w
 added es new slots more_slots at n key w m l room absent sits is grown wider =
@@ -150,11 +151,11 @@ added es new slots more_slots at n key w m l room absent sits is grown wider =
     same : new ≡ es ++ (key, w) ∷ []
     same = grown ∙ insert_absent es key w (λ e h.
         let s : Slot = record { entry = 0 } in
-        let d : Item = record { words = []; count = 0 } in
+        let d : Coded = record { words = []; count = 0 } in
         let k = m.places.named e h in
-        let out = place_of_all (λ (item : Item). item.words ≢ key) (items_of es slots) absent k.0 d (omega (arith, k.1, length_items es slots)) in
+        let out = place_of_all (λ (item : Coded). item.words ≢ key) (items_of es slots) absent k.0 d (omega (arith, k.1, length_items es slots)) in
         not_words key (get_or es e no_tuple).0
-        (λ q. out (ap (λ (x : Item). x.words) (item_at es slots k.0 d s k.1) ∙ ap (λ i. (get_or es i no_tuple).0) (k.2 s) ∙ q)))
+        (λ q. out (ap (λ (x : Coded). x.words) (item_at es slots k.0 d s k.1) ∙ ap (λ i. (get_or es i no_tuple).0) (k.2 s) ∙ q)))
 
 pub remove_insert : {X : Type 0} (xs : List X) (at : ℕ) (x : X) → at ≤ length xs → remove (insert xs at x) at ≡ xs
 remove_insert xs zero x l = refl

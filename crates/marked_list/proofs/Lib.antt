@@ -3,3 +3,4 @@ pub mod MarkFacts
 pub mod OrderFacts
 pub mod KeyFacts
 pub mod SpreadFacts
+pub mod SearchFacts

@@ -5,7 +5,8 @@ use Rattle.std.proofs.lemmas.Bool.{cases_eq, cases_lt}
 use Rattle.std.proofs.lemmas.List.{map-set, set-get_or, get_or-map, get_or-set_same, get_or-set_other, length-map}
 use Rattle.marked_list.specs.declared.slot.Standing.{Standing}
 use Rattle.marked_list.specs.declared.stretch.Stretch.{Stretch}
-use Rattle.marked_list.specs.Marks.{Item, no_tuple, item_of, mark_in, Rises, SitsAt}
+use Rattle.marked_list.specs.declared.coded.Coded.{Coded}
+use Rattle.marked_list.specs.Marks.{no_tuple, item_of, mark_in, Rises, SitsAt}
 use Rattle.marked_list.specs.Spreads.{IsStretch, IsSpread}
 
 -- one mark more
@@ -18,7 +19,7 @@ pub spread_more : (old mid new : List (List ℕ × Standing)) (first i low step 
 spread_more old mid new first i low step w s f l count mark is = record {
   same =
       ap (map item_of) is ∙ map-set item_of mid i t
-      ∙ ap (λ n. let x : Item = record { words = (get_or mid i no_tuple).0; count = n } in set (map item_of mid) i x) count
+      ∙ ap (λ n. let x : Coded = record { words = (get_or mid i no_tuple).0; count = n } in set (map item_of mid) i x) count
       ∙ ap (set (map item_of mid) i) (sym (get_or-map item_of mid i no_tuple (item_of no_tuple) l))
       ∙ set-get_or (map item_of mid) i (item_of no_tuple) ∙ s.same;
   even = λ k h m.

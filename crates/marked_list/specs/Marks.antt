@@ -2,6 +2,7 @@
 -- mark, and a list of slots gives the order: a slot names its tuple by its place in the map.
 --     no_tuple                      what stands for a tuple where there is none
 --     entry_at entries slot         the tuple that a slot names
+--     passes test entries slot      the words of the tuple that a slot names pass a test; where it names none they don't
 --     in_order entries slots        the tuples in the order of the slots
 --     item_of tuple                 its words and its count: what callers see
 --     items_of entries slots        the items in the order of the slots
@@ -11,13 +12,11 @@
 --     ArePlaces n slots             each of the map's n places is named by one slot
 --     IsMarked entries slots        both, and there are fewer than 2^32 tuples
 --     SitsAt tuples at mark         a mark between those before a place and those from it on
-use Rattle.std.specs.Prelude.{◌≡◌, ◌≢◌, ◌<◌, ◌≤◌, ◌-◌, ◌^◌, ℕ, List, [], length, map, slice_index_or}
+use Rattle.std.specs.Prelude.{◌≡◌, ◌≢◌, ◌<◌, ◌≤◌, ◌-◌, ◌^◌, ℕ, Bool, false, List, [], length, map, slice_get, slice_index_or}
+use Rattle.std.specs.Option.{option_map_or}
+use Rattle.marked_list.specs.declared.coded.Coded.{Coded}
 use Rattle.marked_list.specs.declared.slot.Slot.{Slot}
 use Rattle.marked_list.specs.declared.slot.Standing.{Standing}
-
-pub record Item : Type 0 where
-  pub words : List ℕ
-  pub count : ℕ
 
 abbrev pub no_tuple : List ℕ × Standing
 no_tuple = ([], record { count = 0; mark = 0 })
@@ -25,17 +24,20 @@ no_tuple = ([], record { count = 0; mark = 0 })
 abbrev pub entry_at : List (List ℕ × Standing) → Slot → List ℕ × Standing
 entry_at entries slot = slice_index_or entries slot.entry no_tuple
 
+abbrev pub passes : (List ℕ → Bool) → List (List ℕ × Standing) → Slot → Bool
+passes test entries slot = option_map_or (λ tuple. test tuple.0) (slice_get entries slot.entry) false
+
 abbrev pub in_order : List (List ℕ × Standing) → List Slot → List (List ℕ × Standing)
 in_order entries slots = map (entry_at entries) slots
 
-abbrev pub item_of : List ℕ × Standing → Item
+abbrev pub item_of : List ℕ × Standing → Coded
 item_of tuple = record { words = tuple.0; count = tuple.1.count }
 
-abbrev pub items_of : List (List ℕ × Standing) → List Slot → List Item
+abbrev pub items_of : List (List ℕ × Standing) → List Slot → List Coded
 items_of entries slots = map item_of (in_order entries slots)
 
-abbrev pub AreDistinct : List Item → Type 0
-AreDistinct items = (i j : ℕ) (d : Item) → i < j → j < length items → (slice_index_or items i d).words ≢ (slice_index_or items j d).words
+abbrev pub AreDistinct : List Coded → Type 0
+AreDistinct items = (i j : ℕ) (d : Coded) → i < j → j < length items → (slice_index_or items i d).words ≢ (slice_index_or items j d).words
 
 abbrev pub mark_in : List (List ℕ × Standing) → ℕ → ℕ
 mark_in tuples i = (slice_index_or tuples i no_tuple).1.mark

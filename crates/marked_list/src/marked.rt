@@ -1,15 +1,18 @@
 // A list in a time that grows with the logarithm of its length.
-ghost use Rattle.std.specs.Prelude.{◌≡◌, ◌≢◌, ◌<◌, ◌≤◌, ◌+◌, ◌++◌, ◌∷◌, ◌^◌, [], List, length, insert, remove, slice_index_or, slice_set, MatchOption, IfOk, OnOk, OnErr};
+ghost use Rattle.std.specs.Prelude.{◌≡◌, ◌≢◌, ◌<◌, ◌≤◌, ◌+◌, ◌++◌, ◌∷◌, ◌^◌, [], List, length, filter, insert, remove, slice_index_or, slice_set, MatchOption, IfOk, OnOk, OnErr};
 ghost use Rattle.std.specs.List.{AllByRecursion};
-ghost use Rattle.marked_list.specs.Marks.{Item, AreDistinct, IsMarked, SitsAt, in_order, items_of};
+ghost use Rattle.std.specs.List.Sorted.{IsPartitionedBy};
+ghost use Rattle.marked_list.specs.declared.coded.Coded.{Coded};
+ghost use Rattle.marked_list.specs.Marks.{AreDistinct, IsMarked, SitsAt, in_order, items_of};
 ghost use Rattle.marked_list.specs.declared.slot.Standing.{Standing};
 
+use crate::coded::Coded;
 use crate::marks::make_mark;
-use crate::places::{Tuples, count_at, mark_at, place_of_entry, write};
+use crate::places::{Tuples, WordsPlace, count_at, mark_at, place_of_entry, write};
 use crate::slot::{Slot, Standing};
 use crate::words::TupleWords;
-use beas_core::NoMemory;
-use blocked_list::BlockedList;
+use beas_core::{Duplicate, NoMemory};
+use blocked_list::{Before, BlockedList};
 use indexmap::IndexMap;
 use std::alloc::Global;
 use std::marker::Model;
@@ -23,9 +26,10 @@ pub struct MarkedList {
 
 impl Model for MarkedList {
     ghost use Rattle.std.specs.Prelude.{List};
-    ghost use Rattle.marked_list.specs.Marks.{Item, items_of, IsMarked};
+    ghost use Rattle.marked_list.specs.declared.coded.Coded.{Coded};
+    ghost use Rattle.marked_list.specs.Marks.{items_of, IsMarked};
 
-    ghost Value = { List Item };
+    ghost Value = { List Coded };
 
     ghost view = { λ s. items_of s.tuples.entries s.slots };
 
@@ -44,7 +48,7 @@ fn put(
     requires marked { IsMarked tuples.old.entries slots.old }
     requires within { at ≤ length slots.old }
     requires room { length slots.old + 1 < 2 ^ 32 }
-    requires absent { AllByRecursion (λ (item : Item). item.words ≢ key) (items_of tuples.old.entries slots.old) }
+    requires absent { AllByRecursion (λ (item : Coded). item.words ≢ key) (items_of tuples.old.entries slots.old) }
     requires sits { SitsAt (in_order tuples.old.entries slots.old) at standing.mark }
     ensures marked { IsMarked tuples.new.entries slots.new }
     ensures ok { OnOk result (in_order tuples.new.entries slots.new
@@ -85,7 +89,7 @@ impl MarkedList {
     /// The words of the tuple at a place. It takes no memory.
     pub fn words(&self, at: usize) -> &[u64]
         requires { at < length self.now }
-        ensures { (d : Item) → result.now ≡ (slice_index_or self.now at d).words }
+        ensures { (d : Coded) → result.now ≡ (slice_index_or self.now at d).words }
     {
         match self.tuples.get_index(self.slots.get(at).entry as usize) {
             Some((words, _)) => words.as_slice(),
@@ -96,7 +100,7 @@ impl MarkedList {
     /// How many rows have the tuple at a place. It takes no memory.
     pub fn count(&self, at: usize) -> u32
         requires { at < length self.now }
-        ensures { (d : Item) → result ≡ (slice_index_or self.now at d).count }
+        ensures { (d : Coded) → result ≡ (slice_index_or self.now at d).count }
     {
         count_at(&self.tuples, &self.slots, at)
     }
@@ -104,8 +108,8 @@ impl MarkedList {
     /// Where a tuple is by its words alone. It takes no memory.
     pub fn position_of(&self, words: &[u64]) -> Option<usize>
         ensures { MatchOption result
-            (AllByRecursion (λ (item : Item). item.words ≢ words.now) self.now)
-            (λ at. (at < length self.now) × ((d : Item) → (slice_index_or self.now at d).words ≡ words.now)) }
+            (AllByRecursion (λ (item : Coded). item.words ≢ words.now) self.now)
+            (λ at. (at < length self.now) × ((d : Coded) → (slice_index_or self.now at d).words ≡ words.now)) }
     {
         match self.tuples.get_index_of(words) {
             None => None,
@@ -113,30 +117,42 @@ impl MarkedList {
         }
     }
 
+    /// How many tuples stand before a place, where they are the first ones. It takes no memory.
+    pub fn place_of<B: Before<TupleWords>>(&self, wanted: &B) -> usize
+        requires { IsPartitionedBy (λ (item : Coded). B.before wanted.now item.words) self.now }
+        ensures { result ≡ length (filter (λ (item : Coded). B.before wanted.now item.words) self.now) }
+    {
+        self.slots.place_of(&WordsPlace {
+            tuples: &self.tuples,
+            wanted,
+        })
+    }
+
     /// Puts a tuple that isn't there in at a place. After an error all is as before.
-    pub fn insert(
-        &mut self,
-        alloc: Global,
-        at: usize,
-        words: &[u64],
-        count: u32,
-    ) -> Result<(), NoMemory>
+    pub fn insert(&mut self, alloc: Global, at: usize, tuple: Coded) -> Result<(), NoMemory>
         requires within { at ≤ length self.old }
         requires room { length self.old + 1 < 2 ^ 32 }
-        requires absent { AllByRecursion (λ (item : Item). item.words ≢ words.now) self.old }
-        ensures ok { OnOk result (self.new ≡ insert self.old at (record { words = words.now; count = count })) }
+        requires absent { AllByRecursion (λ (item : Coded). item.words ≢ tuple.words) self.old }
+        ensures ok { OnOk result (self.new ≡ insert self.old at tuple) }
         ensures err { OnErr result (self.new ≡ self.old) }
     {
-        let key = TupleWords::of(alloc, words)?;
+        let Coded { words, count } = tuple;
         let mark = make_mark(&mut self.tuples, &self.slots, at);
         let standing = Standing { count, mark };
-        put(&mut self.tuples, &mut self.slots, alloc, at, key, standing)
+        put(
+            &mut self.tuples,
+            &mut self.slots,
+            alloc,
+            at,
+            words,
+            standing,
+        )
     }
 
     /// Writes how many rows have the tuple at a place. It takes no memory.
     pub fn recount(&mut self, at: usize, count: u32)
         requires { at < length self.old }
-        ensures { (d : Item) → self.new ≡ slice_set self.old at (record { words = (slice_index_or self.old at d).words; count = count }) }
+        ensures { (d : Coded) → self.new ≡ slice_set self.old at (record { words = (slice_index_or self.old at d).words; count = count }) }
     {
         let mark = mark_at(&self.tuples, &self.slots, at);
         write(&mut self.tuples, &self.slots, at, Standing { count, mark });
@@ -156,13 +172,26 @@ impl MarkedList {
         self.tuples.swap_remove_index(entry as usize);
     }
 
+    /// A list of these tuples, in a time that grows with their number.
+    pub fn over(alloc: Global, tuples: &BlockedList<Coded>) -> Result<MarkedList, NoMemory>
+        requires few { length tuples.now < 2 ^ 32 }
+        requires distinct { AreDistinct tuples.now }
+        ensures { IfOk result (λ list. list ≡ tuples.now) }
+    {
+        let mut list = MarkedList::new(alloc);
+        for i in 0..tuples.len() {
+            list.insert(alloc, i, tuples.get(i).copy(alloc)?)?;
+        }
+        Ok(list)
+    }
+
     /// An equal list, in a time that grows with its length.
     pub fn copy(&self, alloc: Global) -> Result<MarkedList, NoMemory>
         ensures { IfOk result (λ copy. copy ≡ self.now) }
     {
         let mut copy = MarkedList::new(alloc);
         for i in 0..self.len() {
-            copy.insert(alloc, i, self.words(i), self.count(i))?;
+            copy.insert(alloc, i, Coded::of(alloc, self.words(i), self.count(i))?)?;
         }
         Ok(copy)
     }

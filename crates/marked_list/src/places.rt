@@ -1,6 +1,6 @@
 // Where a tuple stands in the list, by its place in the map.
 ghost use Rattle.std.specs.Prelude.{◌≡◌, ◌<◌, length, nat_lt, slice_index_or, slice_set};
-ghost use Rattle.marked_list.specs.Marks.{ArePlaces, IsMarked, entry_at, in_order, no_tuple};
+ghost use Rattle.marked_list.specs.Marks.{ArePlaces, IsMarked, entry_at, in_order, no_tuple, passes};
 ghost use Rattle.marked_list.specs.declared.slot.Slot.{Slot};
 
 use crate::slot::{Slot, Standing};
@@ -25,6 +25,24 @@ impl Before<Slot> for MarkPlace<'_> {
         match self.tuples.get_index(slot.entry as usize) {
             Some((_, standing)) => standing.mark < self.mark,
             None => 0 < self.mark,
+        }
+    }
+}
+
+/// The place of words by what a search tells of them.
+#[derive(Drop)]
+pub struct WordsPlace<'a, B> {
+    pub tuples: &'a Tuples,
+    pub wanted: &'a B,
+}
+
+impl<B: Before<TupleWords>> Before<Slot> for WordsPlace<'_, B> {
+    ghost before = { λ place slot. passes (B.before place.wanted.now) place.tuples.now.entries slot };
+
+    fn is_before(&self, slot: &Slot) -> bool {
+        match self.tuples.get_index(slot.entry as usize) {
+            Some((words, _)) => self.wanted.is_before(words),
+            None => false,
         }
     }
 }

@@ -26,6 +26,13 @@ impl Model for TupleWords {
 }
 
 impl TupleWords {
+    /// These words. It takes no memory.
+    pub fn from_vec(words: Vec<u64>) -> TupleWords
+        ensures { result ≡ words.items }
+    {
+        TupleWords { words }
+    }
+
     /// The same words, on the heap.
     pub fn of(alloc: Global, words: &[u64]) -> Result<TupleWords, NoMemory>
         ensures { IfOk result (λ key. key ≡ words.now) }

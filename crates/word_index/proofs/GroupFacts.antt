@@ -17,7 +17,7 @@ use Rattle.access_index.specs.declared.tally.Tally.{Tally}
 use Rattle.access_index.specs.Buckets.{tuples_in, count_for, count_in, AllCounted, IsGap, IsOneMore}
 use Rattle.access_index.proofs.Places.{tuple_place}
 use Rattle.access_index.proofs.Counting.{raised, lowered, put_in, taken_out}
-use Rattle.word_index.specs.declared.coded.Coded.{Coded}
+use Rattle.marked_list.specs.declared.coded.Coded.{Coded}
 use Rattle.word_index.specs.Codes.{AreDistinct}
 use Rattle.word_index.specs.Reading.{read, read_tally, read_group, AllKnown, AllWordsKnown}
 use Rattle.word_index.proofs.ReadFacts.{read_tells}
@@ -139,7 +139,7 @@ end_gap x ts o last at e = record {
   after = λ k d h l. absurd (omega (arith, h, l));
 }
 
-not_before_itself : (x : List Value) → row_cmp x x ≡ Less → ⊥
+pub not_before_itself : (x : List Value) → row_cmp x x ≡ Less → ⊥
 not_before_itself x e = let r = row_cmp_total.antisymm x x in cc
 
 before_or_not : (m n : ℕ) → (m < n) ⊎ (n ≤ m)

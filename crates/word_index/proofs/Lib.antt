@@ -1,6 +1,7 @@
 pub mod Changing
 pub mod CodeFacts
 pub mod CopyFacts
+pub mod Distinct
 pub mod Greatest
 pub mod GroupFacts
 pub mod Growth

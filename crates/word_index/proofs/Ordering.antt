@@ -16,7 +16,7 @@ use Rattle.blocked_list.proofs.Joined.{all_append, all_take, all_set, all_at}
 use Rattle.access_index.specs.Buckets.{IsOneMore, counts_in}
 use Rattle.word_index.proofs.Storing.{found_bucket, bucket_within}
 use Rattle.access_index.specs.Index.{IsIndexOf}
-use Rattle.word_index.specs.declared.coded.Coded.{Coded}
+use Rattle.marked_list.specs.declared.coded.Coded.{Coded}
 use Rattle.word_index.specs.Codes.{value_of, AreDistinct}
 use Rattle.word_index.specs.Reading.{WordIndex, IsInOrderFor, IsOrdered, IsGroup, Spells, read, read_tally, read_index, read_group, read_entries, word_at, pick, AllKnown, AllWordsKnown}
 use Rattle.word_index.proofs.Changing.{IsAdded, index_added, index_removed, added_to, added_new, removed_from, removed_whole}

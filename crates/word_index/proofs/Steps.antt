@@ -18,7 +18,7 @@ use Rattle.access_index.specs.declared.tally.Tally.{Tally}
 use Rattle.access_index.specs.Buckets.{tuples_in, count_in, is_key, AllTuplesPass, is_wide, IsOneMore}
 use Rattle.access_index.specs.Index.{IsIndexOf, WouldHold, tallies, tuple_of, key_of}
 use Rattle.access_index.proofs.Indexing.{take_tuple, group_tuples}
-use Rattle.word_index.specs.declared.coded.Coded.{Coded}
+use Rattle.marked_list.specs.declared.coded.Coded.{Coded}
 use Rattle.word_index.specs.Codes.{value_of}
 use Rattle.word_index.specs.Reading.{WordIndex, IsInOrderFor, IsGroup, Spells, read, read_index, read_group, read_entries, pick, AllKnown, AllWordsKnown, is_keyed, words_in}
 use Rattle.word_index.proofs.Keys.{row_same}

@@ -14,7 +14,7 @@ use Rattle.access_index.specs.declared.tally.Tally.{Tally}
 use Rattle.access_index.specs.Buckets.{tuples_in, is_key}
 use Rattle.access_index.specs.Index.{IsIndexOf, WouldHold, tallies, tuple_of, key_of}
 use Rattle.access_index.proofs.Indexing.{group_tuples}
-use Rattle.word_index.specs.declared.coded.Coded.{Coded}
+use Rattle.marked_list.specs.declared.coded.Coded.{Coded}
 use Rattle.word_index.specs.Reading.{read_tally, read_group, read_entries, read_index, AllWordsKnown, IsInOrderFor, WordIndex}
 use Rattle.word_index.specs.Spelling.{AllHaveCodes}
 use Rattle.word_index.proofs.Holding.{holds_iff}

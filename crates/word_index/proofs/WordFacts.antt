@@ -1,7 +1,8 @@
 -- Words that are compared and copied one by one.
-use Rattle.std.proofs.Common.{Bool, false, true≢false, ◌⊎◌, inl, inr, ◌≡◌, ◌≤◌, ◌<◌, ◌+◌, ℕ, zero, suc, List, [], ◌∷◌, length, take, drop, get_or, refl, ap, sym, ◌∙◌, arith, add-one}
-use Rattle.std.specs.Prelude.{IsTrue, ◌↔◌}
+use Rattle.std.proofs.Common.{Bool, true, false, true≢false, ◌⊎◌, inl, inr, ◌≡◌, ◌≤◌, ◌<◌, ◌+◌, ℕ, zero, suc, List, [], ◌∷◌, length, take, drop, get_or, refl, ap, sym, ◌∙◌, arith, add-one}
+use Rattle.std.specs.Prelude.{IsTrue, ◌↔◌, not}
 use Rattle.std.proofs.lemmas.Bool.{cases_lt}
+use Rattle.std.proofs.lemmas.List.{take_all}
 use Rattle.std.proofs.Math.ListN.{set}
 use Rattle.std.specs.declared.cmp.Ordering.TheVariants.{Less, Greater}
 use Rattle.beas_core.specs.declared.value.Value.{Value}
@@ -60,3 +61,12 @@ pub write_next : (xs ys : List ℕ) (i w : ℕ) → length ys ≤ length xs → 
     → take (i + 1) (set xs i w) ≡ take (i + 1) ys
 write_next xs ys i w n l e h =
     ap (λ j. take j (set xs i w)) (add-one i) ∙ write_at xs ys i w n l e h ∙ ap (λ j. take j ys) (sym (add-one i))
+
+-- tuples that are alike so far, of which one ends
+pub ended_alike : (b : Bool) (i : ℕ) (tuple own : List ℕ) → length tuple ≡ i → i ≤ length own → (IsTrue b ↔ (length tuple < length own)) → take i tuple ≡ take i own
+    → IsTrue (not b) ↔ (tuple ≡ own)
+ended_alike true i tuple own end within goes_on same = (λ t. absurd (true≢false (sym t)), λ e. absurd (omega (arith, goes_on.0 refl, ap length e)))
+ended_alike false i tuple own end within goes_on same = (
+  λ t. sym (take_all i tuple (omega (arith, end))) ∙ same ∙ take_all i own (omega (arith, end, not_within false (length tuple) (length own) goes_on refl)),
+  λ e. refl,
+)

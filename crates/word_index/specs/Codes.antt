@@ -1,4 +1,5 @@
 -- Codes of values. An interner is seen as the list of its values in the order in which they were first interned.
+--     same_value                 whether two values are equal
 --     code_of codes value        the code of a value: its place in the list
 --     extended codes value       the list after a value is interned: it stays where the value is there
 --     value_of codes code        the value of a code

@@ -1,5 +1,5 @@
 pub mod Codes
-pub mod Hashing
+pub mod Forms
 pub mod Reading
 pub mod Spelling
 pub mod Widths

@@ -1,10 +1,22 @@
 -- Indexes over codes, and the values that an interner gives these codes.
 --     read codes words              the values of words, by the list of an interner's values
+--     word_at words column          the word of a row in a column, 0 where it has none
 --     pick columns words            the words of a row in some columns
+--     AllKnown codes words          each word is a code that the interner gave
 --     Spells codes columns words row      the row's values in these columns are those of the words
+--     read_tally codes coded, read_group codes group, read_entry codes entry, read_entries codes entries
+--                                   a tuple of words with its count, a group, a group under its key and a list of these, as values
+--     AllWordsKnown codes group     the words of each tuple are codes that the interner gave
+--     WordIndex                     what contracts see of an index of words
 --     read_index codes index        the index of values that an index of words stands for
---     KeepsCodes codes more         what was coded by one interner means the same by another one
+--     is_keyed key_width key tuple  a tuple has a key
+--     IsGroup width key_width key tallies         what holds of the group of a key: in the order of values, none of them counted 0 times
+--     IsStored width key_width entries total      what holds of all groups: one for each key, and so many rows in all
 --     IsInOrderFor codes index      the words of the index are the interner's, and each group stands in the order of their values
+--     IsOrdered index               it is in order for some interner
+--     KeepsCodes codes more         what was coded by one interner means the same by another one
+--     words_in group, words_at index place        the tuples of a group, and of the group at a place
+--     word_in columns tuple column  a column's word in a tuple over these columns
 use Rattle.std.specs.Prelude.{◌≡◌, ◌<◌, if◌then◌else◌, ◌==◌, ℕ, Bool, List, [], ◌∷◌, length, map, take, sum_by, slice_index_or}
 use Rattle.std.specs.List.{AllByRecursion, IsDistinct}
 use Rattle.std.specs.Map.{keys_of, values_of}
@@ -18,7 +30,7 @@ use Rattle.word_index.specs.Codes.{value_of, AreDistinct}
 use Rattle.access_index.specs.declared.tally.Tally.{Tally}
 use Rattle.access_index.specs.Buckets.{tuples_in, counts_in, AllCounted, AllTuplesPass, is_wide}
 use Rattle.access_index.specs.Index.{Index}
-use Rattle.word_index.specs.declared.coded.Coded.{Coded}
+use Rattle.marked_list.specs.declared.coded.Coded.{Coded}
 
 abbrev pub read : List Value → List ℕ → List Value
 read codes words = map (value_of codes) words

@@ -1,6 +1,8 @@
 -- The codes of values.
+--     IsCodeOf codes code value      the value was interned, with this code
 --     HasCode codes value            the value was interned
 --     AllHaveCodes codes values      each of them was
+--     AreCodesOf codes words values  the words are the codes of these values
 --     IsCodeIn codes words row column      a row's word in a column is the code of its value there
 use Rattle.std.specs.Prelude.{◌≡◌, ◌<◌, ℕ, List, length}
 use Rattle.std.specs.List.{AllByRecursion}

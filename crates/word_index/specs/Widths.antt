@@ -1,4 +1,5 @@
 -- The index that stands in an index of any width.
+--     index_in index        it, whatever its width
 use Rattle.word_index.specs.declared.any.AnyIndex.{AnyIndex}
 use Rattle.word_index.specs.declared.any.AnyIndex.TheVariants.{Zero, One, Two, Three, Four, Long}
 use Rattle.word_index.specs.Reading.{WordIndex}

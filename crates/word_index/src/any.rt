@@ -82,9 +82,7 @@ impl AnyIndex {
     }
 
     /// Whether the row's tuple is there or its group has fewer members than the bound. It takes no memory.
-    pub fn would_hold(&self, interner: &Interner, words: &[u64]) -> bool
-        requires in_order { IsInOrderFor interner.now (index_in self.now) }
-        requires known { AllKnown interner.now (pick (member_columns (index_in self.now).access) words.now) }
+    pub fn would_hold(&self, words: &[u64]) -> bool
         ensures exactly { (codes row : List Value) → IsInOrderFor codes (index_in self.now)
             → Spells codes (member_columns (index_in self.now).access) words.now row
             → (IsTrue result ↔ WouldHold (read_index codes (index_in self.now)) row) }
@@ -93,13 +91,11 @@ impl AnyIndex {
             → IsIndexOf (read_index codes (index_in self.now)) rows → Holds rows (index_in self.now).access
             → (IsTrue result ↔ Holds (rows ++ row ∷ []) (index_in self.now).access) }
     {
-        of_any!(self, index => index.would_hold(interner, words))
+        of_any!(self, index => index.would_hold(words))
     }
 
     /// Counts one row fewer, wherever among the rows it stood. The tuple goes with its last row. It takes no memory.
-    pub fn remove(&mut self, interner: &Interner, words: &[u64])
-        requires in_order { IsInOrderFor interner.now (index_in self.old) }
-        requires known { AllKnown interner.now (pick (member_columns (index_in self.old).access) words.now) }
+    pub fn remove(&mut self, words: &[u64])
         ensures access { (index_in self.new).access ≡ (index_in self.old).access }
         ensures total { (index_in self.new).total ≤ (index_in self.old).total }
         ensures in_order { (codes : List Value) → IsInOrderFor codes (index_in self.old) → IsInOrderFor codes (index_in self.new) }
@@ -108,7 +104,7 @@ impl AnyIndex {
             → IsIndexOf (read_index codes (index_in self.old)) (front ++ row ∷ back)
             → IsIndexOf (read_index codes (index_in self.new)) (front ++ back) }
     {
-        of_any!(self, index => index.remove(interner, words))
+        of_any!(self, index => index.remove(words))
     }
 
     /// The place and the length of a key's group, or none where it is empty. It takes no memory.

@@ -17,7 +17,7 @@ use row_store::Rows;
 use std::alloc::Global;
 use std::sync::ledger::Ledger;
 
-/// Counts rows fewer, which came after all others. It takes no memory.
+/// Counts rows fewer, which came after all others, from the last to the first. It takes no memory.
 pub fn remove_rows(codes: &Interner, index: &mut AnyIndex, rows: &[Row])
     requires in_order { IsInOrderFor codes.now (index_in index.old) }
     requires form { AccessIsWellFormed 64 (index_in index.old).access }
@@ -28,12 +28,13 @@ pub fn remove_rows(codes: &Interner, index: &mut AnyIndex, rows: &[Row])
         → IsIndexOf (read_index codes.now (index_in index.old)) (front ++ rows.now)
         → IsIndexOf (read_index codes.now (index_in index.new)) front }
 {
-    for row in rows {
-        remove_row(codes, index, row.as_slice());
+    let len = rows.len();
+    for i in 0..len {
+        remove_row(codes, index, rows[len - 1 - i].as_slice());
     }
 }
 
-/// Counts rows fewer, which came after all others. It takes no memory.
+/// Counts rows fewer, which came after all others, from the last to the first. It takes no memory.
 fn remove_lent(codes: &Interner, index: &mut AnyIndex, rows: &[Lent])
     requires in_order { IsInOrderFor codes.now (index_in index.old) }
     requires form { AccessIsWellFormed 64 (index_in index.old).access }
@@ -44,8 +45,9 @@ fn remove_lent(codes: &Interner, index: &mut AnyIndex, rows: &[Lent])
         → IsIndexOf (read_index codes.now (index_in index.old)) (front ++ map (λ lent. lent.row.now) rows.now)
         → IsIndexOf (read_index codes.now (index_in index.new)) front }
 {
-    for lent in rows {
-        remove_row(codes, index, lent.row.as_slice());
+    let len = rows.len();
+    for i in 0..len {
+        remove_row(codes, index, rows[len - 1 - i].row.as_slice());
     }
 }
 

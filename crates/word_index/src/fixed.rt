@@ -6,8 +6,9 @@ ghost use Rattle.access_index.specs.Index.{IsIndexOf, WouldHold};
 ghost use Rattle.word_index.specs.Codes.{AreDistinct};
 ghost use Rattle.word_index.specs.Reading.{read, read_index, pick, AllKnown, Spells, IsInOrderFor, words_at, word_in};
 
-use crate::group::{Group, count_down, count_up, of_one, position_of, put_copy};
+use crate::group::{count_down, count_up, of_one, put_copy};
 use crate::interner::Interner;
+use crate::tuples::Group;
 use crate::words::{array_of, key_of, word_of};
 use beas_core::{Access, ColumnId, Duplicate, List, NoMemory};
 use indexmap::IndexMap;
@@ -104,9 +105,7 @@ impl<const K: usize> FixedIndex<K> {
     }
 
     /// Whether the row's tuple is there or its group has fewer members than the bound. It takes no memory.
-    pub fn would_hold(&self, interner: &Interner, words: &[u64]) -> bool
-        requires in_order { IsInOrderFor interner.now self.now }
-        requires known { AllKnown interner.now (pick (member_columns self.now.access) words.now) }
+    pub fn would_hold(&self, words: &[u64]) -> bool
         ensures exactly { (codes row : List Value) → IsInOrderFor codes self.now
             → Spells codes (member_columns self.now.access) words.now row
             → (IsTrue result ↔ WouldHold (read_index codes self.now) row) }
@@ -122,15 +121,13 @@ impl<const K: usize> FixedIndex<K> {
                 if group.len() < self.access.bound as usize {
                     return true;
                 }
-                position_of(interner, group, &self.access, words).is_some()
+                group.position_of(&self.access, words).is_some()
             }
         }
     }
 
     /// Counts one row fewer, wherever among the rows it stood. The tuple goes with its last row. It takes no memory.
-    pub fn remove(&mut self, interner: &Interner, words: &[u64])
-        requires in_order { IsInOrderFor interner.now self.old }
-        requires known { AllKnown interner.now (pick (member_columns self.old.access) words.now) }
+    pub fn remove(&mut self, words: &[u64])
         ensures access { self.new.access ≡ self.old.access }
         ensures total { self.new.total ≤ self.old.total }
         ensures in_order { (codes : List Value) → IsInOrderFor codes self.old → IsInOrderFor codes self.new }
@@ -144,11 +141,11 @@ impl<const K: usize> FixedIndex<K> {
             Some(group) => group,
             None => return,
         };
-        let at = match position_of(interner, group, &self.access, words) {
+        let at = match group.position_of(&self.access, words) {
             Some(at) => at,
             None => return,
         };
-        let rows = group.get(at).count as usize;
+        let rows = group.count(at) as usize;
         if group.len().max(rows) > 1 {
             count_down(group, at);
             self.total -= 1;
@@ -186,7 +183,7 @@ impl<const K: usize> FixedIndex<K> {
         ensures { result ≡ word_in (member_columns self.now.access) (slice_index_or (words_at self.now place) i []) column }
     {
         let group = &self.groups[place as usize];
-        word_of(&self.access, group.get(i as usize).words.as_slice(), column)
+        word_of(&self.access, group.words(i as usize), column)
     }
 
     /// The size of the greatest group, 0 where there is none. It takes no memory.

@@ -1,28 +1,25 @@
 // A group: the tuples of one key in the order of their values, each with how many rows have it.
-ghost use Rattle.std.specs.Prelude.{◌≡◌, ◌≢◌, ◌+◌, ◌<◌, ◌≤◌, ◌^◌, [], ◌∷◌, ℕ, List, length, slice_index_or, MatchResult, MatchOption, IsTrue, OnOk, OnErr, IfOk};
+ghost use Rattle.std.specs.Prelude.{◌≡◌, ◌+◌, ◌<◌, ◌≤◌, ◌^◌, [], ◌∷◌, ℕ, List, length, slice_index_or, MatchResult, IsTrue, OnOk, OnErr, IfOk};
 ghost use Rattle.std.specs.Ordering.{is_lt};
-ghost use Rattle.std.specs.List.{AllByRecursion};
 ghost use Rattle.beas_core.specs.declared.value.Value.{Value};
 ghost use Rattle.beas_core.specs.Order.{row_cmp};
 ghost use Rattle.beas_core.specs.Groups.{member_columns};
 ghost use Rattle.beas_core.specs.Sets.{IsInOrder};
-ghost use Rattle.word_index.specs.Codes.{AreDistinct};
 ghost use Rattle.access_index.specs.Buckets.{tuples_in, counts_in, AllCounted, IsGap, IsOneMore};
-ghost use Rattle.word_index.specs.declared.coded.Coded.{Coded};
+ghost use Rattle.marked_list.specs.declared.coded.Coded.{Coded};
 ghost use Rattle.indexmap.specs.IndexMap.{insert_entry};
 ghost use Rattle.word_index.specs.Reading.{read, read_group, pick, AllKnown, AllWordsKnown};
 
-use crate::coded::Coded;
 use crate::interner::Interner;
+use crate::tuples::Group;
 use crate::words::{compare_tuple, tuple_words};
-use beas_core::{Access, Duplicate, NoMemory};
-use blocked_list::{Before, BlockedList};
+use beas_core::{Access, NoMemory};
+use blocked_list::Before;
 use indexmap::IndexMap;
+use marked_list::{Coded, TupleWords};
 use std::alloc::Global;
 use std::cmp::Ordering;
 use std::hash::Hash;
-
-pub type Group = BlockedList<Coded>;
 
 /// The place of a row's tuple by the values of its words.
 #[derive(Drop)]
@@ -32,12 +29,12 @@ struct TuplePlace<'a> {
     words: &'a [u64],
 }
 
-impl Before<Coded> for TuplePlace<'_> {
-    ghost before = { λ wanted coded. is_lt (row_cmp (read wanted.codes.now coded.words)
+impl Before<TupleWords> for TuplePlace<'_> {
+    ghost before = { λ wanted tuple. is_lt (row_cmp (read wanted.codes.now tuple)
         (read wanted.codes.now (pick (member_columns wanted.access.now) wanted.words.now))) };
 
-    fn is_before(&self, coded: &Coded) -> bool {
-        compare_tuple(self.codes, coded.words.as_slice(), self.access, self.words) == Ordering::Less
+    fn is_before(&self, tuple: &TupleWords) -> bool {
+        compare_tuple(self.codes, tuple.as_slice(), self.access, self.words) == Ordering::Less
     }
 }
 
@@ -51,7 +48,7 @@ fn ends_before(codes: &Interner, group: &Group, access: &Access, words: &[u64]) 
     if len == 0 {
         return false;
     }
-    match compare_tuple(codes, group.get(len - 1).words.as_slice(), access, words) {
+    match compare_tuple(codes, group.words(len - 1), access, words) {
         Ordering::Less => true,
         _ => false,
     }
@@ -82,25 +79,9 @@ pub fn search(
     if at == end {
         return Err(at);
     }
-    match compare_tuple(codes, group.get(at).words.as_slice(), access, words) {
+    match compare_tuple(codes, group.words(at), access, words) {
         Ordering::Equal => Ok(at),
         _ => Err(at),
-    }
-}
-
-/// Where a tuple is by its words: by halves, in the order of the values of words.
-pub fn position_of(codes: &Interner, group: &Group, access: &Access, words: &[u64]) -> Option<usize>
-    requires ordered { IsInOrder row_cmp (tuples_in (read_group codes.now group.now)) }
-    requires distinct { AreDistinct codes.now }
-    requires known { AllWordsKnown codes.now group.now }
-    requires tuple { AllKnown codes.now (pick (member_columns access.now) words.now) }
-    ensures { MatchOption result
-        (AllByRecursion (λ (c : Coded). c.words ≢ pick (member_columns access.now) words.now) group.now)
-        (λ at. (at < length group.now) × ((d : Coded) → (slice_index_or group.now at d).words ≡ pick (member_columns access.now) words.now)) }
-{
-    match search(codes, group, access, words) {
-        Ok(at) => Some(at),
-        Err(_) => None,
     }
 }
 
@@ -109,9 +90,7 @@ pub fn of_one(alloc: Global, access: &Access, words: &[u64]) -> Result<Group, No
     ensures { IfOk result (λ group. group ≡ record { words = pick (member_columns access.now) words.now; count = 1 } ∷ []) }
 {
     let words = tuple_words(alloc, access, words)?;
-    let mut group = BlockedList::new(alloc);
-    group.insert(alloc, 0, Coded { words, count: 1 })?;
-    Ok(group)
+    Group::of(alloc, Coded { words, count: 1 })
 }
 
 /// Counts a tuple once more. After an error the group is as it was.
@@ -134,7 +113,7 @@ pub fn count_up(
 {
     match search(codes, group, access, words) {
         Ok(at) => {
-            let count = group.get(at).count;
+            let count = group.count(at);
             group.recount(at, count + 1);
             Ok(())
         }
@@ -153,23 +132,12 @@ pub fn count_down(group: &mut Group, at: usize)
         → IsOneMore (read_group codes group.new) (read_group codes group.old) (read codes (slice_index_or group.old at d).words) }
     ensures known { (codes : List Value) → AllWordsKnown codes group.old → AllWordsKnown codes group.new }
 {
-    let count = group.get(at).count;
+    let count = group.count(at);
     if count > 1 {
         group.recount(at, count - 1);
     } else {
         group.remove(at);
     }
-}
-
-/// An equal group.
-pub fn copy_group(alloc: Global, group: &Group) -> Result<Group, NoMemory>
-    ensures { IfOk result (λ copy. copy ≡ group.now) }
-{
-    let mut copy = BlockedList::new(alloc);
-    for i in 0..group.len() {
-        copy.insert(alloc, i, group.get(i).copy(alloc)?)?;
-    }
-    Ok(copy)
 }
 
 /// Puts a copy of a group under a key.
@@ -181,7 +149,7 @@ pub fn put_copy<K: Eq + Hash + Drop>(
 ) -> Result<(), NoMemory>
     ensures { OnOk result (groups.new.entries ≡ insert_entry K.eq groups.old.entries key group.now) }
 {
-    let copy = copy_group(alloc, group)?;
+    let copy = group.copy(alloc)?;
     groups.insert(key, copy)?;
     Ok(())
 }

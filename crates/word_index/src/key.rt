@@ -1,23 +1,16 @@
-// Keys of constraints with many key columns.
-ghost use Rattle.std.specs.Prelude.{◌≡◌, ◌≤◌, length, nat_eq, IfOk, MatchOption};
-ghost use Rattle.std.specs.Cmp.{partial_equiv_from_equiv};
-ghost use Rattle.std.specs.Cmp.Lexicographic.{pointwise, nat_list_eq_equiv};
-ghost use Rattle.std.specs.Hash as fed;
-ghost use Rattle.word_index.specs.Hashing.{keys_alike};
-ghost use Rattle.beas_core.specs.Groups.{project};
+// Words by which maps are asked.
+ghost use Rattle.std.specs.Prelude.{◌≡◌, ◌≤◌, length, IfSome, MatchOption};
+ghost use Rattle.beas_core.specs.Groups.{member_columns, project};
 ghost use Rattle.word_index.specs.Reading.{pick};
 ghost use Rattle.word_index.specs.Spelling.{AllHaveCodes, AreCodesOf};
 
 use crate::interner::Interner;
 use crate::spelling::code_in;
-use crate::words::word_at;
-use beas_core::{ColumnId, Duplicate, NoMemory, Value};
-use indexmap::Equivalent;
-use std::alloc::Global;
-use std::hash::{Hash, Hasher};
+use crate::words::{column_at, word_at};
+use beas_core::{Access, ColumnId, Value};
 use std::marker::Model;
 
-/// The words of a row in the columns of a key, which lie in place and take no memory.
+/// The words of a key, or those of a whole tuple, by which a map is asked. They lie in place and take no memory.
 #[derive(Drop)]
 pub struct KeyWords {
     words: [u64; 64],
@@ -48,6 +41,22 @@ impl KeyWords {
             words: key,
             len: columns.len(),
         }
+    }
+
+    /// The words of a row's tuple, or none where it has more than 64.
+    #[tactic(auto, using(crate::proofs::Members::members_long))]
+    pub fn tuple(access: &Access, words: &[u64]) -> Option<KeyWords>
+        ensures { IfSome result (λ tuple. tuple ≡ pick (member_columns access.now) words.now) }
+    {
+        let len = access.key.len().saturating_add(access.fetched.len());
+        if len > 64 {
+            return None;
+        }
+        let mut tuple = [0; 64];
+        for i in 0..len {
+            tuple[i] = word_at(words, column_at(access, i));
+        }
+        Some(KeyWords { words: tuple, len })
     }
 
     /// The codes of a key's values, or none where one of them was never interned.
@@ -92,73 +101,5 @@ impl KeyWords {
         ensures { result.now ≡ self.now }
     {
         &self.words[..self.len]
-    }
-}
-
-/// The words of a group's key, seen as their list.
-#[derive(Drop)]
-pub struct LongKey {
-    words: Vec<u64>,
-}
-
-impl Model for LongKey {
-    ghost use Rattle.std.specs.Prelude.{List, ℕ};
-
-    ghost Value = { List ℕ };
-
-    ghost view = { λ s. s.words.items };
-}
-
-impl LongKey {
-    /// A key of these words.
-    pub fn of(alloc: Global, words: &[u64]) -> Result<LongKey, NoMemory>
-        ensures { IfOk result (λ key. key ≡ words.now) }
-    {
-        Ok(LongKey {
-            words: words.to_vec(alloc)?,
-        })
-    }
-}
-
-impl Duplicate for LongKey {
-    fn copy(&self, alloc: Global) -> Result<LongKey, NoMemory> {
-        LongKey::of(alloc, self.words.as_slice())
-    }
-}
-
-impl PartialEq for LongKey {
-    ghost eq = { pointwise nat_eq };
-
-    ghost laws = { partial_equiv_from_equiv nat_list_eq_equiv };
-
-    fn eq(&self, other: &LongKey) -> bool {
-        self.words.as_slice() == other.words.as_slice()
-    }
-}
-
-impl Eq for LongKey {
-    ghost laws = { nat_list_eq_equiv };
-}
-
-impl Hash for LongKey {
-    ghost hash_input = { fed.slice fed.u64 };
-
-    ghost respects_eq = { keys_alike };
-
-    fn hash<H: Hasher>(&self, state: &mut H) {
-        self.words.as_slice().hash(state);
-    }
-}
-
-/// A key is looked up by its words, which takes no memory.
-impl Equivalent<LongKey> for &[u64] {
-    ghost equivalent = { λ q. pointwise nat_eq q.now };
-
-    ghost respects_hash = { λ q. keys_alike q.now };
-
-    ghost respects_eq = { λ q x y. nat_list_eq_equiv.congr q.now x y };
-
-    fn equivalent(&self, key: &LongKey) -> bool {
-        *self == key.words.as_slice()
     }
 }

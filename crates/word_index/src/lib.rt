@@ -3,19 +3,19 @@
 
 mod any;
 mod bulk;
-mod coded;
 mod fixed;
+mod form;
 mod group;
 mod interner;
 mod key;
 mod long;
 mod rows;
 mod spelling;
+mod tuples;
 mod words;
 
 pub use any::AnyIndex;
 pub use bulk::{add_rows, index_of, remove_rows};
-pub use coded::Coded;
 pub use fixed::FixedIndex;
 pub use interner::Interner;
 pub use long::LongIndex;

@@ -6,12 +6,14 @@ ghost use Rattle.access_index.specs.Index.{IsIndexOf, WouldHold};
 ghost use Rattle.word_index.specs.Codes.{AreDistinct};
 ghost use Rattle.word_index.specs.Reading.{read, read_index, pick, AllKnown, Spells, IsInOrderFor, words_at, word_in};
 
-use crate::group::{Group, count_down, count_up, of_one, position_of, put_copy};
+use crate::group::{count_down, count_up, of_one, put_copy};
 use crate::interner::Interner;
-use crate::key::{KeyWords, LongKey};
+use crate::key::KeyWords;
+use crate::tuples::Group;
 use crate::words::word_of;
 use beas_core::{Access, ColumnId, Duplicate, List, NoMemory};
 use indexmap::IndexMap;
+use marked_list::TupleWords;
 use std::alloc::Global;
 use std::marker::Model;
 
@@ -20,7 +22,7 @@ use std::marker::Model;
 pub struct LongIndex {
     access: Access,
     total: u32,
-    groups: IndexMap<LongKey, Group>,
+    groups: IndexMap<TupleWords, Group>,
 }
 
 impl Model for LongIndex {
@@ -38,8 +40,8 @@ impl Model for LongIndex {
 /// The same groups under the same keys.
 fn copy_groups(
     alloc: Global,
-    groups: &IndexMap<LongKey, Group>,
-) -> Result<IndexMap<LongKey, Group>, NoMemory>
+    groups: &IndexMap<TupleWords, Group>,
+) -> Result<IndexMap<TupleWords, Group>, NoMemory>
     ensures { IfOk result (λ copy. copy.entries ≡ groups.now.entries) }
 {
     let mut copy = IndexMap::new(alloc);
@@ -98,16 +100,14 @@ impl LongIndex {
             return Ok(());
         }
         let group = of_one(alloc, &self.access, words)?;
-        let own = LongKey::of(alloc, key)?;
+        let own = TupleWords::of(alloc, key)?;
         self.groups.insert(own, group)?;
         self.total += 1;
         Ok(())
     }
 
     /// Whether the row's tuple is there or its group has fewer members than the bound. It takes no memory.
-    pub fn would_hold(&self, interner: &Interner, words: &[u64]) -> bool
-        requires in_order { IsInOrderFor interner.now self.now }
-        requires known { AllKnown interner.now (pick (member_columns self.now.access) words.now) }
+    pub fn would_hold(&self, words: &[u64]) -> bool
         ensures exactly { (codes row : List Value) → IsInOrderFor codes self.now
             → Spells codes (member_columns self.now.access) words.now row
             → (IsTrue result ↔ WouldHold (read_index codes self.now) row) }
@@ -124,15 +124,13 @@ impl LongIndex {
                 if group.len() < self.access.bound as usize {
                     return true;
                 }
-                position_of(interner, group, &self.access, words).is_some()
+                group.position_of(&self.access, words).is_some()
             }
         }
     }
 
     /// Counts one row fewer, wherever among the rows it stood. The tuple goes with its last row. It takes no memory.
-    pub fn remove(&mut self, interner: &Interner, words: &[u64])
-        requires in_order { IsInOrderFor interner.now self.old }
-        requires known { AllKnown interner.now (pick (member_columns self.old.access) words.now) }
+    pub fn remove(&mut self, words: &[u64])
         ensures access { self.new.access ≡ self.old.access }
         ensures total { self.new.total ≤ self.old.total }
         ensures in_order { (codes : List Value) → IsInOrderFor codes self.old → IsInOrderFor codes self.new }
@@ -147,11 +145,11 @@ impl LongIndex {
             Some(group) => group,
             None => return,
         };
-        let at = match position_of(interner, group, &self.access, words) {
+        let at = match group.position_of(&self.access, words) {
             Some(at) => at,
             None => return,
         };
-        let rows = group.get(at).count as usize;
+        let rows = group.count(at) as usize;
         if group.len().max(rows) > 1 {
             count_down(group, at);
             self.total -= 1;
@@ -188,7 +186,7 @@ impl LongIndex {
         ensures { result ≡ word_in (member_columns self.now.access) (slice_index_or (words_at self.now place) i []) column }
     {
         let group = &self.groups[place as usize];
-        word_of(&self.access, group.get(i as usize).words.as_slice(), column)
+        word_of(&self.access, group.words(i as usize), column)
     }
 
     /// The size of the greatest group, 0 where there is none. It takes no memory.

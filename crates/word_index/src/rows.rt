@@ -57,7 +57,7 @@ pub fn would_hold(codes: &Interner, index: &AnyIndex, row: &[Value]) -> bool
         → (IsTrue result ↔ Holds (rows ++ row.now ∷ []) (index_in index.now).access) }
 {
     match known_words(codes, index.access(), row) {
-        Some(words) => index.would_hold(codes, &words),
+        Some(words) => index.would_hold(&words),
         None => group_len(codes, index, row) < index.access().bound,
     }
 }
@@ -74,7 +74,7 @@ pub fn remove_row(codes: &Interner, index: &mut AnyIndex, row: &[Value])
         → IsIndexOf (read_index codes.now (index_in index.new)) (front ++ back) }
 {
     match known_words(codes, index.access(), row) {
-        Some(words) => index.remove(codes, &words),
+        Some(words) => index.remove(&words),
         None => {}
     }
 }
@@ -129,7 +129,7 @@ pub fn add_if_holds(
     match known_words(codes, index.access(), row) {
         // Its values' codes are looked up once for both.
         Some(words) => {
-            if !index.would_hold(codes, &words) {
+            if !index.would_hold(&words) {
                 return Ok(false);
             }
             index.add(alloc, codes, &words)?;

@@ -6,7 +6,8 @@ ghost use Rattle.word_index.specs.Codes.{value_of};
 ghost use Rattle.word_index.specs.Reading.{read, word_at, word_in, pick};
 
 use crate::interner::Interner;
-use beas_core::{Access, ColumnId, List, NoMemory, Value, compare};
+use beas_core::{Access, ColumnId, NoMemory, Value, compare};
+use marked_list::TupleWords;
 use std::alloc::Global;
 use std::cmp::Ordering;
 
@@ -82,6 +83,21 @@ pub fn compare_tuple(codes: &Interner, left: &[u64], access: &Access, words: &[u
     Ordering::Equal
 }
 
+/// Whether a tuple is a row's.
+pub fn is_tuple(tuple: &[u64], access: &Access, words: &[u64]) -> bool
+    ensures { IsTrue result ↔ (tuple.now ≡ pick (member_columns access.now) words.now) }
+{
+    for (i, word) in tuple.iter().enumerate() {
+        if !has_place(access, i) {
+            return false;
+        }
+        if *word != word_at(words, column_at(access, i)) {
+            return false;
+        }
+    }
+    !has_place(access, tuple.len())
+}
+
 /// Adds a row's words in some columns to a tuple.
 fn push_words(tuple: &mut Vec<u64>, columns: &[ColumnId], words: &[u64]) -> Result<(), NoMemory>
     ensures { OnOk result (tuple.new.items ≡ tuple.old.items ++ pick columns.now words.now) }
@@ -93,14 +109,14 @@ fn push_words(tuple: &mut Vec<u64>, columns: &[ColumnId], words: &[u64]) -> Resu
 }
 
 /// The words of a row's tuple.
-pub fn tuple_words(alloc: Global, access: &Access, words: &[u64]) -> Result<List<u64>, NoMemory>
+pub fn tuple_words(alloc: Global, access: &Access, words: &[u64]) -> Result<TupleWords, NoMemory>
     ensures { IfOk result (λ tuple. tuple ≡ pick (member_columns access.now) words.now) }
 {
     let width = access.key.len().saturating_add(access.fetched.len());
     let mut tuple = Vec::with_capacity(alloc, width)?;
     push_words(&mut tuple, access.key.as_slice(), words)?;
     push_words(&mut tuple, access.fetched.as_slice(), words)?;
-    Ok(List::from_vec(tuple))
+    Ok(TupleWords::from_vec(tuple))
 }
 
 /// The words of a row in the columns of a key.

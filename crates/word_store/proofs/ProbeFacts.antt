@@ -16,7 +16,7 @@ use Rattle.access_index.specs.Buckets.{tuples_in, counts_in, is_wide, AllTuplesP
 use Rattle.access_index.specs.Index.{members_at, stands_at}
 use Rattle.access_index.proofs.Counting.{tuples_within}
 use Rattle.access_index.proofs.Holding.{members_are, members_len, members_stand}
-use Rattle.word_index.specs.declared.coded.Coded.{Coded}
+use Rattle.marked_list.specs.declared.coded.Coded.{Coded}
 use Rattle.word_index.specs.Codes.{value_of}
 use Rattle.word_index.specs.Reading.{WordIndex, IsInOrderFor, IsGroup, AllKnown, AllWordsKnown, read, read_group, read_entry, read_entries, read_index, words_in, words_at, word_in}
 use Rattle.word_index.proofs.GroupFacts.{length_group}

@@ -1,13 +1,12 @@
-use Rattle.std.proofs.Common.{◌<◌, length, ap, sym, ◌∙◌, subst, arith}
+use Rattle.std.proofs.Common.{◌<◌, [], length, ap, sym, ◌∙◌, subst, arith}
 use Rattle.std.specs.Ordering.{is_lt}
-use Rattle.std.proofs.lemmas.List.{get_or_default}
 use Rattle.beas_core.specs.Order.{row_cmp}
 use Rattle.beas_core.proofs.ValueOrder.{row_cmp_tells}
 use Rattle.access_index.proofs.Places.{tuple_place, gap_at, place_le, stands_before}
 use Rattle.access_index.specs.declared.tally.Tally.{Tally}
 use Rattle.access_index.specs.Buckets.{IsGap}
 use Rattle.beas_core.specs.Groups.{member_columns}
-use Rattle.word_index.specs.declared.coded.Coded.{Coded}
+use Rattle.marked_list.specs.declared.coded.Coded.{Coded}
 use Rattle.word_index.specs.Reading.{read, read_group, read_tally, pick}
 use Rattle.word_index.proofs.GroupFacts.{read_at, length_group, filter_read}
 use Rattle.word_index.proofs.group.search.Goals as goal
@@ -30,8 +29,8 @@ returns-then-at-end c =
     gap_at x (read_group codes g) c.place_of-at.result c.requires (c.place_of-at.ensures ∙ filter_read codes (stands_before x) g)
     (λ d l e. omega (arith, l, c.if-at-end.true, c.len-end.ensures, length_group codes g))
 
-pub get-requires : goal.get-requires
-get-requires c =
+pub words-requires : goal.words-requires
+words-requires c =
     let codes = c.args.codes.now in
     let g = c.args.group.now in
     let x = read codes (pick (member_columns c.args.access.now) c.args.words.now) in
@@ -45,9 +44,7 @@ returns-in-Equal c =
     let within : c.place_of-at.result < length g =
     omega (arith, c.if-at-end.false, c.len-end.ensures, c.place_of-at.ensures, filter_read codes (stands_before x) g, place_le x (read_group codes g), length_group codes g) in (
       within,
-      λ d. ap (λ (k : Coded). read codes k.words) (get_or_default g c.place_of-at.result d c.get.result.now within ∙ sym c.get.ensures)
-          ∙ ap (read codes) (sym c.as_slice.ensures)
-          ∙ row_cmp_tells (read codes c.as_slice.result.now) x (sym c.compare_tuple.ensures ∙ c.in-Equal.is),
+      λ d. ap (read codes) (sym (c.words.ensures d)) ∙ row_cmp_tells (read codes c.words.result.now) x (sym c.compare_tuple.ensures ∙ c.in-Equal.is),
     )
 
 pub returns-in_default : goal.returns-in_default
@@ -56,11 +53,12 @@ returns-in_default c =
     let g = c.args.group.now in
     let x = read codes (pick (member_columns c.args.access.now) c.args.words.now) in
     let at = c.place_of-at.result in
+    let e0 : Coded = record { words = []; count = 0 } in
     gap_at x (read_group codes g) at c.requires (c.place_of-at.ensures ∙ filter_read codes (stands_before x) g)
     (λ d l e. c.in_default.not-Equal
     (c.compare_tuple.ensures
-    ∙ ap (λ ws. row_cmp (read codes ws) x) (c.as_slice.ensures ∙ ap (λ (k : Coded). k.words) c.get.ensures)
-    ∙ ap (λ (t : Tally). row_cmp t.tuple x) (sym (read_at codes g at c.get.result.now d (omega (arith, l, length_group codes g))))
+    ∙ ap (λ ws. row_cmp (read codes ws) x) (c.words.ensures e0)
+    ∙ ap (λ (t : Tally). row_cmp t.tuple x) (sym (read_at codes g at e0 d (omega (arith, l, length_group codes g))))
     ∙ e))
 
 pub returns-then-ends_before : goal.returns-then-ends_before

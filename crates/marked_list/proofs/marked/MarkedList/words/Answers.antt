@@ -1,6 +1,7 @@
 use Rattle.std.proofs.Common.{◌<◌, List, length, get_or, ap, sym, ◌∙◌, arith}
 use Rattle.std.proofs.lemmas.Option.{get_or_from_slice_get}
-use Rattle.marked_list.specs.Marks.{Item, no_tuple}
+use Rattle.marked_list.specs.declared.coded.Coded.{Coded}
+use Rattle.marked_list.specs.Marks.{no_tuple}
 use Rattle.marked_list.proofs.KeyFacts.{item_at, length_items}
 use Rattle.marked_list.proofs.marked.MarkedList.words.Goals as goal
 
@@ -12,5 +13,5 @@ returns c d =
     let within : c.args.at < length slots = omega (arith, c.requires, length_items es slots, ap length c.self.view_is) in
     let t = get_or_from_slice_get es s.entry (c.in-Some.words.now, c.in-Some.field-0-1.now) no_tuple (sym c.in-Some.ensures.entry) in
     c.as_slice.ensures ∙ sym (ap (λ x. x.0) t) ∙ ap (λ x. (get_or es x.entry no_tuple).0) c.get.ensures
-    ∙ sym (ap (λ (x : Item). x.words) (item_at es slots c.args.at d s within))
-    ∙ ap (λ (xs : List Item). (get_or xs c.args.at d).words) c.self.view_is
+    ∙ sym (ap (λ (x : Coded). x.words) (item_at es slots c.args.at d s within))
+    ∙ ap (λ (xs : List Coded). (get_or xs c.args.at d).words) c.self.view_is

@@ -7,7 +7,7 @@ use Rattle.beas_core.specs.Groups.{group_of}
 use Rattle.access_index.proofs.Counting.{tuples_within}
 use Rattle.access_index.proofs.Holding.{at_place, none_from}
 use Rattle.access_index.specs.Index.{IsIndexOf}
-use Rattle.word_index.specs.declared.coded.Coded.{Coded}
+use Rattle.marked_list.specs.declared.coded.Coded.{Coded}
 use Rattle.word_index.specs.Reading.{WordIndex, IsInOrderFor, read, read_index, read_group, words_at, words_in}
 use Rattle.word_index.proofs.GroupFacts.{length_group}
 use Rattle.word_index.proofs.Ordering.{group_holds, group_within}

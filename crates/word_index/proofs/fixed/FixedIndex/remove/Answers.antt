@@ -1,4 +1,4 @@
-use Rattle.std.proofs.Common.{◌≡◌, ◌≤◌, ◌<◌, ◌++◌, ◌∷◌, List, length, ap, sym, ◌∙◌, subst, arith}
+use Rattle.std.proofs.Common.{◌≡◌, ◌≤◌, ◌<◌, ◌++◌, ◌∷◌, [], List, length, ap, sym, ◌∙◌, subst, arith}
 use Rattle.std.specs.Prelude.{nat_eq, Some}
 use Rattle.std.specs.Map.{lookup}
 use Rattle.std.specs.Cmp.Lexicographic.{pointwise}
@@ -10,7 +10,7 @@ use Rattle.access_index.specs.declared.tally.Tally.{Tally}
 use Rattle.access_index.specs.Buckets.{IsOneMore}
 use Rattle.access_index.specs.Index.{IsIndexOf}
 use Rattle.access_index.proofs.Counting.{tuples_within, count_within, last_one}
-use Rattle.word_index.specs.declared.coded.Coded.{Coded}
+use Rattle.marked_list.specs.declared.coded.Coded.{Coded}
 use Rattle.word_index.specs.Reading.{WordIndex, IsInOrderFor, IsOrdered, Spells, read, read_index, read_group, read_tally, pick}
 use Rattle.word_index.proofs.Storing.{some_counted}
 use Rattle.word_index.proofs.GroupFacts.{length_group, read_at}
@@ -109,7 +109,7 @@ invariant_of-self-then-max-gt1 g c =
     let long = length_group w.codes g0 in
     let some : 1 ≤ total = omega (arith, there, long, tuples_within ts b.counted, group_within access w.codes total es key w.in_order g0 found) in
     let at = c.in-Some-position_of.at in
-    let d = c.get.result.now in
+    let d : Coded = record { words = []; count = 0 } in
     let less = c.count_down.new.group in
     let wr = c.get_mut.follows.holds less in
     let m = λ (codes : List Value) (o : IsInOrderFor codes (record { access = access; total = total; groups = es })).
@@ -133,7 +133,7 @@ invariant_of-self-then-max-gt1 g c =
             c.len.ensures,
             count_within ts at (read_tally w.codes d) (omega (arith, there, long)),
             count,
-            ap (λ (t : Coded). t.count) c.get.ensures,
+            c.count-rows.ensures d,
           )),
     ) in
     let left = λ (codes : List Value) (o : IsInOrderFor codes c.args.self.now).
@@ -159,7 +159,7 @@ returns-then-max-gt1-clause-in_order g c codes o =
     let long = length_group w.codes g0 in
     let some : 1 ≤ total = omega (arith, there, long, tuples_within ts b.counted, group_within access w.codes total es key w.in_order g0 found) in
     let at = c.in-Some-position_of.at in
-    let d = c.get.result.now in
+    let d : Coded = record { words = []; count = 0 } in
     let less = c.count_down.new.group in
     let wr = c.get_mut.follows.holds less in
     let m = λ (codes : List Value) (o : IsInOrderFor codes (record { access = access; total = total; groups = es })).
@@ -183,7 +183,7 @@ returns-then-max-gt1-clause-in_order g c codes o =
             c.len.ensures,
             count_within ts at (read_tally w.codes d) (omega (arith, there, long)),
             count,
-            ap (λ (t : Coded). t.count) c.get.ensures,
+            c.count-rows.ensures d,
           )),
     ) in
     let left = λ (codes : List Value) (o : IsInOrderFor codes c.args.self.now).
@@ -209,7 +209,7 @@ returns-then-max-gt1-clause-rest g c codes row front back o s is =
     let long = length_group w.codes g0 in
     let some : 1 ≤ total = omega (arith, there, long, tuples_within ts b.counted, group_within access w.codes total es key w.in_order g0 found) in
     let at = c.in-Some-position_of.at in
-    let d = c.get.result.now in
+    let d : Coded = record { words = []; count = 0 } in
     let less = c.count_down.new.group in
     let wr = c.get_mut.follows.holds less in
     let m = λ (codes : List Value) (o : IsInOrderFor codes (record { access = access; total = total; groups = es })).
@@ -233,7 +233,7 @@ returns-then-max-gt1-clause-rest g c codes row front back o s is =
             c.len.ensures,
             count_within ts at (read_tally w.codes d) (omega (arith, there, long)),
             count,
-            ap (λ (t : Coded). t.count) c.get.ensures,
+            c.count-rows.ensures d,
           )),
     ) in
     let left = λ (codes : List Value) (o : IsInOrderFor codes c.args.self.now).
@@ -277,7 +277,7 @@ invariant_of-self-2 g c =
     let long = length_group w.codes g0 in
     let some : 1 ≤ total = omega (arith, there, long, tuples_within ts b.counted, group_within access w.codes total es key w.in_order g0 found) in
     let at = c.in-Some-position_of.at in
-    let d = c.get.result.now in
+    let d : Coded = record { words = []; count = 0 } in
     let kept = (c.get_mut.follows.holds g0).0 ∙ set_same (pointwise nat_eq key) es g0 found in
     let gone = c.swap_remove.ensures in
     let left = λ (codes : List Value) (o : IsInOrderFor codes c.args.self.now).
@@ -291,7 +291,7 @@ invariant_of-self-2 g c =
     (gone.entries ∙ ap (swap_remove_entry (pointwise nat_eq key)) kept) gone.unique
     (last_one rs at (read_tally codes d) (read codes (pick (member_columns access) words)) h.ordered h.counted (omega (arith, there, n))
     (ap (λ (t : Tally). t.tuple) at_is ∙ ap (read codes) (c.in-Some-position_of.ensures.1 d))
-    (omega (arith, count, c.if-max-gt1.false, c.max.ensures, ap (λ (t : Tally). t.count) at_is, ap (λ (t : Coded). t.count) c.get.ensures))
+    (omega (arith, count, c.if-max-gt1.false, c.max.ensures, ap (λ (t : Tally). t.count) at_is, c.count-rows.ensures d))
     (omega (arith, n, c.if-max-gt1.false, c.max.ensures, c.len.ensures))) in
     (c.self.invariant.0, c.self.invariant.1, record { codes = w.codes; in_order = (left w.codes (subst (IsInOrderFor w.codes) c.self.view_is w.in_order)).in_order })
 
@@ -312,7 +312,7 @@ returns-clause-in_order g c codes o =
     let long = length_group w.codes g0 in
     let some : 1 ≤ total = omega (arith, there, long, tuples_within ts b.counted, group_within access w.codes total es key w.in_order g0 found) in
     let at = c.in-Some-position_of.at in
-    let d = c.get.result.now in
+    let d : Coded = record { words = []; count = 0 } in
     let kept = (c.get_mut.follows.holds g0).0 ∙ set_same (pointwise nat_eq key) es g0 found in
     let gone = c.swap_remove.ensures in
     let left = λ (codes : List Value) (o : IsInOrderFor codes c.args.self.now).
@@ -326,7 +326,7 @@ returns-clause-in_order g c codes o =
     (gone.entries ∙ ap (swap_remove_entry (pointwise nat_eq key)) kept) gone.unique
     (last_one rs at (read_tally codes d) (read codes (pick (member_columns access) words)) h.ordered h.counted (omega (arith, there, n))
     (ap (λ (t : Tally). t.tuple) at_is ∙ ap (read codes) (c.in-Some-position_of.ensures.1 d))
-    (omega (arith, count, c.if-max-gt1.false, c.max.ensures, ap (λ (t : Tally). t.count) at_is, ap (λ (t : Coded). t.count) c.get.ensures))
+    (omega (arith, count, c.if-max-gt1.false, c.max.ensures, ap (λ (t : Tally). t.count) at_is, c.count-rows.ensures d))
     (omega (arith, n, c.if-max-gt1.false, c.max.ensures, c.len.ensures))) in
     (left codes o).in_order
 
@@ -347,7 +347,7 @@ returns-clause-rest g c codes row front back o s is =
     let long = length_group w.codes g0 in
     let some : 1 ≤ total = omega (arith, there, long, tuples_within ts b.counted, group_within access w.codes total es key w.in_order g0 found) in
     let at = c.in-Some-position_of.at in
-    let d = c.get.result.now in
+    let d : Coded = record { words = []; count = 0 } in
     let kept = (c.get_mut.follows.holds g0).0 ∙ set_same (pointwise nat_eq key) es g0 found in
     let gone = c.swap_remove.ensures in
     let left = λ (codes : List Value) (o : IsInOrderFor codes c.args.self.now).
@@ -361,31 +361,6 @@ returns-clause-rest g c codes row front back o s is =
     (gone.entries ∙ ap (swap_remove_entry (pointwise nat_eq key)) kept) gone.unique
     (last_one rs at (read_tally codes d) (read codes (pick (member_columns access) words)) h.ordered h.counted (omega (arith, there, n))
     (ap (λ (t : Tally). t.tuple) at_is ∙ ap (read codes) (c.in-Some-position_of.ensures.1 d))
-    (omega (arith, count, c.if-max-gt1.false, c.max.ensures, ap (λ (t : Tally). t.count) at_is, ap (λ (t : Coded). t.count) c.get.ensures))
+    (omega (arith, count, c.if-max-gt1.false, c.max.ensures, ap (λ (t : Tally). t.count) at_is, c.count-rows.ensures d))
     (omega (arith, n, c.if-max-gt1.false, c.max.ensures, c.len.ensures))) in
     (left codes o).rest row front back s is
-
-pub position_of-requires-clause-ordered : goal.position_of-requires-clause-ordered
-position_of-requires-clause-ordered g c =
-    let access = c.self.inside.access in
-    let es = c.self.inside.groups.entries in
-    let total = c.self.inside.total in
-    let codes = c.args.interner.now in
-    let o = subst (IsInOrderFor codes) (sym c.self.view_is) c.requires.in_order in
-    let g0 = c.in-Some.group.now in
-    let found : lookup (pointwise nat_eq (c.key_of-key.result)) es ≡ Some g0 = sym c.in-Some.ensures.value in
-    (group_holds access codes total es (c.key_of-key.result) o g0 found).ordered
-
-pub position_of-requires-clause-distinct : goal.position_of-requires-clause-distinct
-position_of-requires-clause-distinct g c = c.requires.in_order.distinct
-
-pub position_of-requires-clause-known : goal.position_of-requires-clause-known
-position_of-requires-clause-known g c =
-    let access = c.self.inside.access in
-    let es = c.self.inside.groups.entries in
-    let total = c.self.inside.total in
-    let codes = c.args.interner.now in
-    let o = subst (IsInOrderFor codes) (sym c.self.view_is) c.requires.in_order in
-    let g0 = c.in-Some.group.now in
-    let found : lookup (pointwise nat_eq (c.key_of-key.result)) es ≡ Some g0 = sym c.in-Some.ensures.value in
-    known_group access codes total es (c.key_of-key.result) o g0 found

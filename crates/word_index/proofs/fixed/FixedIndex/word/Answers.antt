@@ -3,7 +3,7 @@ use Rattle.std.specs.Map.{values_of}
 use Rattle.std.proofs.lemmas.List.{get_or-map, length-map}
 use Rattle.beas_core.specs.Groups.{member_columns}
 use Rattle.access_index.proofs.Holding.{at_place}
-use Rattle.word_index.specs.declared.coded.Coded.{Coded}
+use Rattle.marked_list.specs.declared.coded.Coded.{Coded}
 use Rattle.word_index.specs.Reading.{WordIndex, words_at, words_in, word_in}
 use Rattle.word_index.proofs.Steps.{group_at, width_at}
 use Rattle.word_index.proofs.fixed.FixedIndex.word.Goals as goal
@@ -24,8 +24,9 @@ word_of-requires-clause-width g c =
     ) in
     let o = w.in_order in
     let wide = (group_at w.codes (length (member_columns access)) (length access.key) es c.args.place g0 o.stored.buckets c.index-group.ensures).1.wide in
-    ap length (c.as_slice.ensures ∙ ap (λ (k : Coded). k.words) c.get.ensures)
-    ∙ width_at w.codes (length (member_columns access)) g0 i c.get.result.now wide within
+    let d : Coded = record { words = []; count = 0 } in
+    ap length (c.words.ensures d)
+    ∙ width_at w.codes (length (member_columns access)) g0 i d wide within
 
 pub returns : goal.returns
 returns g c =
@@ -40,8 +41,9 @@ returns g c =
       ap (λ h. length (words_in h)) there,
       length-map g0 (λ (k : Coded). k.words),
     ) in
+    let d : Coded = record { words = []; count = 0 } in
     subst (λ (x : WordIndex). c.word_of.result ≡ word_in (member_columns x.access) (get_or (words_at x c.args.place) i []) c.args.column) c.self.view_is
     (c.word_of.ensures
     ∙ ap (λ t. word_in (member_columns access) t c.args.column)
-    (c.as_slice.ensures ∙ ap (λ (k : Coded). k.words) c.get.ensures ∙ sym (get_or-map (λ (k : Coded). k.words) g0 i c.get.result.now [] within)
+    (c.words.ensures d ∙ sym (get_or-map (λ (k : Coded). k.words) g0 i d [] within)
     ∙ ap (λ h. get_or (words_in h) i []) (sym there)))

@@ -6,7 +6,6 @@ use Rattle.beas_core.specs.Groups.{member_columns}
 use Rattle.access_index.specs.Index.{WouldHold}
 use Rattle.word_index.specs.Reading.{WordIndex, IsInOrderFor, Spells, read_index, pick}
 use Rattle.word_index.proofs.Holding.{holds_iff}
-use Rattle.word_index.proofs.Ordering.{group_holds, known_group}
 use Rattle.word_index.proofs.Steps.{room_left, searched, of_nothing}
 use Rattle.word_index.proofs.fixed.FixedIndex.would_hold.Goals as goal
 
@@ -66,28 +65,3 @@ returns-else-len-self-clause-exactly g c codes row o s =
 pub returns-else-len-self-clause-holds : goal.returns-else-len-self-clause-holds
 returns-else-len-self-clause-holds g c codes row rows o s is h =
     holds_iff (read_index codes c.args.self.now) row _ (returns-else-len-self-clause-exactly g c codes row o s) rows is h
-
-pub position_of-requires-clause-ordered : goal.position_of-requires-clause-ordered
-position_of-requires-clause-ordered g c =
-    let access = c.self.inside.access in
-    let es = c.self.inside.groups.entries in
-    let total = c.self.inside.total in
-    let codes = c.args.interner.now in
-    let o = subst (IsInOrderFor codes) (sym c.self.view_is) c.requires.in_order in
-    let g0 = c.in-Some.group.now in
-    let found : lookup (pointwise nat_eq (c.key_of-key.result)) es ≡ Some g0 = sym c.in-Some.ensures.value in
-    (group_holds access codes total es (c.key_of-key.result) o g0 found).ordered
-
-pub position_of-requires-clause-distinct : goal.position_of-requires-clause-distinct
-position_of-requires-clause-distinct g c = c.requires.in_order.distinct
-
-pub position_of-requires-clause-known : goal.position_of-requires-clause-known
-position_of-requires-clause-known g c =
-    let access = c.self.inside.access in
-    let es = c.self.inside.groups.entries in
-    let total = c.self.inside.total in
-    let codes = c.args.interner.now in
-    let o = subst (IsInOrderFor codes) (sym c.self.view_is) c.requires.in_order in
-    let g0 = c.in-Some.group.now in
-    let found : lookup (pointwise nat_eq (c.key_of-key.result)) es ≡ Some g0 = sym c.in-Some.ensures.value in
-    known_group access codes total es (c.key_of-key.result) o g0 found
