@@ -1,5 +1,5 @@
-//! Updates of rows and constraints, carried out by a store of plain indexes, with the lines of their reports. It serves to
-//! compare: the store of a session is another one.
+//! Updates, carried out by a store of plain indexes, with the lines of their reports. It serves to compare: the store of a
+//! session is another one.
 //!
 //! It promises nothing but safety.
 #![tactic(auto)]

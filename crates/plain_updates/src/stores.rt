@@ -4,7 +4,9 @@ ghost use Rattle.beas_core.specs.Shapes.{BlockIsWellFormed};
 ghost use Rattle.catalogue.specs.Queries.{BlockIsOver};
 ghost use Rattle.session.specs.Statements.{StatementIsWellFormed, TuplesAreFew};
 
-use beas_core::{Block, Duplicate, Fail, Limits, List, Name, NoMemory, Refusal, Row, Steps, Text};
+use beas_core::{
+    Block, Column, Duplicate, Fail, Limits, List, Name, NoMemory, Refusal, Row, Steps, Text,
+};
 use binder::{bind_delete, bind_rows};
 use drawn_scenes::statement_of;
 use report::{Report, text};
@@ -12,6 +14,18 @@ use sql_tree::{Cond, Literal, Statement};
 use std::alloc::Global;
 use std::sync::ledger::Ledger;
 use update_guard::Guarded;
+
+fn create_table(
+    alloc: Global,
+    store: &mut Guarded,
+    name: Name,
+    columns: List<Column>,
+) -> Result<Report, Fail>
+    requires { 1 ≤ length columns }
+{
+    store.create_table(alloc, &Limits::standard(), name, columns)?;
+    Ok(Report::Done)
+}
 
 fn bound_tuples(alloc: Global, tuples: &List<List<Literal>>) -> Result<List<Row>, Fail>
     requires { TuplesAreFew tuples.now }
@@ -98,8 +112,10 @@ fn outcome_of<L: Ledger>(
     spelled: &str,
     steps: &mut Steps<L>,
 ) -> Result<Report, Fail> {
-    let statement = statement_of(alloc, spelled)?;
-    carry_out(alloc, store, &statement, steps)
+    match statement_of(alloc, spelled)? {
+        Statement::CreateTable { name, columns } => create_table(alloc, store, name, columns),
+        statement => carry_out(alloc, store, &statement, steps),
+    }
 }
 
 fn report_of<L: Ledger>(
@@ -115,7 +131,7 @@ fn report_of<L: Ledger>(
     }
 }
 
-/// Carries out updates of rows and constraints, and gives the lines of their reports, numbered from 1.
+/// Carries out updates, and gives the lines of their reports, numbered from 1.
 pub fn reports_by<L: Ledger>(
     alloc: Global,
     store: &mut Guarded,

@@ -14,5 +14,6 @@ mod stored;
 mod tables;
 
 pub use loading::{LoadOutcome, load_file};
+pub use queries::plan_shown;
 pub use session::Session;
 pub use stored::Store;

@@ -2,7 +2,6 @@
 use crate::indexes::{Found, differing_groups};
 use beas_core::{Limits, NoMemory, Steps};
 use drawn_scenes::{Batch, Plain, Shape, Twin, creations, reports, script_of};
-use full_meaning::plain_store;
 use plain_updates::reports_by;
 use session::Session;
 use std::alloc::Global;
@@ -88,7 +87,22 @@ fn try_batch<L: Ledger>(
     Ok((batch.refused, found))
 }
 
-/// Carries out so many drawn updates of tables of some shape on both stores.
+/// Has both stores create tables of some shape.
+fn create_tables<L: Ledger>(
+    alloc: Global,
+    session: &mut Session,
+    plain: &mut Guarded,
+    shape: Shape,
+    steps: &mut Steps<L>,
+) -> Result<(), NoMemory> {
+    let statements = creations(alloc, shape)?;
+    let script = script_of(alloc, &statements)?;
+    reports(alloc, session, script.as_str(), steps)?;
+    reports_by(alloc, plain, &statements, steps)?;
+    Ok(())
+}
+
+/// Carries out so many drawn updates of tables of some shape on both stores, which have no tables yet.
 fn try_drawn<L: Ledger>(
     alloc: Global,
     session: &mut Session,
@@ -97,6 +111,7 @@ fn try_drawn<L: Ledger>(
     shape: Shape,
     steps: &mut Steps<L>,
 ) -> Result<Tally, NoMemory> {
+    create_tables(alloc, session, plain, shape, steps)?;
     let mut tally = Tally::none();
     let mut twin = Twin::shaped(alloc, 1, shape);
     for _ in 0..count / BATCH {
@@ -106,45 +121,7 @@ fn try_drawn<L: Ledger>(
     Ok(tally)
 }
 
-/// Has a session without tables create them.
-fn create_tables<L: Ledger>(
-    alloc: Global,
-    session: &mut Session,
-    shape: Shape,
-    steps: &mut Steps<L>,
-) -> Result<(), NoMemory> {
-    let statements = creations(alloc, shape)?;
-    let script = script_of(alloc, &statements)?;
-    reports(alloc, session, script.as_str(), steps)?;
-    Ok(())
-}
-
-/// Carries out drawn updates on a session without tables, which gets some, and on a store of plain indexes that is made
-/// with the same. Where that can't be made, it differs.
-fn try_over<L: Ledger>(
-    alloc: Global,
-    session: &mut Session,
-    count: u32,
-    shape: Shape,
-    steps: &mut Steps<L>,
-) -> Result<Tally, NoMemory> {
-    create_tables(alloc, session, shape, steps)?;
-    let store = &session.guarded;
-    match plain_store(alloc, &store.catalogue, store.rows.as_slice(), steps)? {
-        Some(made) => {
-            let mut plain = made;
-            let tally = try_drawn(alloc, session, &mut plain, count, shape, steps);
-            plain.discard();
-            tally
-        }
-        None => Ok(Tally {
-            differing: 1,
-            ..Tally::none()
-        }),
-    }
-}
-
-/// The same by a session that is made for it.
+/// The same by a session and a store that are made for it.
 fn try_stores<L: Ledger>(
     alloc: Global,
     count: u32,
@@ -152,8 +129,10 @@ fn try_stores<L: Ledger>(
     steps: &mut Steps<L>,
 ) -> Result<Tally, NoMemory> {
     let mut session = Session::new(alloc, Limits::standard(), None, false);
-    let tally = try_over(alloc, &mut session, count, shape, steps);
+    let mut plain = Guarded::new(alloc);
+    let tally = try_drawn(alloc, &mut session, &mut plain, count, shape, steps);
     session.discard();
+    plain.discard();
     tally
 }
 
