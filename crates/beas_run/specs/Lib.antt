@@ -2,11 +2,10 @@ pub mod Audiences
 pub mod Demonstrations
 pub mod Endings
 pub mod NoScripts
-pub mod NoSessions
 pub mod Pieces
 pub mod Readings
 pub mod Runs
-pub mod Shares
+pub mod Scripts
 pub mod Sources
 pub mod States
 pub mod Walks

@@ -1,7 +1,7 @@
-pub mod Places
+mod Places
 pub mod AnnouncedFits
 pub mod SoundFacts
 pub mod PlainFacts
 pub mod AnswerFacts
 pub mod ChangeFacts
-pub mod OneEachFacts
+mod OneEachFacts

@@ -1,4 +1,0 @@
-pub mod Desks
-pub mod Coding
-pub mod Stored
-pub mod Events
