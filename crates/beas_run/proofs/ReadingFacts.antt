@@ -7,13 +7,13 @@ use Rattle.sql_text.specs.declared.token.Piece.{Piece}
 use Rattle.sql_text.specs.Tokens.{tokens_of}
 use Rattle.sql_text.specs.Pieces.{statements_of}
 use Rattle.sql_tree.specs.Symbols.{symbols}
-use Rattle.sql_parser.specs.Outcome.{Parses}
-use Rattle.sql_parser.proofs.Parsing.{parsed-parses}
-use Rattle.beas_run.specs.Readings.{Readings, pieces, reading_of, readings_of, readings_at}
+use Rattle.piece_reader.specs.Sayings.{IsReadAs, reading_of}
+use Rattle.piece_reader.proofs.SayingFacts.{found-says}
+use Rattle.beas_run.specs.Readings.{Readings, pieces, readings_of, readings_at}
 
-each_read : (parts : List (List Token)) → AllZip (λ tokens reading. Parses (symbols tokens) reading) parts (map reading_of parts)
+each_read : (parts : List (List Token)) → AllZip IsReadAs parts (map reading_of parts)
 each_read [] = tt
-each_read (tokens ∷ parts) = (parsed-parses (symbols tokens), each_read parts)
+each_read (tokens ∷ parts) = (found-says (symbols tokens), each_read parts)
 
 -- what is found is what each piece is read as
 pub found : (script : List ℕ) → Readings script (readings_of script)

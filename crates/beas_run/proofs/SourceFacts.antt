@@ -4,7 +4,7 @@ use Rattle.std.specs.Prelude.{option_and_then}
 use Rattle.std.specs.Option.{option_map_or}
 use Rattle.std.specs.Str.{IsUtf8}
 use Rattle.beas_core.specs.declared.limits.Limits.{Limits}
-use Rattle.catalogue.specs.Database.{Database}
+use Rattle.beas_run.specs.States.{State}
 use Rattle.command_words.specs.declared.arguments.Args.{Args}
 use Rattle.command_words.specs.declared.arguments.Args.TheVariants.{Script, Demo}
 use Rattle.command_words.specs.Words.{args_of}
@@ -20,7 +20,7 @@ use Rattle.beas_run.specs.Readings.{readings_of}
 use Rattle.beas_run.specs.Sources.{HasNoScript, IsSource, LoadsScript, RanOver}
 use Rattle.beas_run.specs.Walks.{Moment}
 use Rattle.beas_run.proofs.SourcelessFacts.{early_said, ran_demo, ran_file}
-use Rattle.beas_run.proofs.ReachedFacts.{same_later}
+use Rattle.beas_run.proofs.TieFacts.{same_later}
 
 some≢none : {X : Type 0} (x : X) → Some x ≡ None → ⊥
 some≢none x e = cc
@@ -93,27 +93,27 @@ settings_for_same args asked limits settings e same = same ∙ ap (settings_for 
 
 -- ---- the statements of a text were carried out
 
-ran_source : (limits : Limits) (words : List (List ℕ)) (asked : Args) (script : List ℕ) (status : ℕ) (db : Database) (steps : ℕ) (out : Sent)
+ran_source : (limits : Limits) (words : List (List ℕ)) (asked : Args) (script : List ℕ) (status : ℕ) (state : State) (steps : ℕ) (out : Sent)
     (files now : Seen) (after : Moment)
     → args_of words ≡ Some asked → length script ≤ longest_script → IsUtf8 script → IsScriptOf (Some asked) files script
     → (status < 2) ⊎ (status ≡ 4) ⊎ (status ≡ 5) → LoadsScript asked files now → IsLater files now
     → WalkedFor (Some asked) (settings_for limits asked) (readings_of script) status
-    (record { state = db; steps = steps; out = out; files = now }) after
-    → HasRun limits words status (record { state = db; steps = steps; out = out; files = files }) after
-ran_source limits words (Script path budget explain) script status db steps out files now after asked fits text is ended loaded later walked =
-    ran_file limits words path budget explain script status (record { state = db; steps = steps; out = out; files = files }) after now
+    (record { state = state; steps = steps; out = out; files = now }) after
+    → HasRun limits words status (record { state = state; steps = steps; out = out; files = files }) after
+ran_source limits words (Script path budget explain) script status state steps out files now after asked fits text is ended loaded later walked =
+    ran_file limits words path budget explain script status (record { state = state; steps = steps; out = out; files = files }) after now
     asked fits text is ended loaded later walked
-ran_source limits words (Demo seed budget explain) script status db steps out files now after asked fits text is ended loaded later walked =
-    ran_demo limits words seed budget explain script status (record { state = db; steps = steps; out = out; files = files }) after now
+ran_source limits words (Demo seed budget explain) script status state steps out files now after asked fits text is ended loaded later walked =
+    ran_demo limits words seed budget explain script status (record { state = state; steps = steps; out = out; files = files }) after now
     asked is text ended loaded later walked
 
-pub ran_over : (limits : Limits) (words : List (List ℕ)) (source : Source) (text : List ℕ) (status : ℕ) (settings : Settings) (db : Database)
+pub ran_over : (limits : Limits) (words : List (List ℕ)) (source : Source) (text : List ℕ) (status : ℕ) (settings : Settings) (state : State)
     (steps : ℕ) (out : Sent) (files now : Seen) (after : Moment)
     → IsSource (args_of words) files now source → text ≡ source.text → IsUtf8 text
-    → RanOver source.args text limits status settings (record { state = db; steps = steps; out = out; files = now }) after
-    → HasRun limits words status (record { state = db; steps = steps; out = out; files = files }) after
-ran_over limits words source text status settings db steps out files now after is same utf8 ran =
-    ran_source limits words source.args text status db steps out files now after is.asked_is
+    → RanOver source.args text limits status settings (record { state = state; steps = steps; out = out; files = now }) after
+    → HasRun limits words status (record { state = state; steps = steps; out = out; files = files }) after
+ran_over limits words source text status settings state steps out files now after is same utf8 ran =
+    ran_source limits words source.args text status state steps out files now after is.asked_is
     (subst (λ t. length t ≤ longest_script) (sym same) is.fits) utf8 (subst (λ t. IsScriptOf (Some source.args) files t) (sym same) is.is)
     ran.statuses is.loaded is.later ran.walked
 

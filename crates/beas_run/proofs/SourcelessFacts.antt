@@ -15,14 +15,16 @@ use Rattle.outside.specs.Parts.{SentPart}
 use Rattle.sql_text.specs.Tokens.{tokens_from}
 use Rattle.session.specs.Effects.{Settings}
 use Rattle.outside.specs.Seen.{Seen, IsLater}
-use Rattle.beas_run.specs.Readings.{Reading, Readings, readings_of}
+use Rattle.piece_reader.specs.Sayings.{Reading}
+use Rattle.beas_run.specs.Readings.{Readings, readings_of}
 use Rattle.beas_run.specs.declared.no_script.NoScript.{NoScript}
 use Rattle.beas_run.specs.declared.no_script.NoScript.TheVariants.{Words, Unread, TooLong, NotText, NoMemory}
 use Rattle.beas_run.specs.NoScripts.{status_of}
 use Rattle.beas_run.specs.Runs.{seed_of, demo_seed, settings_for, settings_of_words, with_files, HasLoaded, HasScript, HasRun, IsContent, IsScriptOf, IsWith, IsWithout, WalkedFor, longest_script}
 use Rattle.beas_run.specs.Demonstrations.{Demonstrated, empty_files, summary_of, without_outside}
 use Rattle.beas_run.specs.Walks.{Moment, Walked}
-use Rattle.beas_run.proofs.ReachedFacts.{same_later, unstarted}
+use Rattle.beas_run.proofs.ReachedFacts.{unstarted}
+use Rattle.beas_run.proofs.TieFacts.{same_later}
 use Rattle.beas_run.proofs.ReadingFacts.{found}
 
 pub no_readings : Readings [] []

@@ -29,6 +29,9 @@ past-append limit first second = rw (sum_by-append (λ r. cond (is_too_long r.ou
 
 -- ---- moments
 
+pub same_later : (a : Seen) → IsLater a a
+same_later a = record { told = refl; content = refl; faults = λ name. omega arith; taken = omega arith }
+
 pub sink_later : (a : Sent) → IsLaterSink a a
 sink_later a = record { told = refl; faults = omega arith }
 

@@ -7,62 +7,61 @@ use Rattle.outside.specs.Parts.{SentPart}
 use Rattle.outside.specs.Seen.{IsLater, Sent}
 use Rattle.report.specs.declared.reports.Report.{Report}
 use Rattle.session.specs.Effects.{Settings}
-use Rattle.session.specs.Turns.{Turn, turn_of}
+use Rattle.desk_model.specs.Pieces.{DeskTurn, turns}
 use Rattle.beas_run.specs.declared.ending.Ending.{Ending}
 use Rattle.beas_run.specs.declared.ending.Ending.TheVariants.{Fault, NoMemory}
 use Rattle.beas_run.specs.Audiences.{HasTaken, reports_in, totals_in, totals_over}
 use Rattle.beas_run.specs.Demonstrations.{Demonstrated, summary_of, without_outside}
 use Rattle.beas_run.specs.Endings.{status_of}
-use Rattle.beas_run.specs.Pieces.{IsReported, IsUndone, IsUnreported}
-use Rattle.beas_run.specs.Readings.{Reading}
-use Rattle.beas_run.specs.Scripts.{action_for, turns}
+use Rattle.beas_run.specs.Pieces.{IsReported, IsUndone, IsUnreported, Scene, moment_of}
+use Rattle.piece_reader.specs.Sayings.{Reading}
 use Rattle.beas_run.specs.Walks.{Moment, WalkedBefore}
-use Rattle.beas_run.proofs.ReachedFacts.{Reached, begun, begun_done, ended, ended_turns, more, more_done, status_for, stopped_in_report, stopped_in_statement, unstarted}
+use Rattle.beas_run.proofs.ReachedFacts.{Reached, begun, begun_done, ended, ended_turns, more, more_done, status_for, stopped_in_piece, stopped_in_report, unstarted}
 
 -- these turns are done, and their reports taken
-pub record Walking (took : List Report → Type 0) (s : Settings) (all rest : List Reading) (place : ℕ) (refused : Bool) (before now : Moment) : Type 0 where
+pub record Walking (took : List Report → Type 0) (s : Settings) (all rest : List Reading) (place : ℕ) (refused : Bool) (before : Moment) (now : Scene)
+    : Type 0 where
   pub reached : Reached s all rest place refused before now
   pub took_these : took (reports_in reached.done)
 
-pub begun_walk : (took : List Report → Type 0) (s : Settings) (readings : List Reading) (before : Moment) → took []
-    → Walking took s readings readings 0 false before before
-begun_walk took s readings before none = record {
-  reached = begun s readings before;
-  took_these = subst (λ done. took (reports_in done)) (sym (begun_done s readings before)) none;
+pub begun_walk : (took : List Report → Type 0) (s : Settings) (readings : List Reading) (now : Scene) → now.desk.state.queries ≡ []
+    → now.desk.shares ≡ [] → took [] → Walking took s readings readings 0 false (moment_of now) now
+begun_walk took s readings now idle none nothing = record {
+  reached = begun s readings now idle none;
+  took_these = subst (λ done. took (reports_in done)) (sym (begun_done s readings now idle none)) nothing;
 }
 
 -- the next report is the one after those that were taken
-pub has_taken : (took : List Report → Type 0) (s : Settings) (all rest : List Reading) (place number : ℕ) (refused : Bool) (before now : Moment)
+pub has_taken : (took : List Report → Type 0) (s : Settings) (all rest : List Reading) (place number : ℕ) (refused : Bool) (before : Moment) (now : Scene)
     → Walking took s all rest place refused before now → number ≡ place + 1 → HasTaken took number
 has_taken took s all rest place number refused before now w e = record {
   reports = reports_in w.reached.done;
   these = w.took_these;
   count =
-      let l = length-map w.reached.done (λ (t : Turn). t.effect.report) in
+      let l = length-map w.reached.done (λ (t : DeskTurn). t.effect.report) in
       let c = w.reached.count in omega arith;
 }
 
 pub walk_more : (took took_after : List Report → Type 0) (s here : Settings) (all rest : List Reading) (reading : Reading) (place : ℕ) (refused is : Bool)
-    (before now after : Moment)
+    (before : Moment) (now after : Scene)
     → Walking took s all (reading ∷ rest) place refused before now → here ≡ s
-    → IsReported here.limits.file (action_for here now.state reading) (place + 1) is took took_after now after → IsLater now.files after.files
+    → IsReported here reading (place + 1) is took took_after now after → IsLater now.files after.files
     → after.out.told ≡ now.out.told → Walking took_after s all rest (place + 1) (refused || is) before after
 walk_more took took_after s here all rest reading place refused is before now after w same did later told =
-    let P : Settings → Type 0 = λ h. IsReported h.limits.file (action_for h now.state reading) (place + 1) is took took_after now after in
-    let p : IsReported s.limits.file (action_for s now.state reading) (place + 1) is took took_after now after = subst P same did in
+    let P : Settings → Type 0 = λ h. IsReported h reading (place + 1) is took took_after now after in
+    let p : IsReported s reading (place + 1) is took took_after now after = subst P same did in
     let done = w.reached.done in
-    let t = turn_of (action_for s now.state reading) p.outcome in
     record {
       reached = more s all rest reading place refused is took took_after before now after w.reached p later told;
       took_these =
           subst took_after
-          (sym (map-append (λ (u : Turn). u.effect.report) done (t ∷ []))
+          (sym (map-append (λ (u : DeskTurn). u.effect.report) done (p.turn ∷ []))
           ∙ ap reports_in (sym (more_done s all rest reading place refused is took took_after before now after w.reached p later told)))
           (p.took (reports_in done) w.took_these);
     }
 
-pub walk_ended : (took : List Report → Type 0) (s : Settings) (all : List Reading) (place : ℕ) (refused : Bool) (before now : Moment) (status : ℕ)
-    → Walking took s all [] place refused before now → status ≡ status_for refused → WalkedBefore took s all status before now
+pub walk_ended : (took : List Report → Type 0) (s : Settings) (all : List Reading) (place : ℕ) (refused : Bool) (before : Moment) (now : Scene) (status : ℕ)
+    → Walking took s all [] place refused before now → status ≡ status_for refused → WalkedBefore took s all status before (moment_of now)
 walk_ended took s all place refused before now status w e = record {
   walked = ended s all place refused before now status w.reached e;
   took_all = λ _. subst (λ ts. took (reports_in ts)) (sym (ended_turns s all place refused before now status w.reached e)) w.took_these;
@@ -74,27 +73,27 @@ early NoMemory = omega arith
 
 -- the exit after a piece that wasn't carried out, or whose report wasn't taken whole
 pub walk_stopped : (took took_after : List Report → Type 0) (s here : Settings) (all rest : List Reading) (reading : Reading) (place : ℕ) (refused : Bool)
-    (before now after : Moment) (result : Result Bool Ending) (why : Ending)
+    (before : Moment) (now after : Scene) (result : Result Bool Ending) (why : Ending)
     → Walking took s all (reading ∷ rest) place refused before now → here ≡ s → result ≡ Err why
-    → ((why ≡ NoMemory) × IsUndone (action_for here now.state reading) now after)
-    ⊎ IsUnreported here.limits.file (action_for here now.state reading) (place + 1) why now after
-    → IsLater now.files after.files → WalkedBefore took_after s all (status_of result) before after
+    → ((why ≡ NoMemory) × IsUndone here reading now after) ⊎ IsUnreported here reading (place + 1) why now after
+    → IsLater now.files after.files → WalkedBefore took_after s all (status_of result) before (moment_of after)
 walk_stopped took took_after s here all rest reading place refused before now after result why w same e (inl h) later =
     let five : status_of result ≡ 5 = ap status_of (e ∙ ap Err h.0) in
     record {
-      walked = stopped_in_statement s here all rest reading place refused before now after (status_of result) w.reached same h.1 later
-          (omega arith) (omega arith);
+      walked = stopped_in_piece s all rest reading place refused before now after (status_of result) w.reached
+          (subst (λ (t : Settings). IsUndone t reading now after) same h.1) later (omega arith) (omega arith);
       took_all = λ below. absurd (omega arith);
     }
 walk_stopped took took_after s here all rest reading place refused before now after result why w same e (inr h) later =
     let status : status_of result ≡ status_of (Err why) = ap status_of e in
     let least = early why in
     record {
-      walked = stopped_in_report s here all rest reading place refused before now after (status_of result) why w.reached same h status;
+      walked = stopped_in_report s all rest reading place refused before now after (status_of result) why w.reached
+          (subst (λ (t : Settings). IsUnreported t reading (place + 1) why now after) same h) status;
       took_all = λ below. absurd (omega arith);
     }
 
--- out of memory before the first statement
+-- out of memory before the first piece
 pub walk_unstarted : (took : List Report → Type 0) (s : Settings) (readings : List Reading) (before after : Moment) (status : ℕ)
     → (before.out.told ≡ true → after.out.bytes ≡ before.out.bytes) → after.steps ≡ before.steps → after.state ≡ before.state
     → after.out.puts ≡ before.out.puts → after.files.loads ≡ before.files.loads
@@ -117,7 +116,7 @@ below_two false = omega arith
 never_failed : Rose 0 0 → ⊥
 never_failed rose = omega arith
 
--- what the statements did, whatever stands on the output
+-- what the pieces did, whatever stands on the output
 abbrev pub Counted : Settings → List Reading → ℕ → Totals → Moment → Moment → Type 0
 Counted s readings ended sum before after =
     WalkedBefore (λ reports. sum ≡ totals_over reports) s readings ended (without_outside before) (without_outside after)

@@ -11,9 +11,9 @@ use Rattle.demo_gen.specs.Summaries.{Totals, totals_of}
 use Rattle.outside.specs.Seen.{Sent}
 use Rattle.report.specs.declared.reports.Report.{Report}
 use Rattle.report.specs.declared.reports.Report.TheVariants.{Done, Changed, Greatest, Pairs, Explained, Answered, Grouped, Specialised, Opened, Probed, Refused}
-use Rattle.session.specs.Turns.{Turn}
+use Rattle.desk_model.specs.Pieces.{DeskTurn}
 
-abbrev pub reports_in : List Turn → List Report
+abbrev pub reports_in : List DeskTurn → List Report
 reports_in turns = map (λ t. t.effect.report) turns
 
 -- its count of puts stands at its last value, which tells nothing of them
@@ -42,5 +42,5 @@ counted (Probed session) = Other
 abbrev pub totals_over : List Report → Totals
 totals_over reports = totals_of (map counted reports)
 
-abbrev pub totals_in : List Turn → Totals
+abbrev pub totals_in : List DeskTurn → Totals
 totals_in turns = totals_over (reports_in turns)

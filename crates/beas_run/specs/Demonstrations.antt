@@ -2,20 +2,19 @@
 --     summary_of turns         the line of the totals
 --     empty_files              files that are all empty, which a demonstration has in the place of any other
 --     without_outside moment   a moment with these files, and with no word on what the output was sent
---     Demonstrated ..          all statements were carried out and the line was written, or as far as that went
+--     Demonstrated ..          all pieces were carried out and the line was written, or as far as that went
 use Rattle.std.specs.Prelude.{◌≡◌, ◌≢◌, ◌<◌, ◌≤◌, ◌-◌, ◌^◌, ◌++◌, ◌⊎◌, ℕ, true, List, [], Some}
 use Rattle.outside.specs.Counts.{raised}
 use Rattle.outside.specs.Parts.{SentPart}
 use Rattle.outside.specs.Seen.{Seen}
 use Rattle.demo_gen.specs.Summaries.{summary_text}
 use Rattle.session.specs.Effects.{Settings}
-use Rattle.session.specs.Turns.{Turn}
+use Rattle.desk_model.specs.Pieces.{DeskTurn, turns}
 use Rattle.beas_run.specs.Audiences.{totals_in, unshown}
-use Rattle.beas_run.specs.Readings.{Reading}
-use Rattle.beas_run.specs.Scripts.{turns}
+use Rattle.piece_reader.specs.Sayings.{Reading}
 use Rattle.beas_run.specs.Walks.{Moment, Walked}
 
-abbrev pub summary_of : List Turn → List ℕ
+abbrev pub summary_of : List DeskTurn → List ℕ
 summary_of turns = summary_text (totals_in turns)
 
 -- no load of them fails; their count of loads stands at its last value, which tells nothing of them
@@ -27,7 +26,7 @@ without_outside moment = record moment { out = unshown; files = empty_files }
 
 pub record Demonstrated (settings : Settings) (readings : List Reading) (status : ℕ) (before after : Moment)
     : Type 0 where
-  -- how the statements ended: by memory, or in the status that their reports make
+  -- how the pieces ended: by memory, or in the status that their reports make
   pub ended : ℕ
   pub walked : Walked settings readings ended (without_outside before) (without_outside after)
   pub whole : status < 2 → (status ≡ ended)

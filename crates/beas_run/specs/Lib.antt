@@ -2,10 +2,11 @@ pub mod Audiences
 pub mod Demonstrations
 pub mod Endings
 pub mod NoScripts
+pub mod NoSessions
 pub mod Pieces
 pub mod Readings
 pub mod Runs
-pub mod Scripts
+pub mod Shares
 pub mod Sources
 pub mod States
 pub mod Walks

@@ -1,52 +1,128 @@
--- What was done for one piece of a script.
---     IsTurn limit action outcome before after      its action was carried out, for what its file's load gave
---     IsReported ..                              and its report was taken
---     IsUnreported ..                            and its report has no text or its put failed, for this reason
---     IsUndone action before after                  out of memory, the database is as it was
-use Rattle.std.specs.Prelude.{◌≡◌, ◌≤◌, ◌+◌, ◌++◌, ◌⊎◌, ℕ, Bool, true, List, [], ◌∷◌, length}
+-- What was done at a desk for one piece of a script.
+--     Scene                             a desk, the steps, the output and the files; scene makes one
+--     moment_of scene                   what a run comes to that ends there
+--     SayingIsWellFormed saying         its session has a number of at most 64, and its statement is well formed
+--     is_probed report                  the report is that of a probe
+--     answered_from first               the effect of going on, to its answer, with a query of session 0 that was opened
+--     Reaches last report ..            what was done came to this effect
+--     IsTurn settings reading turn ..   the piece was carried out in this turn
+--     IsDone settings reading report .. it was carried out, with this report
+--     IsReported ..                     and its report was taken
+--     IsUnreported ..                   and its report has no text or its put failed, for this reason
+--     turn_alone settings state reading      the turn that the piece has where no load gives an outcome, if it has one then
+--     reads_by state turn               what is read at most for all that was opened, where this turn comes next
+--     IsLeft settings reading ..        out of memory the piece wasn't carried out, and the database is as it was
+--     IsUndone ..                       the same, and nothing was sent
+use Rattle.std.specs.Prelude.{◌≡◌, ◌≤◌, ◌+◌, ◌++◌, ◌⊎◌, ℕ, Bool, true, false, List, [], ◌∷◌, length, sum, Option, None, Some}
+use Rattle.std.specs.Option.{option_map_or}
 use Rattle.outside.specs.Counts.{raised}
 use Rattle.outside.specs.Parts.{SentPart}
+use Rattle.outside.specs.Seen.{Seen, Sent}
 use Rattle.report.specs.declared.reports.Report.{Report}
+use Rattle.report.specs.declared.reports.Report.TheVariants.{Probed}
 use Rattle.report.specs.Reports.{report_text}
 use Rattle.session.specs.declared.loading.LoadOutcome.{LoadOutcome}
-use Rattle.session.specs.Applying.{MayCost, MayLoad}
-use Rattle.session.specs.Effects.{Action}
+use Rattle.session.specs.Effects.{Settings}
 use Rattle.session.specs.Ties.{AreTied}
-use Rattle.session.specs.Turns.{turn_of, loads_of, is_refusal, IsWithin}
+use Rattle.session.specs.Turns.{loads_of, is_refusal, IsWithin}
+use Rattle.session.specs.Statements.{StatementIsWellFormed}
+use Rattle.desk_model.specs.Desks.{DeskEffect, State}
+use Rattle.desk_model.specs.Pieces.{DeskTurn, Next, and_steps, next, piece_action, probes_due, seen_turn}
+use Rattle.piece_reader.specs.declared.saying.Saying.{Saying}
+use Rattle.piece_reader.specs.declared.saying.Saying.TheVariants.{Plain, Said, Stepped}
+use Rattle.piece_reader.specs.Sayings.{Reading}
+use Rattle.version_store.specs.Desks.{Seen as DeskSeen}
 use Rattle.beas_run.specs.declared.ending.Ending.{Ending}
 use Rattle.beas_run.specs.declared.ending.Ending.TheVariants.{NoMemory}
+use Rattle.beas_run.specs.Shares.{AreShares, open_reads}
 use Rattle.beas_run.specs.Walks.{Moment}
 
-pub record IsTurn (limit : ℕ) (action : Action) (outcome : LoadOutcome) (before after : Moment) : Type 0 where
-  pub steps : after.steps ≡ before.steps + (turn_of action outcome).effect.cost
-  pub db : after.state ≡ (turn_of action outcome).effect.db
-  pub within : IsWithin (turn_of action outcome).effect.report
-  pub tied : AreTied limit (loads_of (turn_of action outcome ∷ [])) before.files after.files
-  pub loads : after.files.loads ≡ raised (length (loads_of (turn_of action outcome ∷ []))) before.files.loads
+pub record Scene : Type 0 where
+  pub desk : DeskSeen
+  pub steps : ℕ
+  pub out : Sent
+  pub files : Seen
 
-pub record IsReported (limit : ℕ) (action : Action) (number : ℕ) (refused : Bool)
-    (took_before took_after : List Report → Type 0) (before after : Moment) : Type 0 where
-  pub outcome : LoadOutcome
-  pub turn : IsTurn limit action outcome before after
-  pub sent : before.out.told ≡ true
-      → after.out.bytes ≡ before.out.bytes ++ report_text number (turn_of action outcome).effect.report
+abbrev pub scene : DeskSeen → ℕ → Sent → Seen → Scene
+scene desk steps out files = record { desk = desk; steps = steps; out = out; files = files }
+
+-- the open queries are dropped
+abbrev pub moment_of : Scene → Moment
+moment_of scene =
+    record { state = record { db = scene.desk.state.db; queries = [] }; steps = scene.steps; out = scene.out; files = scene.files }
+
+abbrev pub SayingIsWellFormed : Saying → Type 0
+SayingIsWellFormed (Plain statement) = StatementIsWellFormed statement
+SayingIsWellFormed (Said session statement) = (session ≤ 64) × StatementIsWellFormed statement
+SayingIsWellFormed (Stepped session) = session ≤ 64
+
+abbrev pub is_probed : Report → Bool
+is_probed (Probed session) = true
+is_probed _ = false
+
+abbrev pub answered_from : DeskEffect → DeskEffect
+answered_from first = and_steps 0 (probes_due 0 first.state + 1) first
+
+pub record Reaches (last : DeskEffect) (report : Report) (before after : DeskSeen) (steps_before steps_after : ℕ) : Type 0 where
+  pub report_is : report ≡ last.report
+  pub state_is : after.state ≡ last.state
+  pub shares : AreShares before.state.queries before.shares → AreShares after.state.queries after.shares
+  pub counts : steps_after + sum before.shares ≡ steps_before + last.cost + sum after.shares
+
+-- what was read for a query that is open stands in its share
+pub record IsTurn (settings : Settings) (reading : Reading) (turn : DeskTurn) (before after : DeskSeen)
+    (steps_before steps_after : ℕ) (files_before files_after : Seen) : Type 0 where
+  -- what its load gave, if it has one
+  pub outcomes : List LoadOutcome
+  pub comes : (later : List LoadOutcome)
+      → next (piece_action settings before.state reading) (outcomes ++ later) ≡ Some (record { turn = turn; left = later })
+  pub state : after.state ≡ turn.effect.state
+  pub shares : AreShares before.state.queries before.shares → AreShares after.state.queries after.shares
+  pub steps : steps_after + sum before.shares ≡ steps_before + turn.effect.cost + sum after.shares
+  pub within : IsWithin turn.effect.report
+  pub tied : AreTied settings.limits.file (loads_of (seen_turn turn ∷ [])) files_before files_after
+  pub loads : files_after.loads ≡ raised (length (loads_of (seen_turn turn ∷ []))) files_before.loads
+
+pub record IsDone (settings : Settings) (reading : Reading) (report : Report) (before after : DeskSeen)
+    (steps_before steps_after : ℕ) (files_before files_after : Seen) : Type 0 where
+  pub turn : DeskTurn
+  pub report_is : report ≡ turn.effect.report
+  pub is : IsTurn settings reading turn before after steps_before steps_after files_before files_after
+
+pub record IsReported (settings : Settings) (reading : Reading) (number : ℕ) (refused : Bool)
+    (took_before took_after : List Report → Type 0) (before after : Scene) : Type 0 where
+  pub turn : DeskTurn
+  pub is : IsTurn settings reading turn before.desk after.desk before.steps after.steps before.files after.files
+  pub sent : before.out.told ≡ true → after.out.bytes ≡ before.out.bytes ++ report_text number turn.effect.report
   pub puts : after.out.puts ≡ raised 1 before.out.puts
-  pub refused_is : refused ≡ is_refusal (turn_of action outcome).effect.report
-  pub took : (reports : List Report) → took_before reports
-      → took_after (reports ++ (turn_of action outcome).effect.report ∷ [])
+  pub refused_is : refused ≡ is_refusal turn.effect.report
+  pub took : (reports : List Report) → took_before reports → took_after (reports ++ turn.effect.report ∷ [])
 
-pub record IsUnreported (limit : ℕ) (action : Action) (number : ℕ) (why : Ending) (before after : Moment) : Type 0 where
-  pub outcome : LoadOutcome
-  pub turn : IsTurn limit action outcome before after
+pub record IsUnreported (settings : Settings) (reading : Reading) (number : ℕ) (why : Ending) (before after : Scene)
+    : Type 0 where
+  pub turn : DeskTurn
+  pub is : IsTurn settings reading turn before.desk after.desk before.steps after.steps before.files after.files
   pub sent : before.out.told ≡ true
-      → SentPart before.out.bytes after.out.bytes (report_text number (turn_of action outcome).effect.report)
+      → SentPart before.out.bytes after.out.bytes (report_text number turn.effect.report)
   pub unsent : why ≡ NoMemory → before.out.told ≡ true → after.out.bytes ≡ before.out.bytes
   pub puts : (after.out.puts ≡ raised 1 before.out.puts) ⊎ ((why ≡ NoMemory) × (after.out.puts ≡ before.out.puts))
 
-pub record IsUndone (action : Action) (before after : Moment) : Type 0 where
+abbrev pub turn_alone : Settings → State → Reading → Option Next
+turn_alone settings state reading = next (piece_action settings state reading) []
+
+abbrev pub reads_by : State → Option Next → ℕ
+reads_by state turn = option_map_or (λ n. n.turn.effect.cost + open_reads n.turn.effect.state) turn (open_reads state)
+
+pub record IsLeft (settings : Settings) (reading : Reading) (before after : DeskSeen)
+    (steps_before steps_after : ℕ) (files_before files_after : Seen) : Type 0 where
+  pub no_fewer : steps_before ≤ steps_after
+  pub at_most : steps_after + sum before.shares ≤ steps_before + reads_by before.state (turn_alone settings before.state reading)
+  -- its file was loaded at most once, where it is a LOAD
+  pub loaded : (files_after.loads ≡ files_before.loads)
+      ⊎ ((turn_alone settings before.state reading ≡ None) × (files_after.loads ≡ raised 1 files_before.loads))
+  pub db : after.state.db ≡ before.state.db
+
+pub record IsUndone (settings : Settings) (reading : Reading) (before after : Scene) : Type 0 where
+  pub left : IsLeft settings reading before.desk after.desk before.steps after.steps before.files after.files
   pub sent : before.out.told ≡ true → after.out.bytes ≡ before.out.bytes
-  pub no_fewer : before.steps ≤ after.steps
-  pub at_most : MayCost action before.steps after.steps
   pub puts : after.out.puts ≡ before.out.puts
-  pub loaded : MayLoad action before.files after.files
-  pub db : after.state ≡ before.state

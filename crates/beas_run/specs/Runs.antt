@@ -27,7 +27,8 @@ use Rattle.outside.specs.Seen.{IsLater, IsLaterSink, Seen, Sent}
 use Rattle.session.specs.declared.loading.LoadOutcome.{LoadOutcome}
 use Rattle.session.specs.Effects.{Settings}
 use Rattle.beas_run.specs.Demonstrations.{Demonstrated}
-use Rattle.beas_run.specs.Readings.{Reading, Readings}
+use Rattle.piece_reader.specs.Sayings.{Reading}
+use Rattle.beas_run.specs.Readings.{Readings}
 use Rattle.beas_run.specs.Walks.{Moment, Walked}
 
 abbrev pub path_of : Args → Option (List ℕ)

@@ -15,7 +15,7 @@ use outside::Sink;
 use report::{Report, text};
 use std::alloc::Global;
 
-/// One that takes the reports of a script, each before the next statement.
+/// One that takes the reports of a script, each before the next piece.
 pub trait Audience {
     /// What is told of the output where the reports are taken so: what stands there, or nothing.
     ghost shown: { Sent → Sent };
@@ -23,7 +23,7 @@ pub trait Audience {
     /// It took these reports, in this order, and no others.
     ghost took: { Self → List Report → Type 0 };
 
-    /// Takes the report of the statement with this number.
+    /// Takes the report of the piece with this number.
     fn take<O: Sink>(
         &mut self,
         alloc: Global,

@@ -1,4 +1,4 @@
-// The run of a demonstration: its statements, and one line of their totals.
+// The run of a demonstration: its pieces, and one line of their totals.
 ghost use Rattle.std.specs.Prelude.{◌≡◌, ◌≢◌, ◌<◌, ◌≤◌, ◌++◌, ◌⊎◌, true, length, Ok};
 ghost use Rattle.demo_gen.specs.Summaries.{summary_text};
 ghost use Rattle.outside.specs.Counts.{Rose, raised};

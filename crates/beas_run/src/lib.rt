@@ -1,14 +1,17 @@
-//! The top of beas: a script is cut into statements, each is carried out, and each report
-//! is written, or the totals of all.
+//! The top of beas: a script is cut into pieces, what each says is done at a desk, and each report is written, or the
+//! totals of all.
 #![tactic(auto)]
 
 mod audience;
 mod cut_script;
 mod demonstration;
 mod ending;
+mod laws;
 mod no_script;
+mod pieces;
 mod script;
 mod script_source;
 mod whole_run;
 
+pub use laws::law_no_sessions;
 pub use whole_run::run;

@@ -1,28 +1,29 @@
-// A script, statement by statement, before one that takes the reports.
-ghost use Rattle.std.specs.Prelude.{◌≡◌, ◌≢◌, ◌<◌, ◌≤◌, ◌+◌, ◌-◌, ◌^◌, ◌⊎◌, [], length, All, IfOk, IfErr, OnErr};
+// A script, piece by piece, before one that takes the reports.
+ghost use Rattle.std.specs.Prelude.{◌≡◌, ◌≢◌, ◌<◌, ◌≤◌, ◌+◌, ◌-◌, ◌^◌, ◌⊎◌, [], length, All, IfOk, IfErr};
 ghost use Rattle.outside.specs.Counts.{Rose};
 ghost use Rattle.outside.specs.Seen.{IsLater, IsLaterSink, Sent};
-ghost use Rattle.session.specs.Applying.{IsApplied, MayCost, MayLoad, settings_of};
-ghost use Rattle.session.specs.Turns.{is_refusal, IsWithin};
+ghost use Rattle.piece_reader.specs.Sayings.{reading_of};
+ghost use Rattle.session.specs.Applying.{settings_of};
+ghost use Rattle.session.specs.Turns.{is_refusal};
 ghost use Rattle.beas_run.specs.Audiences.{HasTaken, unshown};
 ghost use Rattle.beas_run.specs.Endings.{TellsFault, status_of};
-ghost use Rattle.beas_run.specs.Pieces.{IsReported, IsUnreported, IsUndone};
-ghost use Rattle.beas_run.specs.Readings.{reading_of, readings_of, readings_at};
-ghost use Rattle.beas_run.specs.Scripts.{action_for};
-ghost use Rattle.beas_run.specs.States.{state_of};
+ghost use Rattle.beas_run.specs.Pieces.{IsReported, IsUndone, IsUnreported, moment_of, scene};
+ghost use Rattle.beas_run.specs.Readings.{readings_at, readings_of};
 ghost use Rattle.beas_run.specs.Walks.{moment, Walked, WalkedBefore};
 
 use crate::audience::{Audience, Writer};
 use crate::cut_script::cut_script;
 use crate::ending::Ending;
-use beas_core::{Fail, NoMemory, Steps};
+use crate::pieces::report_on;
+use beas_core::{Limits, NoMemory, Steps};
 use outside::{Files, Sink};
 use report::Report;
 use session::Session;
-use sql_parser::parse;
 use sql_text::{Piece, Token};
 use std::alloc::Global;
+use std::mem::replace;
 use std::sync::ledger::Ledger;
+use version_store::Desk;
 
 fn is_refusal(report: &Report) -> bool
     ensures { result ≡ is_refusal report.now }
@@ -30,39 +31,10 @@ fn is_refusal(report: &Report) -> bool
     matches!(report, Report::Refused { .. })
 }
 
-/// Reads a piece and carries out its statement, and says what is reported of it.
-fn report_on<F: Files, L: Ledger>(
-    alloc: Global,
-    session: &mut Session,
-    tokens: &[Token],
-    files: &mut F,
-    steps: &mut Steps<L>,
-) -> Result<Report, NoMemory>
-    requires { length tokens.now < 2 ^ 32 - 1 }
-    ensures applied { IfOk result (λ report. IsApplied session.old.limits.file
-        (action_for (settings_of session.old) (state_of session.old) (reading_of tokens.now))
-        report (state_of session.new) steps.old steps.new (F.seen files.old) (F.seen files.new)) }
-    ensures within { IfOk result IsWithin }
-    ensures settings { settings_of session.new ≡ settings_of session.old }
-    ensures unchanged { OnErr result (state_of session.new ≡ state_of session.old) }
-    ensures no_fewer { steps.old ≤ steps.new }
-    ensures at_most { MayCost (action_for (settings_of session.old) (state_of session.old) (reading_of tokens.now))
-        steps.old steps.new }
-    ensures loaded { MayLoad (action_for (settings_of session.old) (state_of session.old) (reading_of tokens.now))
-        (F.seen files.old) (F.seen files.new) }
-    ensures later { IsLater (F.seen files.old) (F.seen files.new) }
-{
-    match parse(alloc, tokens) {
-        Ok(statement) => session.apply(alloc, files, &statement, steps),
-        Err(Fail::Refused(why)) => Ok(Report::Refused { why }),
-        Err(Fail::NoMemory) => Err(NoMemory),
-    }
-}
-
 /// Carries out a piece, and hands its report on. It tells whether the report is a refusal.
 fn carry_out<A: Audience, F: Files, O: Sink, L: Ledger>(
     alloc: Global,
-    session: &mut Session,
+    desk: &mut Desk,
     tokens: &[Token],
     number: u32,
     audience: &mut A,
@@ -72,33 +44,31 @@ fn carry_out<A: Audience, F: Files, O: Sink, L: Ledger>(
 ) -> Result<bool, Ending>
     requires short { length tokens.now < 2 ^ 32 - 1 }
     requires taken { HasTaken (A.took audience.old) number }
-    ensures reported { IfOk result (λ refused. IsReported session.old.limits.file
-        (action_for (settings_of session.old) (state_of session.old) (reading_of tokens.now)) number refused
+    ensures reported { IfOk result (λ refused. IsReported desk.old.settings (reading_of tokens.now) number refused
         (A.took audience.old) (A.took audience.new)
-        (moment session.old steps.old (A.shown (O.seen out.old)) (F.seen files.old))
-        (moment session.new steps.new (A.shown (O.seen out.new)) (F.seen files.new))) }
+        (scene desk.old steps.old (A.shown (O.seen out.old)) (F.seen files.old))
+        (scene desk.new steps.new (A.shown (O.seen out.new)) (F.seen files.new))) }
     ensures stopped { IfErr result (λ why.
-        let before = moment session.old steps.old (A.shown (O.seen out.old)) (F.seen files.old) in
-        let after = moment session.new steps.new (A.shown (O.seen out.new)) (F.seen files.new) in
-        let action = action_for (settings_of session.old) (state_of session.old) (reading_of tokens.now) in
-        ((why ≡ Ending.NoMemory) × IsUndone action before after)
-        ⊎ IsUnreported session.old.limits.file action number why before after) }
-    ensures settings { settings_of session.new ≡ settings_of session.old }
+        let before = scene desk.old steps.old (A.shown (O.seen out.old)) (F.seen files.old) in
+        let after = scene desk.new steps.new (A.shown (O.seen out.new)) (F.seen files.new) in
+        ((why ≡ Ending.NoMemory) × IsUndone desk.old.settings (reading_of tokens.now) before after)
+        ⊎ IsUnreported desk.old.settings (reading_of tokens.now) number why before after) }
+    ensures settings { desk.new.settings ≡ desk.old.settings }
     ensures files { IsLater (F.seen files.old) (F.seen files.new) }
     ensures out { TellsFault result (A.shown (O.seen out.old)) (A.shown (O.seen out.new)) }
     ensures unused { ((sent : Sent) → A.shown sent ≡ unshown) → out.new ≡ out.old }
 {
-    let report = report_on(alloc, session, tokens, files, steps)?;
+    let report = report_on(alloc, desk, tokens, files, steps)?;
     match audience.take(alloc, number, &report, out) {
         Ok(()) => Ok(is_refusal(&report)),
         Err(why) => Err(why),
     }
 }
 
-/// Carries out the statements at these places, and hands on each report before the next statement.
+/// Carries out the pieces at these places, and hands on each report before the next piece.
 fn carry_out_all<A: Audience, F: Files, O: Sink, L: Ledger>(
     alloc: Global,
-    session: &mut Session,
+    desk: &mut Desk,
     tokens: &[Token],
     pieces: &[Piece],
     audience: &mut A,
@@ -110,28 +80,28 @@ fn carry_out_all<A: Audience, F: Files, O: Sink, L: Ledger>(
     requires short { length tokens.now < 2 ^ 32 - 1 }
     requires within { All (λ p. (p.from < p.to) × (p.to ≤ length tokens.now)) pieces.now }
     requires none { A.took audience.old [] }
+    requires idle { (desk.old.state.queries ≡ []) × (desk.old.shares ≡ []) }
     ensures walked { WalkedBefore (A.took audience.new)
-        (settings_of session.old) (readings_at tokens.now pieces.now) (status_of result)
-        (moment session.old steps.old (A.shown (O.seen out.old)) (F.seen files.old))
-        (moment session.new steps.new (A.shown (O.seen out.new)) (F.seen files.new)) }
-    ensures settings { settings_of session.new ≡ settings_of session.old }
+        desk.old.settings (readings_at tokens.now pieces.now) (status_of result)
+        (moment_of (scene desk.old steps.old (A.shown (O.seen out.old)) (F.seen files.old)))
+        (moment_of (scene desk.new steps.new (A.shown (O.seen out.new)) (F.seen files.new))) }
+    ensures settings { desk.new.settings ≡ desk.old.settings }
     ensures files { IsLater (F.seen files.old) (F.seen files.new) }
     ensures out { TellsFault result (A.shown (O.seen out.old)) (A.shown (O.seen out.new)) }
     ensures unused { ((sent : Sent) → A.shown sent ≡ unshown) → out.new ≡ out.old }
 {
     let mut refused = false;
     for (place, piece) in pieces.iter().enumerate() {
-        let statement = &tokens[piece.from as usize..piece.to as usize];
+        let words = &tokens[piece.from as usize..piece.to as usize];
         let number = place as u32 + 1;
-        refused |= carry_out(
-            alloc, session, statement, number, audience, files, out, steps,
-        )?;
+        refused |= carry_out(alloc, desk, words, number, audience, files, out, steps)?;
     }
     Ok(refused)
 }
 
-/// Carries out the statements of a text, and hands on each report before the next statement. It tells whether a report
-/// is a refusal.
+/// Carries out the pieces of a text, and hands on each report before the next piece. It tells whether a report is a
+/// refusal. The session stands at a desk meanwhile, and is as the pieces left it afterwards; queries that are still open
+/// are dropped.
 pub fn walk<A: Audience, F: Files, O: Sink, L: Ledger>(
     alloc: Global,
     session: &mut Session,
@@ -155,7 +125,13 @@ pub fn walk<A: Audience, F: Files, O: Sink, L: Ledger>(
     match cut_script(alloc, script) {
         Ok(cut) => {
             let (tokens, pieces) = (cut.tokens.as_slice(), cut.pieces.as_slice());
-            carry_out_all(alloc, session, tokens, pieces, audience, files, out, steps)
+            let spare = Session::new(alloc, Limits::standard(), None, false);
+            let mut desk = Desk::new(alloc, replace(session, spare));
+            let ended = carry_out_all(
+                alloc, &mut desk, tokens, pieces, audience, files, out, steps,
+            );
+            replace(session, desk.close()).discard();
+            ended
         }
         Err(NoMemory) => Err(Ending::NoMemory),
     }

@@ -17,7 +17,7 @@ use session::Session;
 use std::alloc::Global;
 use std::sync::ledger::Ledger;
 
-/// Carries out the statements of a text, by the settings and in the way that are asked for.
+/// Carries out the pieces of a text, by the settings and in the way that are asked for.
 fn run_over<F: Files, O: Sink, L: Ledger>(
     alloc: Global,
     session: &mut Session,
@@ -58,8 +58,10 @@ fn run_over<F: Files, O: Sink, L: Ledger>(
 /// Runs what the words ask for over a session, and gives the status of the program: 0 and 1 where the script was
 /// carried out whole, without a refusal and with one; 2 where the words are refused; 3 where the script can't be
 /// read; 4 where `out` failed; 5 where memory ran out; 6 where the script is longer than 16,777,216 bytes; 7 where it
-/// is not UTF-8. Each report is put to `out` before the next statement; of a demonstration one line of totals at its
-/// end.
+/// is not UTF-8. Each report is put to `out` before the next piece; of a demonstration one line of totals at its end.
+///
+/// A piece may name a session, as in `@2 SELECT ..` or `@2 STEP`. Its query is then opened, and goes on by one probe a
+/// step, over the rows of its opening; all others are carried out whole. Queries that are open at the end are dropped.
 pub fn run<F: Files, O: Sink, E: Sink, L: Ledger>(
     alloc: Global,
     session: &mut Session,

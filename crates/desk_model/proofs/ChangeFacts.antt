@@ -1,5 +1,5 @@
 -- A statement leaves each table as it was that it doesn't change.
-use Rattle.std.proofs.Common.{◌≡◌, ◌==◌, ◌<◌, ◌++◌, ◌∙◌, ℕ, true, false, List, [], ◌∷◌, length, Option, Some, None, Result, Ok, Err, refl, ap, sym, subst}
+use Rattle.std.proofs.Common.{◌≡◌, ◌==◌, ◌++◌, ◌∙◌, ℕ, true, false, List, [], ◌∷◌, length, Option, Some, None, Result, Ok, Err, refl, ap, sym, subst}
 use Rattle.std.specs.Prelude.{◌≢◌, ◌&&◌, unwrap_or}
 use Rattle.std.specs.List.{list_any}
 use Rattle.std.specs.Option.{is_none, ok_or, option_map_or, option_to_list}
@@ -37,7 +37,7 @@ use Rattle.kept_facts.specs.Frames.{IsUntouched, NewAccess, ReplacedRows, NewTab
 use Rattle.kept_facts.proofs.UpdateFacts.{untouched_stays}
 use Rattle.desk_model.specs.Changes.{changes, is_named}
 
-module _ (db : Database) (t : TableId) (once : EachIdOnce db.accesses) (within : t.0 < length db.tables) where
+module _ (db : Database) (t : TableId) (once : EachIdOnce db.accesses) where
   -- the table is as it was after this
   pub record Keeps (effect : Effect) : Type 0 where
     pub same : SameOn db.accesses effect.db.accesses (rows_at db) (rows_at effect.db) t
@@ -50,7 +50,7 @@ module _ (db : Database) (t : TableId) (once : EachIdOnce db.accesses) (within :
 
   changed : (effect : Effect) (update : Update) → effect.db ≡ updated db update → IsUntouched db update t → Keeps effect
   changed effect update is free = record {
-    same = subst (λ (d : Database). SameOn db.accesses d.accesses (rows_at db) (rows_at d) t) (sym is) (untouched_stays db update t once within free);
+    same = subst (λ (d : Database). SameOn db.accesses d.accesses (rows_at db) (rows_at d) t) (sym is) (untouched_stays db update t once free);
   }
 
   unless-keeps : (o : Option Refusal) (effect : Effect) → Keeps effect → Keeps (unless o db effect)

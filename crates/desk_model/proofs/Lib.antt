@@ -1,7 +1,7 @@
-mod Places
+pub mod Places
 pub mod AnnouncedFits
 pub mod SoundFacts
 pub mod PlainFacts
 pub mod AnswerFacts
 pub mod ChangeFacts
-mod OneEachFacts
+pub mod OneEachFacts

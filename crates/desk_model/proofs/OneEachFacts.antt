@@ -40,7 +40,7 @@ apart_by old new same apart = λ i j d less below alike.
 module _ (state : State) (apart : OneEach state) where
   -- ---- a statement
 
-  opened-apart : (explain : Bool) (k : ℕ) (r : Result Prepared Refusal) → query_of k state ≡ None → OneEach (opened_effect explain state k r).state
+  pub opened-apart : (explain : Bool) (k : ℕ) (r : Result Prepared Refusal) → query_of k state ≡ None → OneEach (opened_effect explain state k r).state
   opened-apart explain k (Err why) idle = apart
   opened-apart explain k (Ok prepared) idle =
       all_pairs_push (λ (q r : OpenQuery). q.session ≢ r.session) state.queries (new_query explain state.db k prepared) apart
@@ -75,11 +75,11 @@ module _ (state : State) (apart : OneEach state) where
 
   -- ---- going on with a query
 
-  set-apart : (k : ℕ) (q next : OpenQuery) → query_of k state ≡ Some q → next.session ≡ q.session → OneEach (with_query k next state)
+  pub set-apart : (k : ℕ) (q next : OpenQuery) → query_of k state ≡ Some q → next.session ≡ q.session → OneEach (with_query k next state)
   set-apart k q next there same =
       apart_by state.queries (with_query k next state).queries (map-set-found session_of (is_of k) state.queries q next there same) apart
 
-  removed-apart : (k : ℕ) (q : OpenQuery) → query_of k state ≡ Some q → OneEach (without_query k state)
+  pub removed-apart : (k : ℕ) (q : OpenQuery) → query_of k state ≡ Some q → OneEach (without_query k state)
   removed-apart k q there =
       all_pairs_remove (λ (q r : OpenQuery). q.session ≢ r.session) state.queries (place_of k state.queries)
       (slice_get_within state.queries (place_of k state.queries) q (sym (find_at (is_of k) state.queries) ∙ there)) apart

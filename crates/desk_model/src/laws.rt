@@ -1,5 +1,5 @@
 // What is true of every list of events, and of scripts that name no session.
-ghost use Rattle.std.specs.Prelude.{◌≡◌, ◌<◌, ℕ, false, length, List, map, Contains, None, Ok, Option, Result, Some};
+ghost use Rattle.std.specs.Prelude.{◌≡◌, ℕ, false, List, map, Contains, None, Ok, Option, Result, Some};
 ghost use Rattle.beas_core.specs.declared.limits.Limits.{Limits};
 ghost use Rattle.beas_core.specs.declared.plan.Prepared.{Prepared};
 ghost use Rattle.beas_core.specs.declared.refusal.Refusal.{Refusal};
@@ -66,7 +66,7 @@ pub fn law_plain_script()
 /// a query that names no table that a statement changes goes on seeing what it saw.
 pub fn law_unchanged_tables()
     ensures { (settings : Settings) (db : Database) (statement : Statement) (outcome : LoadOutcome) (t : TableId)
-        → EachIdOnce db.accesses → t.0 < length db.tables → changes (schema_of db) statement t ≡ false
+        → EachIdOnce db.accesses → changes (schema_of db) statement t ≡ false
         → SameOn db.accesses (turn_of (action_of settings db statement) outcome).effect.db.accesses
         (rows_at db) (rows_at (turn_of (action_of settings db statement) outcome).effect.db) t }
 {}

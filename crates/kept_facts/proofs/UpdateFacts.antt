@@ -1,7 +1,7 @@
 -- An update changes one table at most.
-use Rattle.std.proofs.Common.{◌≡◌, ◌≢◌, ◌<◌, ◌∙◌, ℕ, Bool, true, false, not, List, [], ◌∷◌, length, refl, ap, sym, subst}
+use Rattle.std.proofs.Common.{◌≡◌, ◌≢◌, ◌++◌, ◌∙◌, ℕ, zero, suc, Bool, true, false, not, List, [], ◌∷◌, get_or, refl, ap, sym, subst}
 use Rattle.std.specs.Prelude.{filter}
-use Rattle.std.proofs.lemmas.List.{get_or-set_other, get_or_append_left}
+use Rattle.std.proofs.lemmas.List.{get_or-set_other}
 use Rattle.beas_core.specs.declared.schema.Access.{Access}
 use Rattle.beas_core.specs.declared.schema.AccessId.{AccessId}
 use Rattle.beas_core.specs.declared.schema.TableId.{TableId}
@@ -32,21 +32,29 @@ not_named : (c : Bool) (m n : ℕ) → (c ≡ true → m ≢ n) → m ≡ n → 
 not_named true m n other same = absurd (other refl same)
 not_named false m n other same = refl
 
-pub untouched_stays : (db : Database) (update : Update) (t : TableId) → EachIdOnce db.accesses → t.0 < length db.tables → IsUntouched db update t
+-- a table that is made has no rows, as little as a table that isn't there
+rows_with_table : (tables : List Table) (made : Table) (k : ℕ) → made.rows ≡ []
+    → (get_or (tables ++ made ∷ []) k empty_table).rows ≡ (get_or tables k empty_table).rows
+rows_with_table [] made zero none = none
+rows_with_table [] made (suc k) none = refl
+rows_with_table (table ∷ tables) made zero none = refl
+rows_with_table (table ∷ tables) made (suc k) none = rows_with_table tables made k none
+
+pub untouched_stays : (db : Database) (update : Update) (t : TableId) → EachIdOnce db.accesses → IsUntouched db update t
     → SameOn db.accesses (updated db update).accesses (rows_at db) (rows_at (updated db update)) t
-untouched_stays db (NewTable name columns) t once within free = record {
-  rows = ap (λ (table : Table). table.rows) (get_or_append_left db.tables _ empty_table t.0 within);
+untouched_stays db (NewTable name columns) t once free = record {
+  rows = rows_with_table db.tables (record { name = name; columns = columns; rows = [] }) t.0 refl;
   constraints = λ id live on. (live, refl);
 }
-untouched_stays db (ReplacedRows table rows) t once within free = record {
+untouched_stays db (ReplacedRows table rows) t once free = record {
   rows = ap (λ (found : Table). found.rows) (get_or-set_other db.tables table.0 t.0 _ empty_table (λ same. free (sym same)));
   constraints = λ id live on. (live, refl);
 }
-untouched_stays db (NewAccess access) t once within free = record {
+untouched_stays db (NewAccess access) t once free = record {
   rows = refl;
   constraints = λ id live on. (is_live-append db.accesses (access ∷ []) id live, access_in-append db.accesses (access ∷ []) id live);
 }
-untouched_stays db (DroppedAccess name) t once within free = record {
+untouched_stays db (DroppedAccess name) t once free = record {
   rows = refl;
   constraints = λ id live on. passed (λ a. not (access_has_name name a)) db.accesses id once live
       (not_named (access_has_name name (access_in db.accesses id)) (access_in db.accesses id).table.0 t.0

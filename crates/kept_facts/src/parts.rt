@@ -1,5 +1,5 @@
 // Laws on parts and on updates.
-ghost use Rattle.std.specs.Prelude.{◌≡◌, ◌==◌, ◌<◌, ◌++◌, ◌∷◌, ◌⊎◌, [], List, length, true};
+ghost use Rattle.std.specs.Prelude.{◌≡◌, ◌==◌, ◌++◌, ◌∷◌, ◌⊎◌, [], List, true};
 ghost use Rattle.std.specs.List.{list_any};
 ghost use Rattle.beas_core.specs.declared.schema.Access.{Access};
 ghost use Rattle.beas_core.specs.declared.schema.TableId.{TableId};
@@ -13,8 +13,7 @@ use kept_port::Part;
 
 /// An update leaves each table as it was that it doesn't touch.
 pub fn law_updated()
-    ensures { (db : Database) (update : Update) (t : TableId) → EachIdOnce db.accesses → t.0 < length db.tables
-        → IsUntouched db update t
+    ensures { (db : Database) (update : Update) (t : TableId) → EachIdOnce db.accesses → IsUntouched db update t
         → SameOn db.accesses (updated db update).accesses (rows_at db) (rows_at (updated db update)) t }
 {}
 

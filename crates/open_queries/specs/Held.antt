@@ -5,7 +5,7 @@
 --     IsKept w cursor                                   so a cursor stands between two turns: its query fits the world, which agrees with all
 --                                                       that was fetched
 --     made_by cursor                                    how many probes a cursor made, none where memory ran out in one of them
---     held_of, IsOpen                                   both of an open query as it is stored, whose parts are of different tables
+--     held_of, IsOpen                                   both of an open query as it is stored, with its header, and parts of different tables
 --     cursor_of query                                   the cursor of one as it is stored
 --     names prepared t                                  the query names this table
 --     has_atom t block, has_part table parts t          a block has an atom of the table, and one of the parts is of it
@@ -58,6 +58,7 @@ cursor_of query = query.cursor
 
 pub record IsOpen {P : Type 0} (table : P → TableId) (rows : P → TableRows) (accesses : P → List Access) (other : TableRows)
     (own : List Access) (query : Stored P) : Type 0 where
+  pub header : query.header ≡ query.cursor.prepared.header
   pub apart : AreApart table query.parts.items
   pub kept : IsKept (world_of table rows accesses other own query.parts.items) query.cursor
 

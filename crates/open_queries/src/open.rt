@@ -4,7 +4,7 @@ ghost use Rattle.beas_core.specs.declared.schema.TableId.{TableId as Number};
 ghost use Rattle.beas_core.specs.Shapes.{EachIdOnce};
 ghost use Rattle.kept_facts.specs.Frames.{KeepsTable};
 
-use beas_core::{AccessPort, NoMemory, TableId, Text};
+use beas_core::{AccessPort, List, Name, NoMemory, TableId, Text};
 use cursor_executor::Cursor;
 use kept_port::Part;
 use std::alloc::Global;
@@ -14,6 +14,8 @@ use std::alloc::Global;
 pub struct OpenQuery<P> {
     pub session: u32,
     pub cursor: Cursor,
+    /// The header of its answer, which is that of its prepared query: the cursor's own is gone when its rows are taken.
+    pub header: List<Name>,
     /// The plan lines that its answer shows.
     pub plan: Text,
     /// The tables that may have changed since its opening, as they were. A statement that was refused, or changed no row,

@@ -7,9 +7,9 @@ use Rattle.outside.specs.Counts.{Rose, RoseBy}
 use Rattle.session.specs.Effects.{Settings}
 use Rattle.session.specs.Ties.{failures}
 use Rattle.session.specs.Turns.{loads_of}
-use Rattle.beas_run.specs.Readings.{Reading}
+use Rattle.piece_reader.specs.Sayings.{Reading}
+use Rattle.desk_model.specs.Pieces.{seen_turns, turns}
 use Rattle.beas_run.specs.Runs.{WalkedFor, outcomes_in}
-use Rattle.beas_run.specs.Scripts.{turns}
 use Rattle.beas_run.specs.Walks.{Moment}
 
 pub none_rose : Rose 0 0 → ⊥
@@ -25,7 +25,7 @@ none_rose_by n before now zero h = omega arith
 -- whatever is asked for, no load of a name failed whose count of faults stands at 0
 pub walked_failures : (asked : Option Args) (s : Settings) (readings : List Reading) (status : ℕ) (before after : Moment)
     (walked : WalkedFor asked s readings status before after) (name : List ℕ) → after.files.faults name ≡ 0
-    → failures name (loads_of (turns s before.state readings (outcomes_in asked s readings status before after walked))) ≡ 0
+    → failures name (loads_of (seen_turns (turns s before.state readings (outcomes_in asked s readings status before after walked)))) ≡ 0
 walked_failures None s readings status before after walked name zero =
     none_rose_by _ _ _ zero (walked.follows.tied.failed name)
 walked_failures (Some (Script path budget explain)) s readings status before after walked name zero =

@@ -11,8 +11,8 @@ use Rattle.outside.specs.Seen.{Seen, Sent}
 use Rattle.session.specs.Ties.{failures}
 use Rattle.session.specs.Turns.{loads_of}
 use Rattle.command_words.specs.Words.{args_of}
+use Rattle.desk_model.specs.Pieces.{seen_turns, turns}
 use Rattle.beas_run.specs.Runs.{HasRun, outcomes_in, settings_of_words, with_files}
-use Rattle.beas_run.specs.Scripts.{turns}
 use Rattle.beas_run.specs.Walks.{Moment}
 
 abbrev pub steady : SteadyFiles → Seen
@@ -30,6 +30,6 @@ steady_out out = record { told = true; bytes = out.sent.items; faults = 0; puts 
 pub record NoneFailed (limits : Limits) (words : List (List ℕ)) (status : ℕ) (before after : Moment) : Type 0 where
   pub run : HasRun limits words status before after
   pub none : (name : List ℕ)
-      → failures name (loads_of
+      → failures name (loads_of (seen_turns
       (turns (settings_of_words limits words) before.state run.readings
-      (outcomes_in (args_of words) (settings_of_words limits words) run.readings status (with_files before run.begun) after run.walked))) ≡ 0
+      (outcomes_in (args_of words) (settings_of_words limits words) run.readings status (with_files before run.begun) after run.walked)))) ≡ 0

@@ -3,7 +3,7 @@ if exists("b:current_syntax")
   finish
 endif
 syn case ignore
-syn keyword beasStatement access and as between by create cross delete discover distinct drop except explain fetch from group inner insert into join limit load on select table union values where count max min ok scan specialise sum
+syn keyword beasStatement access and as between by create cross delete discover distinct drop except explain fetch from group inner insert into join limit load on select table union values where count max min ok scan specialise sum step
 syn keyword beasType int integer text
 " reserved, and in no statement
 syn keyword beasUnused all case exists full having in intersect is left like natural not null offset or order outer right using with

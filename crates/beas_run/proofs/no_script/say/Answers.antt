@@ -1,6 +1,6 @@
 use Rattle.std.proofs.Common.{ap, inr, refl, Err}
 use Rattle.beas_run.proofs.SourcelessFacts.{not_without}
-use Rattle.beas_run.proofs.PieceFacts.{none_sent}
+use Rattle.beas_run.proofs.DoneFacts.{none_sent}
 use Rattle.beas_run.proofs.no_script.say.Goals as goal
 
 pub returns-in-Err-NoMemory-clause-says : goal.returns-in-Err-NoMemory-clause-says

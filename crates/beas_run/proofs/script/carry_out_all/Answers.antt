@@ -7,15 +7,17 @@ use Rattle.sql_text.specs.declared.token.Token.{Token}
 use Rattle.sql_text.specs.declared.token.Piece.{Piece}
 use Rattle.session.specs.Effects.{Settings}
 use Rattle.beas_run.specs.Endings.{status_of}
-use Rattle.beas_run.specs.Readings.{reading_of, readings_at}
+use Rattle.piece_reader.specs.Sayings.{reading_of}
+use Rattle.beas_run.specs.Pieces.{Scene}
+use Rattle.beas_run.specs.Readings.{readings_at}
 use Rattle.beas_run.specs.Walks.{Moment}
-use Rattle.beas_run.proofs.ReachedFacts.{same_later, status_for}
-use Rattle.beas_run.proofs.TieFacts.{later_twice, sink_later, sink_later_twice}
+use Rattle.beas_run.proofs.ReachedFacts.{status_for}
+use Rattle.beas_run.proofs.TieFacts.{later_twice, same_later, sink_later, sink_later_twice}
 use Rattle.beas_run.proofs.WalkFacts.{Walking, begun_walk, has_taken, walk_ended, walk_more, walk_stopped}
 use Rattle.beas_run.proofs.script.carry_out_all.Goals as goal
 
 -- the piece at this place, and those after it
-at_place : (took : List Report → Type 0) (s : Settings) (tokens : List Token) (pieces : List Piece) (i : ℕ) (d : Piece) (refused : Bool) (before now : Moment)
+at_place : (took : List Report → Type 0) (s : Settings) (tokens : List Token) (pieces : List Piece) (i : ℕ) (d : Piece) (refused : Bool) (before : Moment) (now : Scene)
     → i < length pieces
     → Walking took s (readings_at tokens pieces) (readings_at tokens (drop i pieces)) i refused before now
     → Walking took s (readings_at tokens pieces) (reading_of (slice_range tokens (get_or pieces i d).from (get_or pieces i d).to) ∷ readings_at tokens
@@ -24,7 +26,7 @@ at_place took s tokens pieces i d refused before now below walking =
     let P : List Piece → Type 0 = λ left. Walking took s (readings_at tokens pieces) (readings_at tokens left) i refused before now in
     rw (add-one) (subst P (drop-cons pieces i d below) walking)
 
-at_end : (took : List Report → Type 0) (s : Settings) (tokens : List Token) (pieces : List Piece) (i : ℕ) (refused : Bool) (before now : Moment)
+at_end : (took : List Report → Type 0) (s : Settings) (tokens : List Token) (pieces : List Piece) (i : ℕ) (refused : Bool) (before : Moment) (now : Scene)
     → length pieces ≤ i
     → Walking took s (readings_at tokens pieces) (readings_at tokens (drop i pieces)) i refused before now
     → Walking took s (readings_at tokens pieces) [] i refused before now
@@ -38,7 +40,7 @@ whole_status_is false = refl
 
 pub loop-place-init : goal.loop-place-init
 loop-place-init g c = record {
-  walking = begun_walk _ _ _ _ c.requires.none;
+  walking = begun_walk _ _ _ _ c.requires.idle.0 c.requires.idle.1 c.requires.none;
   settings = refl;
   files = same_later _;
   out = sink_later _;

@@ -1,9 +1,8 @@
 use Rattle.std.proofs.Common.{◌≡◌, drop}
 use Rattle.outside.specs.Seen.{IsLater, IsLaterSink, Sent}
-use Rattle.session.specs.Applying.{settings_of}
 use Rattle.beas_run.specs.Audiences.{unshown}
 use Rattle.beas_run.specs.Readings.{readings_at}
-use Rattle.beas_run.specs.Walks.{moment}
+use Rattle.beas_run.specs.Pieces.{moment_of, scene}
 use Rattle.beas_run.proofs.WalkFacts.{Walking}
 use Rattle.beas_run.proofs.script.carry_out_all.Given as goal
 
@@ -15,10 +14,10 @@ invariant-loop-place g l =
     let files_then = g.F.Files.seen l.fn.files in
     let files_now = g.F.Files.seen l.files in
     record {
-      walking : Walking (g.A.Audience.took l.audience) (settings_of l.fn.session) (readings_at l.tokens l.pieces)
+      walking : Walking (g.A.Audience.took l.audience) l.fn.desk.settings (readings_at l.tokens l.pieces)
           (readings_at l.tokens (drop l.place l.pieces)) l.place l.refused
-          (moment l.fn.session l.fn.steps sent_then files_then) (moment l.session l.steps sent_now files_now);
-      settings : settings_of l.session ≡ settings_of l.fn.session;
+          (moment_of (scene l.fn.desk l.fn.steps sent_then files_then)) (scene l.desk l.steps sent_now files_now);
+      settings : l.desk.settings ≡ l.fn.desk.settings;
       files : IsLater files_then files_now;
       out : IsLaterSink sent_then sent_now;
       faults : sent_now.faults ≡ sent_then.faults;

@@ -1,7 +1,7 @@
 use Rattle.std.proofs.Common.{refl, inl, inr, ap, arith, length, ◌∙◌}
 use Rattle.beas_run.proofs.CompleteFacts.{completes, completes_demo, completes_without}
 use Rattle.beas_run.proofs.SourcelessFacts.{early_said, not_without, ran_nothing}
-use Rattle.beas_run.proofs.PieceFacts.{none_sent}
+use Rattle.beas_run.proofs.DoneFacts.{none_sent}
 use Rattle.beas_run.proofs.SourceFacts.{but_faults, limits_stay, most, most_said, none_named, none_or_five, not_asked, not_with, ran_over, settings_are_words, seven_is_no_text, six_is_too_long, three_is_unread, two_is_words, two_or_five}
 use Rattle.beas_run.proofs.TieFacts.{later_twice, sink_later}
 use Rattle.beas_run.proofs.whole_run.run.Goals as goal

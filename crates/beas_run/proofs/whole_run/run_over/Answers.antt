@@ -1,5 +1,5 @@
 use Rattle.std.proofs.Common.{refl}
-use Rattle.beas_run.proofs.ReachedFacts.{same_later}
+use Rattle.beas_run.proofs.TieFacts.{same_later}
 use Rattle.beas_run.proofs.SourceFacts.{names_a_file, settings_for_same, way_for}
 use Rattle.beas_run.proofs.whole_run.run_over.Goals as goal
 

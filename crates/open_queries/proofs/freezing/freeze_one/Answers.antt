@@ -11,6 +11,7 @@ returns-in_ok-push-clause-kept g c =
     let none : has_part table old.parts.items c.args.table ≡ false =
     subst (λ parts. has_part table parts c.args.table ≡ false) c.deref.ensures.value (sym c.has_part.ensures ∙ c.if-not-has_part.true) in
     record {
+      header = c.requires.kept.header;
       apart = apart_still table c.in_ok-part.part old.parts.items c.push.new.self.items c.in_ok-push.ensures.items c.args.table c.in_ok-part.ensures.table
           none c.requires.kept.apart;
       kept = kept_with_part table g.P.AccessPort.rows g.P.AccessPort.accesses (g.G.AccessPort.rows guard) (g.G.AccessPort.accesses guard)

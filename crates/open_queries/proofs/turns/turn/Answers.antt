@@ -1,5 +1,6 @@
-use Rattle.std.proofs.Common.{subst}
+use Rattle.std.proofs.Common.{◌∙◌, ap, subst, sym}
 use Rattle.std.specs.Prelude.{IfOk, OnErr}
+use Rattle.beas_core.specs.declared.plan.Prepared.{Prepared}
 use Rattle.cursor_executor.specs.Turns.{QuerySpent, TurnIs}
 use Rattle.open_queries.specs.Held.{world_of}
 use Rattle.open_queries.proofs.TurnFacts.{goes_after, kept_after, lost_after, was_going}
@@ -21,6 +22,7 @@ pub returns-clause-kept : goal.returns-clause-kept
 returns-clause-kept g c =
     let see = world_of g.P.Part.table_of g.P.AccessPort.rows g.P.AccessPort.accesses (g.G.AccessPort.rows c.args.guard.now) (g.G.AccessPort.accesses c.args.guard.now) in
     record {
+      header = c.requires.kept.header ∙ ap (λ (p : Prepared). p.header) (sym c.advance.ensures.prepared);
       apart = c.requires.kept.apart;
       kept = kept_after (see c.args.query.now.parts.items) c.args.query.now.cursor c.advance.new.self c.requires.kept.kept c.advance.ensures.prepared
           c.advance.result c.args.steps.now c.advance.new.steps

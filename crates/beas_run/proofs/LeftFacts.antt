@@ -1,0 +1,119 @@
+-- What is left of a piece that memory ran out for.
+use Rattle.std.proofs.Common.{◌≡◌, ◌≤◌, ◌+◌, ◌++◌, ◌⊎◌, ◌∙◌, inl, inr, ap, subst, sym, refl, ℕ, Bool, true, false, List, [], ◌∷◌, Option, None, Some, Result, Ok, Err, arith, append-nil, find, get_or, length}
+use Rattle.std.specs.Prelude.{IfErr, IfOk, IsErrOf, IsSomeAnd, if◌then◌else◌, is_some, not, option_map, sum, unwrap_or, ◌&&◌}
+use Rattle.beas_core.specs.declared.refusal.Refusal.{Refusal}
+use Rattle.outside.specs.Counts.{raised}
+use Rattle.outside.specs.Parts.{SentPart}
+use Rattle.outside.specs.Seen.{Seen, Sent, IsLater}
+use Rattle.outside.proofs.Counts.{raised_none}
+use Rattle.kept_facts.specs.OpenQueries.{OpenQuery, reads_of, share_of}
+use Rattle.report.specs.declared.reports.Report.{Report}
+use Rattle.report.specs.declared.reports.Report.TheVariants.{Refused}
+use Rattle.report.specs.Reports.{report_text}
+use Rattle.session.specs.declared.loading.LoadOutcome.{LoadOutcome}
+use Rattle.session.specs.declared.loading.LoadOutcome.TheVariants.{Failed}
+use Rattle.session.specs.Effects.{Settings}
+use Rattle.session.specs.Ties.{AreTied}
+use Rattle.session.specs.Turns.{FileLoad, is_refusal, loads_of, IsWithin}
+use Rattle.sql_tree.specs.declared.tree.Statement.{Statement}
+use Rattle.desk_model.specs.declared.event.Event.TheVariants.{Said, Stepped}
+use Rattle.desk_model.specs.Answers.{effect_by}
+use Rattle.desk_model.specs.Desks.{DeskAction, AtOnce, ByLoad, DeskEffect, State, action_of_event, is_of, lost, new_query, opened_effect, query_of, refused, said_action, stepped_effect}
+use Rattle.desk_model.specs.Pieces.{DeskTurn, Next, answered_if_opened, next, opens, piece_action, seen_turn, with_answer}
+use Rattle.piece_reader.specs.declared.saying.Saying.TheVariants as saying
+use Rattle.piece_reader.specs.Sayings.{Reading}
+use Rattle.version_store.specs.Desks.{IsDesk, MayCost, MayLoad, MayTake, Seen as DeskSeen, Takes, TakesSome, desk_wanting, loads_by, share_at}
+use Rattle.beas_run.specs.declared.ending.Ending.{Ending}
+use Rattle.beas_run.specs.declared.ending.Ending.TheVariants.{Fault, NoMemory as Want}
+use Rattle.beas_run.specs.Endings.{TellsFault}
+use Rattle.beas_run.specs.Pieces.{IsDone, IsLeft, IsReported, IsTurn, IsUndone, IsUnreported, Reaches, Scene, answered_from, reads_by, turn_alone}
+use Rattle.beas_run.specs.Shares.{AreShares, IsShare, open_reads}
+use Rattle.desk_model.proofs.Places.{find-last}
+use Rattle.beas_run.proofs.FoundFacts.{Within, all_zip, sum-within, sum-within-more}
+use Rattle.beas_run.proofs.ReadsFacts.{answered_reads, same_reads, said_grows, stepped_reads}
+use Rattle.beas_run.proofs.SaidFacts.{IsFree, KeepsQueries, OpensQuery, SaidIs, said_is}
+use Rattle.beas_run.proofs.TieFacts.{same_later, tied_none}
+use Rattle.beas_run.proofs.ShareFacts.{may_take, shares_fit, shares_within}
+
+-- before anything was done
+pub left_alone : (s : Settings) (reading : Reading) (desk : DeskSeen) (m : ℕ) (x : Seen) → m + sum desk.shares ≤ m + reads_by desk.state (turn_alone s desk.state reading)
+    → IsLeft s reading desk desk m m x x
+left_alone s reading desk m x le = record { no_fewer = omega arith; at_most = le; loaded = inl refl; db = refl }
+
+-- where a piece comes next, no less is read than is open
+module _ (s : Settings) (state : State) where
+  -- a statement, or a statement whose query is answered
+  may_cost : (k m n shares : ℕ) (action : DeskAction) → SaidIs s.explain state k action → MayCost action m n → shares ≤ open_reads state
+      → n + shares ≤ m + reads_by state (next (Some action) [])
+  may_cost k m n shares (AtOnce effect) is may few =
+      let h = may Failed in
+      let g = said_grows s.explain state k (AtOnce effect) is Failed in
+      omega (arith, h, g, few)
+  may_cost k m n shares (ByLoad name effect) (inl keeps) may few =
+      let h = may Failed in
+      let free = keeps.free in
+      omega (arith, h, free, few)
+  may_cost k m n shares (ByLoad name effect) (inr opens) may few =
+      let other : ByLoad name effect ≡ AtOnce (opened_effect s.explain state k (Ok opens.prepared)) = opens.is in cc
+
+  pub answer_reads : (action : DeskAction) → reads_by state (next (Some (with_answer state action)) []) ≡ reads_by state (next (Some action) [])
+  answer_reads (AtOnce effect) = answered_reads state effect
+  answer_reads (ByLoad name effect) = refl
+
+  pub answer_none : (action : DeskAction) → next (Some action) [] ≡ None → next (Some (with_answer state action)) [] ≡ None
+  answer_none (AtOnce effect) none = cc
+  answer_none (ByLoad name effect) none = refl
+
+  stepped_by : (k : ℕ) (o : Option DeskEffect) → stepped_effect state k (query_of k state) ≡ o
+      → reads_by state (next (option_map AtOnce o) []) ≡ open_reads state
+  stepped_by k None is = refl
+  stepped_by k (Some effect) is = stepped_reads state k effect is
+
+-- a file was loaded at most once, where the action waits for one
+may_load : (o : Option DeskAction) (x y : Seen) → MayLoad o x y → (y.loads ≡ x.loads) ⊎ ((next o [] ≡ None) × (y.loads ≡ raised 1 x.loads))
+may_load None x y h = inl h
+may_load (Some (AtOnce effect)) x y h = inl h
+may_load (Some (ByLoad name effect)) x y (inl same) = inl same
+may_load (Some (ByLoad name effect)) x y (inr more) = inr (refl, more)
+
+-- no event that goes on with a query waits for one
+step_loads : (o : Option DeskEffect) (x y : Seen) → MayLoad (option_map AtOnce o) x y → y.loads ≡ x.loads
+step_loads None x y h = h
+step_loads (Some effect) x y h = h
+
+lost_db : (state : State) (k : ℕ) (o : Option OpenQuery) → (lost state k o).db ≡ state.db
+lost_db state k None = refl
+lost_db state k (Some query) = refl
+
+pub wanting_db : (k : ℕ) (before after : DeskSeen) → after ≡ desk_wanting (Stepped k) before → after.state.db ≡ before.state.db
+wanting_db k before after e = ap (λ (d : DeskSeen). d.state.db) e ∙ lost_db before.state k (query_of k before.state)
+
+pub left_by_statement : (s : Settings) (k : ℕ) (statement : Statement) (before after : DeskSeen) (m n : ℕ) (x y : Seen)
+    → before.settings ≡ s → IsDesk before
+    → after ≡ desk_wanting (Said k statement) before → MayTake (Said k statement) before m n → m ≤ n
+    → MayLoad (action_of_event s before.state (Said k statement)) x y
+    → IsLeft s (Ok (saying.Said k statement)) before after m n x y
+left_by_statement s k statement before after m n x y same told e may no_fewer loaded =
+    let action = said_action s before.state k (query_of k before.state) statement in
+    let cost : MayCost action m n = subst (λ (t : Settings). MayCost (said_action t before.state k (query_of k before.state) statement) m n) same may in
+    record {
+      no_fewer = no_fewer;
+      at_most = may_cost s before.state k m n (sum before.shares) action (said_is s before.state k statement) cost
+          (shares_within before.state before.shares (shares_fit before told));
+      loaded = may_load (Some action) x y loaded;
+      db = ap (λ (d : DeskSeen). d.state.db) e;
+    }
+
+pub left_by_step : (s : Settings) (k : ℕ) (before after : DeskSeen) (m n : ℕ) (x y : Seen) → IsDesk before
+    → after ≡ desk_wanting (Stepped k) before → MayTake (Stepped k) before m n → m ≤ n
+    → MayLoad (action_of_event s before.state (Stepped k)) x y
+    → IsLeft s (Ok (saying.Stepped k)) before after m n x y
+left_by_step s k before after m n x y told e may no_fewer loaded =
+    let le = may_take k before m n told may in
+    let same = stepped_by s before.state k (stepped_effect before.state k (query_of k before.state)) refl in
+    record {
+      no_fewer = no_fewer;
+      at_most = omega (arith, le, same);
+      loaded = inl (step_loads (stepped_effect before.state k (query_of k before.state)) x y loaded);
+      db = wanting_db k before after e;
+    }

@@ -1,0 +1,153 @@
+-- What is done for a statement that names no session: it is said by session 0, and a query that it opens is answered.
+use Rattle.std.proofs.Common.{◌≡◌, ◌≤◌, ◌+◌, ◌++◌, ◌⊎◌, ◌∙◌, inl, inr, ap, subst, sym, refl, ℕ, Bool, true, false, List, [], ◌∷◌, Option, None, Some, Result, Ok, Err, arith, append-nil, find, get_or, length}
+use Rattle.std.specs.Prelude.{IfErr, IfOk, IsErrOf, IsSomeAnd, if◌then◌else◌, is_some, not, option_map, sum, unwrap_or, ◌&&◌}
+use Rattle.beas_core.specs.declared.refusal.Refusal.{Refusal}
+use Rattle.outside.specs.Counts.{raised}
+use Rattle.outside.specs.Parts.{SentPart}
+use Rattle.outside.specs.Seen.{Seen, Sent, IsLater}
+use Rattle.outside.proofs.Counts.{raised_none}
+use Rattle.kept_facts.specs.OpenQueries.{OpenQuery, reads_of, share_of}
+use Rattle.report.specs.declared.reports.Report.{Report}
+use Rattle.report.specs.declared.reports.Report.TheVariants.{Refused}
+use Rattle.report.specs.Reports.{report_text}
+use Rattle.session.specs.declared.loading.LoadOutcome.{LoadOutcome}
+use Rattle.session.specs.declared.loading.LoadOutcome.TheVariants.{Failed}
+use Rattle.session.specs.Effects.{Settings}
+use Rattle.session.specs.Ties.{AreTied}
+use Rattle.session.specs.Turns.{FileLoad, is_refusal, loads_of, IsWithin}
+use Rattle.sql_tree.specs.declared.tree.Statement.{Statement}
+use Rattle.desk_model.specs.declared.event.Event.TheVariants.{Said, Stepped}
+use Rattle.desk_model.specs.Answers.{effect_by}
+use Rattle.desk_model.specs.Desks.{DeskAction, AtOnce, ByLoad, DeskEffect, State, action_of_event, is_of, lost, new_query, opened_effect, query_of, refused, said_action, stepped_effect}
+use Rattle.desk_model.specs.Pieces.{DeskTurn, Next, answered_if_opened, next, opens, piece_action, seen_turn, with_answer}
+use Rattle.piece_reader.specs.declared.saying.Saying.TheVariants as saying
+use Rattle.piece_reader.specs.Sayings.{Reading}
+use Rattle.version_store.specs.Desks.{IsDesk, MayCost, MayLoad, MayTake, Seen as DeskSeen, Takes, TakesSome, desk_wanting, loads_by, share_at}
+use Rattle.beas_run.specs.declared.ending.Ending.{Ending}
+use Rattle.beas_run.specs.declared.ending.Ending.TheVariants.{Fault, NoMemory as Want}
+use Rattle.beas_run.specs.Endings.{TellsFault}
+use Rattle.beas_run.specs.Pieces.{IsDone, IsLeft, IsReported, IsTurn, IsUndone, IsUnreported, Reaches, Scene, answered_from, reads_by, turn_alone}
+use Rattle.beas_run.specs.Shares.{AreShares, IsShare, open_reads}
+use Rattle.desk_model.proofs.Places.{find-last}
+use Rattle.beas_run.proofs.FoundFacts.{Within, all_zip, sum-within, sum-within-more}
+use Rattle.beas_run.proofs.ReadsFacts.{answered_reads, same_reads, said_grows, stepped_reads}
+use Rattle.beas_run.proofs.SaidFacts.{IsFree, KeepsQueries, OpensQuery, SaidIs, said_is}
+use Rattle.beas_run.proofs.TieFacts.{same_later, tied_none}
+use Rattle.beas_run.proofs.ShareFacts.{may_take, shares_fit, shares_within}
+use Rattle.beas_run.proofs.DoneFacts.{done_by_action}
+use Rattle.beas_run.proofs.LeftFacts.{answer_none, answer_reads}
+
+module _ (s : Settings) (statement : Statement) (before : DeskSeen) where
+  abbrev said : DeskAction
+  said = said_action s before.state 0 (query_of 0 before.state) statement
+
+  -- as a statement of session 0 it was left, so it was left as a piece that names none
+  pub left_unnamed : (after : DeskSeen) (m n : ℕ) (x y : Seen) → IsLeft s (Ok (saying.Said 0 statement)) before after m n x y
+      → IsLeft s (Ok (saying.Plain statement)) before after m n x y
+  left_unnamed after m n x y left = record {
+    no_fewer = left.no_fewer;
+    at_most = let same = answer_reads s before.state said in omega (arith, left.at_most, same);
+    loaded = by left.loaded;
+    db = left.db;
+  }
+    where
+      by : (y.loads ≡ x.loads) ⊎ ((next (Some said) [] ≡ None) × (y.loads ≡ raised 1 x.loads))
+          → (y.loads ≡ x.loads) ⊎ ((next (Some (with_answer before.state said)) [] ≡ None) × (y.loads ≡ raised 1 x.loads))
+      by (inl same) = inl same
+      by (inr more) = inr (answer_none s before.state said more.0, more.1)
+
+  -- no query was opened
+  not_answered : (action : DeskAction) (outcome : LoadOutcome) → opens 0 before.state (effect_by action outcome).state ≡ false
+      → with_answer before.state action ≡ action
+  not_answered (AtOnce effect) outcome none = ap (λ b. AtOnce (if b then answered_from effect else effect)) none
+  not_answered (ByLoad name effect) outcome none = refl
+
+  pub done_unopened : (report : Report) (after : DeskSeen) (m n : ℕ) (x y : Seen)
+      → opens 0 before.state after.state ≡ false → IsDesk after → IsWithin report
+      → Takes s.limits.file said report before after m n x y → IsDone s (Ok (saying.Plain statement)) report before after m n x y
+  done_unopened report after m n x y none told within took =
+      let still : opens 0 before.state (effect_by said took.outcome).state ≡ false =
+      ap (λ (st : State). opens 0 before.state st) (sym took.state_is) ∙ none in
+      done_by_action s (Ok (saying.Plain statement)) said report before after m n x y
+      (ap (λ a. Some a) (not_answered said took.outcome still)) told within took
+
+-- what is opened where a query is open afterwards, and none was before
+pub record HasOpened (s : Settings) (statement : Statement) (before after : DeskSeen) : Type 0 where
+  pub first : DeskEffect
+  pub is : said s statement before ≡ AtOnce first
+  pub state : after.state ≡ first.state
+  pub free : first.cost ≡ 0
+  pub new : IsSomeAnd (query_of 0 after.state) (λ query. query.made ≡ Some 0)
+  pub db : after.state.db ≡ before.state.db
+  pub opened : opens 0 before.state first.state ≡ true
+
+module _ (s : Settings) (statement : Statement) (before after : DeskSeen) (none : is_some (query_of 0 before.state) ≡ false)
+    (some : is_some (query_of 0 after.state) ≡ true) where
+  opened_by : (report : Report) (m n : ℕ) (x y : Seen) → Takes s.limits.file (said s statement before) report before after m n x y
+      → SaidIs s.explain before.state 0 (said s statement before) → HasOpened s statement before after
+  opened_by report m n x y took (inl keeps) =
+      let same : after.state.queries ≡ before.state.queries = ap (λ (st : State). st.queries) took.state_is ∙ keeps.queries took.outcome in
+      let still : query_of 0 after.state ≡ query_of 0 before.state = ap (λ qs. find (is_of 0) qs) same in
+      let other : true ≡ false = sym some ∙ ap (λ o. is_some o) still ∙ none in
+      cc
+  opened_by report m n x y took (inr opens) =
+      let new : OpenQuery = new_query s.explain before.state.db 0 opens.prepared in
+      let first : DeskEffect = opened_effect s.explain before.state 0 (Ok opens.prepared) in
+      let state : after.state ≡ first.state = took.state_is ∙ ap (λ a. (effect_by a took.outcome).state) opens.is in
+      let there : query_of 0 first.state ≡ Some new = find-last (is_of 0) before.state.queries new opens.idle refl in
+      record {
+        first = first;
+        is = opens.is;
+        state = state;
+        free = refl;
+        new = subst (λ o. IsSomeAnd o (λ (q : OpenQuery). q.made ≡ Some 0)) (sym (ap (λ st. query_of 0 st) state ∙ there)) refl;
+        db = ap (λ (st : State). st.db) state;
+        opened = ap (λ o. is_some o && not (is_some (query_of 0 before.state))) there ∙ ap (λ b. not b) none;
+      }
+
+  pub has_opened : (report : Report) (m n : ℕ) (x y : Seen) → Takes s.limits.file (said s statement before) report before after m n x y
+      → HasOpened s statement before after
+  has_opened report m n x y took = opened_by report m n x y took (said_is s before.state 0 statement)
+
+-- it was opened, and then answered
+module _ (s : Settings) (statement : Statement) (before mid after : DeskSeen) (o : HasOpened s statement before mid) (m l n : ℕ) (x y : Seen) where
+  at_once : DeskAction
+  at_once = AtOnce o.first
+
+  action_is : piece_action s before.state (Ok (saying.Plain statement)) ≡ Some (AtOnce (answered_from o.first))
+  action_is = ap (λ a. Some (with_answer before.state a)) o.is ∙ ap (λ b. Some (AtOnce (if b then answered_from o.first else o.first))) o.opened
+
+  pub done_answered : (earlier report : Report) → Takes s.limits.file (said s statement before) earlier before mid m l x y → IsDesk mid → IsWithin report
+      → Reaches (answered_from o.first) report mid after l n → IsDone s (Ok (saying.Plain statement)) report before after m n x y
+  done_answered earlier report took told within reached =
+      let first : Takes s.limits.file (AtOnce o.first) earlier before mid m l x y =
+      subst (λ a. Takes s.limits.file a earlier before mid m l x y) o.is took in
+      record {
+        turn = record { effect = answered_from o.first; load = None };
+        report_is = reached.report_is;
+        is = record {
+          outcomes = [];
+          comes = λ later. ap (λ a. next a later) action_is;
+          state = reached.state_is;
+          shares = λ _. reached.shares (shares_fit mid told);
+          steps = omega (arith, first.counts, o.free, reached.counts);
+          within = subst IsWithin reached.report_is within;
+          tied = first.tied;
+          loads = first.counted;
+        };
+      }
+
+  pub left_answered : (earlier : Report) → Takes s.limits.file (said s statement before) earlier before mid m l x y → m ≤ l → l ≤ n
+      → n + sum mid.shares ≤ l + open_reads mid.state → after.state.db ≡ mid.state.db → IsLeft s (Ok (saying.Plain statement)) before after m n x y
+  left_answered earlier took begun later most db =
+      let first : Takes s.limits.file (AtOnce o.first) earlier before mid m l x y =
+      subst (λ a. Takes s.limits.file a earlier before mid m l x y) o.is took in
+      let reads : reads_by before.state (turn_alone s before.state (Ok (saying.Plain statement))) ≡ o.first.cost + open_reads o.first.state =
+      answer_reads s before.state (said s statement before) ∙ ap (λ a. reads_by before.state (next (Some a) [])) o.is in
+      let open_then : open_reads mid.state ≡ open_reads o.first.state = ap open_reads o.state in
+      record {
+        no_fewer = omega (arith, begun, later);
+        at_most = omega (arith, reads, open_then, most, first.counts, o.free);
+        loaded = inl (first.counted ∙ raised_none x.loads);
+        db = db ∙ o.db;
+      }

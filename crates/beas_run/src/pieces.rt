@@ -1,0 +1,133 @@
+// One piece of a script, at a desk.
+ghost use Rattle.std.specs.Prelude.{◌≡◌, ◌<◌, ◌≤◌, ◌+◌, ◌-◌, ◌^◌, length, sum, IfOk, OnErr, IsSomeAnd, Some, Ok};
+ghost use Rattle.outside.specs.Seen.{IsLater};
+ghost use Rattle.desk_model.specs.Desks.{DeskEffect, query_of};
+ghost use Rattle.piece_reader.specs.Sayings.{reading_of};
+ghost use Rattle.session.specs.Statements.{StatementIsWellFormed};
+ghost use Rattle.session.specs.Turns.{IsWithin};
+ghost use Rattle.beas_run.specs.Pieces.{IsDone, IsLeft, Reaches, SayingIsWellFormed, answered_from, is_probed};
+ghost use Rattle.beas_run.specs.Shares.{open_reads};
+
+use beas_core::{Fail, NoMemory, Steps};
+use desk_model::Event;
+use outside::Files;
+use piece_reader::{Saying, read_piece};
+use report::Report;
+use sql_text::Token;
+use sql_tree::Statement;
+use std::alloc::Global;
+use std::sync::ledger::Ledger;
+use version_store::Desk;
+
+/// The session of the pieces that name none.
+const UNNAMED: u32 = 0;
+
+fn is_probed(report: &Report) -> bool
+    ensures { result ≡ is_probed report.now }
+{
+    matches!(report, Report::Probed { .. })
+}
+
+/// Goes on with the query that the pieces without a session have opened, to its answer.
+fn answer<F: Files, L: Ledger>(
+    alloc: Global,
+    desk: &mut Desk,
+    files: &mut F,
+    steps: &mut Steps<L>,
+) -> Result<Report, NoMemory>
+    requires { IsSomeAnd (query_of 0 desk.old.state) (λ query. query.made ≡ Some 0) }
+    ensures answered { IfOk result (λ report. (first : DeskEffect) → first.state ≡ desk.old.state → first.cost ≡ 0
+        → Reaches (answered_from first) report desk.old desk.new steps.old steps.new) }
+    ensures within { IfOk result IsWithin }
+    ensures db { OnErr result (desk.new.state.db ≡ desk.old.state.db) }
+    ensures at_most { OnErr result (steps.new + sum desk.old.shares ≤ steps.old + open_reads desk.old.state) }
+    ensures no_fewer { steps.old ≤ steps.new }
+    ensures settings { desk.new.settings ≡ desk.old.settings }
+    ensures unread { files.new ≡ files.old }
+{
+    let event = Event::Stepped { session: UNNAMED };
+    loop {
+        let report = desk.event(alloc, files, &event, steps)?;
+        if !is_probed(&report) {
+            return Ok(report);
+        }
+    }
+}
+
+/// Carries out a statement that names no session. A query that it opens is answered before anything else is done.
+fn carry_out_statement<F: Files, L: Ledger>(
+    alloc: Global,
+    desk: &mut Desk,
+    statement: Statement,
+    files: &mut F,
+    steps: &mut Steps<L>,
+) -> Result<Report, NoMemory>
+    requires { StatementIsWellFormed statement }
+    ensures done { IfOk result (λ report. IsDone desk.old.settings (Ok (Saying.Plain statement)) report
+        desk.old desk.new steps.old steps.new (F.seen files.old) (F.seen files.new)) }
+    ensures left { OnErr result (IsLeft desk.old.settings (Ok (Saying.Plain statement))
+        desk.old desk.new steps.old steps.new (F.seen files.old) (F.seen files.new)) }
+    ensures settings { desk.new.settings ≡ desk.old.settings }
+    ensures later { IsLater (F.seen files.old) (F.seen files.new) }
+{
+    let was_open = desk.has_open(UNNAMED);
+    let session = UNNAMED;
+    let report = desk.event(alloc, files, &Event::Said { session, statement }, steps)?;
+    if !was_open && desk.has_open(UNNAMED) {
+        answer(alloc, desk, files, steps)
+    } else {
+        Ok(report)
+    }
+}
+
+/// Does what a piece says. The report is that of its last event.
+fn carry_out_saying<F: Files, L: Ledger>(
+    alloc: Global,
+    desk: &mut Desk,
+    saying: Saying,
+    files: &mut F,
+    steps: &mut Steps<L>,
+) -> Result<Report, NoMemory>
+    requires { SayingIsWellFormed saying }
+    ensures done { IfOk result (λ report. IsDone desk.old.settings (Ok saying) report
+        desk.old desk.new steps.old steps.new (F.seen files.old) (F.seen files.new)) }
+    ensures left { OnErr result (IsLeft desk.old.settings (Ok saying)
+        desk.old desk.new steps.old steps.new (F.seen files.old) (F.seen files.new)) }
+    ensures settings { desk.new.settings ≡ desk.old.settings }
+    ensures later { IsLater (F.seen files.old) (F.seen files.new) }
+{
+    match saying {
+        Saying::Plain { statement } => {
+            carry_out_statement(alloc, desk, statement, files, steps)
+        }
+        Saying::Said { session, statement } => {
+            desk.event(alloc, files, &Event::Said { session, statement }, steps)
+        }
+        Saying::Stepped { session } => {
+            desk.event(alloc, files, &Event::Stepped { session }, steps)
+        }
+    }
+}
+
+/// Reads a piece and does what it says, and gives what is reported of it.
+pub fn report_on<F: Files, L: Ledger>(
+    alloc: Global,
+    desk: &mut Desk,
+    tokens: &[Token],
+    files: &mut F,
+    steps: &mut Steps<L>,
+) -> Result<Report, NoMemory>
+    requires { length tokens.now < 2 ^ 32 - 1 }
+    ensures done { IfOk result (λ report. IsDone desk.old.settings (reading_of tokens.now) report
+        desk.old desk.new steps.old steps.new (F.seen files.old) (F.seen files.new)) }
+    ensures left { OnErr result (IsLeft desk.old.settings (reading_of tokens.now)
+        desk.old desk.new steps.old steps.new (F.seen files.old) (F.seen files.new)) }
+    ensures settings { desk.new.settings ≡ desk.old.settings }
+    ensures later { IsLater (F.seen files.old) (F.seen files.new) }
+{
+    match read_piece(alloc, tokens) {
+        Ok(saying) => carry_out_saying(alloc, desk, saying, files, steps),
+        Err(Fail::Refused(why)) => Ok(Report::Refused { why }),
+        Err(Fail::NoMemory) => Err(NoMemory),
+    }
+}

@@ -1,0 +1,4 @@
+pub mod Desks
+pub mod Coding
+pub mod Stored
+pub mod Events

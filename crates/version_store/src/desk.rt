@@ -1,0 +1,134 @@
+// A desk.
+ghost use Rattle.std.specs.Prelude.{◌≡◌, ◌≤◌, [], false, IfOk, OnErr, is_some};
+ghost use Rattle.outside.specs.Seen.{IsLater};
+ghost use Rattle.desk_model.specs.Desks.{action_of_event, query_of};
+ghost use Rattle.session.specs.Applying.{database_of, settings_of};
+ghost use Rattle.session.specs.Turns.{IsWithin};
+ghost use Rattle.version_store.specs.Desks.{EventIsWellFormed, GoesOn, IsDesk, MayLoad, MayTake, TakesSome, desk_wanting, session_in, waits_for_file};
+
+use crate::going::{place_of, step};
+use crate::saying::say;
+use crate::store::KeptTable;
+use beas_core::{NoMemory, Steps};
+use desk_model::Event;
+use open_queries::OpenQuery;
+use outside::Files;
+use report::Report;
+use session::Session;
+use std::alloc::Global;
+use std::marker::Model;
+use std::sync::ledger::Ledger;
+
+/// A session's database at which sessions take turns, each with at most one open query. A query that is open goes on seeing
+/// the rows and the constraints that it saw where it was opened. There are no threads: events come one after another, and
+/// each is done whole.
+///
+/// It isn't `Debug`, since rows are handed out by `Rows::row` and by probes alone.
+#[derive(Drop)]
+pub struct Desk {
+    session: Session,
+    queries: Vec<OpenQuery<KeptTable>>,
+}
+
+impl Model for Desk {
+    ghost use Rattle.version_store.specs.Desks.{Seen};
+    ghost use Rattle.version_store.specs.Coding.{coded_desk};
+
+    ghost Value = { Seen };
+
+    ghost coded = { coded_desk };
+
+    ghost use Rattle.session.specs.Applying.{database_of};
+    ghost use Rattle.version_store.specs.Stored.{AreKept, seen_in};
+
+    ghost view = { λ d. seen_in d.session d.queries.items };
+
+    ghost invariant = { λ d. AreKept (database_of d.session) d.queries.items };
+}
+
+impl Desk {
+    /// A desk over a session's database, with no open query. It takes no memory.
+    pub fn new(alloc: Global, session: Session) -> Desk
+        ensures { result ≡ record {
+            settings = settings_of session;
+            state = record { db = database_of session; queries = [] };
+            shares = [];
+            probes = [];
+        } }
+    {
+        // The constraints aren't used: the call's own clauses tell that the catalogue is sound.
+        let _accesses = session.guarded.catalogue.accesses();
+        Desk {
+            session,
+            queries: Vec::new(alloc),
+        }
+    }
+
+    /// Whether a session has an open query. It takes no memory.
+    pub fn has_open(&self, session: u32) -> bool
+        ensures open { result ≡ is_some (query_of session self.now.state) }
+        ensures told { IsDesk self.now }
+    {
+        place_of(&self.queries, session).is_some()
+    }
+
+    /// Does what an event asks for, and reports it. A statement of a session whose query is open is refused, and so is a
+    /// turn of a session that has none. A query that is announced is opened, and counts no read; any other statement is
+    /// carried out as `Session::apply` does. A turn makes one due probe of the session's query, and counts its share of the
+    /// reads; where no probe is due it makes none, and the query is answered over the rows of its opening, and closed.
+    ///
+    /// Out of memory in a statement, the desk is as it was. Out of memory in a turn, that query is lost: each further turn
+    /// of it says so and probes nothing, and all else is as it was.
+    pub fn event<F: Files, L: Ledger>(
+        &mut self,
+        alloc: Global,
+        files: &mut F,
+        event: &Event,
+        steps: &mut Steps<L>,
+    ) -> Result<Report, NoMemory>
+        requires session { session_in event.now ≤ 64 }
+        requires well_formed { EventIsWellFormed event.now }
+        ensures did { IfOk result (λ report. TakesSome self.old.settings.limits.file
+            (action_of_event self.old.settings self.old.state event.now)
+            report self.old self.new steps.old steps.new (F.seen files.old) (F.seen files.new)) }
+        ensures goes_on { IfOk result (λ report. GoesOn event.now report self.old self.new steps.old steps.new) }
+        ensures within { IfOk result IsWithin }
+        ensures told { IsDesk self.old × IsDesk self.new }
+        ensures settings { self.new.settings ≡ self.old.settings }
+
+        // Out of memory.
+        ensures err { OnErr result (self.new ≡ desk_wanting event.now self.old) }
+        ensures at_most { OnErr result (MayTake event.now self.old steps.old steps.new) }
+        ensures no_fewer { steps.old ≤ steps.new }
+
+        // The files.
+        ensures unread { waits_for_file (action_of_event self.old.settings self.old.state event.now) ≡ false
+            → files.new ≡ files.old }
+        ensures loaded { MayLoad (action_of_event self.old.settings self.old.state event.now)
+            (F.seen files.old) (F.seen files.new) }
+        ensures later { IsLater (F.seen files.old) (F.seen files.new) }
+    {
+        match event {
+            Event::Said { session, statement } => say(
+                alloc,
+                &mut self.session,
+                &mut self.queries,
+                files,
+                *session,
+                statement,
+                steps,
+            ),
+            Event::Stepped { session } => {
+                step(alloc, &self.session, &mut self.queries, *session, steps)
+            }
+        }
+    }
+
+    /// The session as it stands. The open queries are dropped. It takes no memory.
+    pub fn close(self) -> Session
+        ensures db { database_of result ≡ self.state.db }
+        ensures settings { settings_of result ≡ self.settings }
+    {
+        self.session
+    }
+}

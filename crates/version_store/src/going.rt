@@ -1,0 +1,112 @@
+// How an open query goes on: by one probe, or to its answer.
+ghost use Rattle.std.specs.Prelude.{◌≡◌, ◌≤◌, ◌==◌, true, IfOk, IsErr, IsTrue, List, None, OnErr, Some, is_some, position};
+ghost use Rattle.beas_core.specs.Types.{Row as Values};
+ghost use Rattle.cursor_executor.specs.Turns.{QuerySpent, TurnIs};
+ghost use Rattle.desk_model.specs.Desks.{query_of, stepped_effect};
+ghost use Rattle.desk_model.specs.declared.event.Event.TheVariants.{Stepped};
+ghost use Rattle.open_queries.specs.Held.{world_of};
+ghost use Rattle.open_queries.specs.Turns.{Goes};
+ghost use Rattle.report.specs.declared.reports.Report.TheVariants.{Answered};
+ghost use Rattle.session.specs.Applying.{database_of};
+ghost use Rattle.session.specs.Turns.{IsWithin};
+ghost use Rattle.version_store.specs.Desks.{GoesOn, MayTake, desk_wanting};
+ghost use Rattle.version_store.specs.Events.{HappensSome};
+ghost use Rattle.version_store.specs.Stored.{AreKept, IsOpenAt, held_at, seen_in, state_in, world_at};
+
+use crate::store::{CurrentStore, KeptTable};
+use beas_core::{NoMemory, Refusal, Steps};
+use cursor_executor::Turn;
+use open_queries::{OpenQuery, turn};
+use report::Report;
+use session::Session;
+use std::alloc::Global;
+use std::sync::ledger::Ledger;
+
+/// Where a session's query stands among the open ones, if it has one.
+pub fn place_of(queries: &[OpenQuery<KeptTable>], number: u32) -> Option<usize>
+    ensures { result ≡ position (λ query. query.session == number) queries.now }
+{
+    queries.iter().position(|query| query.session == number)
+}
+
+// One turn of an open query.
+fn turn_over<L: Ledger>(
+    alloc: Global,
+    session: &Session,
+    query: &mut OpenQuery<KeptTable>,
+    steps: &mut Steps<L>,
+) -> Result<Turn, NoMemory>
+    requires kept { IsOpenAt (database_of session.now) query.old }
+    ensures kept { IsOpenAt (database_of session.now) query.new }
+    ensures session { query.new.session ≡ query.old.session }
+    ensures went { IfOk result (λ turn. Goes turn (held_at (database_of session.now) query.old)
+        query.old.cursor query.new.cursor (held_at (database_of session.now) query.new) steps.old steps.new) }
+    ensures lost { OnErr result (held_at (database_of session.now) query.new
+        ≡ record (held_at (database_of session.now) query.old) { made = None }) }
+    ensures turn { IfOk result (λ turn. TurnIs (world_at (database_of session.now) query.old)
+        turn query.old.cursor query.new.cursor steps.old steps.new) }
+    ensures spent { OnErr result (QuerySpent (world_at (database_of session.now) query.old)
+        query.old.cursor.prepared query.old.cursor.fetched steps.old steps.new) }
+    ensures failed_before { query.old.cursor.failed ≡ true → IsErr result × (steps.new ≡ steps.old) }
+{
+    // The constraints aren't used: the call's own clauses tell that the catalogue is sound.
+    let _accesses = session.guarded.catalogue.accesses();
+    let store = CurrentStore {
+        store: &session.guarded,
+    };
+    turn(alloc, &store, query, steps)
+}
+
+// The answer of a query whose probes have all been made.
+fn answer(query: OpenQuery<KeptTable>) -> Report
+    requires { IsTrue (is_some query.cursor.answer) }
+    ensures { (rows : List Values) → query.cursor.answer ≡ Some rows
+        → result ≡ Answered query.cursor.prepared.bound query.plan query.header rows query.cursor.reads }
+{
+    let bound = query.cursor.prepared().bound;
+    let plan = query.plan;
+    let header = query.header;
+    let answer = query.cursor.finish();
+    Report::Answered {
+        bound,
+        plan,
+        header,
+        rows: answer.rows,
+        reads: answer.reads,
+    }
+}
+
+/// Goes on with the session's open query: by one probe where one is due, and else to its answer, with which it is closed.
+/// Out of memory that query is lost.
+pub fn step<L: Ledger>(
+    alloc: Global,
+    session: &Session,
+    queries: &mut Vec<OpenQuery<KeptTable>>,
+    number: u32,
+    steps: &mut Steps<L>,
+) -> Result<Report, NoMemory>
+    requires kept { AreKept (database_of session.now) queries.old.items }
+    ensures kept { AreKept (database_of session.now) queries.new.items }
+    ensures did { IfOk result (λ report. HappensSome
+        (stepped_effect (state_in session.now queries.old.items) number
+        (query_of number (state_in session.now queries.old.items)))
+        report (seen_in session.now queries.old.items) (seen_in session.now queries.new.items) steps.old steps.new) }
+    ensures goes_on { IfOk result (λ report. GoesOn (Stepped number) report
+        (seen_in session.now queries.old.items) (seen_in session.now queries.new.items) steps.old steps.new) }
+    ensures within { IfOk result IsWithin }
+    ensures err { OnErr result (seen_in session.now queries.new.items
+        ≡ desk_wanting (Stepped number) (seen_in session.now queries.old.items)) }
+    ensures at_most { OnErr result (MayTake (Stepped number) (seen_in session.now queries.old.items)
+        steps.old steps.new) }
+    ensures no_fewer { steps.old ≤ steps.new }
+{
+    let Some(place) = place_of(queries.as_slice(), number) else {
+        return Ok(Report::Refused {
+            why: Refusal::SessionIdle { session: number },
+        });
+    };
+    match turn_over(alloc, session, &mut queries[place], steps)? {
+        Turn::Probed => Ok(Report::Probed { session: number }),
+        Turn::Done => Ok(answer(queries.remove(place))),
+    }
+}

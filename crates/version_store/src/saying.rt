@@ -1,0 +1,220 @@
+// What a session says.
+ghost use Rattle.std.specs.Prelude.{◌≡◌, ◌<◌, ◌≤◌, false, true, All, IfOk, IfSome, OnErr, OnOk, Some, length, map};
+ghost use Rattle.beas_core.specs.declared.schema.TableId.{TableId as Number};
+ghost use Rattle.catalogue.specs.Database.{schema_of};
+ghost use Rattle.desk_model.specs.Changes.{changes};
+ghost use Rattle.desk_model.specs.Desks.{query_of, said_action, statement_action};
+ghost use Rattle.desk_model.specs.declared.event.Event.TheVariants.{Said};
+ghost use Rattle.open_queries.specs.Held.{HasPart, cursor_of};
+ghost use Rattle.outside.specs.Seen.{IsLater};
+ghost use Rattle.session.specs.Applying.{IsApplied, MayCost, MayLoad, database_of, settings_of};
+ghost use Rattle.session.specs.Effects.{Does, Effect, action_of};
+ghost use Rattle.session.specs.Statements.{StatementIsWellFormed};
+ghost use Rattle.session.specs.Turns.{IsWithin};
+ghost use Rattle.version_store.specs.Desks.{GoesOn, MayCost as MayTakeOf, MayLoad as MayLoadOf, Takes, waits_for_file};
+ghost use Rattle.version_store.specs.Events.{changed_in, table_of_named};
+ghost use Rattle.version_store.specs.Stored.{AreKept, IsOpenAt, held_at, seen_in, state_in, table_in};
+
+use crate::going::place_of;
+use crate::opening::open;
+use crate::store::{CurrentStore, KeptTable};
+use beas_core::{Name, NoMemory, Refusal, Steps, TableId};
+use catalogue::Catalogue;
+use open_queries::{OpenQuery, freeze_for};
+use outside::Files;
+use report::Report;
+use session::Session;
+use sql_tree::Statement;
+use std::alloc::Global;
+use std::sync::ledger::Ledger;
+
+// The table of the live constraint with this name.
+fn table_of_named(catalogue: &Catalogue, name: &Name) -> Option<TableId>
+    ensures table { result ≡ table_of_named catalogue.now.accesses name.now }
+    ensures there { IfSome result (λ t. t.0 < length catalogue.now.tables) }
+{
+    // The constraints aren't used: the call's own clauses tell that no two have one id.
+    let _accesses = catalogue.accesses();
+    let id = catalogue.access_named(name)?;
+    Some(catalogue.access(id).table)
+}
+
+// The one table that a statement may change.
+fn changed_table(catalogue: &Catalogue, statement: &Statement) -> Option<TableId>
+    ensures table { result ≡ changed_in catalogue.now statement.now }
+    ensures there { IfSome result (λ t. t.0 < length catalogue.now.tables) }
+{
+    match statement {
+        Statement::Insert { table, .. } => catalogue.table(table),
+        Statement::Load { table, .. } => catalogue.table(table),
+        Statement::Delete { table, .. } => catalogue.table(table),
+        Statement::DropAccess { name } => table_of_named(catalogue, name),
+        _ => None,
+    }
+}
+
+// Keeps a table for each open query that names it. Nothing changes for the queries.
+fn keep(
+    alloc: Global,
+    session: &Session,
+    queries: &mut Vec<OpenQuery<KeptTable>>,
+    table: TableId,
+) -> Result<(), NoMemory>
+    requires table { table.0 < length (database_of session.now).tables }
+    requires kept { All (IsOpenAt (database_of session.now)) queries.old.items }
+    ensures kept { All (IsOpenAt (database_of session.now)) queries.new.items }
+    ensures held { map (held_at (database_of session.now)) queries.new.items
+        ≡ map (held_at (database_of session.now)) queries.old.items }
+    ensures cursors { map cursor_of queries.new.items ≡ map cursor_of queries.old.items }
+    ensures frozen { OnOk result (All (HasPart table_in table) queries.new.items) }
+{
+    // The constraints aren't used: the call's own clauses tell that the catalogue is sound.
+    let _accesses = session.guarded.catalogue.accesses();
+    let store = CurrentStore {
+        store: &session.guarded,
+    };
+    freeze_for(alloc, &store, queries, table)
+}
+
+// Keeps the table that a statement may change for each open query that names it. Nothing changes for the queries.
+fn keep_changed(
+    alloc: Global,
+    session: &Session,
+    queries: &mut Vec<OpenQuery<KeptTable>>,
+    statement: &Statement,
+) -> Result<(), NoMemory>
+    requires kept { All (IsOpenAt (database_of session.now)) queries.old.items }
+    ensures kept { All (IsOpenAt (database_of session.now)) queries.new.items }
+    ensures held { map (held_at (database_of session.now)) queries.new.items
+        ≡ map (held_at (database_of session.now)) queries.old.items }
+    ensures cursors { map cursor_of queries.new.items ≡ map cursor_of queries.old.items }
+    ensures frozen { OnOk result ((t : Number) → changes (schema_of (database_of session.now)) statement.now t ≡ true
+        → All (HasPart table_in t) queries.new.items) }
+{
+    // The constraints aren't used: the call's own clauses tell that no two have one name.
+    let _accesses = session.guarded.catalogue.accesses();
+    match changed_table(&session.guarded.catalogue, statement) {
+        Some(table) => keep(alloc, session, queries, table),
+        None => Ok(()),
+    }
+}
+
+// Carries out a statement. The tables that it may change are kept before for the open queries, for which nothing changes.
+fn carry_out<F: Files, L: Ledger>(
+    alloc: Global,
+    session: &mut Session,
+    queries: &mut Vec<OpenQuery<KeptTable>>,
+    files: &mut F,
+    statement: &Statement,
+    steps: &mut Steps<L>,
+) -> Result<Report, NoMemory>
+    requires well_formed { StatementIsWellFormed statement.now }
+    requires kept { AreKept (database_of session.old) queries.old.items }
+    ensures kept { AreKept (database_of session.new) queries.new.items }
+    ensures held { map (held_at (database_of session.new)) queries.new.items
+        ≡ map (held_at (database_of session.old)) queries.old.items }
+    ensures cursors { map cursor_of queries.new.items ≡ map cursor_of queries.old.items }
+    ensures applied { IfOk result (λ report. IsApplied session.old.limits.file
+        (action_of (settings_of session.old) (database_of session.old) statement.now)
+        report (database_of session.new) steps.old steps.new (F.seen files.old) (F.seen files.new)) }
+    ensures within { IfOk result IsWithin }
+    ensures settings { settings_of session.new ≡ settings_of session.old }
+    ensures unchanged { OnErr result (database_of session.new ≡ database_of session.old) }
+    ensures at_most { MayCost (action_of (settings_of session.old) (database_of session.old) statement.now)
+        steps.old steps.new }
+    ensures no_fewer { steps.old ≤ steps.new }
+    ensures unread { (effect : Effect)
+        → action_of (settings_of session.old) (database_of session.old) statement.now ≡ Does effect
+        → files.new ≡ files.old }
+    ensures loaded { MayLoad (action_of (settings_of session.old) (database_of session.old) statement.now)
+        (F.seen files.old) (F.seen files.new) }
+    ensures later { IsLater (F.seen files.old) (F.seen files.new) }
+{
+    keep_changed(alloc, session, queries, statement)?;
+    session.apply(alloc, files, statement, steps)
+}
+
+// What a session without an open query says.
+fn say_idle<F: Files, L: Ledger>(
+    alloc: Global,
+    session: &mut Session,
+    queries: &mut Vec<OpenQuery<KeptTable>>,
+    files: &mut F,
+    number: u32,
+    statement: &Statement,
+    steps: &mut Steps<L>,
+) -> Result<Report, NoMemory>
+    requires well_formed { StatementIsWellFormed statement.now }
+    requires kept { AreKept (database_of session.old) queries.old.items }
+    requires idle { query_of number (state_in session.old queries.old.items) ≡ None }
+    ensures kept { AreKept (database_of session.new) queries.new.items }
+    ensures did { IfOk result (λ report. Takes session.old.limits.file
+        (statement_action (settings_of session.old) (state_in session.old queries.old.items) number statement.now)
+        report (seen_in session.old queries.old.items) (seen_in session.new queries.new.items)
+        steps.old steps.new (F.seen files.old) (F.seen files.new)) }
+    ensures goes_on { IfOk result (λ report. GoesOn (Said number statement.now) report
+        (seen_in session.old queries.old.items) (seen_in session.new queries.new.items) steps.old steps.new) }
+    ensures within { IfOk result IsWithin }
+    ensures settings { settings_of session.new ≡ settings_of session.old }
+    ensures err { OnErr result (seen_in session.new queries.new.items ≡ seen_in session.old queries.old.items) }
+    ensures at_most { MayTakeOf
+        (statement_action (settings_of session.old) (state_in session.old queries.old.items) number statement.now)
+        steps.old steps.new }
+    ensures no_fewer { steps.old ≤ steps.new }
+    ensures unread { waits_for_file (Some
+        (statement_action (settings_of session.old) (state_in session.old queries.old.items) number statement.now)) ≡ false
+        → files.new ≡ files.old }
+    ensures loaded { MayLoadOf (Some
+        (statement_action (settings_of session.old) (state_in session.old queries.old.items) number statement.now))
+        (F.seen files.old) (F.seen files.new) }
+    ensures later { IsLater (F.seen files.old) (F.seen files.new) }
+{
+    match statement {
+        Statement::Select { tree } => open(alloc, session, queries, number, tree),
+        _ => carry_out(alloc, session, queries, files, statement, steps),
+    }
+}
+
+/// Does what a session says. Where its query is open it is refused, whatever it says.
+pub fn say<F: Files, L: Ledger>(
+    alloc: Global,
+    session: &mut Session,
+    queries: &mut Vec<OpenQuery<KeptTable>>,
+    files: &mut F,
+    number: u32,
+    statement: &Statement,
+    steps: &mut Steps<L>,
+) -> Result<Report, NoMemory>
+    requires well_formed { StatementIsWellFormed statement.now }
+    requires kept { AreKept (database_of session.old) queries.old.items }
+    ensures kept { AreKept (database_of session.new) queries.new.items }
+    ensures did { IfOk result (λ report. Takes session.old.limits.file
+        (said_action (settings_of session.old) (state_in session.old queries.old.items) number
+        (query_of number (state_in session.old queries.old.items)) statement.now)
+        report (seen_in session.old queries.old.items) (seen_in session.new queries.new.items)
+        steps.old steps.new (F.seen files.old) (F.seen files.new)) }
+    ensures goes_on { IfOk result (λ report. GoesOn (Said number statement.now) report
+        (seen_in session.old queries.old.items) (seen_in session.new queries.new.items) steps.old steps.new) }
+    ensures within { IfOk result IsWithin }
+    ensures settings { settings_of session.new ≡ settings_of session.old }
+    ensures err { OnErr result (seen_in session.new queries.new.items ≡ seen_in session.old queries.old.items) }
+    ensures at_most { MayTakeOf
+        (said_action (settings_of session.old) (state_in session.old queries.old.items) number
+        (query_of number (state_in session.old queries.old.items)) statement.now) steps.old steps.new }
+    ensures no_fewer { steps.old ≤ steps.new }
+    ensures unread { waits_for_file (Some
+        (said_action (settings_of session.old) (state_in session.old queries.old.items) number
+        (query_of number (state_in session.old queries.old.items)) statement.now)) ≡ false → files.new ≡ files.old }
+    ensures loaded { MayLoadOf (Some
+        (said_action (settings_of session.old) (state_in session.old queries.old.items) number
+        (query_of number (state_in session.old queries.old.items)) statement.now))
+        (F.seen files.old) (F.seen files.new) }
+    ensures later { IsLater (F.seen files.old) (F.seen files.new) }
+{
+    if place_of(queries.as_slice(), number).is_some() {
+        return Ok(Report::Refused {
+            why: Refusal::SessionBusy { session: number },
+        });
+    }
+    say_idle(alloc, session, queries, files, number, statement, steps)
+}
