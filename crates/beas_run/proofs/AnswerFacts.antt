@@ -1,5 +1,5 @@
 -- How a query of session 0 that was opened goes on, event by event, to its answer.
-use Rattle.std.proofs.Common.{◌≡◌, ◌<◌, ◌≤◌, ◌+◌, ◌-◌, ◌∙◌, ap, subst, sym, refl, ℕ, zero, suc, Bool, true, false, cond, List, [], ◌∷◌, Option, None, Some, find, arith, length}
+use Rattle.std.proofs.Common.{◌≡◌, ◌<◌, ◌≤◌, ◌+◌, ◌-◌, ◌∙◌, ap, subst, sym, refl, ℕ, zero, suc, Bool, true, false, cond, List, [], ◌∷◌, Option, None, Some, find, arith, length, ltb-false, ltb-true}
 use Rattle.std.specs.Prelude.{if◌then◌else◌, nat_lt, option_map, sum, IsSomeAnd, unwrap_or}
 use Rattle.std.specs.Option.{option_map_or}
 use Rattle.kept_facts.specs.OpenQueries.{OpenQuery, probes_of, reads_of}

@@ -1,6 +1,7 @@
 -- What is done for one piece, by what its events did.
 use Rattle.std.proofs.Common.{◌≡◌, ◌≤◌, ◌+◌, ◌++◌, ◌⊎◌, ◌∙◌, inl, inr, ap, subst, sym, refl, ℕ, Bool, true, false, List, [], ◌∷◌, Option, None, Some, Result, Ok, Err, arith, append-nil, find, get_or, length}
-use Rattle.std.specs.Prelude.{IfErr, IfOk, IsErrOf, IsSomeAnd, if◌then◌else◌, is_some, not, option_map, sum, unwrap_or, ◌&&◌}
+use Rattle.std.specs.Prelude.{IfErr, IfOk, IsErrOf, OnErr, IsSomeAnd, if◌then◌else◌, is_some, not, option_map, sum, unwrap_or, ◌&&◌}
+use Rattle.beas_core.specs.declared.errors.NoMemory.{NoMemory as Out}
 use Rattle.beas_core.specs.declared.refusal.Refusal.{Refusal}
 use Rattle.outside.specs.Counts.{raised}
 use Rattle.outside.specs.Parts.{SentPart}
@@ -85,6 +86,12 @@ done_by s reading None report before after m n x y is told within took = absurd 
 done_by s reading (Some action) report before after m n x y is told within took =
     done_by_action s reading action report before after m n x y is told within took
 
+pub event_done : (s : Settings) (reading : Reading) (o : Option DeskAction) (r : Result Report Out) (before after : DeskSeen) (m n : ℕ) (x y : Seen)
+    → piece_action s before.state reading ≡ o → IsDesk after → IfOk r IsWithin
+    → IfOk r (λ report. TakesSome s.limits.file o report before after m n x y) → IfOk r (λ report. IsDone s reading report before after m n x y)
+event_done s reading o (Ok report) before after m n x y is told within took = done_by s reading o report before after m n x y is told within took
+event_done s reading o (Err e) before after m n x y is told within took = tt
+
 -- ---- a piece that is refused
 
 pub refused_done : (s : Settings) (reading : Reading) (why : Refusal) (desk : DeskSeen) (m : ℕ) (x : Seen)
@@ -145,6 +152,10 @@ unreported s reading number report why before after a sent unsent fault puts = r
 
 pub none_sent : (sent text : List ℕ) → SentPart sent sent text
 none_sent sent text = record { part = []; left = text; sent = sym (append-nil sent); cut = refl }
+
+pub on_error : {A E P : Type 0} (result : Result A E) → P → OnErr result P
+on_error (Ok answer) h = tt
+on_error (Err why) h = h
 
 -- whatever the error is
 pub whichever : {A E : Type 0} (P : E → Type 0) (result : Result A E) → ((why : E) → P why) → IfErr result P

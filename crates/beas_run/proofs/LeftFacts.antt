@@ -1,6 +1,8 @@
 -- What is left of a piece that memory ran out for.
 use Rattle.std.proofs.Common.{◌≡◌, ◌≤◌, ◌+◌, ◌++◌, ◌⊎◌, ◌∙◌, inl, inr, ap, subst, sym, refl, ℕ, Bool, true, false, List, [], ◌∷◌, Option, None, Some, Result, Ok, Err, arith, append-nil, find, get_or, length}
-use Rattle.std.specs.Prelude.{IfErr, IfOk, IsErrOf, IsSomeAnd, if◌then◌else◌, is_some, not, option_map, sum, unwrap_or, ◌&&◌}
+use Rattle.std.specs.Prelude.{IfErr, IfOk, IsErrOf, OnErr, IsSomeAnd, if◌then◌else◌, is_some, not, option_map, sum, unwrap_or, ◌&&◌}
+use Rattle.std.proofs.lemmas.List.Sums.{sum_by_push}
+use Rattle.beas_core.specs.declared.errors.NoMemory.{NoMemory as Out}
 use Rattle.beas_core.specs.declared.refusal.Refusal.{Refusal}
 use Rattle.outside.specs.Counts.{raised}
 use Rattle.outside.specs.Parts.{SentPart}
@@ -45,16 +47,24 @@ module _ (s : Settings) (state : State) where
   -- a statement, or a statement whose query is answered
   may_cost : (k m n shares : ℕ) (action : DeskAction) → SaidIs s.explain state k action → MayCost action m n → shares ≤ open_reads state
       → n + shares ≤ m + reads_by state (next (Some action) [])
-  may_cost k m n shares (AtOnce effect) is may few =
+  may_cost k m n shares (AtOnce effect) (inl keeps) may few =
       let h = may Failed in
-      let g = said_grows s.explain state k (AtOnce effect) is Failed in
-      omega (arith, h, g, few)
+      let same = same_reads state effect.state (keeps.queries Failed) in
+      omega (arith, h, same, few)
+  may_cost k m n shares (AtOnce effect) (inr new) may few =
+      let query : OpenQuery = new_query s.explain state.db k new.prepared in
+      let is : effect ≡ opened_effect s.explain state k (Ok new.prepared) = let e = new.is in cc in
+      let more = sum_by_push reads_of state.queries query in
+      let grows : open_reads state ≤ open_reads effect.state =
+      subst (λ (e : DeskEffect). open_reads state ≤ open_reads e.state) (sym is) (omega (arith, more)) in
+      let h = may Failed in
+      omega (arith, h, grows, few)
   may_cost k m n shares (ByLoad name effect) (inl keeps) may few =
       let h = may Failed in
       let free = keeps.free in
       omega (arith, h, free, few)
-  may_cost k m n shares (ByLoad name effect) (inr opens) may few =
-      let other : ByLoad name effect ≡ AtOnce (opened_effect s.explain state k (Ok opens.prepared)) = opens.is in cc
+  may_cost k m n shares (ByLoad name effect) (inr new) may few =
+      let other : ByLoad name effect ≡ AtOnce (opened_effect s.explain state k (Ok new.prepared)) = new.is in cc
 
   pub answer_reads : (action : DeskAction) → reads_by state (next (Some (with_answer state action)) []) ≡ reads_by state (next (Some action) [])
   answer_reads (AtOnce effect) = answered_reads state effect
@@ -117,3 +127,21 @@ left_by_step s k before after m n x y told e may no_fewer loaded =
       loaded = inl (step_loads (stepped_effect before.state k (query_of k before.state)) x y loaded);
       db = wanting_db k before after e;
     }
+
+-- ---- whatever the event answers
+
+pub event_left_said : (s : Settings) (k : ℕ) (statement : Statement) (r : Result Report Out) (before after : DeskSeen) (m n : ℕ) (x y : Seen)
+    → before.settings ≡ s → IsDesk before
+    → OnErr r (after ≡ desk_wanting (Said k statement) before) → OnErr r (MayTake (Said k statement) before m n) → m ≤ n
+    → MayLoad (action_of_event s before.state (Said k statement)) x y
+    → OnErr r (IsLeft s (Ok (saying.Said k statement)) before after m n x y)
+event_left_said s k statement (Ok report) before after m n x y same told e may no_fewer loaded = tt
+event_left_said s k statement (Err none) before after m n x y same told e may no_fewer loaded =
+    left_by_statement s k statement before after m n x y same told e may no_fewer loaded
+
+pub event_left_step : (s : Settings) (k : ℕ) (r : Result Report Out) (before after : DeskSeen) (m n : ℕ) (x y : Seen) → IsDesk before
+    → OnErr r (after ≡ desk_wanting (Stepped k) before) → OnErr r (MayTake (Stepped k) before m n) → m ≤ n
+    → MayLoad (action_of_event s before.state (Stepped k)) x y
+    → OnErr r (IsLeft s (Ok (saying.Stepped k)) before after m n x y)
+event_left_step s k (Ok report) before after m n x y told e may no_fewer loaded = tt
+event_left_step s k (Err none) before after m n x y told e may no_fewer loaded = left_by_step s k before after m n x y told e may no_fewer loaded

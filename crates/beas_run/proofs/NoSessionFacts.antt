@@ -136,6 +136,11 @@ take-map f zero xs = refl
 take-map f (suc n) [] = refl
 take-map f (suc n) (x ∷ xs) = ap (λ l. f x ∷ l) (take-map f n xs)
 
+-- the turns read what they cost, and leave nothing open that has read more
+pub record CostsAlone (all : List DeskTurn) (before : Moment) : Type 0 where
+  pub steps : (after : Moment) → Did all before after → after.steps ≡ before.steps + cost_of (seen_turns all)
+  pub at_most : greatest_cost before.state all ≡ cost_of (seen_turns all)
+
 module _ (before : Moment) (all : List DeskTurn) (ts : List Turn) (idle : before.state.queries ≡ []) (are : all ≡ map (beside []) ts) where
   seen_of : seen_turns all ≡ ts
   seen_of = ap seen_turns are ∙ seen_beside [] ts
@@ -158,6 +163,18 @@ module _ (before : Moment) (all : List DeskTurn) (ts : List Turn) (idle : before
       let cost : cost_of (seen_turns (take n all)) ≡ cost_of (take n ts) = ap (λ l. cost_of (seen_turns l)) (first n) ∙ ap cost_of (seen_beside [] (take n ts)) in
       let reads : open_reads (state_after before.state (take n all)) ≡ 0 = ap open_reads (state_is n) in
       omega (arith, cost, reads)
+
+  whole_is : greatest_cost before.state all ≡ cost_of ts
+  whole_is =
+      let cost : cost_of (seen_turns all) ≡ cost_of ts = ap cost_of seen_of in
+      let at : state_after before.state all ≡ resting before.state ts = ap (state_after before.state) are ∙ state_then before.state ts idle in
+      let reads : open_reads (state_after before.state all) ≡ 0 = ap open_reads at in
+      omega (arith, cost, reads)
+
+  pub costs_alone : CostsAlone all before
+  costs_alone =
+      let cost : cost_of (seen_turns all) ≡ cost_of ts = ap cost_of seen_of in
+      record { steps = λ after did. steps_are after did ∙ ap (λ n. before.steps + n) (sym cost); at_most = whole_is ∙ sym cost }
 
   pub means : MeansStatements all ts before
   means = record { turns_are = are; seen = seen_of; state = state_is; at_most = greatest_is; steps = steps_are }

@@ -58,7 +58,7 @@ pub shares_within : (state : State) (shares : List ℕ) → AreShares state.quer
 shares_within state shares s = sum-within reads_of state.queries shares (within_reads state.queries shares s)
 
 -- with one probe more
-may_take : (k : ℕ) (desk : DeskSeen) (m n : ℕ) → IsDesk desk → MayTake (Stepped k) desk m n → n + sum desk.shares ≤ m + open_reads desk.state
+pub may_take : (k : ℕ) (desk : DeskSeen) (m n : ℕ) → IsDesk desk → MayTake (Stepped k) desk m n → n + sum desk.shares ≤ m + open_reads desk.state
 may_take k desk m n told (inl same) = let h = shares_within desk.state desk.shares (shares_fit desk told) in omega (arith, h, same)
 may_take k desk m n told (inr spends) =
     let w = within_reads desk.state.queries desk.shares (shares_fit desk told) in

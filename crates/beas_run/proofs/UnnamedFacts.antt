@@ -1,6 +1,7 @@
 -- What is done for a statement that names no session: it is said by session 0, and a query that it opens is answered.
 use Rattle.std.proofs.Common.{◌≡◌, ◌≤◌, ◌+◌, ◌++◌, ◌⊎◌, ◌∙◌, inl, inr, ap, subst, sym, refl, ℕ, Bool, true, false, List, [], ◌∷◌, Option, None, Some, Result, Ok, Err, arith, append-nil, find, get_or, length}
-use Rattle.std.specs.Prelude.{IfErr, IfOk, IsErrOf, IsSomeAnd, if◌then◌else◌, is_some, not, option_map, sum, unwrap_or, ◌&&◌}
+use Rattle.std.specs.Prelude.{IfErr, IfOk, IsErrOf, OnErr, IsSomeAnd, if◌then◌else◌, is_some, not, option_map, sum, unwrap_or, ◌&&◌}
+use Rattle.beas_core.specs.declared.errors.NoMemory.{NoMemory as Out}
 use Rattle.beas_core.specs.declared.refusal.Refusal.{Refusal}
 use Rattle.outside.specs.Counts.{raised}
 use Rattle.outside.specs.Parts.{SentPart}
@@ -151,3 +152,17 @@ module _ (s : Settings) (statement : Statement) (before mid after : DeskSeen) (o
         loaded = inl (first.counted ∙ raised_none x.loads);
         db = db ∙ o.db;
       }
+
+  -- whatever its last event answers
+  pub answer_done : (earlier : Report) (r : Result Report Out) → Takes s.limits.file (said s statement before) earlier before mid m l x y → IsDesk mid
+      → IfOk r IsWithin → IfOk r (λ report. (first : DeskEffect) → first.state ≡ mid.state → first.cost ≡ 0 → Reaches (answered_from first) report mid after l n)
+      → IfOk r (λ report. IsDone s (Ok (saying.Plain statement)) report before after m n x y)
+  answer_done earlier (Ok report) took told within reached =
+      done_answered earlier report took told within (reached o.first (sym o.state) o.free)
+  answer_done earlier (Err e) took told within reached = tt
+
+  pub answer_left : (earlier : Report) (r : Result Report Out) → Takes s.limits.file (said s statement before) earlier before mid m l x y → m ≤ l → l ≤ n
+      → OnErr r (n + sum mid.shares ≤ l + open_reads mid.state) → OnErr r (after.state.db ≡ mid.state.db)
+      → OnErr r (IsLeft s (Ok (saying.Plain statement)) before after m n x y)
+  answer_left earlier (Ok report) took begun later most db = tt
+  answer_left earlier (Err e) took begun later most db = left_answered earlier took begun later most db
