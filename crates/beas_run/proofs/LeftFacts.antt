@@ -32,15 +32,22 @@ use Rattle.beas_run.specs.Pieces.{IsDone, IsLeft, IsReported, IsTurn, IsUndone, 
 use Rattle.beas_run.specs.Shares.{AreShares, IsShare, open_reads}
 use Rattle.desk_model.proofs.Places.{find-last}
 use Rattle.beas_run.proofs.FoundFacts.{Within, all_zip, sum-within, sum-within-more}
-use Rattle.beas_run.proofs.ReadsFacts.{answered_reads, same_reads, said_grows, stepped_reads}
+use Rattle.beas_run.proofs.ReadsFacts.{alone_grows, answered_reads, same_reads, said_grows, stepped_reads}
 use Rattle.beas_run.proofs.SaidFacts.{IsFree, KeepsQueries, OpensQuery, SaidIs, said_is}
 use Rattle.beas_run.proofs.TieFacts.{same_later, tied_none}
 use Rattle.beas_run.proofs.ShareFacts.{may_take, shares_fit, shares_within}
 
 -- before anything was done
-pub left_alone : (s : Settings) (reading : Reading) (desk : DeskSeen) (m : ℕ) (x : Seen) → m + sum desk.shares ≤ m + reads_by desk.state (turn_alone s desk.state reading)
-    → IsLeft s reading desk desk m m x x
-left_alone s reading desk m x le = record { no_fewer = omega arith; at_most = le; loaded = inl refl; db = refl }
+pub left_alone : (s : Settings) (reading : Reading) (desk : DeskSeen) (m : ℕ) (x : Seen) → IsLeft s reading desk desk m m x x
+left_alone s reading desk m x = record {
+  no_fewer = omega arith;
+  at_most = λ fit.
+      let few = shares_within desk.state desk.shares fit in
+      let grows = alone_grows s desk.state reading in
+      omega (arith, few, grows);
+  loaded = inl refl;
+  db = refl;
+}
 
 -- where a piece comes next, no less is read than is open
 module _ (s : Settings) (state : State) where
@@ -108,7 +115,7 @@ left_by_statement s k statement before after m n x y same told e may no_fewer lo
     let cost : MayCost action m n = subst (λ (t : Settings). MayCost (said_action t before.state k (query_of k before.state) statement) m n) same may in
     record {
       no_fewer = no_fewer;
-      at_most = may_cost s before.state k m n (sum before.shares) action (said_is s before.state k statement) cost
+      at_most = λ _. may_cost s before.state k m n (sum before.shares) action (said_is s before.state k statement) cost
           (shares_within before.state before.shares (shares_fit before told));
       loaded = may_load (Some action) x y loaded;
       db = ap (λ (d : DeskSeen). d.state.db) e;
@@ -123,7 +130,7 @@ left_by_step s k before after m n x y told e may no_fewer loaded =
     let same = stepped_by s before.state k (stepped_effect before.state k (query_of k before.state)) refl in
     record {
       no_fewer = no_fewer;
-      at_most = omega (arith, le, same);
+      at_most = λ _. omega (arith, le, same);
       loaded = inl (step_loads (stepped_effect before.state k (query_of k before.state)) x y loaded);
       db = wanting_db k before after e;
     }

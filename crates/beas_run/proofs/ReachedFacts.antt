@@ -330,7 +330,7 @@ stopped_in_piece s all rest reading place refused before now after status r undo
     (record {
       sent = undone.sent;
       no_fewer = left.no_fewer;
-      at_most = omega (arith, left.at_most, first);
+      at_most = let most = left.at_most r.did.shares in omega (arith, most, first);
       db = left.db;
       puts = undone.puts;
       loads = by alone left.loaded;

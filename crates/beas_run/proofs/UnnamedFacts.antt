@@ -47,7 +47,7 @@ module _ (s : Settings) (statement : Statement) (before : DeskSeen) where
       → IsLeft s (Ok (saying.Plain statement)) before after m n x y
   left_unnamed after m n x y left = record {
     no_fewer = left.no_fewer;
-    at_most = let same = answer_reads s before.state said in omega (arith, left.at_most, same);
+    at_most = λ fit. let same = answer_reads s before.state said in let most = left.at_most fit in omega (arith, most, same);
     loaded = by left.loaded;
     db = left.db;
   }
@@ -71,6 +71,16 @@ module _ (s : Settings) (statement : Statement) (before : DeskSeen) where
       ap (λ (st : State). opens 0 before.state st) (sym took.state_is) ∙ none in
       done_by_action s (Ok (saying.Plain statement)) said report before after m n x y
       (ap (λ a. Some a) (not_answered said took.outcome still)) told within took
+
+pub none_after : (before after : State) → is_some (query_of 0 after) ≡ false → opens 0 before after ≡ false
+none_after before after none = ap (λ b. b && not (is_some (query_of 0 before))) none
+
+pub one_before : (before after : State) → is_some (query_of 0 before) ≡ true → opens 0 before after ≡ false
+one_before before after one = ap (λ b. is_some (query_of 0 after) && not b) one ∙ by (is_some (query_of 0 after))
+  where
+    by : (b : Bool) → (b && not true) ≡ false
+    by true = refl
+    by false = refl
 
 -- what is opened where a query is open afterwards, and none was before
 pub record HasOpened (s : Settings) (statement : Statement) (before after : DeskSeen) : Type 0 where
@@ -148,7 +158,7 @@ module _ (s : Settings) (statement : Statement) (before mid after : DeskSeen) (o
       let open_then : open_reads mid.state ≡ open_reads o.first.state = ap open_reads o.state in
       record {
         no_fewer = omega (arith, begun, later);
-        at_most = omega (arith, reads, open_then, most, first.counts, o.free);
+        at_most = λ _. omega (arith, reads, open_then, most, first.counts, o.free);
         loaded = inl (first.counted ∙ raised_none x.loads);
         db = db ∙ o.db;
       }

@@ -133,7 +133,8 @@ reads_by state turn = option_map_or (λ n. n.turn.effect.cost + open_reads n.tur
 pub record IsLeft (settings : Settings) (reading : Reading) (before after : DeskSeen)
     (steps_before steps_after : ℕ) (files_before files_after : Seen) : Type 0 where
   pub no_fewer : steps_before ≤ steps_after
-  pub at_most : steps_after + sum before.shares ≤ steps_before + reads_by before.state (turn_alone settings before.state reading)
+  pub at_most : AreShares before.state.queries before.shares
+      → steps_after + sum before.shares ≤ steps_before + reads_by before.state (turn_alone settings before.state reading)
   -- its file was loaded at most once, where it is a LOAD
   pub loaded : (files_after.loads ≡ files_before.loads)
       ⊎ ((turn_alone settings before.state reading ≡ None) × (files_after.loads ≡ raised 1 files_before.loads))
