@@ -27,11 +27,12 @@ use Rattle.desk_model.specs.Pieces.{DeskTurn, seen_turns, turns}
 use Rattle.desk_model.specs.PlainScripts.{beside, statement_turns}
 use Rattle.desk_model.proofs.PlainFacts.{plain_script, seen_beside}
 use Rattle.beas_run.specs.NoSessions.{MeansStatements, NamesNoSession, statement_readings}
-use Rattle.beas_run.specs.Readings.{Readings, pieces}
+use Rattle.beas_run.specs.Readings.{Readings, pieces, readings_of}
 use Rattle.beas_run.specs.Runs.{longest_script}
 use Rattle.beas_run.specs.Shares.{AreShares, greatest_cost, open_reads}
 use Rattle.beas_run.specs.States.{state_after}
 use Rattle.beas_run.specs.Walks.{Did, Moment}
+use Rattle.beas_run.proofs.ReadingFacts.{found}
 
 -- ---- how its pieces are read
 
@@ -171,10 +172,19 @@ module _ (before : Moment) (all : List DeskTurn) (ts : List Turn) (idle : before
       let reads : open_reads (state_after before.state all) ≡ 0 = ap open_reads at in
       omega (arith, cost, reads)
 
-  pub costs_alone : CostsAlone all before
+  costs_alone : CostsAlone all before
   costs_alone =
       let cost : cost_of (seen_turns all) ≡ cost_of ts = ap cost_of seen_of in
       record { steps = λ after did. steps_are after did ∙ ap (λ n. before.steps + n) (sym cost); at_most = whole_is ∙ sym cost }
 
   pub means : MeansStatements all ts before
   means = record { turns_are = are; seen = seen_of; state = state_is; at_most = greatest_is; steps = steps_are }
+
+-- so a script that names no session reads what its turns cost
+pub reads_alone : (s : Settings) (before : Moment) (script : List ℕ) → SchemaIsSound (schema_of before.state.db) → before.state.queries ≡ []
+    → length script ≤ longest_script → NamesNoSession script → (outcomes : List LoadOutcome)
+    → CostsAlone (turns s before.state (readings_of script) outcomes) before
+reads_alone s before script sound idle fits none outcomes =
+    let all = turns s before.state (readings_of script) outcomes in
+    let ts = statement_turns s before.state.db (statement_readings script) outcomes in
+    costs_alone before all ts idle (turns_are s before script (readings_of script) outcomes sound idle fits none (found script))

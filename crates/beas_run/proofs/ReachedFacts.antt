@@ -226,17 +226,17 @@ greatest-append : (state : State) (done left : List DeskTurn)
     → greatest_cost state (done ++ left) ≡ cost_of (seen_turns done) + greatest_cost (state_after state done) left
 greatest-append state done left =
     let costs = cost-append done left in
-    let then : open_reads (state_after state (done ++ left)) ≡ open_reads (state_after (state_after state done) left) =
+    let after : open_reads (state_after state (done ++ left)) ≡ open_reads (state_after (state_after state done) left) =
     ap open_reads (state-append state done left) in
-    omega (arith, costs, then)
+    omega (arith, costs, after)
 
 abbrev turns_from : Settings → List Reading → Option Next → List DeskTurn
 turns_from s rest turn = option_map_or (λ n. n.turn ∷ turns s n.turn.effect.state rest n.left) turn []
 
 -- the first of the turns that come without a load
 first_cost : (s : Settings) (rest : List Reading) (state : State) (turn : Option Next) → greatest_cost state (take 1 (turns_from s rest turn)) ≡ reads_by state turn
-first_cost s rest state None = refl
-first_cost s rest state (Some n) = greatest-cons n.turn.effect.state n.turn []
+first_cost s rest state None = omega arith
+first_cost s rest state (Some n) = let whole = greatest-cons state n.turn [] in omega (arith, whole)
 
 first_le : (s : Settings) (rest : List Reading) (state : State) (turn : Option Next)
     → greatest_cost state (take 1 (turns_from s rest turn)) ≤ greatest_cost state (turns_from s rest turn)
