@@ -1,5 +1,5 @@
 -- A script that names no session is what its statements are.
-use Rattle.std.proofs.Common.{◌≡◌, ◌<◌, ◌≤◌, ◌+◌, ◌-◌, ◌^◌, ◌∙◌, inl, inr, ap, subst, sym, refl, ℕ, zero, suc, Bool, true, false, cond, List, [], ◌∷◌, Option, None, Some, Result, Ok, Err, arith, length, map, take}
+use Rattle.std.proofs.Common.{◌≡◌, ◌<◌, ◌≤◌, ◌+◌, ◌-◌, ◌^◌, ◌∙◌, inl, inr, ap, subst, sym, refl, ℕ, zero, suc, Bool, true, false, cond, List, [], ◌∷◌, None, Ok, arith, length, map, take}
 use Rattle.std.specs.Prelude.{All, nat_lt, sum}
 use Rattle.beas_core.proofs.Sets.{Has}
 use Rattle.std.specs.List.{AllZip, onto_first, slice_split}
@@ -7,7 +7,7 @@ use Rattle.std.proofs.lemmas.List.Elements.{All-cons, All-filter, All-nil, All-w
 use Rattle.catalogue.specs.Database.{schema_of}
 use Rattle.catalogue.specs.Schema.{SchemaIsSound}
 use Rattle.sql_text.specs.declared.token.Token.{Token}
-use Rattle.sql_text.specs.Pieces.{is_semicolon, statements_of}
+use Rattle.sql_text.specs.Pieces.{is_semicolon}
 use Rattle.sql_text.specs.Tokens.{tokens_of}
 use Rattle.sql_text.proofs.Spans.{length-tokens_of}
 use Rattle.sql_tree.specs.declared.tree.Statement.{Statement}

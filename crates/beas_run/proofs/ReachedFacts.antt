@@ -1,12 +1,12 @@
 -- Where a run is in the turns of its script, and what is true where it ends there.
-use Rattle.std.proofs.Common.{◌≡◌, ◌≢◌, ◌<◌, ◌≤◌, ◌+◌, ◌++◌, ◌||◌, ◌⊎◌, ◌∙◌, sym, ap, subst, refl, inl, inr, ℕ, Bool, true, false, List, [], ◌∷◌, Option, None, Some, Result, Ok, Err, length, take, arith, append_assoc, append-nil, length-append}
+use Rattle.std.proofs.Common.{◌≡◌, ◌≢◌, ◌<◌, ◌≤◌, ◌+◌, ◌++◌, ◌||◌, ◌⊎◌, ◌∙◌, sym, ap, subst, refl, inl, inr, ℕ, Bool, true, false, List, [], ◌∷◌, Option, None, Some, Err, length, take, arith, append_assoc, append-nil, length-append}
 use Rattle.std.specs.Prelude.{if◌then◌else◌, sum}
 use Rattle.std.specs.Option.{option_map_or}
 use Rattle.std.proofs.lemmas.List.Elements.{All-append, All-cons, All-nil}
 use Rattle.outside.specs.Counts.{raised}
 use Rattle.outside.specs.Parts.{SentPart}
 use Rattle.outside.proofs.Counts.{raised_none}
-use Rattle.outside.specs.Seen.{Seen, IsLater}
+use Rattle.outside.specs.Seen.{IsLater}
 use Rattle.report.specs.declared.reports.Report.{Report}
 use Rattle.report.specs.Reports.{report_text}
 use Rattle.session.specs.declared.loading.LoadOutcome.{LoadOutcome}
@@ -14,12 +14,12 @@ use Rattle.session.specs.Effects.{Settings}
 use Rattle.session.specs.Ties.{AreTied}
 use Rattle.session.specs.Turns.{is_refusal, out_of, cost_of, any_refused, loads_of, IsWithin}
 use Rattle.desk_model.specs.Desks.{State}
-use Rattle.desk_model.specs.Pieces.{DeskTurn, Next, next, piece_action, seen_turns, turns}
+use Rattle.desk_model.specs.Pieces.{DeskTurn, Next, next, seen_turns, turns}
 use Rattle.piece_reader.specs.Sayings.{Reading}
 use Rattle.beas_run.specs.declared.ending.Ending.{Ending}
 use Rattle.beas_run.specs.declared.ending.Ending.TheVariants.{Fault, NoMemory}
 use Rattle.beas_run.specs.Endings.{status_of}
-use Rattle.beas_run.specs.Pieces.{IsLeft, IsReported, IsTurn, IsUndone, IsUnreported, Scene, moment_of, reads_by, turn_alone}
+use Rattle.beas_run.specs.Pieces.{IsReported, IsTurn, IsUndone, IsUnreported, Scene, moment_of, reads_by, turn_alone}
 use Rattle.beas_run.specs.Shares.{AreShares, greatest_cost, open_reads}
 use Rattle.beas_run.specs.States.{state_after}
 use Rattle.beas_run.specs.Walks.{Moment, AreWithin, Did, whole_status, Follows, Walked}

@@ -7,19 +7,17 @@ use Rattle.beas_core.specs.declared.refusal.Refusal.TheVariants.{SessionIdle}
 use Rattle.session.specs.declared.loading.LoadOutcome.{LoadOutcome}
 use Rattle.session.specs.declared.loading.LoadOutcome.TheVariants.{Failed}
 use Rattle.session.specs.Effects.{Settings}
-use Rattle.session.specs.Turns.{Turn, cost_of}
-use Rattle.sql_tree.specs.declared.tree.Statement.{Statement}
+use Rattle.session.specs.Turns.{Turn}
 use Rattle.kept_facts.specs.OpenQueries.{OpenQuery, probes_of, reads_of}
 use Rattle.desk_model.specs.Answers.{effect_by}
-use Rattle.desk_model.specs.Desks.{DeskAction, AtOnce, ByLoad, DeskEffect, State, answered_effect, is_of, new_query, probed_effect, query_effect, query_of, refused, said_action, stepped_effect, with_query, without_query}
+use Rattle.desk_model.specs.Desks.{DeskAction, AtOnce, ByLoad, DeskEffect, State, answered_effect, is_of, new_query, probed_effect, query_effect, query_of, refused, said_action, stepped_effect, with_query}
 use Rattle.desk_model.specs.Pieces.{DeskTurn, Next, after_cost, and_step, and_steps, answered_if_opened, next, opens, piece_action, probes_due, seen_turn, seen_turns, turns, with_answer}
 use Rattle.piece_reader.specs.declared.saying.Saying.TheVariants.{Plain, Said, Stepped}
 use Rattle.piece_reader.specs.Sayings.{Reading}
 use Rattle.beas_run.specs.Pieces.{reads_by, turn_alone}
 use Rattle.beas_run.specs.Shares.{greatest_cost, open_reads}
-use Rattle.beas_run.specs.States.{state_after}
 use Rattle.beas_run.proofs.FoundFacts.{sum_by-remove-found, sum_by-set-found}
-use Rattle.beas_run.proofs.SaidFacts.{SaidIs, KeepsQueries, OpensQuery, said_is}
+use Rattle.beas_run.proofs.SaidFacts.{SaidIs, said_is}
 
 -- ---- going on with a query
 

@@ -133,9 +133,7 @@ fn carry_out_saying<F: Files, L: Ledger>(
     ensures later { IsLater (F.seen files.old) (F.seen files.new) }
 {
     match saying {
-        Saying::Plain { statement } => {
-            carry_out_statement(alloc, desk, statement, files, steps)
-        }
+        Saying::Plain { statement } => { carry_out_statement(alloc, desk, statement, files, steps) }
         Saying::Said { session, statement } => {
             say(alloc, desk, session, statement, files, steps)
         }
