@@ -1,10 +1,9 @@
 -- What a cursor counts, before a turn and after it.
-use Rattle.std.proofs.Common.{◌≡◌, ◌≤◌, ◌+◌, ◌∙◌, ℕ, Bool, true, false, List, [], ◌∷◌, length, map, Option, Some, None, refl, ap, sym, subst, arith}
+use Rattle.std.proofs.Common.{◌≡◌, ◌≤◌, ◌∙◌, ℕ, Bool, true, false, List, [], ◌∷◌, length, Option, Some, None, refl, ap, sym, subst, arith}
 use Rattle.std.specs.Prelude.{if◌then◌else◌, max}
 use Rattle.std.proofs.lemmas.List.Sums.{sum_by-cons}
-use Rattle.beas_core.specs.Queries.{BlockProbe}
 use Rattle.block_walk.specs.Worlds.{World}
-use Rattle.cursor_executor.specs.declared.cursors.Turn.TheVariants.{Probed, Done}
+use Rattle.cursor_executor.specs.declared.cursors.Turn.TheVariants.{Probed}
 use Rattle.cursor_executor.specs.Fetching.{BlockFetched, Seen as CursorSeen, probed, reads_fetched}
 use Rattle.cursor_executor.specs.Turns.{TurnIs}
 use Rattle.kept_facts.specs.OpenQueries.{OpenQuery, reads_of}
@@ -71,17 +70,6 @@ module _ (w : World) (old new : CursorSeen) (kept : IsKept w old) (session : ℕ
         record {
           reads = λ _. omega (arith, before, raised, all);
           most = λ _. omega (arith, before, due, raised, within, reads_still);
-          bound = bound_still;
-        }
-
-    pub counted_done : old.failed ≡ false → (s t : ℕ) → TurnIs w Done old new s t → AreCounted next new
-    counted_done live s t h =
-        let before = counted.reads live in
-        let most = counted.most live in
-        let stay = h.did.stay in
-        record {
-          reads = λ _. stay ∙ before ∙ sym (ap reads_fetched h.did.same);
-          most = λ _. omega (arith, most, stay, reads_still);
           bound = bound_still;
         }
 
