@@ -11,7 +11,7 @@ use Rattle.csv.specs.Writing.{default_writer, needs_quotes}
 use Rattle.report.specs.Records.{written_field}
 
 -- a field whose bytes call for no quotes stands as it is
-pub plain_field : (field : List ℕ) → needs_quotes default_writer field ≡ false → written_field field ≡ field
+plain_field : (field : List ℕ) → needs_quotes default_writer field ≡ false → written_field field ≡ field
 plain_field field plain = rw plain refl
 
 word_byte : (b : ℕ) → continues_word b ≡ true → needs_byte default_writer b ≡ false

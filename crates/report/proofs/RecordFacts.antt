@@ -43,7 +43,7 @@ doubled_end words None split is = bare words (split_parts 34 words None split (o
 doubled_end words (Some p) split is = cc
 
 -- the fields after the first stand after a comma each
-pub after_commas : (fields : List (List ℕ)) → fields_text default_writer fields ≡ flat_map (λ field. comma ∷ written_field field) fields
+after_commas : (fields : List (List ℕ)) → fields_text default_writer fields ≡ flat_map (λ field. comma ∷ written_field field) fields
 unfolding fields_text
 after_commas [] = refl
 after_commas (field ∷ fields) = ap (λ ys. comma ∷ (written_field field ++ ys)) (after_commas fields)

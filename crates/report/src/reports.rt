@@ -121,7 +121,7 @@ pub fn text(alloc: Global, number: u32, report: &Report) -> Result<Text, NoMemor
 fn explained_text(alloc: Global, number: u32, bound: u128, plan: &Text) -> Result<Text, NoMemory>
     ensures { IfOk result (λ text. text ≡ report_text number (Explained bound plan.now)) }
 {
-    let mut text = text_after(alloc, plan)?;
+    let mut text = empty_text_for(alloc, plan)?;
     push_bound(&mut text, number, bound, plan)?;
     text.push_str(Buffer::new().format(number))?;
     text.push_str(" ok\n")?;
@@ -187,7 +187,7 @@ fn answer_text<H: Field, F: Field>(
     ensures { IfOk result (λ text. text ≡ (bound_text number bound plan.now
         ++ records_text F.field (map H.field header.now) rows.now) ++ counts_text number (length rows.now) reads) }
 {
-    let mut text = text_after(alloc, plan)?;
+    let mut text = empty_text_for(alloc, plan)?;
     push_bound(&mut text, number, bound, plan)?;
     push_records(&mut text, header, rows)?;
     push_counts(&mut text, number, rows.len(), reads)?;
@@ -195,7 +195,7 @@ fn answer_text<H: Field, F: Field>(
 }
 
 /// An empty text with room for the plan lines and some more, so that a small answer is written in one block of memory.
-fn text_after(alloc: Global, plan: &Text) -> Result<Text, NoMemory>
+fn empty_text_for(alloc: Global, plan: &Text) -> Result<Text, NoMemory>
     ensures { IfOk result (λ text. text ≡ []) }
 {
     let room = plan.as_str().len().saturating_add(ROOM_AROUND_PLAN);
