@@ -169,7 +169,7 @@ pub fn derive_from(
         × (reason block.now accesses.now (covered_set block.now accesses.now start.now) ≡ Some why))) }
 {
     if let Some(steps) = greedy(alloc, accesses, block, start)? {
-        let steps = needed_steps(alloc, accesses.as_slice(), block, start, steps.as_slice())?;
+        let steps = needed_steps(alloc, accesses.as_slice(), block, start, steps)?;
         return Ok(Ok(Derivation { steps }));
     }
     let covered = close_from(alloc, block, accesses, start)?;

@@ -167,20 +167,24 @@ fn steps_of(
     Ok(plan.steps)
 }
 
-/// The steps of a derivation that are left after each, from the last to the first, has gone where it may.
+/// The steps of a derivation that are left after each, from the last to the first, has gone where it may. It takes no
+/// memory where there are no more steps than atoms: each atom needs one, so that none may go.
 pub fn needed_steps(
     alloc: Global,
     accesses: &[Access],
     block: &Normal,
     start: &[bool],
-    steps: &[DStep],
+    steps: List<DStep>,
 ) -> Result<List<DStep>, NoMemory>
     requires needed { length block.now.needed ≤ 65536 }
     requires ids { EachIdOnce accesses.now }
-    requires sound { IsSound block.now accesses.now start.now steps.now }
-    ensures { IfOk result (λ left. left ≡ pruned block.now accesses.now start.now steps.now) }
+    requires sound { IsSound block.now accesses.now start.now steps }
+    ensures { IfOk result (λ left. left ≡ pruned block.now accesses.now start.now steps) }
 {
-    let uses = uses_of_steps(alloc, accesses, steps)?;
+    if steps.len() <= block.atoms.len() {
+        return Ok(steps);
+    }
+    let uses = uses_of_steps(alloc, accesses, steps.as_slice())?;
     let left = prune(alloc, block, start, uses)?;
     steps_of(alloc, block, start, left.as_slice())
 }

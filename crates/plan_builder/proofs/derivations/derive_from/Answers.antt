@@ -9,14 +9,12 @@ use Rattle.plan_builder.proofs.derivations.derive_from.Goals as goal
 pub needed_steps-requires-clause-sound : goal.needed_steps-requires-clause-sound
 needed_steps-requires-clause-sound c =
     let sound = greedy_sound c.args.block.now c.args.accesses.now c.requires.ids c.args.start.now c.in-Some.steps (sym c.in_ok-steps.ensures ∙ c.in-Some.is) in
-    subst (λ a. IsSound c.args.block.now a c.args.start.now c.as_slice-in-Some.result.now) (sym c.as_slice.ensures)
-    (subst (IsSound c.args.block.now c.args.accesses.now c.args.start.now) (sym c.as_slice-in-Some.ensures) sound)
+    subst (λ a. IsSound c.args.block.now a c.args.start.now c.in-Some.steps) (sym c.as_slice.ensures) sound
 
 pub returns-in-Some : goal.returns-in-Some
 returns-in-Some c =
     derivation_some c.args.block.now c.args.accesses.now c.args.start.now c.in-Some.steps (sym c.in_ok-steps.ensures ∙ c.in-Some.is)
-    ∙ ap Some (sym (c.in_ok-steps-2.ensures ∙ ap (λ a. pruned c.args.block.now a c.args.start.now c.as_slice-in-Some.result.now) c.as_slice.ensures
-    ∙ ap (pruned c.args.block.now c.args.accesses.now c.args.start.now) c.as_slice-in-Some.ensures))
+    ∙ ap Some (sym (c.in_ok-steps-2.ensures ∙ ap (λ a. pruned c.args.block.now a c.args.start.now c.in-Some.steps) c.as_slice.ensures))
 
 pub unreachable-requires : goal.unreachable-requires
 unreachable-requires c =
