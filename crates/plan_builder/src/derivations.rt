@@ -25,25 +25,38 @@ pub struct Plan {
     pub set: Vec<bool>,
 }
 
+// Adds a use as the next step. The set has the classes that are bound before it.
+fn push_step(
+    steps: &mut List<DStep>,
+    block: &Normal,
+    set: &[bool],
+    found: UseAt<'_>,
+) -> Result<(), NoMemory>
+    ensures { OnOk result (steps.new ≡ steps.old ++ step_of block.now set.now (as_use found.entry) ∷ []) }
+{
+    let adds = adds(block, set, &found);
+    steps.push(DStep {
+        atom: found.atom,
+        access: found.access.id,
+        adds,
+    })
+}
+
 /// Takes a use as the next step.
 pub fn take_step(plan: &mut Plan, block: &Normal, found: UseAt<'_>) -> Result<(), NoMemory>
     ensures steps { OnOk result (plan.new.steps
         ≡ plan.old.steps ++ step_of block.now plan.old.set.items (as_use found.entry) ∷ []) }
     ensures set { OnOk result (plan.new.set.items ≡ with_use block.now plan.old.set.items (as_use found.entry)) }
 {
-    let adds = adds(block, &plan.set, &found);
-    plan.steps.push(DStep {
-        atom: found.atom,
-        access: found.access.id,
-        adds,
-    })?;
+    push_step(&mut plan.steps, block, &plan.set, found)?;
     add_use(block, &found, &mut plan.set);
     Ok(())
 }
 
-// Adds steps until the set covers the block, and notes their uses. False where no use is left that adds a class.
+// Adds steps until the candidates' set covers the block, and notes their uses. False where no use is left that adds a
+// class.
 fn add_steps<'a>(
-    plan: &mut Plan,
+    steps: &mut List<DStep>,
     taken: &mut List<UseAt<'a>>,
     block: &Normal,
     candidates: &mut Candidates<'a>,
@@ -51,16 +64,15 @@ fn add_steps<'a>(
     requires ranges { ClassesInRange block.now }
     requires needed { length block.now.needed ≤ 65536 }
     requires are { AreCandidates block.now candidates.old }
-    requires set { candidates.old.keys.set.items ≡ plan.old.set.items }
-    requires steps { plan.old.steps ≡ [] }
+    requires steps { steps.old ≡ [] }
     requires taken { taken.old ≡ [] }
     ensures uses { candidates.new.keys.uses ≡ candidates.old.keys.uses }
     ensures come { IfOk result (λ whole. (accesses : List Access)
         → EachIdOnce accesses → map as_use candidates.old.keys.uses ≡ uses_in block.now accesses
         → MatchBool whole
-        (HasCome block.now accesses plan.old.set.items plan.new taken.new
-        × (adding_steps block.now.count block.now accesses plan.old.set.items ≡ Some plan.new.steps))
-        (adding_steps block.now.count block.now accesses plan.old.set.items ≡ None)) }
+        (HasCome block.now accesses candidates.old.keys.set.items candidates.new.keys.set.items steps.new taken.new
+        × (adding_steps block.now.count block.now accesses candidates.old.keys.set.items ≡ Some steps.new))
+        (adding_steps block.now.count block.now accesses candidates.old.keys.set.items ≡ None)) }
 {
     for _turn in 0..block.count {
         if candidates.cover(block) {
@@ -69,7 +81,7 @@ fn add_steps<'a>(
         match candidates.next(block) {
             None => return Ok(false),
             Some(found) => {
-                take_step(plan, block, found)?;
+                push_step(steps, block, &candidates.keys.set, found)?;
                 taken.push(found)?;
                 candidates.take(block, &found)?;
             }
@@ -133,19 +145,22 @@ pub fn greedy(
     ensures { IfOk result (λ steps. steps ≡ greedy_steps block.now accesses.now start.now) }
 {
     let mut candidates = Candidates::of(alloc, block, accesses.as_slice(), start)?;
+    let mut steps = List::new(alloc);
     let mut taken = List::new(alloc);
-    let mut plan = Plan {
-        steps: List::new(alloc),
-        set: Vec::from_slice(alloc, start)?,
-    };
-    if !add_steps(&mut plan, &mut taken, block, &mut candidates)? {
+    if !add_steps(&mut steps, &mut taken, block, &mut candidates)? {
         return Ok(None);
     }
+    let keys = candidates.keys;
+    let uses = keys.uses;
+    let mut plan = Plan {
+        steps,
+        set: keys.set,
+    };
     serve_atoms(
         &mut plan,
         block,
         accesses.as_slice(),
-        candidates.keys.uses.as_slice(),
+        uses.as_slice(),
         taken.as_slice(),
     )?;
     Ok(Some(plan.steps))
