@@ -78,7 +78,7 @@ fn block_header(alloc: Global, catalogue: &Catalogue, block: &Block) -> Result<L
     requires over { BlockIsOver catalogue.now block.now }
     ensures { IfOk result (λ header. header ≡ block_header catalogue.now block.now) }
 {
-    let mut header = List::new(alloc);
+    let mut header = List::from_vec(Vec::with_capacity(alloc, block.output.len())?);
     for place in block.output.as_slice() {
         header.push(column_name(alloc, catalogue, block, *place)?)?;
     }
@@ -235,9 +235,9 @@ fn plan_blocks(alloc: Global, catalogue: &Catalogue, blocks: &[BlockAt<'_>]) -> 
         ≡ map task_steps (map (task_at catalogue.now.accesses) blocks.now)) }
 {
     let mut plans = Plans {
-        normals: List::new(alloc),
-        derivations: List::new(alloc),
-        guided: List::new(alloc),
+        normals: List::from_vec(Vec::with_capacity(alloc, blocks.len())?),
+        derivations: List::from_vec(Vec::with_capacity(alloc, blocks.len())?),
+        guided: List::from_vec(Vec::with_capacity(alloc, blocks.len())?),
     };
     for (place, at) in blocks.iter().enumerate() {
         let (normal, plan) = plan_block(alloc, catalogue, place as u32 + 1, *at)?;
