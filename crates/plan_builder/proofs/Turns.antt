@@ -173,13 +173,23 @@ greedy_none normal accesses start h = ap (option_map (λ steps. steps ++ serving
     (atoms_of normal))) h
 
 pub always_why : (normal : Normal) (accesses : List Access) (start : ClassSet) → ClassesInRange normal → length start ≡ normal.count
-    → greedy_steps normal accesses start ≡ None
+    → derivation normal accesses start ≡ None
     → reason normal accesses (covered_set normal accesses start) ≡ None → ⊥
-unfolding derivation
 always_why normal accesses start ranges counted h g =
     let e = derivation_exists normal accesses ranges start counted (reason-covered normal accesses (covered_set normal accesses start) g) in
-    let f = ap (λ o. is_some (option_map (pruned normal accesses start) o)) h in
+    let f = ap is_some h in
     cc
+
+-- where there is no derivation there is a reason
+pub why_there : (normal : Normal) (accesses : List Access) (start : ClassSet) → ClassesInRange normal → length start ≡ normal.count
+    → derivation normal accesses start ≡ None
+    → (why : NotCovered) × (reason normal accesses (covered_set normal accesses start) ≡ Some why)
+why_there normal accesses start ranges counted h = by (reason normal accesses (covered_set normal accesses start)) refl
+  where
+    by : (o : Option NotCovered) → reason normal accesses (covered_set normal accesses start) ≡ o
+        → (why : NotCovered) × (reason normal accesses (covered_set normal accesses start) ≡ Some why)
+    by None e = absurd (always_why normal accesses start ranges counted h e)
+    by (Some why) e = (why, e)
 
 pub derivation_none : (normal : Normal) (accesses : List Access) (start : ClassSet) → greedy_steps normal accesses start ≡ None
     → derivation normal accesses start ≡ None

@@ -166,6 +166,51 @@ pub fn greedy(
     Ok(Some(plan.steps))
 }
 
+/// The derivation of a block from a start set of classes. Nothing where the constraints don't cover it from there.
+pub fn steps_if_covered(
+    alloc: Global,
+    accesses: &List<Access>,
+    block: &Normal,
+    start: &[bool],
+) -> Result<Option<List<DStep>>, NoMemory>
+    requires ranges { ClassesInRange block.now }
+    requires classes { length start.now ≡ block.now.count }
+    requires atoms { length block.now.atoms < 65536 }
+    requires needed { length block.now.needed ≤ 65536 }
+    requires ids { EachIdOnce accesses.now }
+    ensures { IfOk result (λ steps. steps ≡ derivation block.now accesses.now start.now) }
+{
+    match greedy(alloc, accesses, block, start)? {
+        Some(steps) => {
+            let steps = needed_steps(alloc, accesses.as_slice(), block, start, steps)?;
+            Ok(Some(steps))
+        }
+        None => Ok(None),
+    }
+}
+
+/// Why the constraints don't cover a block from a start set of classes, where there is no derivation from it.
+pub fn why_none(
+    alloc: Global,
+    accesses: &List<Access>,
+    block: &Normal,
+    start: &[bool],
+) -> Result<NotCovered, NoMemory>
+    requires ranges { ClassesInRange block.now }
+    requires classes { length start.now ≡ block.now.count }
+    requires atoms { length block.now.atoms < 65536 }
+    requires needed { length block.now.needed ≤ 65536 }
+    requires none { derivation block.now accesses.now start.now ≡ None }
+    ensures { IfOk result (λ why.
+        reason block.now accesses.now (covered_set block.now accesses.now start.now) ≡ Some why) }
+{
+    let covered = close_from(alloc, block, accesses, start)?;
+    match why_not(block, accesses.as_slice(), covered.as_slice()) {
+        Some(why) => Ok(why),
+        None => unreachable!(),
+    }
+}
+
 /// The derivation of a block from a start set of classes, or why its constraints don't cover it from there.
 pub fn derive_from(
     alloc: Global,
@@ -183,14 +228,9 @@ pub fn derive_from(
         (λ why. (derivation block.now accesses.now start.now ≡ None)
         × (reason block.now accesses.now (covered_set block.now accesses.now start.now) ≡ Some why))) }
 {
-    if let Some(steps) = greedy(alloc, accesses, block, start)? {
-        let steps = needed_steps(alloc, accesses.as_slice(), block, start, steps)?;
-        return Ok(Ok(Derivation { steps }));
-    }
-    let covered = close_from(alloc, block, accesses, start)?;
-    match why_not(block, accesses.as_slice(), covered.as_slice()) {
-        Some(why) => Ok(Err(why)),
-        None => unreachable!(),
+    match steps_if_covered(alloc, accesses, block, start)? {
+        Some(steps) => Ok(Ok(Derivation { steps })),
+        None => Ok(Err(why_none(alloc, accesses, block, start)?)),
     }
 }
 

@@ -15,8 +15,9 @@ ghost use Rattle.plan_builder.specs.Parts.{Grows, block_reads, block_size, block
 ghost use Rattle.plan_builder.specs.Preparation.{IsWellFormedIn, block_header, header_of, not_covered, place_name, preparation, preparation_over, refusal_of, with_lists};
 
 use crate::blocks::{BlockAt, joined, joined_all, push_blocks};
-use crate::derivations::{derive, derive_from};
+use crate::derivations::{derive_from, steps_if_covered, why_none};
 use crate::sets::guided_start;
+use attribute_closure::constant_classes;
 use beas_core::{
     Access, Block, Derivation, Duplicate, Fail, List, Name, NoMemory, Normal, NotCovered, Place,
     Prepared, Query, QueryNode, Refusal,
@@ -147,18 +148,15 @@ fn plan_normal(
         × (task_reason (normal_task normal.now accesses.now has_guide) ≡ None))
         (λ why. task_reason (normal_task normal.now accesses.now has_guide) ≡ Some why)) }
 {
-    match derive(alloc, accesses, normal)? {
-        Ok(derivation) => {
-            return Ok(Ok(TaskPlan {
-                derivation,
-                guided: false,
-            }));
-        }
-        Err(why) => {
-            if !has_guide {
-                return Ok(Err(why));
-            }
-        }
+    let start = constant_classes(alloc, normal)?;
+    if let Some(steps) = steps_if_covered(alloc, accesses, normal, start.as_slice())? {
+        return Ok(Ok(TaskPlan {
+            derivation: Derivation { steps },
+            guided: false,
+        }));
+    }
+    if !has_guide {
+        return Ok(Err(why_none(alloc, accesses, normal, start.as_slice())?));
     }
     let start = guided_start(alloc, normal)?;
     match derive_from(alloc, accesses, normal, start.as_slice())? {
