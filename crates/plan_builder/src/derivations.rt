@@ -145,8 +145,8 @@ pub fn greedy(
     ensures { IfOk result (λ steps. steps ≡ greedy_steps block.now accesses.now start.now) }
 {
     let mut candidates = Candidates::of(alloc, block, accesses.as_slice(), start)?;
-    let mut steps = List::new(alloc);
-    let mut taken = List::new(alloc);
+    let mut steps = List::from_vec(Vec::with_capacity(alloc, block.atoms.len())?);
+    let mut taken = List::from_vec(Vec::with_capacity(alloc, block.atoms.len())?);
     if !add_steps(&mut steps, &mut taken, block, &mut candidates)? {
         return Ok(None);
     }

@@ -14,7 +14,7 @@ ghost use Rattle.catalogue.specs.Queries.{BlockIsOver, QueryIsOver, RowsAreWide}
 ghost use Rattle.plan_builder.specs.Parts.{Grows, block_reads, block_size, blocks_at, normal_task, task_at, unless_too_large, whole};
 ghost use Rattle.plan_builder.specs.Preparation.{IsWellFormedIn, block_header, header_of, not_covered, place_name, preparation, preparation_over, refusal_of, with_lists};
 
-use crate::blocks::{BlockAt, joined, joined_all, push_blocks};
+use crate::blocks::{BlockAt, count_blocks, joined, joined_all, push_blocks};
 use crate::derivations::{derive_from, steps_if_covered, why_none};
 use crate::sets::guided_start;
 use attribute_closure::constant_classes;
@@ -403,7 +403,7 @@ fn parts_of(
         Gives (Ok (whole query.now parts)) (preparation_over catalogue.now extra.now query.now)) }
     ensures plan { IfOk result (λ parts. PlanFits (with_lists catalogue.now.accesses extra.now) (whole query.now parts)) }
 {
-    let mut found = List::new(alloc);
+    let mut found = List::from_vec(Vec::with_capacity(alloc, count_blocks(query))?);
     push_blocks(query, extra, false, &mut found)?;
     let plans = plan_blocks(alloc, catalogue, found.as_slice())?;
     let bound = announce_over(alloc, catalogue.accesses(), extra, query, &plans)?;

@@ -33,7 +33,7 @@ fn uses_of_steps<'a>(
     requires live { All (λ s. IsTrue (is_live accesses.now s.access)) steps.now }
     ensures { IfOk result (λ found. map as_use found ≡ map (use_of accesses.now) steps.now) }
 {
-    let mut found = List::new(alloc);
+    let mut found = List::from_vec(Vec::with_capacity(alloc, steps.len())?);
     for step in steps {
         match access_with(accesses, step.access) {
             Some(access) => found.push(UseAt {
@@ -167,7 +167,7 @@ fn steps_of(
     ensures { IfOk result (λ steps. steps ≡ steps_from block.now start.now (map as_use uses.now)) }
 {
     let mut plan = Plan {
-        steps: List::new(alloc),
+        steps: List::from_vec(Vec::with_capacity(alloc, uses.len())?),
         set: Vec::from_slice(alloc, start)?,
     };
     for found in uses {
