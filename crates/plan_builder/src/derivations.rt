@@ -1,9 +1,9 @@
 // Derivations: steps that add classes while the block isn't covered, then steps that serve its atoms.
-ghost use Rattle.std.specs.Prelude.{◌≡◌, ◌≤◌, ◌<◌, ◌++◌, ◌∷◌, [], IfOk, OnOk, MatchBool, MatchResult, None, Some, length, map, take};
+ghost use Rattle.std.specs.Prelude.{◌≡◌, ◌≤◌, ◌<◌, ◌++◌, ◌∷◌, [], All, IfOk, IsTrue, OnOk, MatchBool, MatchResult, None, Some, length, map, take};
 ghost use Rattle.std.specs.List.{list_any};
 ghost use Rattle.beas_core.specs.declared.schema.Access.{Access};
-ghost use Rattle.beas_core.specs.Coverage.{ClassesInRange, atoms_of, covered_set, own_reason, reason, uses as uses_in};
-ghost use Rattle.beas_core.specs.Derivations.{adding_steps, greedy_steps, serving_steps, step_of, use_of, with_use};
+ghost use Rattle.beas_core.specs.Coverage.{ClassesInRange, atoms_of, covered_set, holds_needed, own_reason, reason, uses as uses_in};
+ghost use Rattle.beas_core.specs.Derivations.{adding_steps, greedy_steps, is_live, is_served_by, serving_steps, step_of, use_of, with_use};
 ghost use Rattle.beas_core.specs.Pruning.{derivation, own_derivation};
 ghost use Rattle.beas_core.specs.Shapes.{EachIdOnce};
 ghost use Rattle.attribute_closure.specs.Uses.{as_use};
@@ -16,6 +16,7 @@ use crate::pruning::needed_steps;
 use crate::sets::{add_use, adds};
 use attribute_closure::{UseAt, close_from, constant_classes, holds_needed, why_not};
 use beas_core::{Access, DStep, Derivation, List, NoMemory, Normal, NotCovered};
+use bound_calculator::access_with;
 use std::alloc::Global;
 
 /// The steps so far, and the classes that are bound after them.
@@ -53,24 +54,21 @@ pub fn take_step(plan: &mut Plan, block: &Normal, found: UseAt<'_>) -> Result<()
     Ok(())
 }
 
-// Adds steps until the candidates' set covers the block, and notes their uses. False where no use is left that adds a
-// class.
-fn add_steps<'a>(
+// Adds steps until the candidates' set covers the block. False where no use is left that adds a class.
+fn add_steps(
     steps: &mut List<DStep>,
-    taken: &mut List<UseAt<'a>>,
     block: &Normal,
-    candidates: &mut Candidates<'a>,
+    candidates: &mut Candidates<'_>,
 ) -> Result<bool, NoMemory>
     requires ranges { ClassesInRange block.now }
     requires needed { length block.now.needed ≤ 65536 }
     requires are { AreCandidates block.now candidates.old }
     requires steps { steps.old ≡ [] }
-    requires taken { taken.old ≡ [] }
     ensures uses { candidates.new.keys.uses ≡ candidates.old.keys.uses }
     ensures come { IfOk result (λ whole. (accesses : List Access)
         → EachIdOnce accesses → map as_use candidates.old.keys.uses ≡ uses_in block.now accesses
         → MatchBool whole
-        (HasCome block.now accesses candidates.old.keys.set.items candidates.new.keys.set.items steps.new taken.new
+        (HasCome block.now accesses candidates.old.keys.set.items candidates.new.keys.set.items steps.new
         × (adding_steps block.now.count block.now accesses candidates.old.keys.set.items ≡ Some steps.new))
         (adding_steps block.now.count block.now accesses candidates.old.keys.set.items ≡ None)) }
 {
@@ -82,7 +80,6 @@ fn add_steps<'a>(
             None => return Ok(false),
             Some(found) => {
                 push_step(steps, block, &candidates.keys.set, found)?;
-                taken.push(found)?;
                 candidates.take(block, &found)?;
             }
         }
@@ -104,23 +101,58 @@ pub fn is_served_among(block: &Normal, taken: &[UseAt<'_>], atom: u16) -> bool
     false
 }
 
+// Whether a step has the needed columns of its atom in key or fetched.
+fn has_needed(block: &Normal, accesses: &[Access], step: &DStep) -> bool
+    requires ids { EachIdOnce accesses.now }
+    requires live { IsTrue (is_live accesses.now step.now.access) }
+    ensures { result ≡ holds_needed block.now (use_of accesses.now step.now) }
+{
+    match access_with(accesses, step.access) {
+        Some(access) => {
+            let found = UseAt {
+                atom: step.atom,
+                access,
+            };
+            holds_needed(block, &found)
+        }
+        None => unreachable!(),
+    }
+}
+
+// Whether one of some steps is on an atom and has its needed columns in key or fetched.
+fn is_served_by(block: &Normal, accesses: &[Access], steps: &[DStep], atom: u16) -> bool
+    requires ids { EachIdOnce accesses.now }
+    requires live { All (λ s. IsTrue (is_live accesses.now s.access)) steps.now }
+    ensures { result ≡ is_served_by block.now accesses.now steps.now atom }
+{
+    for step in steps {
+        if step.atom == atom {
+            if has_needed(block, accesses, step) {
+                return true;
+            }
+        }
+    }
+    false
+}
+
 // Adds for each atom in order that none of the steps serves the best use that serves it.
 fn serve_atoms(
     plan: &mut Plan,
     block: &Normal,
     accesses: &[Access],
     uses: &[UseAt<'_>],
-    taken: &[UseAt<'_>],
 ) -> Result<(), NoMemory>
     requires atoms { length block.now.atoms < 65536 }
+    requires ids { EachIdOnce accesses.now }
     requires uses { map as_use uses.now ≡ uses_in block.now accesses.now }
-    requires taken { map (use_of accesses.now) plan.old.steps ≡ map as_use taken.now }
+    requires live { All (λ s. IsTrue (is_live accesses.now s.access)) plan.old.steps }
     ensures { OnOk result (plan.new.steps
         ≡ plan.old.steps
         ++ serving_steps block.now accesses.now plan.old.steps plan.old.set.items (atoms_of block.now)) }
 {
+    let first = plan.steps.len();
     for atom in 0..block.atoms.len() as u16 {
-        if !is_served_among(block, taken, atom) {
+        if !is_served_by(block, accesses, &plan.steps.as_slice()[..first], atom) {
             if let Some(found) = best_serving(block, uses, &plan.set, atom) {
                 take_step(plan, block, found)?;
             }
@@ -146,8 +178,7 @@ pub fn greedy(
 {
     let mut candidates = Candidates::of(alloc, block, accesses.as_slice(), start)?;
     let mut steps = List::from_vec(Vec::with_capacity(alloc, block.atoms.len())?);
-    let mut taken = List::from_vec(Vec::with_capacity(alloc, block.atoms.len())?);
-    if !add_steps(&mut steps, &mut taken, block, &mut candidates)? {
+    if !add_steps(&mut steps, block, &mut candidates)? {
         return Ok(None);
     }
     let keys = candidates.keys;
@@ -156,13 +187,7 @@ pub fn greedy(
         steps,
         set: keys.set,
     };
-    serve_atoms(
-        &mut plan,
-        block,
-        accesses.as_slice(),
-        uses.as_slice(),
-        taken.as_slice(),
-    )?;
+    serve_atoms(&mut plan, block, accesses.as_slice(), uses.as_slice())?;
     Ok(Some(plan.steps))
 }
 

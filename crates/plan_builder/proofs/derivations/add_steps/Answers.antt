@@ -4,7 +4,7 @@ use Rattle.beas_core.specs.Coverage.{is_covered, uses}
 use Rattle.beas_core.specs.Derivations.{least_bound, step_of, with_use}
 use Rattle.attribute_closure.specs.Uses.{as_use}
 use Rattle.plan_builder.specs.Choices.{may_add}
-use Rattle.plan_builder.proofs.Turns.{left_done, left_stuck, left_out, plan_bound, plan_uses, plan_left, chosen_member, by_bool}
+use Rattle.plan_builder.proofs.Turns.{left_done, left_stuck, left_out, plan_bound, plan_live, plan_left, chosen_member, by_bool}
 use Rattle.plan_builder.proofs.derivations.add_steps.Goals as goal
 
 pub returns-then-cover-clause-come : goal.returns-then-cover-clause-come
@@ -52,11 +52,10 @@ loop-turn-preserved c =
           let chosen = c.in-Some.ensures.best ∙ ap (λ us. least_bound (filter (may_add normal set) us)) listed in
           let member = chosen_member (may_add normal set) (uses normal accesses) (as_use found) chosen in (
             record {
-              bound = plan_bound normal accesses once start set steps c.loop-turn.taken found member set2 steps2 grown pushed so_far.0.bound;
-              uses = plan_uses normal accesses once start set steps c.loop-turn.taken found member set2 steps2 grown pushed
-                  c.push.new.self c.in_ok-push-in-Some.ensures.ok so_far.0.uses;
+              bound = plan_bound normal accesses once start set steps found member set2 steps2 grown pushed so_far.0.bound;
+              live = plan_live normal accesses once start set steps found member set2 steps2 grown pushed so_far.0.live;
             },
-            plan_left normal accesses once start set steps c.loop-turn.taken found member set2 steps2 grown pushed
+            plan_left normal accesses once start set steps found member set2 steps2 grown pushed
                 normal.count c.loop-turn._turn c.loop-turn-test.true so_far.1 covered (sym chosen),
           );
     }

@@ -14,7 +14,7 @@ invariant-loop-turn l = record {
   are : AreCandidates l.block l.candidates;
   listed : l.candidates.keys.uses ≡ l.initial.candidates.keys.uses;
   come : (accesses : List Access) → EachIdOnce accesses → map as_use l.initial.candidates.keys.uses ≡ uses l.block accesses
-      → HasCome l.block accesses l.initial.candidates.keys.set.items l.candidates.keys.set.items l.steps l.taken
+      → HasCome l.block accesses l.initial.candidates.keys.set.items l.candidates.keys.set.items l.steps
       × (adding_steps l.block.count l.block accesses l.initial.candidates.keys.set.items
       ≡ option_map (λ more. l.steps ++ more) (adding_steps (l.block.count - l._turn) l.block accesses l.candidates.keys.set.items));
 }
