@@ -13,9 +13,7 @@ use std::alloc::Global;
 use std::marker::Model;
 use std::sync::ledger::Ledger;
 use update_guard::Indexes;
-use word_index::{
-    AnyIndex, Interner, add_if_holds, add_rows, index_of, remove_row, remove_rows,
-};
+use word_index::{AnyIndex, Interner, add_if_holds, add_rows, index_of, remove_row, remove_rows};
 
 /// The indexes of constraints over codes, with the values of these. Each value is kept once, whatever number of tuples
 /// have it. Contracts see the indexes of values. Its tuples are handed out after a probe alone, so it isn't `Debug`.
