@@ -170,7 +170,8 @@ module _ (access : Access) (codes : List Value) (total : ℕ) (es : List Entry) 
   pub judged : (g : List Coded) → lookup (pointwise nat_eq ws) es ≡ Some g → (answer : Bool) → HasRoom answer access words g
       → IsTrue answer ↔ WouldHold (read_index codes (record { access = access; total = total; groups = es })) row
   judged g f true (inl l) = (λ t. room_left g f l, λ would. refl)
-  judged g f true (inr m) = (λ t. is_there g f m.at (record { words = []; count = 0 }) m.within (m.same (record { words = []; count = 0 })), λ would. refl)
+  judged g f true (inr m) =
+      let none : Coded = record { words = []; count = 0 } in (λ t. is_there g f m.at none m.within (m.same none), λ would. refl)
   judged g f false m = (λ t. cc, λ would. absurd (is_not g f m.1 m.0 would))
 
   pub of_nothing : lookup (pointwise nat_eq ws) es ≡ None → (answer : Bool) → (IsTrue answer ↔ (0 < access.bound))
@@ -199,7 +200,8 @@ module _ (access : Access) (codes : List Value) (total : ℕ) (es : List Entry) 
       told answer (λ row s. judged access codes total es words (subst (IsInOrderFor codes) (sym view) in_order) row s g
       (ap (λ j. lookup (pointwise nat_eq j) es) (sym key_is) ∙ f) answer room)
 
-  pub new_holds : lookup (pointwise nat_eq key) es ≡ None → (answer : Bool) → (IsTrue answer ↔ (0 < access.bound)) → HoldsWhere answer codes words self
+  pub new_holds : lookup (pointwise nat_eq key) es ≡ None → (answer : Bool) → (IsTrue answer ↔ (0 < access.bound))
+      → HoldsWhere answer codes words self
   new_holds f answer iff =
       told answer (λ row s. of_nothing access codes total es words (subst (IsInOrderFor codes) (sym view) in_order) row s
       (ap (λ j. lookup (pointwise nat_eq j) es) (sym key_is) ∙ f) answer iff)

@@ -34,8 +34,7 @@ returns-in-Ok-false-clause-indexed g c rows front live is =
     let row = c.args.row.now in
     let after = front ++ row ∷ [] in
     let done = take c.loop-k.k (ids_on accesses table) in
-    let kept = move_kept rows front after done
-    c.place_on-place.ensures c.loop-k.invariant.long live c.add_if_holds.ensures.moved
+    let kept = move_kept rows front after done c.place_on-place.ensures c.loop-k.invariant.long live c.add_if_holds.ensures.moved
     (λ own h. subst (λ (b : Bool). IsIndexOf (index_at new place) (if b then own ++ row ∷ [] else own)) c.in-Ok-false.field-0-test
     (c.in-Ok-false.ensures.index own h)) (c.loop-k.invariant.moved rows front live is) in
     subst (λ own. IndexesOf accesses (set rows table own) (g.I.Indexes.seen c.remove_from.new.indexes)) (append-nil front)
@@ -50,7 +49,8 @@ returns-in-Ok-false-clause-first g c rows live indexed hold =
     let place = c.place_on-place.result in
     let added = c.args.row.now ∷ [] in
     let listed : c.loop-k.k < length (ids_on accesses c.args.table.0) = omega (arith, c.loop-k-test.true, ap length c.ids_on-k-end.ensures.ids) in
-    let same = fresh_at accesses c.args.table.0 c.loop-k.k place old now (index_at now place) c.place_on-place.ensures listed c.loop-k.invariant.fresh in
+    let same = fresh_at accesses c.args.table.0 c.loop-k.k place old now (index_at now place) c.place_on-place.ensures listed
+    c.loop-k.invariant.fresh in
     let within : place < length now = omega (arith, c.place_on-place.ensures.within, c.loop-k.invariant.long) in
     let mine = accesses_on accesses c.args.table in
     let next = broken_from mine (get_or rows c.args.table.0 [] ++ added) (c.loop-k.k + 1) in
@@ -70,7 +70,8 @@ returns-in-Err-clause-err g c rows front live is =
     let new = g.I.Indexes.seen c.add_if_holds.new.self in
     let after = front ++ c.args.row.now ∷ [] in
     let done = take c.loop-k.k (ids_on accesses table) in
-    let kept = subst (λ ixs. AreIndexed accesses rows table front after done ixs) (sym c.in-Err.ensures.err) (c.loop-k.invariant.moved rows front live is) in
+    let kept = subst (λ ixs. AreIndexed accesses rows table front after done ixs) (sym c.in-Err.ensures.err)
+    (c.loop-k.invariant.moved rows front live is) in
     subst (λ own. IndexesOf accesses (set rows table own) (g.I.Indexes.seen c.remove_from-in-Err.new.indexes)) (append-nil front)
     (c.remove_from-in-Err.ensures.taken rows front [] live
     (subst (λ own. AreIndexed accesses rows table own after done new) (sym (append-nil front)) kept))

@@ -19,4 +19,5 @@ full access words group l None m = (l, m)
 pub returns : goal.returns
 returns c =
     subst (λ b. HasRoom b c.args.access.now c.args.words.now c.args.group.now) (sym c.is_some.ensures)
-    (full c.args.access.now c.args.words.now c.args.group.now (omega (arith, c.if-len-access.false, c.len.ensures)) c.position_of.result c.position_of.ensures)
+    (full c.args.access.now c.args.words.now c.args.group.now (omega (arith, c.if-len-access.false, c.len.ensures)) c.position_of.result
+    c.position_of.ensures)

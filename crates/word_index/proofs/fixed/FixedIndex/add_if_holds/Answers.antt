@@ -18,8 +18,11 @@ invariant_of-self g c =
     let key = c.key_of-key.result in
     let g0 = c.in-Some.group.now in
     let found : lookup (pointwise nat_eq key) es ≡ Some g0 = sym c.in-Some.ensures.value in
-    let same = (c.get_mut.follows.holds g0).0 ∙ set_same (pointwise nat_eq key) es g0 found in
-    (c.self.invariant.0, c.self.invariant.1, subst (λ xs. IsOrdered (record { access = access; total = total; groups = xs })) (sym same) c.self.invariant.2)
+    let same = (c.get_mut.follows.holds g0).0 ∙ set_same (pointwise nat_eq key) es g0 found in (
+      c.self.invariant.0,
+      c.self.invariant.1,
+      subst (λ xs. IsOrdered (record { access = access; total = total; groups = xs })) (sym same) c.self.invariant.2,
+    )
 
 pub returns-then-not-has_room-clause-in_order : goal.returns-then-not-has_room-clause-in_order
 returns-then-not-has_room-clause-in_order g c =
@@ -117,8 +120,11 @@ invariant_of-self-in_err-count_up g c =
     let g0 = c.in-Some.group.now in
     let found : lookup (pointwise nat_eq key) es ≡ Some g0 = sym c.in-Some.ensures.value in
     let same = (c.get_mut.follows.holds c.count_up.new.group).0 ∙ ap (set_value (pointwise nat_eq key) es) c.in_err-count_up.ensures.err
-    ∙ set_same (pointwise nat_eq key) es g0 found in
-    (c.self.invariant.0, c.self.invariant.1, subst (λ xs. IsOrdered (record { access = access; total = total; groups = xs })) (sym same) c.self.invariant.2)
+    ∙ set_same (pointwise nat_eq key) es g0 found in (
+      c.self.invariant.0,
+      c.self.invariant.1,
+      subst (λ xs. IsOrdered (record { access = access; total = total; groups = xs })) (sym same) c.self.invariant.2,
+    )
 
 pub returns-in_err-count_up-clause-in_order : goal.returns-in_err-count_up-clause-in_order
 returns-in_err-count_up-clause-in_order g c =
@@ -237,7 +243,8 @@ invariant_of-self-2 g c =
     let m = c.in_ok-insert.ensures in
     let t = take_new access codes total es c.insert.new.self.entries words c.args.self.now c.self.view_is
     c.requires.in_order c.requires.known key key_is
-    c.in_ok-group.group c.in_ok-group.ensures (m.entries ∙ ap (λ b. insert_entry (pointwise nat_eq) b.entries key c.in_ok-group.group) c.get_mut.follows.holds-at-none
+    c.in_ok-group.group c.in_ok-group.ensures
+    (m.entries ∙ ap (λ b. insert_entry (pointwise nat_eq) b.entries key c.in_ok-group.group) c.get_mut.follows.holds-at-none
     ∙ insert_entry-new (pointwise nat_eq) c.self.inside.groups key c.in_ok-group.group absent) m.unique in
     (c.self.invariant.0, c.self.invariant.1, record { codes = codes; in_order = t.in_order })
 
@@ -254,7 +261,8 @@ returns-clause-in_order g c =
     let m = c.in_ok-insert.ensures in
     let t = take_new access codes total es c.insert.new.self.entries words c.args.self.now c.self.view_is
     c.requires.in_order c.requires.known key key_is
-    c.in_ok-group.group c.in_ok-group.ensures (m.entries ∙ ap (λ b. insert_entry (pointwise nat_eq) b.entries key c.in_ok-group.group) c.get_mut.follows.holds-at-none
+    c.in_ok-group.group c.in_ok-group.ensures
+    (m.entries ∙ ap (λ b. insert_entry (pointwise nat_eq) b.entries key c.in_ok-group.group) c.get_mut.follows.holds-at-none
     ∙ insert_entry-new (pointwise nat_eq) c.self.inside.groups key c.in_ok-group.group absent) m.unique in
     t.in_order
 
@@ -271,7 +279,8 @@ returns-clause-index g c =
     let m = c.in_ok-insert.ensures in
     let t = take_new access codes total es c.insert.new.self.entries words c.args.self.now c.self.view_is
     c.requires.in_order c.requires.known key key_is
-    c.in_ok-group.group c.in_ok-group.ensures (m.entries ∙ ap (λ b. insert_entry (pointwise nat_eq) b.entries key c.in_ok-group.group) c.get_mut.follows.holds-at-none
+    c.in_ok-group.group c.in_ok-group.ensures
+    (m.entries ∙ ap (λ b. insert_entry (pointwise nat_eq) b.entries key c.in_ok-group.group) c.get_mut.follows.holds-at-none
     ∙ insert_entry-new (pointwise nat_eq) c.self.inside.groups key c.in_ok-group.group absent) m.unique in
     t.ok
 

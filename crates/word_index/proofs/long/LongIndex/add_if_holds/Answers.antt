@@ -237,7 +237,8 @@ invariant_of-self-2 c =
     let m = c.in_ok-insert.ensures in
     let t = take_new access codes total es c.insert.new.self.entries words c.args.self.now c.self.view_is
     c.requires.in_order c.requires.known key key_is
-    c.in_ok-group.group c.in_ok-group.ensures (m.entries ∙ (λ i. insert_entry (pointwise nat_eq) (c.get_mut.follows.holds-at-none i).entries (c.in_ok-own.ensures i) c.in_ok-group.group)
+    c.in_ok-group.group c.in_ok-group.ensures
+    (m.entries ∙ (λ i. insert_entry (pointwise nat_eq) (c.get_mut.follows.holds-at-none i).entries (c.in_ok-own.ensures i) c.in_ok-group.group)
     ∙ insert_entry-new (pointwise nat_eq) c.self.inside.groups key c.in_ok-group.group absent) m.unique in
     (c.self.invariant.0, record { codes = codes; in_order = t.in_order })
 
@@ -254,7 +255,8 @@ returns-clause-in_order c =
     let m = c.in_ok-insert.ensures in
     let t = take_new access codes total es c.insert.new.self.entries words c.args.self.now c.self.view_is
     c.requires.in_order c.requires.known key key_is
-    c.in_ok-group.group c.in_ok-group.ensures (m.entries ∙ (λ i. insert_entry (pointwise nat_eq) (c.get_mut.follows.holds-at-none i).entries (c.in_ok-own.ensures i) c.in_ok-group.group)
+    c.in_ok-group.group c.in_ok-group.ensures
+    (m.entries ∙ (λ i. insert_entry (pointwise nat_eq) (c.get_mut.follows.holds-at-none i).entries (c.in_ok-own.ensures i) c.in_ok-group.group)
     ∙ insert_entry-new (pointwise nat_eq) c.self.inside.groups key c.in_ok-group.group absent) m.unique in
     t.in_order
 
@@ -271,7 +273,8 @@ returns-clause-index c =
     let m = c.in_ok-insert.ensures in
     let t = take_new access codes total es c.insert.new.self.entries words c.args.self.now c.self.view_is
     c.requires.in_order c.requires.known key key_is
-    c.in_ok-group.group c.in_ok-group.ensures (m.entries ∙ (λ i. insert_entry (pointwise nat_eq) (c.get_mut.follows.holds-at-none i).entries (c.in_ok-own.ensures i) c.in_ok-group.group)
+    c.in_ok-group.group c.in_ok-group.ensures
+    (m.entries ∙ (λ i. insert_entry (pointwise nat_eq) (c.get_mut.follows.holds-at-none i).entries (c.in_ok-own.ensures i) c.in_ok-group.group)
     ∙ insert_entry-new (pointwise nat_eq) c.self.inside.groups key c.in_ok-group.group absent) m.unique in
     t.ok
 
