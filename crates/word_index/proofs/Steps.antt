@@ -187,24 +187,29 @@ module _ (access : Access) (codes : List Value) (total : ℕ) (es : List Entry) 
 module _ (access : Access) (codes : List Value) (total : ℕ) (es : List Entry) (words : List ℕ) (self : WordIndex)
     (view : record { access = access; total = total; groups = es } ≡ self) (in_order : IsInOrderFor codes self)
     (key : List ℕ) (key_is : key ≡ pick access.key words) where
-  told : (answer : Bool)
-      → ((row : List Value) → Spells codes (member_columns access) words row
-      → IsTrue answer ↔ WouldHold (read_index codes (record { access = access; total = total; groups = es })) row)
-      → HoldsWhere answer codes words self
-  told answer tells = subst (HoldsWhere answer codes words) view
-      (λ row rows s is h. holds_iff (read_index codes (record { access = access; total = total; groups = es })) row answer (tells row s) rows is h)
+  abbrev Tells : Bool → WordIndex → Type 0
+  Tells answer index = (row : List Value) → Spells codes (member_columns index.access) words row → IsTrue answer ↔ WouldHold (read_index codes index) row
+
+  holds_where : (answer : Bool) → Tells answer self → HoldsWhere answer codes words self
+  holds_where answer tells row rows s is h = holds_iff (read_index codes self) row answer (tells row s) rows is h
+
+  pub found_tells : (g : List Coded) → lookup (pointwise nat_eq key) es ≡ Some g → (answer : Bool) → HasRoom answer access words g → Tells answer self
+  found_tells g f answer room =
+      subst (Tells answer) view (λ row s. judged access codes total es words (subst (IsInOrderFor codes) (sym view) in_order) row s g
+      (ap (λ j. lookup (pointwise nat_eq j) es) (sym key_is) ∙ f) answer room)
+
+  pub new_tells : lookup (pointwise nat_eq key) es ≡ None → (answer : Bool) → (IsTrue answer ↔ (0 < access.bound)) → Tells answer self
+  new_tells f answer iff =
+      subst (Tells answer) view (λ row s. of_nothing access codes total es words (subst (IsInOrderFor codes) (sym view) in_order) row s
+      (ap (λ j. lookup (pointwise nat_eq j) es) (sym key_is) ∙ f) answer iff)
 
   pub found_holds : (g : List Coded) → lookup (pointwise nat_eq key) es ≡ Some g → (answer : Bool) → HasRoom answer access words g
       → HoldsWhere answer codes words self
-  found_holds g f answer room =
-      told answer (λ row s. judged access codes total es words (subst (IsInOrderFor codes) (sym view) in_order) row s g
-      (ap (λ j. lookup (pointwise nat_eq j) es) (sym key_is) ∙ f) answer room)
+  found_holds g f answer room = holds_where answer (found_tells g f answer room)
 
   pub new_holds : lookup (pointwise nat_eq key) es ≡ None → (answer : Bool) → (IsTrue answer ↔ (0 < access.bound))
       → HoldsWhere answer codes words self
-  new_holds f answer iff =
-      told answer (λ row s. of_nothing access codes total es words (subst (IsInOrderFor codes) (sym view) in_order) row s
-      (ap (λ j. lookup (pointwise nat_eq j) es) (sym key_is) ∙ f) answer iff)
+  new_holds f answer iff = holds_where answer (new_tells f answer iff)
 
 -- an index that is left as it is
 pub left_alone : (codes : List Value) (words : List ℕ) (old new : WordIndex) → new ≡ old → CountsWhere false codes words old new

@@ -1,8 +1,8 @@
 // The index of an access constraint by the width of its key.
-ghost use Rattle.std.specs.Prelude.{◌≡◌, ◌+◌, ◌<◌, ◌≤◌, ◌^◌, ◌++◌, ◌∷◌, [], ℕ, List, length, map, slice_index_or, IsTrue, IfSome, MatchOption, IfOk, OnOk, OnErr, if◌then◌else◌};
+ghost use Rattle.std.specs.Prelude.{◌≡◌, ◌+◌, ◌<◌, ◌≤◌, ◌^◌, ◌↔◌, ◌++◌, ◌∷◌, [], ℕ, List, length, map, slice_index_or, IsTrue, IfSome, MatchOption, IfOk, OnOk, OnErr, if◌then◌else◌};
 ghost use Rattle.beas_core.specs.declared.value.Value.{Value};
-ghost use Rattle.beas_core.specs.Groups.{greatest, group_of, member_columns, has_column};
-ghost use Rattle.access_index.specs.Index.{IsIndexOf};
+ghost use Rattle.beas_core.specs.Groups.{Holds, greatest, group_of, member_columns, has_column};
+ghost use Rattle.access_index.specs.Index.{IsIndexOf, WouldHold};
 ghost use Rattle.word_index.specs.Codes.{AreDistinct};
 ghost use Rattle.word_index.specs.Reading.{read, read_index, pick, AllKnown, Spells, IsInOrderFor, words_at, word_in};
 ghost use Rattle.word_index.specs.Taking.{CountsWhere, HoldsWhere};
@@ -80,6 +80,19 @@ impl AnyIndex {
         ensures err { OnErr result (index_in self.new ≡ index_in self.old) }
     {
         of_any!(self, index => index.add(alloc, codes, words))
+    }
+
+    /// Whether the row's tuple is there or its group has fewer members than the bound. It takes no memory.
+    pub fn would_hold(&self, words: &[u64]) -> bool
+        ensures exactly { (codes row : List Value) → IsInOrderFor codes (index_in self.now)
+            → Spells codes (member_columns (index_in self.now).access) words.now row
+            → (IsTrue result ↔ WouldHold (read_index codes (index_in self.now)) row) }
+        ensures holds { (codes row : List Value) (rows : List (List Value)) → IsInOrderFor codes (index_in self.now)
+            → Spells codes (member_columns (index_in self.now).access) words.now row
+            → IsIndexOf (read_index codes (index_in self.now)) rows → Holds rows (index_in self.now).access
+            → (IsTrue result ↔ Holds (rows ++ row ∷ []) (index_in self.now).access) }
+    {
+        of_any!(self, index => index.would_hold(words))
     }
 
     /// Counts one row more, wherever among the rows it stands, where its tuple is there or its group has fewer members than

@@ -1,8 +1,8 @@
 // The index of one access constraint over codes.
-ghost use Rattle.std.specs.Prelude.{◌≡◌, ◌+◌, ◌<◌, ◌≤◌, ◌^◌, ◌++◌, ◌∷◌, [], ℕ, List, length, map, slice_index_or, IsTrue, IfOk, IfSome, MatchOption, OnOk, OnErr, if◌then◌else◌};
+ghost use Rattle.std.specs.Prelude.{◌≡◌, ◌+◌, ◌<◌, ◌≤◌, ◌^◌, ◌↔◌, ◌++◌, ◌∷◌, [], ℕ, List, length, map, slice_index_or, IsTrue, IfOk, IfSome, MatchOption, OnOk, OnErr, if◌then◌else◌};
 ghost use Rattle.beas_core.specs.declared.value.Value.{Value};
-ghost use Rattle.beas_core.specs.Groups.{greatest, group_of, member_columns, has_column};
-ghost use Rattle.access_index.specs.Index.{IsIndexOf};
+ghost use Rattle.beas_core.specs.Groups.{Holds, greatest, group_of, member_columns, has_column};
+ghost use Rattle.access_index.specs.Index.{IsIndexOf, WouldHold};
 ghost use Rattle.word_index.specs.Codes.{AreDistinct};
 ghost use Rattle.word_index.specs.Reading.{read, read_index, pick, AllKnown, Spells, IsInOrderFor, words_at, word_in};
 ghost use Rattle.word_index.specs.Taking.{CountsWhere, HoldsWhere};
@@ -103,6 +103,23 @@ impl<const K: usize> FixedIndex<K> {
         self.groups.insert(key, group)?;
         self.total += 1;
         Ok(())
+    }
+
+    /// Whether the row's tuple is there or its group has fewer members than the bound. It takes no memory.
+    pub fn would_hold(&self, words: &[u64]) -> bool
+        ensures exactly { (codes row : List Value) → IsInOrderFor codes self.now
+            → Spells codes (member_columns self.now.access) words.now row
+            → (IsTrue result ↔ WouldHold (read_index codes self.now) row) }
+        ensures holds { (codes row : List Value) (rows : List (List Value)) → IsInOrderFor codes self.now
+            → Spells codes (member_columns self.now.access) words.now row
+            → IsIndexOf (read_index codes self.now) rows → Holds rows self.now.access
+            → (IsTrue result ↔ Holds (rows ++ row ∷ []) self.now.access) }
+    {
+        let key = key_of::<K>(self.access.key.as_slice(), words);
+        match self.groups.get(&key) {
+            None => self.access.bound > 0,
+            Some(group) => has_room(group, &self.access, words),
+        }
     }
 
     /// Counts one row more, wherever among the rows it stands, where its tuple is there or its group has fewer members than
