@@ -1,18 +1,18 @@
 -- How a query of session 0 that was opened goes on, event by event, to its answer.
-use Rattle.std.proofs.Common.{◌≡◌, ◌<◌, ◌≤◌, ◌+◌, ◌-◌, ◌∙◌, ap, subst, sym, refl, ℕ, zero, suc, Bool, true, false, cond, List, [], ◌∷◌, Option, None, Some, find, arith, length}
+use Rattle.std.proofs.Common.{◌≡◌, ◌<◌, ◌≤◌, ◌+◌, ◌-◌, ◌∙◌, ap, subst, sym, refl, ℕ, zero, suc, Bool, true, false, Option, None, Some, arith, length, ltb-false, ltb-true}
 use Rattle.std.specs.Prelude.{if◌then◌else◌, nat_lt, option_map, sum, IsSomeAnd, unwrap_or}
 use Rattle.std.specs.Option.{option_map_or}
 use Rattle.kept_facts.specs.OpenQueries.{OpenQuery, probes_of, reads_of}
 use Rattle.report.specs.declared.reports.Report.{Report}
 use Rattle.outside.specs.Seen.{Seen}
 use Rattle.desk_model.specs.declared.event.Event.TheVariants.{Stepped}
-use Rattle.desk_model.specs.Desks.{AtOnce, DeskEffect, State, action_of_event, answered_effect, is_of, probed_effect, query_effect, query_of, stepped_effect, with_query}
+use Rattle.desk_model.specs.Desks.{AtOnce, DeskEffect, State, action_of_event, answered_effect, is_of, probed_effect, query_effect, query_of, stepped_effect}
 use Rattle.desk_model.specs.Pieces.{after_cost, and_step, and_steps, probes_due}
 use Rattle.desk_model.proofs.Places.{find_passes}
 use Rattle.version_store.specs.Desks.{IsDesk, MayTake, Seen as DeskSeen, Takes, TakesSome, desk_wanting}
 use Rattle.session.specs.Effects.{Settings}
 use Rattle.beas_run.specs.Pieces.{Reaches, answered_from, is_probed}
-use Rattle.beas_run.specs.Shares.{AreShares, open_reads, probes_made}
+use Rattle.beas_run.specs.Shares.{open_reads, probes_made}
 use Rattle.beas_run.proofs.FoundFacts.{find-set-found}
 use Rattle.beas_run.proofs.LeftFacts.{wanting_db}
 use Rattle.beas_run.proofs.ShareFacts.{may_take, shares_fit}

@@ -1,39 +1,30 @@
 -- What is done for one piece, by what its events did.
-use Rattle.std.proofs.Common.{◌≡◌, ◌≤◌, ◌+◌, ◌++◌, ◌⊎◌, ◌∙◌, inl, inr, ap, subst, sym, refl, ℕ, Bool, true, false, List, [], ◌∷◌, Option, None, Some, Result, Ok, Err, arith, append-nil, find, get_or, length}
-use Rattle.std.specs.Prelude.{IfErr, IfOk, IsErrOf, IsSomeAnd, if◌then◌else◌, is_some, not, option_map, sum, unwrap_or, ◌&&◌}
+use Rattle.std.proofs.Common.{◌≡◌, ◌++◌, ◌⊎◌, ◌∙◌, inl, inr, ap, subst, sym, refl, ℕ, Bool, true, List, [], ◌∷◌, Option, None, Some, Result, Ok, Err, arith, append-nil, length}
+use Rattle.std.specs.Prelude.{IfErr, IfOk, IsErrOf, OnErr}
+use Rattle.beas_core.specs.declared.errors.NoMemory.{NoMemory as Out}
 use Rattle.beas_core.specs.declared.refusal.Refusal.{Refusal}
 use Rattle.outside.specs.Counts.{raised}
 use Rattle.outside.specs.Parts.{SentPart}
-use Rattle.outside.specs.Seen.{Seen, Sent, IsLater}
+use Rattle.outside.specs.Seen.{Seen, Sent}
 use Rattle.outside.proofs.Counts.{raised_none}
-use Rattle.kept_facts.specs.OpenQueries.{OpenQuery, reads_of, share_of}
 use Rattle.report.specs.declared.reports.Report.{Report}
 use Rattle.report.specs.declared.reports.Report.TheVariants.{Refused}
 use Rattle.report.specs.Reports.{report_text}
 use Rattle.session.specs.declared.loading.LoadOutcome.{LoadOutcome}
-use Rattle.session.specs.declared.loading.LoadOutcome.TheVariants.{Failed}
 use Rattle.session.specs.Effects.{Settings}
 use Rattle.session.specs.Ties.{AreTied}
 use Rattle.session.specs.Turns.{FileLoad, is_refusal, loads_of, IsWithin}
-use Rattle.sql_tree.specs.declared.tree.Statement.{Statement}
-use Rattle.desk_model.specs.declared.event.Event.TheVariants.{Said, Stepped}
 use Rattle.desk_model.specs.Answers.{effect_by}
-use Rattle.desk_model.specs.Desks.{DeskAction, AtOnce, ByLoad, DeskEffect, State, action_of_event, is_of, lost, new_query, opened_effect, query_of, refused, said_action, stepped_effect}
-use Rattle.desk_model.specs.Pieces.{DeskTurn, Next, answered_if_opened, next, opens, piece_action, seen_turn, with_answer}
-use Rattle.piece_reader.specs.declared.saying.Saying.TheVariants as saying
+use Rattle.desk_model.specs.Desks.{DeskAction, AtOnce, ByLoad, refused}
+use Rattle.desk_model.specs.Pieces.{DeskTurn, next, piece_action, seen_turn}
 use Rattle.piece_reader.specs.Sayings.{Reading}
-use Rattle.version_store.specs.Desks.{IsDesk, MayCost, MayLoad, MayTake, Seen as DeskSeen, Takes, TakesSome, desk_wanting, loads_by, share_at}
+use Rattle.version_store.specs.Desks.{IsDesk, Seen as DeskSeen, Takes, TakesSome, loads_by}
 use Rattle.beas_run.specs.declared.ending.Ending.{Ending}
 use Rattle.beas_run.specs.declared.ending.Ending.TheVariants.{Fault, NoMemory as Want}
 use Rattle.beas_run.specs.Endings.{TellsFault}
-use Rattle.beas_run.specs.Pieces.{IsDone, IsLeft, IsReported, IsTurn, IsUndone, IsUnreported, Reaches, Scene, answered_from, reads_by, turn_alone}
-use Rattle.beas_run.specs.Shares.{AreShares, IsShare, open_reads}
-use Rattle.desk_model.proofs.Places.{find-last}
-use Rattle.beas_run.proofs.FoundFacts.{Within, all_zip, sum-within, sum-within-more}
-use Rattle.beas_run.proofs.ReadsFacts.{answered_reads, same_reads, said_grows, stepped_reads}
-use Rattle.beas_run.proofs.SaidFacts.{IsFree, KeepsQueries, OpensQuery, SaidIs, said_is}
+use Rattle.beas_run.specs.Pieces.{IsDone, IsReported, IsUnreported, Scene}
 use Rattle.beas_run.proofs.TieFacts.{same_later, tied_none}
-use Rattle.beas_run.proofs.ShareFacts.{may_take, shares_fit, shares_within}
+use Rattle.beas_run.proofs.ShareFacts.{shares_fit}
 
 -- ---- the turn of an action
 
@@ -84,6 +75,12 @@ pub done_by : (s : Settings) (reading : Reading) (o : Option DeskAction) (report
 done_by s reading None report before after m n x y is told within took = absurd took
 done_by s reading (Some action) report before after m n x y is told within took =
     done_by_action s reading action report before after m n x y is told within took
+
+pub event_done : (s : Settings) (reading : Reading) (o : Option DeskAction) (r : Result Report Out) (before after : DeskSeen) (m n : ℕ) (x y : Seen)
+    → piece_action s before.state reading ≡ o → IsDesk after → IfOk r IsWithin
+    → IfOk r (λ report. TakesSome s.limits.file o report before after m n x y) → IfOk r (λ report. IsDone s reading report before after m n x y)
+event_done s reading o (Ok report) before after m n x y is told within took = done_by s reading o report before after m n x y is told within took
+event_done s reading o (Err e) before after m n x y is told within took = tt
 
 -- ---- a piece that is refused
 
@@ -145,6 +142,10 @@ unreported s reading number report why before after a sent unsent fault puts = r
 
 pub none_sent : (sent text : List ℕ) → SentPart sent sent text
 none_sent sent text = record { part = []; left = text; sent = sym (append-nil sent); cut = refl }
+
+pub on_error : {A E P : Type 0} (result : Result A E) → P → OnErr result P
+on_error (Ok answer) h = tt
+on_error (Err why) h = h
 
 -- whatever the error is
 pub whichever : {A E : Type 0} (P : E → Type 0) (result : Result A E) → ((why : E) → P why) → IfErr result P

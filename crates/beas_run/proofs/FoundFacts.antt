@@ -1,5 +1,5 @@
 -- The first element that passes a test: what a sum over the list is where another takes its place, or where it goes.
-use Rattle.std.proofs.Common.{◌≡◌, ◌<◌, ◌≤◌, ◌+◌, ◌∙◌, ℕ, Bool, true, false, not, cond, List, [], ◌∷◌, set, remove, find, Some, None, Option, refl, ap, sym, subst, arith, suc, get_or, length}
+use Rattle.std.proofs.Common.{◌≡◌, ◌<◌, ◌≤◌, ◌+◌, ◌∙◌, ℕ, Bool, true, false, not, cond, List, [], ◌∷◌, set, remove, find, Some, refl, ap, sym, subst, arith, suc, get_or, length}
 use Rattle.std.specs.Prelude.{sum, sum_by}
 use Rattle.std.specs.List.{AllZip, position_or_len}
 use Rattle.std.proofs.lemmas.List.Sums.{sum_by-cons}

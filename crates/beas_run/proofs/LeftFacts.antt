@@ -1,60 +1,62 @@
 -- What is left of a piece that memory ran out for.
-use Rattle.std.proofs.Common.{◌≡◌, ◌≤◌, ◌+◌, ◌++◌, ◌⊎◌, ◌∙◌, inl, inr, ap, subst, sym, refl, ℕ, Bool, true, false, List, [], ◌∷◌, Option, None, Some, Result, Ok, Err, arith, append-nil, find, get_or, length}
-use Rattle.std.specs.Prelude.{IfErr, IfOk, IsErrOf, IsSomeAnd, if◌then◌else◌, is_some, not, option_map, sum, unwrap_or, ◌&&◌}
-use Rattle.beas_core.specs.declared.refusal.Refusal.{Refusal}
+use Rattle.std.proofs.Common.{◌≡◌, ◌≤◌, ◌+◌, ◌⊎◌, ◌∙◌, inl, inr, ap, subst, sym, refl, ℕ, [], Option, None, Some, Result, Ok, Err, arith}
+use Rattle.std.specs.Prelude.{OnErr, option_map, sum}
+use Rattle.std.proofs.lemmas.List.Sums.{sum_by_push}
+use Rattle.beas_core.specs.declared.errors.NoMemory.{NoMemory as Out}
 use Rattle.outside.specs.Counts.{raised}
-use Rattle.outside.specs.Parts.{SentPart}
-use Rattle.outside.specs.Seen.{Seen, Sent, IsLater}
-use Rattle.outside.proofs.Counts.{raised_none}
-use Rattle.kept_facts.specs.OpenQueries.{OpenQuery, reads_of, share_of}
+use Rattle.outside.specs.Seen.{Seen}
+use Rattle.kept_facts.specs.OpenQueries.{OpenQuery, reads_of}
 use Rattle.report.specs.declared.reports.Report.{Report}
-use Rattle.report.specs.declared.reports.Report.TheVariants.{Refused}
-use Rattle.report.specs.Reports.{report_text}
-use Rattle.session.specs.declared.loading.LoadOutcome.{LoadOutcome}
 use Rattle.session.specs.declared.loading.LoadOutcome.TheVariants.{Failed}
 use Rattle.session.specs.Effects.{Settings}
-use Rattle.session.specs.Ties.{AreTied}
-use Rattle.session.specs.Turns.{FileLoad, is_refusal, loads_of, IsWithin}
 use Rattle.sql_tree.specs.declared.tree.Statement.{Statement}
 use Rattle.desk_model.specs.declared.event.Event.TheVariants.{Said, Stepped}
-use Rattle.desk_model.specs.Answers.{effect_by}
-use Rattle.desk_model.specs.Desks.{DeskAction, AtOnce, ByLoad, DeskEffect, State, action_of_event, is_of, lost, new_query, opened_effect, query_of, refused, said_action, stepped_effect}
-use Rattle.desk_model.specs.Pieces.{DeskTurn, Next, answered_if_opened, next, opens, piece_action, seen_turn, with_answer}
+use Rattle.desk_model.specs.Desks.{DeskAction, AtOnce, ByLoad, DeskEffect, State, action_of_event, lost, new_query, opened_effect, query_of, said_action, stepped_effect}
+use Rattle.desk_model.specs.Pieces.{next, with_answer}
 use Rattle.piece_reader.specs.declared.saying.Saying.TheVariants as saying
 use Rattle.piece_reader.specs.Sayings.{Reading}
-use Rattle.version_store.specs.Desks.{IsDesk, MayCost, MayLoad, MayTake, Seen as DeskSeen, Takes, TakesSome, desk_wanting, loads_by, share_at}
-use Rattle.beas_run.specs.declared.ending.Ending.{Ending}
-use Rattle.beas_run.specs.declared.ending.Ending.TheVariants.{Fault, NoMemory as Want}
-use Rattle.beas_run.specs.Endings.{TellsFault}
-use Rattle.beas_run.specs.Pieces.{IsDone, IsLeft, IsReported, IsTurn, IsUndone, IsUnreported, Reaches, Scene, answered_from, reads_by, turn_alone}
-use Rattle.beas_run.specs.Shares.{AreShares, IsShare, open_reads}
-use Rattle.desk_model.proofs.Places.{find-last}
-use Rattle.beas_run.proofs.FoundFacts.{Within, all_zip, sum-within, sum-within-more}
-use Rattle.beas_run.proofs.ReadsFacts.{answered_reads, same_reads, said_grows, stepped_reads}
-use Rattle.beas_run.proofs.SaidFacts.{IsFree, KeepsQueries, OpensQuery, SaidIs, said_is}
-use Rattle.beas_run.proofs.TieFacts.{same_later, tied_none}
+use Rattle.version_store.specs.Desks.{IsDesk, MayCost, MayLoad, MayTake, Seen as DeskSeen, desk_wanting}
+use Rattle.beas_run.specs.Pieces.{IsLeft, reads_by}
+use Rattle.beas_run.specs.Shares.{open_reads}
+use Rattle.beas_run.proofs.ReadsFacts.{alone_grows, answered_reads, same_reads, stepped_reads}
+use Rattle.beas_run.proofs.SaidFacts.{SaidIs, said_is}
 use Rattle.beas_run.proofs.ShareFacts.{may_take, shares_fit, shares_within}
 
 -- before anything was done
-pub left_alone : (s : Settings) (reading : Reading) (desk : DeskSeen) (m : ℕ) (x : Seen) → m + sum desk.shares ≤ m + reads_by desk.state (turn_alone s desk.state reading)
-    → IsLeft s reading desk desk m m x x
-left_alone s reading desk m x le = record { no_fewer = omega arith; at_most = le; loaded = inl refl; db = refl }
+pub left_alone : (s : Settings) (reading : Reading) (desk : DeskSeen) (m : ℕ) (x : Seen) → IsLeft s reading desk desk m m x x
+left_alone s reading desk m x = record {
+  no_fewer = omega arith;
+  at_most = λ fit.
+      let few = shares_within desk.state desk.shares fit in
+      let grows = alone_grows s desk.state reading in
+      omega (arith, few, grows);
+  loaded = inl refl;
+  db = refl;
+}
 
 -- where a piece comes next, no less is read than is open
 module _ (s : Settings) (state : State) where
   -- a statement, or a statement whose query is answered
   may_cost : (k m n shares : ℕ) (action : DeskAction) → SaidIs s.explain state k action → MayCost action m n → shares ≤ open_reads state
       → n + shares ≤ m + reads_by state (next (Some action) [])
-  may_cost k m n shares (AtOnce effect) is may few =
+  may_cost k m n shares (AtOnce effect) (inl keeps) may few =
       let h = may Failed in
-      let g = said_grows s.explain state k (AtOnce effect) is Failed in
-      omega (arith, h, g, few)
+      let same = same_reads state effect.state (keeps.queries Failed) in
+      omega (arith, h, same, few)
+  may_cost k m n shares (AtOnce effect) (inr new) may few =
+      let query : OpenQuery = new_query s.explain state.db k new.prepared in
+      let is : effect ≡ opened_effect s.explain state k (Ok new.prepared) = let e = new.is in cc in
+      let more = sum_by_push reads_of state.queries query in
+      let grows : open_reads state ≤ open_reads effect.state =
+      subst (λ (e : DeskEffect). open_reads state ≤ open_reads e.state) (sym is) (omega (arith, more)) in
+      let h = may Failed in
+      omega (arith, h, grows, few)
   may_cost k m n shares (ByLoad name effect) (inl keeps) may few =
       let h = may Failed in
       let free = keeps.free in
       omega (arith, h, free, few)
-  may_cost k m n shares (ByLoad name effect) (inr opens) may few =
-      let other : ByLoad name effect ≡ AtOnce (opened_effect s.explain state k (Ok opens.prepared)) = opens.is in cc
+  may_cost k m n shares (ByLoad name effect) (inr new) may few =
+      let other : ByLoad name effect ≡ AtOnce (opened_effect s.explain state k (Ok new.prepared)) = new.is in cc
 
   pub answer_reads : (action : DeskAction) → reads_by state (next (Some (with_answer state action)) []) ≡ reads_by state (next (Some action) [])
   answer_reads (AtOnce effect) = answered_reads state effect
@@ -98,7 +100,7 @@ left_by_statement s k statement before after m n x y same told e may no_fewer lo
     let cost : MayCost action m n = subst (λ (t : Settings). MayCost (said_action t before.state k (query_of k before.state) statement) m n) same may in
     record {
       no_fewer = no_fewer;
-      at_most = may_cost s before.state k m n (sum before.shares) action (said_is s before.state k statement) cost
+      at_most = λ _. may_cost s before.state k m n (sum before.shares) action (said_is s before.state k statement) cost
           (shares_within before.state before.shares (shares_fit before told));
       loaded = may_load (Some action) x y loaded;
       db = ap (λ (d : DeskSeen). d.state.db) e;
@@ -113,7 +115,25 @@ left_by_step s k before after m n x y told e may no_fewer loaded =
     let same = stepped_by s before.state k (stepped_effect before.state k (query_of k before.state)) refl in
     record {
       no_fewer = no_fewer;
-      at_most = omega (arith, le, same);
+      at_most = λ _. omega (arith, le, same);
       loaded = inl (step_loads (stepped_effect before.state k (query_of k before.state)) x y loaded);
       db = wanting_db k before after e;
     }
+
+-- ---- whatever the event answers
+
+pub event_left_said : (s : Settings) (k : ℕ) (statement : Statement) (r : Result Report Out) (before after : DeskSeen) (m n : ℕ) (x y : Seen)
+    → before.settings ≡ s → IsDesk before
+    → OnErr r (after ≡ desk_wanting (Said k statement) before) → OnErr r (MayTake (Said k statement) before m n) → m ≤ n
+    → MayLoad (action_of_event s before.state (Said k statement)) x y
+    → OnErr r (IsLeft s (Ok (saying.Said k statement)) before after m n x y)
+event_left_said s k statement (Ok report) before after m n x y same told e may no_fewer loaded = tt
+event_left_said s k statement (Err none) before after m n x y same told e may no_fewer loaded =
+    left_by_statement s k statement before after m n x y same told e may no_fewer loaded
+
+pub event_left_step : (s : Settings) (k : ℕ) (r : Result Report Out) (before after : DeskSeen) (m n : ℕ) (x y : Seen) → IsDesk before
+    → OnErr r (after ≡ desk_wanting (Stepped k) before) → OnErr r (MayTake (Stepped k) before m n) → m ≤ n
+    → MayLoad (action_of_event s before.state (Stepped k)) x y
+    → OnErr r (IsLeft s (Ok (saying.Stepped k)) before after m n x y)
+event_left_step s k (Ok report) before after m n x y told e may no_fewer loaded = tt
+event_left_step s k (Err none) before after m n x y told e may no_fewer loaded = left_by_step s k before after m n x y told e may no_fewer loaded

@@ -1,6 +1,7 @@
 mod AnswerFacts
 mod CompleteFacts
 mod CountingFacts
+mod DemoFacts
 mod DoneFacts
 mod FoundFacts
 mod LeftFacts
@@ -15,5 +16,6 @@ mod SourceFacts
 mod SourcelessFacts
 mod TieFacts
 mod TurnFacts
+mod UnmarkedFacts
 mod UnnamedFacts
 mod WalkFacts

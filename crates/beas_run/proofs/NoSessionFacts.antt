@@ -1,5 +1,5 @@
 -- A script that names no session is what its statements are.
-use Rattle.std.proofs.Common.{◌≡◌, ◌<◌, ◌≤◌, ◌+◌, ◌-◌, ◌^◌, ◌∙◌, inl, inr, ap, subst, sym, refl, ℕ, zero, suc, Bool, true, false, cond, List, [], ◌∷◌, Option, None, Some, Result, Ok, Err, arith, length, map, take}
+use Rattle.std.proofs.Common.{◌≡◌, ◌<◌, ◌≤◌, ◌+◌, ◌-◌, ◌^◌, ◌∙◌, inl, inr, ap, subst, sym, refl, ℕ, zero, suc, Bool, true, false, cond, List, [], ◌∷◌, None, Ok, arith, length, map, take}
 use Rattle.std.specs.Prelude.{All, nat_lt, sum}
 use Rattle.beas_core.proofs.Sets.{Has}
 use Rattle.std.specs.List.{AllZip, onto_first, slice_split}
@@ -7,7 +7,7 @@ use Rattle.std.proofs.lemmas.List.Elements.{All-cons, All-filter, All-nil, All-w
 use Rattle.catalogue.specs.Database.{schema_of}
 use Rattle.catalogue.specs.Schema.{SchemaIsSound}
 use Rattle.sql_text.specs.declared.token.Token.{Token}
-use Rattle.sql_text.specs.Pieces.{is_semicolon, statements_of}
+use Rattle.sql_text.specs.Pieces.{is_semicolon}
 use Rattle.sql_text.specs.Tokens.{tokens_of}
 use Rattle.sql_text.proofs.Spans.{length-tokens_of}
 use Rattle.sql_tree.specs.declared.tree.Statement.{Statement}
@@ -27,11 +27,12 @@ use Rattle.desk_model.specs.Pieces.{DeskTurn, seen_turns, turns}
 use Rattle.desk_model.specs.PlainScripts.{beside, statement_turns}
 use Rattle.desk_model.proofs.PlainFacts.{plain_script, seen_beside}
 use Rattle.beas_run.specs.NoSessions.{MeansStatements, NamesNoSession, statement_readings}
-use Rattle.beas_run.specs.Readings.{Readings, pieces}
+use Rattle.beas_run.specs.Readings.{Readings, pieces, readings_of}
 use Rattle.beas_run.specs.Runs.{longest_script}
 use Rattle.beas_run.specs.Shares.{AreShares, greatest_cost, open_reads}
 use Rattle.beas_run.specs.States.{state_after}
 use Rattle.beas_run.specs.Walks.{Did, Moment}
+use Rattle.beas_run.proofs.ReadingFacts.{found}
 
 -- ---- how its pieces are read
 
@@ -136,6 +137,11 @@ take-map f zero xs = refl
 take-map f (suc n) [] = refl
 take-map f (suc n) (x ∷ xs) = ap (λ l. f x ∷ l) (take-map f n xs)
 
+-- the turns read what they cost, and leave nothing open that has read more
+pub record CostsAlone (all : List DeskTurn) (before : Moment) : Type 0 where
+  pub steps : (after : Moment) → Did all before after → after.steps ≡ before.steps + cost_of (seen_turns all)
+  pub at_most : greatest_cost before.state all ≡ cost_of (seen_turns all)
+
 module _ (before : Moment) (all : List DeskTurn) (ts : List Turn) (idle : before.state.queries ≡ []) (are : all ≡ map (beside []) ts) where
   seen_of : seen_turns all ≡ ts
   seen_of = ap seen_turns are ∙ seen_beside [] ts
@@ -159,5 +165,26 @@ module _ (before : Moment) (all : List DeskTurn) (ts : List Turn) (idle : before
       let reads : open_reads (state_after before.state (take n all)) ≡ 0 = ap open_reads (state_is n) in
       omega (arith, cost, reads)
 
+  whole_is : greatest_cost before.state all ≡ cost_of ts
+  whole_is =
+      let cost : cost_of (seen_turns all) ≡ cost_of ts = ap cost_of seen_of in
+      let at : state_after before.state all ≡ resting before.state ts = ap (state_after before.state) are ∙ state_then before.state ts idle in
+      let reads : open_reads (state_after before.state all) ≡ 0 = ap open_reads at in
+      omega (arith, cost, reads)
+
+  costs_alone : CostsAlone all before
+  costs_alone =
+      let cost : cost_of (seen_turns all) ≡ cost_of ts = ap cost_of seen_of in
+      record { steps = λ after did. steps_are after did ∙ ap (λ n. before.steps + n) (sym cost); at_most = whole_is ∙ sym cost }
+
   pub means : MeansStatements all ts before
   means = record { turns_are = are; seen = seen_of; state = state_is; at_most = greatest_is; steps = steps_are }
+
+-- so a script that names no session reads what its turns cost
+pub reads_alone : (s : Settings) (before : Moment) (script : List ℕ) → SchemaIsSound (schema_of before.state.db) → before.state.queries ≡ []
+    → length script ≤ longest_script → NamesNoSession script → (outcomes : List LoadOutcome)
+    → CostsAlone (turns s before.state (readings_of script) outcomes) before
+reads_alone s before script sound idle fits none outcomes =
+    let all = turns s before.state (readings_of script) outcomes in
+    let ts = statement_turns s before.state.db (statement_readings script) outcomes in
+    costs_alone before all ts idle (turns_are s before script (readings_of script) outcomes sound idle fits none (found script))

@@ -1,12 +1,12 @@
 -- Where a run is in the turns of its script, and what is true where it ends there.
-use Rattle.std.proofs.Common.{◌≡◌, ◌≢◌, ◌<◌, ◌≤◌, ◌+◌, ◌++◌, ◌||◌, ◌⊎◌, ◌∙◌, sym, ap, subst, refl, inl, inr, ℕ, Bool, true, false, List, [], ◌∷◌, Option, None, Some, Result, Ok, Err, length, take, arith, append_assoc, append-nil, length-append}
+use Rattle.std.proofs.Common.{◌≡◌, ◌≢◌, ◌<◌, ◌≤◌, ◌+◌, ◌++◌, ◌||◌, ◌⊎◌, ◌∙◌, sym, ap, subst, refl, inl, inr, ℕ, Bool, true, false, List, [], ◌∷◌, Option, None, Some, Err, length, take, arith, append_assoc, append-nil, length-append}
 use Rattle.std.specs.Prelude.{if◌then◌else◌, sum}
 use Rattle.std.specs.Option.{option_map_or}
 use Rattle.std.proofs.lemmas.List.Elements.{All-append, All-cons, All-nil}
 use Rattle.outside.specs.Counts.{raised}
 use Rattle.outside.specs.Parts.{SentPart}
 use Rattle.outside.proofs.Counts.{raised_none}
-use Rattle.outside.specs.Seen.{Seen, IsLater}
+use Rattle.outside.specs.Seen.{IsLater}
 use Rattle.report.specs.declared.reports.Report.{Report}
 use Rattle.report.specs.Reports.{report_text}
 use Rattle.session.specs.declared.loading.LoadOutcome.{LoadOutcome}
@@ -14,12 +14,12 @@ use Rattle.session.specs.Effects.{Settings}
 use Rattle.session.specs.Ties.{AreTied}
 use Rattle.session.specs.Turns.{is_refusal, out_of, cost_of, any_refused, loads_of, IsWithin}
 use Rattle.desk_model.specs.Desks.{State}
-use Rattle.desk_model.specs.Pieces.{DeskTurn, Next, next, piece_action, seen_turns, turns}
+use Rattle.desk_model.specs.Pieces.{DeskTurn, Next, next, seen_turns, turns}
 use Rattle.piece_reader.specs.Sayings.{Reading}
 use Rattle.beas_run.specs.declared.ending.Ending.{Ending}
 use Rattle.beas_run.specs.declared.ending.Ending.TheVariants.{Fault, NoMemory}
 use Rattle.beas_run.specs.Endings.{status_of}
-use Rattle.beas_run.specs.Pieces.{IsLeft, IsReported, IsTurn, IsUndone, IsUnreported, Scene, moment_of, reads_by, turn_alone}
+use Rattle.beas_run.specs.Pieces.{IsReported, IsTurn, IsUndone, IsUnreported, Scene, moment_of, reads_by, turn_alone}
 use Rattle.beas_run.specs.Shares.{AreShares, greatest_cost, open_reads}
 use Rattle.beas_run.specs.States.{state_after}
 use Rattle.beas_run.specs.Walks.{Moment, AreWithin, Did, whole_status, Follows, Walked}
@@ -226,17 +226,17 @@ greatest-append : (state : State) (done left : List DeskTurn)
     → greatest_cost state (done ++ left) ≡ cost_of (seen_turns done) + greatest_cost (state_after state done) left
 greatest-append state done left =
     let costs = cost-append done left in
-    let then : open_reads (state_after state (done ++ left)) ≡ open_reads (state_after (state_after state done) left) =
+    let after : open_reads (state_after state (done ++ left)) ≡ open_reads (state_after (state_after state done) left) =
     ap open_reads (state-append state done left) in
-    omega (arith, costs, then)
+    omega (arith, costs, after)
 
 abbrev turns_from : Settings → List Reading → Option Next → List DeskTurn
 turns_from s rest turn = option_map_or (λ n. n.turn ∷ turns s n.turn.effect.state rest n.left) turn []
 
 -- the first of the turns that come without a load
 first_cost : (s : Settings) (rest : List Reading) (state : State) (turn : Option Next) → greatest_cost state (take 1 (turns_from s rest turn)) ≡ reads_by state turn
-first_cost s rest state None = refl
-first_cost s rest state (Some n) = greatest-cons n.turn.effect.state n.turn []
+first_cost s rest state None = omega arith
+first_cost s rest state (Some n) = let whole = greatest-cons state n.turn [] in omega (arith, whole)
 
 first_le : (s : Settings) (rest : List Reading) (state : State) (turn : Option Next)
     → greatest_cost state (take 1 (turns_from s rest turn)) ≤ greatest_cost state (turns_from s rest turn)
@@ -330,7 +330,7 @@ stopped_in_piece s all rest reading place refused before now after status r undo
     (record {
       sent = undone.sent;
       no_fewer = left.no_fewer;
-      at_most = omega (arith, left.at_most, first);
+      at_most = let most = left.at_most r.did.shares in omega (arith, most, first);
       db = left.db;
       puts = undone.puts;
       loads = by alone left.loaded;

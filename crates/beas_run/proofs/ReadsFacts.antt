@@ -7,18 +7,17 @@ use Rattle.beas_core.specs.declared.refusal.Refusal.TheVariants.{SessionIdle}
 use Rattle.session.specs.declared.loading.LoadOutcome.{LoadOutcome}
 use Rattle.session.specs.declared.loading.LoadOutcome.TheVariants.{Failed}
 use Rattle.session.specs.Effects.{Settings}
-use Rattle.session.specs.Turns.{Turn, cost_of}
-use Rattle.sql_tree.specs.declared.tree.Statement.{Statement}
+use Rattle.session.specs.Turns.{Turn}
 use Rattle.kept_facts.specs.OpenQueries.{OpenQuery, probes_of, reads_of}
 use Rattle.desk_model.specs.Answers.{effect_by}
-use Rattle.desk_model.specs.Desks.{DeskAction, AtOnce, ByLoad, DeskEffect, State, answered_effect, is_of, new_query, probed_effect, query_effect, query_of, refused, said_action, stepped_effect, with_query, without_query}
+use Rattle.desk_model.specs.Desks.{DeskAction, AtOnce, ByLoad, DeskEffect, State, answered_effect, is_of, new_query, probed_effect, query_effect, query_of, refused, said_action, stepped_effect, with_query}
 use Rattle.desk_model.specs.Pieces.{DeskTurn, Next, after_cost, and_step, and_steps, answered_if_opened, next, opens, piece_action, probes_due, seen_turn, seen_turns, turns, with_answer}
 use Rattle.piece_reader.specs.declared.saying.Saying.TheVariants.{Plain, Said, Stepped}
 use Rattle.piece_reader.specs.Sayings.{Reading}
+use Rattle.beas_run.specs.Pieces.{reads_by, turn_alone}
 use Rattle.beas_run.specs.Shares.{greatest_cost, open_reads}
-use Rattle.beas_run.specs.States.{state_after}
 use Rattle.beas_run.proofs.FoundFacts.{sum_by-remove-found, sum_by-set-found}
-use Rattle.beas_run.proofs.SaidFacts.{SaidIs, KeepsQueries, OpensQuery, said_is}
+use Rattle.beas_run.proofs.SaidFacts.{SaidIs, said_is}
 
 -- ---- going on with a query
 
@@ -151,3 +150,11 @@ turns_grow s (reading ∷ rest) state outcomes = by (turns_grow s rest) (next (p
         let later = rest_grows n.turn.effect.state n.left in
         let sum = greatest-cons state n.turn (turns s n.turn.effect.state rest n.left) in
         omega (arith, first, later, sum)
+
+-- so it is in the turn that comes next, where no load gives an outcome
+pub alone_grows : (s : Settings) (state : State) (reading : Reading) → open_reads state ≤ reads_by state (turn_alone s state reading)
+alone_grows s state reading = by (next (piece_action s state reading) []) refl
+  where
+    by : (o : Option Next) → next (piece_action s state reading) [] ≡ o → open_reads state ≤ reads_by state o
+    by None is = omega arith
+    by (Some n) is = turn_grows state (piece_action s state reading) [] n (piece_grows s state reading) is

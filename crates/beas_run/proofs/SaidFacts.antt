@@ -18,7 +18,7 @@ use Rattle.kept_facts.specs.OpenQueries.{OpenQuery}
 use Rattle.desk_model.specs.Answers.{effect_by}
 use Rattle.desk_model.specs.Desks.{DeskAction, AtOnce, ByLoad, State, at_desk, opened_effect, query_of, said_action, statement_action}
 
-abbrev IsFree : DeskAction → Type 0
+abbrev pub IsFree : DeskAction → Type 0
 IsFree (AtOnce effect) = Unit {0}
 IsFree (ByLoad name effect) = (effect Failed).cost ≡ 0
 

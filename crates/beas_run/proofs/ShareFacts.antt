@@ -1,38 +1,12 @@
 -- The shares of the queries that are open at a desk.
-use Rattle.std.proofs.Common.{◌≡◌, ◌≤◌, ◌+◌, ◌++◌, ◌⊎◌, ◌∙◌, inl, inr, ap, subst, sym, refl, ℕ, Bool, true, false, List, [], ◌∷◌, Option, None, Some, Result, Ok, Err, arith, append-nil, find, get_or, length}
-use Rattle.std.specs.Prelude.{IfErr, IfOk, IsErrOf, IsSomeAnd, if◌then◌else◌, is_some, not, option_map, sum, unwrap_or, ◌&&◌}
-use Rattle.beas_core.specs.declared.refusal.Refusal.{Refusal}
-use Rattle.outside.specs.Counts.{raised}
-use Rattle.outside.specs.Parts.{SentPart}
-use Rattle.outside.specs.Seen.{Seen, Sent, IsLater}
-use Rattle.outside.proofs.Counts.{raised_none}
+use Rattle.std.proofs.Common.{◌≡◌, ◌≤◌, ◌+◌, inl, inr, subst, sym, refl, ℕ, List, [], ◌∷◌, Option, None, Some, arith, get_or, length}
+use Rattle.std.specs.Prelude.{sum, unwrap_or}
 use Rattle.kept_facts.specs.OpenQueries.{OpenQuery, reads_of, share_of}
-use Rattle.report.specs.declared.reports.Report.{Report}
-use Rattle.report.specs.declared.reports.Report.TheVariants.{Refused}
-use Rattle.report.specs.Reports.{report_text}
-use Rattle.session.specs.declared.loading.LoadOutcome.{LoadOutcome}
-use Rattle.session.specs.declared.loading.LoadOutcome.TheVariants.{Failed}
-use Rattle.session.specs.Effects.{Settings}
-use Rattle.session.specs.Ties.{AreTied}
-use Rattle.session.specs.Turns.{FileLoad, is_refusal, loads_of, IsWithin}
-use Rattle.sql_tree.specs.declared.tree.Statement.{Statement}
-use Rattle.desk_model.specs.declared.event.Event.TheVariants.{Said, Stepped}
-use Rattle.desk_model.specs.Answers.{effect_by}
-use Rattle.desk_model.specs.Desks.{DeskAction, AtOnce, ByLoad, DeskEffect, State, action_of_event, is_of, lost, new_query, opened_effect, query_of, refused, said_action, stepped_effect}
-use Rattle.desk_model.specs.Pieces.{DeskTurn, Next, answered_if_opened, next, opens, piece_action, seen_turn, with_answer}
-use Rattle.piece_reader.specs.declared.saying.Saying.TheVariants as saying
-use Rattle.piece_reader.specs.Sayings.{Reading}
-use Rattle.version_store.specs.Desks.{IsDesk, MayCost, MayLoad, MayTake, Seen as DeskSeen, Takes, TakesSome, desk_wanting, loads_by, share_at}
-use Rattle.beas_run.specs.declared.ending.Ending.{Ending}
-use Rattle.beas_run.specs.declared.ending.Ending.TheVariants.{Fault, NoMemory as Want}
-use Rattle.beas_run.specs.Endings.{TellsFault}
-use Rattle.beas_run.specs.Pieces.{IsDone, IsLeft, IsReported, IsTurn, IsUndone, IsUnreported, Reaches, Scene, answered_from, reads_by, turn_alone}
+use Rattle.desk_model.specs.declared.event.Event.TheVariants.{Stepped}
+use Rattle.desk_model.specs.Desks.{State, is_of}
+use Rattle.version_store.specs.Desks.{IsDesk, MayTake, Seen as DeskSeen}
 use Rattle.beas_run.specs.Shares.{AreShares, IsShare, open_reads}
-use Rattle.desk_model.proofs.Places.{find-last}
 use Rattle.beas_run.proofs.FoundFacts.{Within, all_zip, sum-within, sum-within-more}
-use Rattle.beas_run.proofs.ReadsFacts.{answered_reads, same_reads, said_grows, stepped_reads}
-use Rattle.beas_run.proofs.SaidFacts.{IsFree, KeepsQueries, OpensQuery, SaidIs, said_is}
-use Rattle.beas_run.proofs.TieFacts.{same_later, tied_none}
 
 share_fits : (query : OpenQuery) (share made : ℕ) → ((n : ℕ) → query.made ≡ Some n → made ≡ n) → made ≤ share → share ≤ reads_of query
     → reads_of query ≤ query.prepared.bound → IsShare query share
@@ -58,7 +32,7 @@ pub shares_within : (state : State) (shares : List ℕ) → AreShares state.quer
 shares_within state shares s = sum-within reads_of state.queries shares (within_reads state.queries shares s)
 
 -- with one probe more
-may_take : (k : ℕ) (desk : DeskSeen) (m n : ℕ) → IsDesk desk → MayTake (Stepped k) desk m n → n + sum desk.shares ≤ m + open_reads desk.state
+pub may_take : (k : ℕ) (desk : DeskSeen) (m n : ℕ) → IsDesk desk → MayTake (Stepped k) desk m n → n + sum desk.shares ≤ m + open_reads desk.state
 may_take k desk m n told (inl same) = let h = shares_within desk.state desk.shares (shares_fit desk told) in omega (arith, h, same)
 may_take k desk m n told (inr spends) =
     let w = within_reads desk.state.queries desk.shares (shares_fit desk told) in

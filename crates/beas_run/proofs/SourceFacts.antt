@@ -8,6 +8,7 @@ use Rattle.beas_run.specs.States.{State}
 use Rattle.command_words.specs.declared.arguments.Args.{Args}
 use Rattle.command_words.specs.declared.arguments.Args.TheVariants.{Script, Demo}
 use Rattle.command_words.specs.Words.{args_of}
+use Rattle.demo_gen.specs.Demo.{demo_text}
 use Rattle.outside.specs.Counts.{Rose, raised}
 use Rattle.session.specs.Effects.{Settings}
 use Rattle.outside.specs.Seen.{Seen, Sent, IsLater}
@@ -15,10 +16,12 @@ use Rattle.beas_run.specs.declared.no_script.NoScript.{NoScript}
 use Rattle.beas_run.specs.declared.no_script.NoScript.TheVariants.{Words, Unread, TooLong, NotText, NoMemory}
 use Rattle.beas_run.specs.declared.script_source.Source.{Source}
 use Rattle.beas_run.specs.NoScripts.{status_of}
+use Rattle.beas_run.specs.NoSessions.{NamesNoSession}
 use Rattle.beas_run.specs.Runs.{path_of, seed_of, demo_seed, settings_for, settings_of_words, longest_script, HasLoaded, HasRun, IsNoText, IsScriptOf, IsTooLong, IsWith, WalkedFor}
 use Rattle.beas_run.specs.Readings.{readings_of}
-use Rattle.beas_run.specs.Sources.{HasNoScript, IsSource, LoadsScript, RanOver}
+use Rattle.beas_run.specs.Sources.{HasNoScript, IsMade, IsSource, LoadsScript, RanOver}
 use Rattle.beas_run.specs.Walks.{Moment}
+use Rattle.beas_run.proofs.DemoFacts.{demo_names_none}
 use Rattle.beas_run.proofs.SourcelessFacts.{early_said, ran_demo, ran_file}
 use Rattle.beas_run.proofs.TieFacts.{same_later}
 
@@ -70,6 +73,17 @@ file_unread path budget explain why before after named unread too_long not_text 
   seedless = inl refl;
   later = later;
 }
+
+-- ---- a demonstration is over its own text
+
+pub is_made : (args : Args) (files : Seen) (text now : List ℕ) → IsScriptOf (Some args) files text → now ≡ text → IsMade args now
+is_made (Script path budget explain) files text now is same = tt
+is_made (Demo seed budget explain) files text now is same = same ∙ is
+
+pub made_names_none : (args : Args) (seed : ℕ) (budget : Option ℕ) (explain : Bool) (text : List ℕ) → args ≡ Demo seed budget explain → IsMade args text
+    → NamesNoSession text
+made_names_none args seed budget explain text asked made =
+    let is : text ≡ demo_text seed = subst (λ (a : Args). IsMade a text) asked made in subst NamesNoSession (sym is) (demo_names_none seed)
 
 -- ---- the way and the settings that are asked for
 

@@ -88,6 +88,8 @@ idle (Some (Demo seed budget explain)) s before after status sent steps db puts 
   unsent = λ _ _. sent;
   puts = inr (five, puts);
   early = λ _. (refl, five);
+  steps = λ below. absurd (omega arith);
+  at_most = omega (arith, steps);
 }
 
 -- what is said doesn't change what was loaded

@@ -1,39 +1,26 @@
 -- What is done for a statement that names no session: it is said by session 0, and a query that it opens is answered.
-use Rattle.std.proofs.Common.{◌≡◌, ◌≤◌, ◌+◌, ◌++◌, ◌⊎◌, ◌∙◌, inl, inr, ap, subst, sym, refl, ℕ, Bool, true, false, List, [], ◌∷◌, Option, None, Some, Result, Ok, Err, arith, append-nil, find, get_or, length}
-use Rattle.std.specs.Prelude.{IfErr, IfOk, IsErrOf, IsSomeAnd, if◌then◌else◌, is_some, not, option_map, sum, unwrap_or, ◌&&◌}
-use Rattle.beas_core.specs.declared.refusal.Refusal.{Refusal}
+use Rattle.std.proofs.Common.{◌≡◌, ◌≤◌, ◌+◌, ◌⊎◌, ◌∙◌, inl, inr, ap, subst, sym, refl, ℕ, Bool, true, false, [], None, Some, Result, Ok, Err, arith, find}
+use Rattle.std.specs.Prelude.{IfOk, OnErr, IsSomeAnd, if◌then◌else◌, is_some, not, sum, ◌&&◌}
+use Rattle.beas_core.specs.declared.errors.NoMemory.{NoMemory as Out}
 use Rattle.outside.specs.Counts.{raised}
-use Rattle.outside.specs.Parts.{SentPart}
-use Rattle.outside.specs.Seen.{Seen, Sent, IsLater}
+use Rattle.outside.specs.Seen.{Seen}
 use Rattle.outside.proofs.Counts.{raised_none}
-use Rattle.kept_facts.specs.OpenQueries.{OpenQuery, reads_of, share_of}
+use Rattle.kept_facts.specs.OpenQueries.{OpenQuery}
 use Rattle.report.specs.declared.reports.Report.{Report}
-use Rattle.report.specs.declared.reports.Report.TheVariants.{Refused}
-use Rattle.report.specs.Reports.{report_text}
 use Rattle.session.specs.declared.loading.LoadOutcome.{LoadOutcome}
-use Rattle.session.specs.declared.loading.LoadOutcome.TheVariants.{Failed}
 use Rattle.session.specs.Effects.{Settings}
-use Rattle.session.specs.Ties.{AreTied}
-use Rattle.session.specs.Turns.{FileLoad, is_refusal, loads_of, IsWithin}
+use Rattle.session.specs.Turns.{IsWithin}
 use Rattle.sql_tree.specs.declared.tree.Statement.{Statement}
-use Rattle.desk_model.specs.declared.event.Event.TheVariants.{Said, Stepped}
 use Rattle.desk_model.specs.Answers.{effect_by}
-use Rattle.desk_model.specs.Desks.{DeskAction, AtOnce, ByLoad, DeskEffect, State, action_of_event, is_of, lost, new_query, opened_effect, query_of, refused, said_action, stepped_effect}
-use Rattle.desk_model.specs.Pieces.{DeskTurn, Next, answered_if_opened, next, opens, piece_action, seen_turn, with_answer}
+use Rattle.desk_model.specs.Desks.{DeskAction, AtOnce, ByLoad, DeskEffect, State, is_of, new_query, opened_effect, query_of, said_action}
+use Rattle.desk_model.specs.Pieces.{next, opens, piece_action, with_answer}
 use Rattle.piece_reader.specs.declared.saying.Saying.TheVariants as saying
-use Rattle.piece_reader.specs.Sayings.{Reading}
-use Rattle.version_store.specs.Desks.{IsDesk, MayCost, MayLoad, MayTake, Seen as DeskSeen, Takes, TakesSome, desk_wanting, loads_by, share_at}
-use Rattle.beas_run.specs.declared.ending.Ending.{Ending}
-use Rattle.beas_run.specs.declared.ending.Ending.TheVariants.{Fault, NoMemory as Want}
-use Rattle.beas_run.specs.Endings.{TellsFault}
-use Rattle.beas_run.specs.Pieces.{IsDone, IsLeft, IsReported, IsTurn, IsUndone, IsUnreported, Reaches, Scene, answered_from, reads_by, turn_alone}
-use Rattle.beas_run.specs.Shares.{AreShares, IsShare, open_reads}
+use Rattle.version_store.specs.Desks.{IsDesk, Seen as DeskSeen, Takes}
+use Rattle.beas_run.specs.Pieces.{IsDone, IsLeft, Reaches, answered_from, reads_by, turn_alone}
+use Rattle.beas_run.specs.Shares.{open_reads}
 use Rattle.desk_model.proofs.Places.{find-last}
-use Rattle.beas_run.proofs.FoundFacts.{Within, all_zip, sum-within, sum-within-more}
-use Rattle.beas_run.proofs.ReadsFacts.{answered_reads, same_reads, said_grows, stepped_reads}
-use Rattle.beas_run.proofs.SaidFacts.{IsFree, KeepsQueries, OpensQuery, SaidIs, said_is}
-use Rattle.beas_run.proofs.TieFacts.{same_later, tied_none}
-use Rattle.beas_run.proofs.ShareFacts.{may_take, shares_fit, shares_within}
+use Rattle.beas_run.proofs.SaidFacts.{SaidIs, said_is}
+use Rattle.beas_run.proofs.ShareFacts.{shares_fit}
 use Rattle.beas_run.proofs.DoneFacts.{done_by_action}
 use Rattle.beas_run.proofs.LeftFacts.{answer_none, answer_reads}
 
@@ -46,7 +33,7 @@ module _ (s : Settings) (statement : Statement) (before : DeskSeen) where
       → IsLeft s (Ok (saying.Plain statement)) before after m n x y
   left_unnamed after m n x y left = record {
     no_fewer = left.no_fewer;
-    at_most = let same = answer_reads s before.state said in omega (arith, left.at_most, same);
+    at_most = λ fit. let same = answer_reads s before.state said in let most = left.at_most fit in omega (arith, most, same);
     loaded = by left.loaded;
     db = left.db;
   }
@@ -70,6 +57,16 @@ module _ (s : Settings) (statement : Statement) (before : DeskSeen) where
       ap (λ (st : State). opens 0 before.state st) (sym took.state_is) ∙ none in
       done_by_action s (Ok (saying.Plain statement)) said report before after m n x y
       (ap (λ a. Some a) (not_answered said took.outcome still)) told within took
+
+pub none_after : (before after : State) → is_some (query_of 0 after) ≡ false → opens 0 before after ≡ false
+none_after before after none = ap (λ b. b && not (is_some (query_of 0 before))) none
+
+pub one_before : (before after : State) → is_some (query_of 0 before) ≡ true → opens 0 before after ≡ false
+one_before before after one = ap (λ b. is_some (query_of 0 after) && not b) one ∙ by (is_some (query_of 0 after))
+  where
+    by : (b : Bool) → (b && not true) ≡ false
+    by true = refl
+    by false = refl
 
 -- what is opened where a query is open afterwards, and none was before
 pub record HasOpened (s : Settings) (statement : Statement) (before after : DeskSeen) : Type 0 where
@@ -147,7 +144,21 @@ module _ (s : Settings) (statement : Statement) (before mid after : DeskSeen) (o
       let open_then : open_reads mid.state ≡ open_reads o.first.state = ap open_reads o.state in
       record {
         no_fewer = omega (arith, begun, later);
-        at_most = omega (arith, reads, open_then, most, first.counts, o.free);
+        at_most = λ _. omega (arith, reads, open_then, most, first.counts, o.free);
         loaded = inl (first.counted ∙ raised_none x.loads);
         db = db ∙ o.db;
       }
+
+  -- whatever its last event answers
+  pub answer_done : (earlier : Report) (r : Result Report Out) → Takes s.limits.file (said s statement before) earlier before mid m l x y → IsDesk mid
+      → IfOk r IsWithin → IfOk r (λ report. (first : DeskEffect) → first.state ≡ mid.state → first.cost ≡ 0 → Reaches (answered_from first) report mid after l n)
+      → IfOk r (λ report. IsDone s (Ok (saying.Plain statement)) report before after m n x y)
+  answer_done earlier (Ok report) took told within reached =
+      done_answered earlier report took told within (reached o.first (sym o.state) o.free)
+  answer_done earlier (Err e) took told within reached = tt
+
+  pub answer_left : (earlier : Report) (r : Result Report Out) → Takes s.limits.file (said s statement before) earlier before mid m l x y → m ≤ l → l ≤ n
+      → OnErr r (n + sum mid.shares ≤ l + open_reads mid.state) → OnErr r (after.state.db ≡ mid.state.db)
+      → OnErr r (IsLeft s (Ok (saying.Plain statement)) before after m n x y)
+  answer_left earlier (Ok report) took begun later most db = tt
+  answer_left earlier (Err e) took begun later most db = left_answered earlier took begun later most db

@@ -6,8 +6,10 @@ use Rattle.outside.specs.Counts.{Rose, raised}
 use Rattle.outside.specs.Parts.{SentPart}
 use Rattle.outside.specs.Seen.{IsLater, Sent}
 use Rattle.report.specs.declared.reports.Report.{Report}
+use Rattle.session.specs.declared.loading.LoadOutcome.{LoadOutcome}
 use Rattle.session.specs.Effects.{Settings}
-use Rattle.desk_model.specs.Pieces.{DeskTurn, turns}
+use Rattle.session.specs.Turns.{cost_of}
+use Rattle.desk_model.specs.Pieces.{DeskTurn, seen_turns, turns}
 use Rattle.beas_run.specs.declared.ending.Ending.{Ending}
 use Rattle.beas_run.specs.declared.ending.Ending.TheVariants.{Fault, NoMemory}
 use Rattle.beas_run.specs.Audiences.{HasTaken, reports_in, totals_in, totals_over}
@@ -15,7 +17,8 @@ use Rattle.beas_run.specs.Demonstrations.{Demonstrated, summary_of, without_outs
 use Rattle.beas_run.specs.Endings.{status_of}
 use Rattle.beas_run.specs.Pieces.{IsReported, IsUndone, IsUnreported, Scene, moment_of}
 use Rattle.piece_reader.specs.Sayings.{Reading}
-use Rattle.beas_run.specs.Walks.{Moment, WalkedBefore}
+use Rattle.beas_run.specs.Walks.{Moment, Walked, WalkedBefore}
+use Rattle.beas_run.proofs.NoSessionFacts.{CostsAlone}
 use Rattle.beas_run.proofs.ReachedFacts.{Reached, begun, begun_done, ended, ended_turns, more, more_done, status_for, stopped_in_piece, stopped_in_report, unstarted}
 
 -- these turns are done, and their reports taken
@@ -128,7 +131,15 @@ pub record IsPut (status : ℕ) (sum : Totals) (before after : Sent) : Type 0 wh
   pub unsent : status ≡ 5 → before.told ≡ true → after.bytes ≡ before.bytes
   pub puts : (after.puts ≡ raised 1 before.puts) ⊎ ((status ≡ 5) × (after.puts ≡ before.puts))
 
-module _ (s : Settings) (readings : List Reading) (sum : Totals) (before after : Moment) where
+module _ (s : Settings) (readings : List Reading) (sum : Totals) (before after : Moment)
+    (alone : (outcomes : List LoadOutcome) → CostsAlone (turns s before.state readings outcomes) (without_outside before)) where
+  cost_alone : {ended : ℕ} (walked : Walked s readings ended (without_outside before) (without_outside after))
+      → after.steps ≤ before.steps + cost_of (seen_turns (turns s before.state readings walked.outcomes))
+  cost_alone walked =
+      let most = walked.follows.at_most in
+      let same = (alone walked.outcomes).at_most in
+      omega (arith, most, same)
+
   -- what is put is the line of the totals of the turns
   pub demonstrated : (refused : Bool) (status : ℕ) → Counted s readings (status_of (Ok refused)) sum before after
       → (status ≡ status_of (Ok refused)) ⊎ (status ≡ 4) ⊎ (status ≡ 5)
@@ -147,6 +158,8 @@ module _ (s : Settings) (readings : List Reading) (sum : Totals) (before after :
         unsent = λ early fault. put.unsent (out_of_memory status (status_of (Ok refused)) late early fault ended);
         puts = put.puts;
         early = λ early. absurd (omega arith);
+        steps = λ _. (alone counted.walked.outcomes).steps (without_outside after) (counted.walked.follows.whole late);
+        at_most = cost_alone counted.walked;
       }
     where
       out_of_memory : (status ended : ℕ) → ended < 2 → 2 ≤ status → status ≢ 4 → (status ≡ ended) ⊎ (status ≡ 4) ⊎ (status ≡ 5) → status ≡ 5
@@ -170,4 +183,6 @@ module _ (s : Settings) (readings : List Reading) (sum : Totals) (before after :
     unsent = λ _ _. same;
     puts = inr (refl, puts);
     early = λ _. (refl, refl);
+    steps = λ below. absurd (omega arith);
+    at_most = cost_alone counted.walked;
   }

@@ -3,13 +3,14 @@
 --     empty_files              files that are all empty, which a demonstration has in the place of any other
 --     without_outside moment   a moment with these files, and with no word on what the output was sent
 --     Demonstrated ..          all pieces were carried out and the line was written, or as far as that went
-use Rattle.std.specs.Prelude.{◌≡◌, ◌≢◌, ◌<◌, ◌≤◌, ◌-◌, ◌^◌, ◌++◌, ◌⊎◌, ℕ, true, List, [], Some}
+use Rattle.std.specs.Prelude.{◌≡◌, ◌≢◌, ◌<◌, ◌≤◌, ◌+◌, ◌-◌, ◌^◌, ◌++◌, ◌⊎◌, ℕ, true, List, [], Some}
 use Rattle.outside.specs.Counts.{raised}
 use Rattle.outside.specs.Parts.{SentPart}
 use Rattle.outside.specs.Seen.{Seen}
 use Rattle.demo_gen.specs.Summaries.{summary_text}
 use Rattle.session.specs.Effects.{Settings}
-use Rattle.desk_model.specs.Pieces.{DeskTurn, turns}
+use Rattle.session.specs.Turns.{cost_of}
+use Rattle.desk_model.specs.Pieces.{DeskTurn, seen_turns, turns}
 use Rattle.beas_run.specs.Audiences.{totals_in, unshown}
 use Rattle.piece_reader.specs.Sayings.{Reading}
 use Rattle.beas_run.specs.Walks.{Moment, Walked}
@@ -40,3 +41,6 @@ pub record Demonstrated (settings : Settings) (readings : List Reading) (status 
   -- the line was put once, or out of memory perhaps not at all
   pub puts : (after.out.puts ≡ raised 1 before.out.puts) ⊎ ((status ≡ 5) × (after.out.puts ≡ before.out.puts))
   pub early : 2 ≤ ended → (ended ≡ 5) × (status ≡ 5)
+  -- it names no session, so no query is dropped: it reads what its turns cost, and no more
+  pub steps : ended < 2 → after.steps ≡ before.steps + cost_of (seen_turns (turns settings before.state readings walked.outcomes))
+  pub at_most : after.steps ≤ before.steps + cost_of (seen_turns (turns settings before.state readings walked.outcomes))

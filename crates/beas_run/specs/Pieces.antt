@@ -4,6 +4,7 @@
 --     SayingIsWellFormed saying         its session has a number of at most 64, and its statement is well formed
 --     is_probed report                  the report is that of a probe
 --     answered_from first               the effect of going on, to its answer, with a query of session 0 that was opened
+--     IsTaken event result ..           what a desk tells of an event that was to be done there
 --     Reaches last report ..            what was done came to this effect
 --     IsTurn settings reading turn ..   the piece was carried out in this turn
 --     IsDone settings reading report .. it was carried out, with this report
@@ -13,11 +14,12 @@
 --     reads_by state turn               what is read at most for all that was opened, where this turn comes next
 --     IsLeft settings reading ..        out of memory the piece wasn't carried out, and the database is as it was
 --     IsUndone ..                       the same, and nothing was sent
-use Rattle.std.specs.Prelude.{◌≡◌, ◌≤◌, ◌+◌, ◌++◌, ◌⊎◌, ℕ, Bool, true, false, List, [], ◌∷◌, length, sum, Option, None, Some}
+use Rattle.std.specs.Prelude.{◌≡◌, ◌≤◌, ◌+◌, ◌++◌, ◌⊎◌, ℕ, Bool, true, false, List, [], ◌∷◌, length, sum, Option, None, Some, Result, IfOk, OnErr}
 use Rattle.std.specs.Option.{option_map_or}
+use Rattle.beas_core.specs.declared.errors.NoMemory.{NoMemory}
 use Rattle.outside.specs.Counts.{raised}
 use Rattle.outside.specs.Parts.{SentPart}
-use Rattle.outside.specs.Seen.{Seen, Sent}
+use Rattle.outside.specs.Seen.{IsLater, Seen, Sent}
 use Rattle.report.specs.declared.reports.Report.{Report}
 use Rattle.report.specs.declared.reports.Report.TheVariants.{Probed}
 use Rattle.report.specs.Reports.{report_text}
@@ -26,14 +28,15 @@ use Rattle.session.specs.Effects.{Settings}
 use Rattle.session.specs.Ties.{AreTied}
 use Rattle.session.specs.Turns.{loads_of, is_refusal, IsWithin}
 use Rattle.session.specs.Statements.{StatementIsWellFormed}
-use Rattle.desk_model.specs.Desks.{DeskEffect, State}
+use Rattle.desk_model.specs.declared.event.Event.{Event}
+use Rattle.desk_model.specs.Desks.{DeskEffect, State, action_of_event}
 use Rattle.desk_model.specs.Pieces.{DeskTurn, Next, and_steps, next, piece_action, probes_due, seen_turn}
 use Rattle.piece_reader.specs.declared.saying.Saying.{Saying}
-use Rattle.piece_reader.specs.declared.saying.Saying.TheVariants.{Plain, Said, Stepped}
+use Rattle.piece_reader.specs.declared.saying.Saying.TheVariants as saying
 use Rattle.piece_reader.specs.Sayings.{Reading}
-use Rattle.version_store.specs.Desks.{Seen as DeskSeen}
+use Rattle.version_store.specs.Desks.{IsDesk, MayLoad, MayTake, Seen as DeskSeen, TakesSome, desk_wanting}
 use Rattle.beas_run.specs.declared.ending.Ending.{Ending}
-use Rattle.beas_run.specs.declared.ending.Ending.TheVariants.{NoMemory}
+use Rattle.beas_run.specs.declared.ending.Ending.TheVariants.{NoMemory as Want}
 use Rattle.beas_run.specs.Shares.{AreShares, open_reads}
 use Rattle.beas_run.specs.Walks.{Moment}
 
@@ -52,9 +55,9 @@ moment_of scene =
     record { state = record { db = scene.desk.state.db; queries = [] }; steps = scene.steps; out = scene.out; files = scene.files }
 
 abbrev pub SayingIsWellFormed : Saying → Type 0
-SayingIsWellFormed (Plain statement) = StatementIsWellFormed statement
-SayingIsWellFormed (Said session statement) = (session ≤ 64) × StatementIsWellFormed statement
-SayingIsWellFormed (Stepped session) = session ≤ 64
+SayingIsWellFormed (saying.Plain statement) = StatementIsWellFormed statement
+SayingIsWellFormed (saying.Said session statement) = (session ≤ 64) × StatementIsWellFormed statement
+SayingIsWellFormed (saying.Stepped session) = session ≤ 64
 
 abbrev pub is_probed : Report → Bool
 is_probed (Probed session) = true
@@ -62,6 +65,20 @@ is_probed _ = false
 
 abbrev pub answered_from : DeskEffect → DeskEffect
 answered_from first = and_steps 0 (probes_due 0 first.state + 1) first
+
+-- what a desk tells of an event, whatever it answers
+pub record IsTaken (event : Event) (result : Result Report NoMemory) (before after : DeskSeen) (steps_before steps_after : ℕ)
+    (files_before files_after : Seen) : Type 0 where
+  pub did : IfOk result (λ report. TakesSome before.settings.limits.file (action_of_event before.settings before.state event) report before after
+      steps_before steps_after files_before files_after)
+  pub within : IfOk result IsWithin
+  pub is_desk : IsDesk before × IsDesk after
+  pub settings : after.settings ≡ before.settings
+  pub err : OnErr result (after ≡ desk_wanting event before)
+  pub at_most : OnErr result (MayTake event before steps_before steps_after)
+  pub no_fewer : steps_before ≤ steps_after
+  pub loaded : MayLoad (action_of_event before.settings before.state event) files_before files_after
+  pub later : IsLater files_before files_after
 
 pub record Reaches (last : DeskEffect) (report : Report) (before after : DeskSeen) (steps_before steps_after : ℕ) : Type 0 where
   pub report_is : report ≡ last.report
@@ -104,8 +121,8 @@ pub record IsUnreported (settings : Settings) (reading : Reading) (number : ℕ)
   pub is : IsTurn settings reading turn before.desk after.desk before.steps after.steps before.files after.files
   pub sent : before.out.told ≡ true
       → SentPart before.out.bytes after.out.bytes (report_text number turn.effect.report)
-  pub unsent : why ≡ NoMemory → before.out.told ≡ true → after.out.bytes ≡ before.out.bytes
-  pub puts : (after.out.puts ≡ raised 1 before.out.puts) ⊎ ((why ≡ NoMemory) × (after.out.puts ≡ before.out.puts))
+  pub unsent : why ≡ Want → before.out.told ≡ true → after.out.bytes ≡ before.out.bytes
+  pub puts : (after.out.puts ≡ raised 1 before.out.puts) ⊎ ((why ≡ Want) × (after.out.puts ≡ before.out.puts))
 
 abbrev pub turn_alone : Settings → State → Reading → Option Next
 turn_alone settings state reading = next (piece_action settings state reading) []
@@ -116,7 +133,8 @@ reads_by state turn = option_map_or (λ n. n.turn.effect.cost + open_reads n.tur
 pub record IsLeft (settings : Settings) (reading : Reading) (before after : DeskSeen)
     (steps_before steps_after : ℕ) (files_before files_after : Seen) : Type 0 where
   pub no_fewer : steps_before ≤ steps_after
-  pub at_most : steps_after + sum before.shares ≤ steps_before + reads_by before.state (turn_alone settings before.state reading)
+  pub at_most : AreShares before.state.queries before.shares
+      → steps_after + sum before.shares ≤ steps_before + reads_by before.state (turn_alone settings before.state reading)
   -- its file was loaded at most once, where it is a LOAD
   pub loaded : (files_after.loads ≡ files_before.loads)
       ⊎ ((turn_alone settings before.state reading ≡ None) × (files_after.loads ≡ raised 1 files_before.loads))

@@ -1,12 +1,14 @@
 -- What the statements of a run come from, and what is done with them.
 --     LoadsScript args before after     a script's file is loaded once, and for a demonstration none
 --     IsSource asked ..              this is asked for, and this is its text
+--     IsMade args text               where a demonstration is asked for, this is its text
 --     HasNoScript asked why ..       why there is none
 --     RanOver args text ..           the statements of the text were carried out, or as far as the run came
 use Rattle.std.specs.Prelude.{◌≡◌, ◌≢◌, ◌<◌, ◌≤◌, ◌⊎◌, ℕ, List, length, Option, Some, None, option_and_then, IsSomeAnd}
 use Rattle.beas_core.specs.declared.limits.Limits.{Limits}
 use Rattle.command_words.specs.declared.arguments.Args.{Args}
 use Rattle.command_words.specs.declared.arguments.Args.TheVariants.{Script, Demo}
+use Rattle.demo_gen.specs.Demo.{demo_text}
 use Rattle.outside.specs.Counts.{Rose, raised}
 use Rattle.outside.specs.Seen.{IsLater, IsLaterSink, Seen}
 use Rattle.session.specs.Effects.{Settings}
@@ -28,6 +30,10 @@ pub record IsSource (asked : Option Args) (before after : Seen) (source : Source
   pub is : IsScriptOf (Some source.args) before source.text
   pub loaded : LoadsScript source.args before after
   pub later : IsLater before after
+
+abbrev pub IsMade : Args → List ℕ → Type 0
+IsMade (Script path budget explain) text = Unit {0}
+IsMade (Demo seed budget explain) text = text ≡ demo_text seed
 
 pub record HasNoScript (asked : Option Args) (why : NoScript) (before after : Seen) : Type 0 where
   pub words : asked ≡ None → (why ≡ Words) ⊎ (why ≡ NoMemory)

@@ -5,7 +5,7 @@ ghost use Rattle.desk_model.specs.Desks.{DeskEffect, query_of};
 ghost use Rattle.piece_reader.specs.Sayings.{reading_of};
 ghost use Rattle.session.specs.Statements.{StatementIsWellFormed};
 ghost use Rattle.session.specs.Turns.{IsWithin};
-ghost use Rattle.beas_run.specs.Pieces.{IsDone, IsLeft, Reaches, SayingIsWellFormed, answered_from, is_probed};
+ghost use Rattle.beas_run.specs.Pieces.{IsDone, IsLeft, IsTaken, Reaches, SayingIsWellFormed, answered_from, is_probed};
 ghost use Rattle.beas_run.specs.Shares.{open_reads};
 
 use beas_core::{Fail, NoMemory, Steps};
@@ -28,6 +28,42 @@ fn is_probed(report: &Report) -> bool
     matches!(report, Report::Probed { .. })
 }
 
+/// Lets a report go. A function that calls this doesn't prove anew what that does to each kind of report.
+fn discard(_report: Report) {}
+
+/// Does what a session says.
+fn say<F: Files, L: Ledger>(
+    alloc: Global,
+    desk: &mut Desk,
+    session: u32,
+    statement: Statement,
+    files: &mut F,
+    steps: &mut Steps<L>,
+) -> Result<Report, NoMemory>
+    requires session { session ≤ 64 }
+    requires well_formed { StatementIsWellFormed statement }
+    ensures { IsTaken (Event.Said session statement) result desk.old desk.new steps.old steps.new
+        (F.seen files.old) (F.seen files.new) }
+{
+    desk.event(alloc, files, &Event::Said { session, statement }, steps)
+}
+
+/// Goes on with a session's query.
+fn step<F: Files, L: Ledger>(
+    alloc: Global,
+    desk: &mut Desk,
+    session: u32,
+    files: &mut F,
+    steps: &mut Steps<L>,
+) -> Result<Report, NoMemory>
+    requires { session ≤ 64 }
+    ensures taken { IsTaken (Event.Stepped session) result desk.old desk.new steps.old steps.new
+        (F.seen files.old) (F.seen files.new) }
+    ensures unread { files.new ≡ files.old }
+{
+    desk.event(alloc, files, &Event::Stepped { session }, steps)
+}
+
 /// Goes on with the query that the pieces without a session have opened, to its answer.
 fn answer<F: Files, L: Ledger>(
     alloc: Global,
@@ -45,12 +81,12 @@ fn answer<F: Files, L: Ledger>(
     ensures settings { desk.new.settings ≡ desk.old.settings }
     ensures unread { files.new ≡ files.old }
 {
-    let event = Event::Stepped { session: UNNAMED };
-    loop {
-        let report = desk.event(alloc, files, &event, steps)?;
+    'events: loop {
+        let report = step(alloc, desk, UNNAMED, files, steps)?;
         if !is_probed(&report) {
             return Ok(report);
         }
+        discard(report);
     }
 }
 
@@ -71,9 +107,9 @@ fn carry_out_statement<F: Files, L: Ledger>(
     ensures later { IsLater (F.seen files.old) (F.seen files.new) }
 {
     let was_open = desk.has_open(UNNAMED);
-    let session = UNNAMED;
-    let report = desk.event(alloc, files, &Event::Said { session, statement }, steps)?;
+    let report = say(alloc, desk, UNNAMED, statement, files, steps)?;
     if !was_open && desk.has_open(UNNAMED) {
+        discard(report);
         answer(alloc, desk, files, steps)
     } else {
         Ok(report)
@@ -97,15 +133,11 @@ fn carry_out_saying<F: Files, L: Ledger>(
     ensures later { IsLater (F.seen files.old) (F.seen files.new) }
 {
     match saying {
-        Saying::Plain { statement } => {
-            carry_out_statement(alloc, desk, statement, files, steps)
-        }
+        Saying::Plain { statement } => { carry_out_statement(alloc, desk, statement, files, steps) }
         Saying::Said { session, statement } => {
-            desk.event(alloc, files, &Event::Said { session, statement }, steps)
+            say(alloc, desk, session, statement, files, steps)
         }
-        Saying::Stepped { session } => {
-            desk.event(alloc, files, &Event::Stepped { session }, steps)
-        }
+        Saying::Stepped { session } => step(alloc, desk, session, files, steps),
     }
 }
 

@@ -3,7 +3,7 @@ ghost use Rattle.std.specs.Prelude.{◌≡◌, ◌≤◌, None, length, map};
 ghost use Rattle.std.specs.String.{string_bytes};
 ghost use Rattle.session.specs.Applying.{settings_of};
 ghost use Rattle.beas_run.specs.Runs.{path_of, script_name, HasCause, HasRun, IsComplete, IsWith, IsWithout, Says, Stays};
-ghost use Rattle.beas_run.specs.Sources.{RanOver};
+ghost use Rattle.beas_run.specs.Sources.{IsMade, RanOver};
 ghost use Rattle.beas_run.specs.Walks.{moment};
 
 use crate::demonstration::write_totals;
@@ -27,7 +27,8 @@ fn run_over<F: Files, O: Sink, L: Ledger>(
     out: &mut O,
     steps: &mut Steps<L>,
 ) -> u8
-    requires { length text.now ≤ 16777216 }
+    requires short { length text.now ≤ 16777216 }
+    requires made { IsMade args.now text.now }
     ensures ran { RanOver args.now text.now session.old.limits result (settings_of session.new)
         (moment session.old steps.old (O.seen out.old) (F.seen files.old))
         (moment session.new steps.new (O.seen out.new) (F.seen files.new)) }

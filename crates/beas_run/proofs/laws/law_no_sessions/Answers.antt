@@ -1,5 +1,3 @@
-use Rattle.beas_run.proofs.ReadsFacts.{turns_grow}
-use Rattle.beas_run.proofs.ShareFacts.{shares_within}
 use Rattle.beas_run.proofs.NoSessionFacts.{means, turns_are}
 use Rattle.beas_run.proofs.laws.law_no_sessions.Goals as goal
 

@@ -5,3 +5,10 @@ use Rattle.beas_run.proofs.pieces.report_on.Goals as goal
 
 pub carry_out_saying-requires : goal.carry_out_saying-requires
 carry_out_saying-requires g c = saying_fits _ _ c.in-Ok.ensures.said c.requires
+
+pub returns-in-Err-Refused-clause-done : goal.returns-in-Err-Refused-clause-done
+returns-in-Err-Refused-clause-done g c =
+    rw c.in-Err-Refused.field-0-is (refused_done _ _ _ _ _ _ (rw c.in-Err-Refused.field-0-is at c.in-Err-Refused.ensures.found))
+
+pub returns-in-Err-NoMemory-clause-left : goal.returns-in-Err-NoMemory-clause-left
+returns-in-Err-NoMemory-clause-left g c = left_alone _ _ _ _ _

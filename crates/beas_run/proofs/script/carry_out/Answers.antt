@@ -1,4 +1,4 @@
-use Rattle.std.proofs.Common.{ap, inl, inr, refl, Err}
+use Rattle.std.proofs.Common.{ap, inr, Err}
 use Rattle.beas_run.proofs.DoneFacts.{reported, told_of_answer, unreported}
 use Rattle.beas_run.proofs.script.carry_out.Goals as goal
 

@@ -2,12 +2,15 @@ use Rattle.std.proofs.Common.{refl, inl, inr, ap, arith, length, ◌∙◌}
 use Rattle.beas_run.proofs.CompleteFacts.{completes, completes_demo, completes_without}
 use Rattle.beas_run.proofs.SourcelessFacts.{early_said, not_without, ran_nothing}
 use Rattle.beas_run.proofs.DoneFacts.{none_sent}
-use Rattle.beas_run.proofs.SourceFacts.{but_faults, limits_stay, most, most_said, none_named, none_or_five, not_asked, not_with, ran_over, settings_are_words, seven_is_no_text, six_is_too_long, three_is_unread, two_is_words, two_or_five}
+use Rattle.beas_run.proofs.SourceFacts.{but_faults, is_made, limits_stay, most, most_said, none_named, none_or_five, not_asked, not_with, ran_over, settings_are_words, seven_is_no_text, six_is_too_long, three_is_unread, two_is_words, two_or_five}
 use Rattle.beas_run.proofs.TieFacts.{later_twice, sink_later}
 use Rattle.beas_run.proofs.whole_run.run.Goals as goal
 
-pub run_over-requires : goal.run_over-requires
-run_over-requires g c = let fits = c.in-Ok.ensures.source.fits in let same = ap length c.as_str-text.ensures in omega arith
+pub run_over-requires-clause-short : goal.run_over-requires-clause-short
+run_over-requires-clause-short g c = let fits = c.in-Ok.ensures.source.fits in let same = ap length c.as_str-text.ensures in omega arith
+
+pub run_over-requires-clause-made : goal.run_over-requires-clause-made
+run_over-requires-clause-made g c = is_made _ _ _ _ c.in-Ok.ensures.source.is c.as_str-text.ensures
 
 pub returns-in-Ok : goal.returns-in-Ok
 returns-in-Ok g c =

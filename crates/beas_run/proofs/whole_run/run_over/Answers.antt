@@ -1,7 +1,10 @@
 use Rattle.std.proofs.Common.{refl}
 use Rattle.beas_run.proofs.TieFacts.{same_later}
-use Rattle.beas_run.proofs.SourceFacts.{names_a_file, settings_for_same, way_for}
+use Rattle.beas_run.proofs.SourceFacts.{made_names_none, names_a_file, settings_for_same, way_for}
 use Rattle.beas_run.proofs.whole_run.run_over.Goals as goal
+
+pub write_totals-requires-clause-plain : goal.write_totals-requires-clause-plain
+write_totals-requires-clause-plain g c = made_names_none _ _ _ _ _ c.in-Demo.is c.requires.made
 
 pub returns-in-Script : goal.returns-in-Script
 returns-in-Script g c =
