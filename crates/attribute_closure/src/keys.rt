@@ -92,7 +92,7 @@ fn take_up(
 fn no_lists(alloc: Global, count: u16) -> Result<Vec<List<usize>>, NoMemory>
     ensures { IfOk result (λ lists. lists.items ≡ replicate count []) }
 {
-    let mut lists = Vec::new(alloc);
+    let mut lists = Vec::with_capacity(alloc, usize::from(count))?;
     for _class in 0..count {
         lists.push(List::new(alloc))?;
     }
@@ -109,7 +109,7 @@ impl<'a> Keys<'a> {
         ensures set { IfOk result (λ keys. keys.set.items ≡ replicate block.now.count false) }
     {
         let uses = uses_of(alloc, block, accesses)?;
-        let mut missing = Vec::new(alloc);
+        let mut missing = Vec::with_capacity(alloc, uses.len())?;
         let mut waiting = no_lists(alloc, block.count)?;
         let mut ready = List::new(alloc);
         take_up(

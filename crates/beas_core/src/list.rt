@@ -82,7 +82,7 @@ impl<T: Drop> List<T> {
 
 impl<T: Duplicate> Duplicate for List<T> {
     fn copy(&self, alloc: Global) -> Result<List<T>, NoMemory> {
-        let mut items = Vec::new(alloc);
+        let mut items = Vec::with_capacity(alloc, self.items.len())?;
         for item in self.as_slice() {
             items.push(item.copy(alloc)?)?;
         }

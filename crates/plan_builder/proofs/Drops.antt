@@ -72,7 +72,7 @@ module _ (normal : Normal) (accesses : List Access) where
   uses_in steps = map (use_of accesses) steps
 
   -- steps that say rightly whether they add a class say nothing new
-  nothing_new : (set : ClassSet) (steps : List DStep) → each_step normal accesses (adds_rightly normal accesses) set steps ≡ true
+  pub nothing_new : (set : ClassSet) (steps : List DStep) → each_step normal accesses (adds_rightly normal accesses) set steps ≡ true
       → steps ≡ with_adds normal accesses set steps
   nothing_new set [] h = refl
   nothing_new set (s ∷ steps) h =

@@ -1,10 +1,9 @@
 -- What a front comes to with one use more, and what follows it without the use at a place.
 use Rattle.std.proofs.Common.{◌≡◌, ◌&&◌, ◌||◌, ◌==◌, ◌+◌, ◌-◌, ◌*◌, ◌<◌, ◌≤◌, ◌^◌, ℕ, zero, suc, Bool, true, false, cond, List, [], ◌∷◌, ◌++◌, length, map, take, drop, get_or, Option, Some, None, inl, inr, refl, ap, sym, ◌∙◌, subst, arith, add-one}
-use Rattle.std.specs.Bool.{OnTrue}
 use Rattle.std.specs.Prelude.{IfSome, MatchOption}
-use Rattle.std.proofs.Math.Seq.{get_or-append_seam, split_at, take-suc}
-use Rattle.std.proofs.lemmas.Bool.{cases_lt, eqb-true}
-use Rattle.std.proofs.lemmas.List.{drop-map, get_or_append_left, length-drop, length-take, map-append, take-append-drop, take-append-le, take-map, take_all}
+use Rattle.std.proofs.Math.Seq.{split_at}
+use Rattle.std.proofs.lemmas.Bool.{eqb-true}
+use Rattle.std.proofs.lemmas.List.{drop-map, length-drop, take_all}
 use Rattle.std.proofs.lemmas.List.Folds.{list_any-append}
 use Rattle.std.proofs.lemmas.List.Sums.{fold-append}
 use Rattle.beas_core.specs.declared.plan.Normal.{Normal}
@@ -22,29 +21,7 @@ use Rattle.plan_builder.specs.Fronts.{IsFront, SizesAre, size_from, sizes_from}
 use Rattle.plan_builder.specs.Plans.{served_among}
 use Rattle.plan_builder.specs.Trials.{all_are_served, are_sound, binds_needed, keys_are_bound, more_size, number_from, set_after, uses_without}
 
--- ---- lists without an item
-
-pub take-without : {A : Type 0} (p n : ℕ) (xs : List A) → p ≤ n → n ≤ length xs → take p (uses_without n xs) ≡ take p xs
-take-without p n xs below within =
-    let long = length-take n xs in
-    take-append-le p (take n xs) (drop (n + 1) xs) (omega (arith, long, below, within))
-    ∙ sym (take-append-le p (take n xs) (drop n xs) (omega (arith, long, below, within)))
-    ∙ ap (take p) (take-append-drop n xs)
-
-pub take_in : {A : Type 0} (p q : ℕ) (xs ys : List A) → p ≤ q → take q xs ≡ take q ys → take p xs ≡ take p ys
-take_in p q xs ys l e = sym (first p q xs l) ∙ ap (take p) e ∙ first p q ys l
-  where
-    first : {A : Type 0} (p q : ℕ) (xs : List A) → p ≤ q → take p (take q xs) ≡ take p xs
-    first zero q xs l = refl
-    first (suc p) zero xs l = absurd (omega (arith, l))
-    first (suc p) (suc q) [] l = refl
-    first (suc p) (suc q) (x ∷ xs) l = ap (λ ys. x ∷ ys) (first p q xs (omega (arith, l)))
-
-pub in_any_case : (b : Bool) (P : Type 0) → P → OnTrue b P
-in_any_case true P h = h
-in_any_case false P h = tt
-
--- ---- one item more
+-- ---- lists of uses
 
 pub at_use : (us : List UseAt) (i : ℕ) (item : UseAt) → item ≡ get_or us i item → as_use item ≡ get_or (map as_use us) i (as_use item)
 at_use us i item is = ap as_use is ∙ sym (by us i)
@@ -55,31 +32,11 @@ at_use us i item is = ap as_use is ∙ sym (by us i)
     by (u ∷ us) zero = refl
     by (u ∷ us) (suc i) = by us i
 
-pub uses_more : (us : List UseAt) (i : ℕ) (item : UseAt) → i < length us → item ≡ get_or us i item
-    → take (i + 1) (map as_use us) ≡ take i (map as_use us) ++ as_use item ∷ []
-uses_more us i item l is =
-    take-map as_use (i + 1) us ∙ ap (λ n. map as_use (take n us)) (add-one i) ∙ ap (map as_use) (take-suc us i item l)
-    ∙ map-append as_use (take i us) (get_or us i item ∷ [])
-    ∙ ap (λ (u : UseAt). map as_use (take i us) ++ as_use u ∷ []) (sym is)
-    ∙ ap (λ vs. vs ++ as_use item ∷ []) (sym (take-map as_use i us))
-
 -- the uses from a place on, as a slice has them
 pub uses_from : (us : List UseAt) (n : ℕ) → map as_use (take (length us - n) (drop n us)) ≡ drop n (map as_use us)
 uses_from us n =
     let long = length-drop n us in
     ap (map as_use) (take_all (length us - n) (drop n us) (omega (arith, long))) ∙ sym (drop-map as_use n us)
-
--- what holds of each front by its place holds of one more
-pub fronts_more : (P : ℕ → Front → Type 0) (fronts : List Front) (front : Front) (n : ℕ) → length fronts ≡ n
-    → ((p : ℕ) (other : Front) → p < n → P p (get_or fronts p other)) → P n front
-    → (p : ℕ) (other : Front) → p < n + 1 → P p (get_or (fronts ++ front ∷ []) p other)
-fronts_more P fronts front n long before last p other l = elim (cases_lt p n) [
-  | inl k ↦ subst (P p) (sym (get_or_append_left fronts (front ∷ []) other p (omega (arith, k, long)))) (before p other k)
-  | inr k ↦ (
-      let e : n ≡ p = omega (arith, l, k) in
-      let at = ap (λ i. get_or (fronts ++ front ∷ []) i other) (sym (long ∙ e)) ∙ get_or-append_seam fronts front [] other in
-      subst (P p) (sym at) (subst (λ i. P i front) e last))
-]
 
 -- ---- one use more
 
@@ -95,13 +52,6 @@ module _ (normal : Normal) where
       → size_from normal set b (done ++ u ∷ []) ≡ more_size normal (set_after normal set done) (size_from normal set b done) u
   size_more [] set b u = refl
   size_more (v ∷ done) set b u = size_more done (with_use normal set v) (more_size normal set b v) u
-
-  pub copied : (start : ClassSet) (done : List Use) (front copy : Front) → IsFront normal start done front
-      → copy.set.items ≡ front.set.items → copy.sizes ≡ front.sizes → IsFront normal start done copy
-  copied start done front copy h set sizes = record {
-    set = set ∙ h.set;
-    sizes = subst (SizesAre normal start done) (sym sizes) h.sizes;
-  }
 
   module _ (start : ClassSet) (done : List Use) (u : Use) where
     pub set_more : set_after normal start (done ++ u ∷ []) ≡ with_use normal (set_after normal start done) u
@@ -152,25 +102,27 @@ module _ (normal : Normal) where
       ap (λ b. first && b) (keys-append (with_use normal set x) xs ys)
       ∙ both first (keys_are_bound normal (with_use normal set x) xs) (keys_are_bound normal (set_after normal set (x ∷ xs)) ys)
 
-  -- the keys before the place are bound, so those after it decide
-  keys_without : (start : ClassSet) (us : List Use) (p : ℕ) → are_sound normal start us ≡ true
-      → keys_are_bound normal start (uses_without p us) ≡ keys_are_bound normal (set_after normal start (take p us)) (drop (p + 1) us)
-  keys_without start us p sound =
-      let later = λ (ys : List Use). keys_are_bound normal (set_after normal start (take p us)) ys in
-      let all = and_left (keys_are_bound normal start us) (binds_needed normal (set_after normal start us))
-      (and_left (keys_are_bound normal start us && binds_needed normal (set_after normal start us)) (all_are_served normal us) sound) in
-      let first = and_left (keys_are_bound normal start (take p us)) (later (drop p us))
-      (sym (keys-append start (take p us) (drop p us)) ∙ ap (keys_are_bound normal start) (take-append-drop p us) ∙ all) in
-      keys-append start (take p us) (drop (p + 1) us) ∙ ap (λ b. b && later (drop (p + 1) us)) first
+  module _ (start : ClassSet) (us : List Use) (p : ℕ) (first later : List Use) (is : first ≡ take p us) (are : later ≡ drop (p + 1) us) where
+    abbrev keys_apart : keys_are_bound normal start (uses_without p us)
+        ≡ (keys_are_bound normal start first && keys_are_bound normal (set_after normal start first) later)
+    keys_apart = keys-append start (take p us) (drop (p + 1) us)
+        ∙ ap (λ vs. keys_are_bound normal start vs && keys_are_bound normal (set_after normal start vs) (drop (p + 1) us)) (sym is)
+        ∙ ap (λ vs. keys_are_bound normal start first && keys_are_bound normal (set_after normal start first) vs) (sym are)
 
-  module _ (start : ClassSet) (us : List Use) (p : ℕ) (later : List Use) (are : later ≡ drop (p + 1) us) where
-    pub later_keys : (set : ClassSet) (answer : Bool) → set ≡ set_after normal start (take p us) → are_sound normal start us ≡ true
+    pub first_unbound : keys_are_bound normal start first ≡ false → keys_are_bound normal start (uses_without p us) ≡ false
+    first_unbound h = keys_apart ∙ ap (λ b. b && keys_are_bound normal (set_after normal start first) later) h
+
+    pub later_keys : (set : ClassSet) (answer : Bool) → keys_are_bound normal start first ≡ true → set ≡ set_after normal start first
         → answer ≡ keys_are_bound normal set later → keys_are_bound normal start (uses_without p us) ≡ answer
-    later_keys set answer e sound is = sym (is ∙ ap (λ s. keys_are_bound normal s later) e
-        ∙ ap (keys_are_bound normal (set_after normal start (take p us))) are ∙ sym (keys_without start us p sound))
+    later_keys set answer h e told = keys_apart ∙ ap (λ b. b && keys_are_bound normal (set_after normal start first) later) h
+        ∙ ap (λ s. keys_are_bound normal s later) (sym e) ∙ sym told
 
-    pub later_front : (front : Front) → IsFront normal start (take p us ++ later) front → IsFront normal start (uses_without p us) front
-    later_front front h = subst (λ vs. IsFront normal start (take p us ++ vs) front) are h
+    pub later_front : (front : Front) → IsFront normal start (first ++ later) front → IsFront normal start (uses_without p us) front
+    later_front front h = subst (λ vs. IsFront normal start (vs ++ drop (p + 1) us) front) is (subst (λ vs. IsFront normal start (first ++ vs) front) are h)
+
+  pub bound_of : (start : ClassSet) (us : List Use) → are_sound normal start us ≡ true → keys_are_bound normal start us ≡ true
+  bound_of start us sound = and_left (keys_are_bound normal start us) (binds_needed normal (set_after normal start us))
+      (and_left (keys_are_bound normal start us && binds_needed normal (set_after normal start us)) (all_are_served normal us) sound)
 
   pub served_of : (start : ClassSet) (us : List Use) → are_sound normal start us ≡ true → all_are_served normal us ≡ true
   served_of start us sound =

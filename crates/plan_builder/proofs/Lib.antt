@@ -4,6 +4,7 @@ pub mod DropTurns
 pub mod Drops
 pub mod FrontFacts
 pub mod Extras
+pub mod Needed
 pub mod PreparationFacts
 pub mod SetFacts
 pub mod Turns

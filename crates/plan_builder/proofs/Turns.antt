@@ -1,8 +1,9 @@
 -- The turns of a derivation, one at a time.
-use Rattle.std.proofs.Common.{◌≡◌, ◌<◌, ◌≤◌, ◌-◌, ◌+◌, ◌&&◌, ◌||◌, ◌==◌, ℕ, zero, suc, Bool, true, false, cond, List, [], ◌∷◌, ◌++◌, length, map, drop, get_or, Option, Some, None, refl, ap, sym, ◌∙◌, subst, arith, append_assoc, add-one, drop-cons}
-use Rattle.std.specs.List.{filter}
+use Rattle.std.proofs.Common.{◌≡◌, ◌<◌, ◌≤◌, ◌-◌, ◌+◌, ◌&&◌, ◌||◌, ◌==◌, ℕ, zero, suc, Bool, true, false, cond, List, [], ◌∷◌, ◌++◌, length, length-append, map, take, drop, get_or, Option, Some, None, refl, ap, sym, ◌∙◌, subst, arith, append_assoc, add-one, drop-cons}
+use Rattle.std.specs.List.{All, filter}
 use Rattle.std.specs.Option.{option_map, is_some}
-use Rattle.std.proofs.lemmas.List.{append-nil, map-append, drop_all}
+use Rattle.std.proofs.lemmas.List.{append-nil, drop_all, take-append-le}
+use Rattle.std.proofs.lemmas.List.Elements.{All-append, All-cons, All-nil}
 use Rattle.std.proofs.lemmas.List.FromFn.{get_or-range_with_len, length-range_with_len}
 use Rattle.beas_core.specs.declared.schema.Access.{Access}
 use Rattle.beas_core.specs.declared.plan.DStep.{DStep}
@@ -11,10 +12,11 @@ use Rattle.beas_core.specs.declared.plan.NotCovered.{NotCovered}
 use Rattle.beas_core.specs.Types.{ClassSet, Use}
 use Rattle.beas_core.specs.Shapes.{EachIdOnce}
 use Rattle.beas_core.specs.Coverage.{serves, uses, is_covered, reason, atoms_of, covered_set, holds_needed, ClassesInRange}
-use Rattle.beas_core.specs.Derivations.{least_bound, is_served_by, then_step, enabled_uses, adding_steps, serving_steps, greedy_steps, step_of, with_use, use_of, bound_after, bound_by}
+use Rattle.beas_core.specs.Derivations.{least_bound, is_live, is_served_by, then_step, enabled_uses, adding_steps, serving_steps, greedy_steps, step_of, with_use, use_of, bound_after, bound_by}
 use Rattle.beas_core.specs.Pruning.{derivation, pruned}
 use Rattle.beas_core.proofs.Sets.{Has, Has-from_filter}
-use Rattle.evaluation_facts.proofs.UseFacts.{use_facts, found_by_id, least_has}
+use Rattle.evaluation_facts.proofs.MemberTests.{any_by}
+use Rattle.evaluation_facts.proofs.UseFacts.{use_facts, least_has}
 use Rattle.evaluation_facts.proofs.SoundDerivations.{bound_step, bound-append}
 use Rattle.evaluation_facts.proofs.DerivationsExist.{derivation_exists}
 use Rattle.evaluation_facts.proofs.ReasonFacts.{reason-covered, covered-reason}
@@ -86,21 +88,13 @@ module _ (normal : Normal) (accesses : List Access) (start set : ClassSet) (step
       ∙ prefixed steps (step_of normal set u) (adding_steps (n - (i + 1)) normal accesses (with_use normal set u))
 
 -- one more step of a plan
-module _ (normal : Normal) (accesses : List Access) (once : EachIdOnce accesses) (start set : ClassSet) (steps : List DStep) (us : List Use) (u : Use)
+module _ (normal : Normal) (accesses : List Access) (once : EachIdOnce accesses) (start set : ClassSet) (steps : List DStep) (u : Use)
     (member : Has (uses normal accesses) u) where
   pub bound_more : set ≡ bound_after normal accesses start steps
       → with_use normal set u ≡ bound_after normal accesses start (steps ++ step_of normal set u ∷ [])
   bound_more e =
       sym (bound_step normal accesses once set u member) ∙ ap (λ s. bound_by normal accesses s (step_of normal set u)) e
       ∙ sym (bound-append normal accesses steps (step_of normal set u ∷ []) start)
-
-  pub uses_more : map (use_of accesses) steps ≡ us → map (use_of accesses) (steps ++ step_of normal set u ∷ []) ≡ us ++ u ∷ []
-  uses_more e =
-      map-append (use_of accesses) steps (step_of normal set u ∷ []) ∙ ap (λ vs. vs ++ use_of accesses (step_of normal set u) ∷ []) e
-      ∙ ap (λ a. us ++ used u.atom a ∷ []) (found_by_id accesses once u.access (use_facts normal accesses u member).member)
-    where
-      used : ℕ → Access → Use
-      used atom access = record { atom = atom; access = access }
 
 -- whether an atom is served, by the steps or by their uses
 pub served_same : (normal : Normal) (accesses : List Access) (steps : List DStep) (us : List Use) (atom : ℕ) → map (use_of accesses) steps ≡ us
@@ -153,6 +147,13 @@ module _ (normal : Normal) (accesses : List Access) (first steps : List DStep) (
   serve_some u h g = not_served h ∙ ap (λ o. steps ++ then_step o (rest set) (λ v. step_of normal set v ∷ rest (with_use normal set v))) g
       ∙ sym (append_assoc steps (step_of normal set u ∷ []) (rest (with_use normal set u)))
 
+-- the steps that stood before atoms are served go on standing in front
+pub front_stays : (n : ℕ) (steps first : List DStep) (s : DStep) → n ≤ length steps → take n steps ≡ first
+    → (n ≤ length (steps ++ s ∷ [])) × (take n (steps ++ s ∷ []) ≡ first)
+front_stays n steps first s l e =
+    let long = length-append steps (s ∷ []) in
+    (omega (arith, l, long), take-append-le n steps (s ∷ []) l ∙ e)
+
 pub serve_end : (normal : Normal) (accesses : List Access) (first steps : List DStep) (set : ClassSet) (i : ℕ) → length normal.atoms ≤ i
     → steps ++ serving_steps normal accesses first set (drop i (atoms_of normal)) ≡ steps
 serve_end normal accesses first steps set i l =
@@ -173,13 +174,23 @@ greedy_none normal accesses start h = ap (option_map (λ steps. steps ++ serving
     (atoms_of normal))) h
 
 pub always_why : (normal : Normal) (accesses : List Access) (start : ClassSet) → ClassesInRange normal → length start ≡ normal.count
-    → greedy_steps normal accesses start ≡ None
+    → derivation normal accesses start ≡ None
     → reason normal accesses (covered_set normal accesses start) ≡ None → ⊥
-unfolding derivation
 always_why normal accesses start ranges counted h g =
     let e = derivation_exists normal accesses ranges start counted (reason-covered normal accesses (covered_set normal accesses start) g) in
-    let f = ap (λ o. is_some (option_map (pruned normal accesses start) o)) h in
+    let f = ap is_some h in
     cc
+
+-- where there is no derivation there is a reason
+pub why_there : (normal : Normal) (accesses : List Access) (start : ClassSet) → ClassesInRange normal → length start ≡ normal.count
+    → derivation normal accesses start ≡ None
+    → (why : NotCovered) × (reason normal accesses (covered_set normal accesses start) ≡ Some why)
+why_there normal accesses start ranges counted h = by (reason normal accesses (covered_set normal accesses start)) refl
+  where
+    by : (o : Option NotCovered) → reason normal accesses (covered_set normal accesses start) ≡ o
+        → (why : NotCovered) × (reason normal accesses (covered_set normal accesses start) ≡ Some why)
+    by None e = absurd (always_why normal accesses start ranges counted h e)
+    by (Some why) e = (why, e)
 
 pub derivation_none : (normal : Normal) (accesses : List Access) (start : ClassSet) → greedy_steps normal accesses start ≡ None
     → derivation normal accesses start ≡ None
@@ -195,17 +206,19 @@ pub chosen_member : (p : Use → Bool) (us : List Use) (u : Use) → Some u ≡ 
 chosen_member p us u e = (Has-from_filter p us u (least_has (filter p us) u (sym e))).0
 
 -- one more step, as the code takes it
-module _ (normal : Normal) (accesses : List Access) (once : EachIdOnce accesses) (start set : ClassSet) (steps : List DStep) (taken : List UseAt)
+module _ (normal : Normal) (accesses : List Access) (once : EachIdOnce accesses) (start set : ClassSet) (steps : List DStep)
     (x : UseAt) (member : Has (uses normal accesses) (as_use x))
     (set2 : ClassSet) (steps2 : List DStep) (es : set2 ≡ with_use normal set (as_use x)) (et : steps2 ≡ steps ++ step_of normal set (as_use x) ∷ []) where
   pub plan_bound : set ≡ bound_after normal accesses start steps → set2 ≡ bound_after normal accesses start steps2
-  plan_bound e = es ∙ bound_more normal accesses once start set steps (map as_use taken) (as_use x) member e ∙ ap (bound_after normal accesses start) (sym et)
+  plan_bound e = es ∙ bound_more normal accesses once start set steps (as_use x) member e ∙ ap (bound_after normal accesses start) (sym et)
 
-  pub plan_uses : (taken2 : List UseAt) → taken2 ≡ taken ++ x ∷ [] → map (use_of accesses) steps ≡ map as_use taken
-      → map (use_of accesses) steps2 ≡ map as_use taken2
-  plan_uses taken2 ex e =
-      ap (map (use_of accesses)) et ∙ uses_more normal accesses once start set steps (map as_use taken) (as_use x) member e
-      ∙ sym (ap (map as_use) ex ∙ map-append as_use taken (x ∷ []))
+  pub plan_live : All (λ s. is_live accesses s.access ≡ true) steps → All (λ s. is_live accesses s.access ≡ true) steps2
+  plan_live h =
+      let own = any_by (λ a. a.id.0 == x.access.now.id.0) accesses x.access.now (use_facts normal accesses (as_use x) member).member
+      (eq-eqb x.access.now.id.0 x.access.now.id.0 refl) in
+      subst (All (λ s. is_live accesses s.access ≡ true)) (sym et)
+      (All-append (λ s. is_live accesses s.access ≡ true) steps (step_of normal set (as_use x) ∷ []) h
+      (All-cons (λ s. is_live accesses s.access ≡ true) (step_of normal set (as_use x)) [] own (All-nil (λ s. is_live accesses s.access ≡ true))))
 
   pub plan_left : (n i : ℕ) → i < n → adding_steps n normal accesses start
       ≡ option_map (λ more. steps ++ more) (adding_steps (n - i) normal accesses set) → is_covered normal accesses set ≡ false

@@ -1,5 +1,5 @@
 // The blocks of a query as they are lent for planning, and the constraints that each may use.
-ghost use Rattle.std.specs.Prelude.{◌≡◌, ◌++◌, [], IfOk, OnOk, length, map, slice_index_or};
+ghost use Rattle.std.specs.Prelude.{◌≡◌, ◌<◌, ◌++◌, ◌^◌, [], IfOk, OnOk, length, map, slice_index_or};
 ghost use Rattle.std.specs.List.{flat_map};
 ghost use Rattle.beas_core.specs.declared.schema.Access.{Access};
 ghost use Rattle.beas_core.specs.Guiding.{tasks_from};
@@ -24,6 +24,19 @@ fn extra_of<'a>(extra: &'a [List<Access>], number: usize) -> &'a [Access]
     match extra.get(number) {
         Some(more) => more.as_slice(),
         None => &[],
+    }
+}
+
+/// How many blocks a part of a query has.
+pub fn count_blocks(query: &Query) -> usize
+    requires { length (blocks_of query.now) < 2 ^ 32 }
+    ensures { result ≡ length (blocks_of query.now) }
+{
+    match &query.node {
+        QueryNode::Block(_) => 1,
+        QueryNode::Union(left, right) | QueryNode::Except(left, right) => {
+            count_blocks(left) + count_blocks(right)
+        }
     }
 }
 

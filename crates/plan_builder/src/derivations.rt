@@ -1,9 +1,9 @@
 // Derivations: steps that add classes while the block isn't covered, then steps that serve its atoms.
-ghost use Rattle.std.specs.Prelude.{◌≡◌, ◌≤◌, ◌<◌, ◌++◌, ◌∷◌, [], IfOk, OnOk, MatchBool, MatchResult, None, Some, length, map, take};
+ghost use Rattle.std.specs.Prelude.{◌≡◌, ◌≤◌, ◌<◌, ◌++◌, ◌∷◌, [], All, IfOk, IsTrue, OnOk, MatchBool, MatchResult, None, Some, length, map, take};
 ghost use Rattle.std.specs.List.{list_any};
 ghost use Rattle.beas_core.specs.declared.schema.Access.{Access};
-ghost use Rattle.beas_core.specs.Coverage.{ClassesInRange, atoms_of, covered_set, own_reason, reason, uses as uses_in};
-ghost use Rattle.beas_core.specs.Derivations.{adding_steps, greedy_steps, serving_steps, step_of, use_of, with_use};
+ghost use Rattle.beas_core.specs.Coverage.{ClassesInRange, atoms_of, covered_set, holds_needed, own_reason, reason, uses as uses_in};
+ghost use Rattle.beas_core.specs.Derivations.{adding_steps, greedy_steps, is_live, is_served_by, serving_steps, step_of, use_of, with_use};
 ghost use Rattle.beas_core.specs.Pruning.{derivation, own_derivation};
 ghost use Rattle.beas_core.specs.Shapes.{EachIdOnce};
 ghost use Rattle.attribute_closure.specs.Uses.{as_use};
@@ -16,6 +16,7 @@ use crate::pruning::needed_steps;
 use crate::sets::{add_use, adds};
 use attribute_closure::{UseAt, close_from, constant_classes, holds_needed, why_not};
 use beas_core::{Access, DStep, Derivation, List, NoMemory, Normal, NotCovered};
+use bound_calculator::access_with;
 use std::alloc::Global;
 
 /// The steps so far, and the classes that are bound after them.
@@ -25,42 +26,51 @@ pub struct Plan {
     pub set: Vec<bool>,
 }
 
+// Adds a use as the next step. The set has the classes that are bound before it.
+fn push_step(
+    steps: &mut List<DStep>,
+    block: &Normal,
+    set: &[bool],
+    found: UseAt<'_>,
+) -> Result<(), NoMemory>
+    ensures { OnOk result (steps.new ≡ steps.old ++ step_of block.now set.now (as_use found.entry) ∷ []) }
+{
+    let adds = adds(block, set, &found);
+    steps.push(DStep {
+        atom: found.atom,
+        access: found.access.id,
+        adds,
+    })
+}
+
 /// Takes a use as the next step.
 pub fn take_step(plan: &mut Plan, block: &Normal, found: UseAt<'_>) -> Result<(), NoMemory>
     ensures steps { OnOk result (plan.new.steps
         ≡ plan.old.steps ++ step_of block.now plan.old.set.items (as_use found.entry) ∷ []) }
     ensures set { OnOk result (plan.new.set.items ≡ with_use block.now plan.old.set.items (as_use found.entry)) }
 {
-    let adds = adds(block, &plan.set, &found);
-    plan.steps.push(DStep {
-        atom: found.atom,
-        access: found.access.id,
-        adds,
-    })?;
+    push_step(&mut plan.steps, block, &plan.set, found)?;
     add_use(block, &found, &mut plan.set);
     Ok(())
 }
 
-// Adds steps until the set covers the block, and notes their uses. False where no use is left that adds a class.
-fn add_steps<'a>(
-    plan: &mut Plan,
-    taken: &mut List<UseAt<'a>>,
+// Adds steps until the candidates' set covers the block. False where no use is left that adds a class.
+fn add_steps(
+    steps: &mut List<DStep>,
     block: &Normal,
-    candidates: &mut Candidates<'a>,
+    candidates: &mut Candidates<'_>,
 ) -> Result<bool, NoMemory>
     requires ranges { ClassesInRange block.now }
     requires needed { length block.now.needed ≤ 65536 }
     requires are { AreCandidates block.now candidates.old }
-    requires set { candidates.old.keys.set.items ≡ plan.old.set.items }
-    requires steps { plan.old.steps ≡ [] }
-    requires taken { taken.old ≡ [] }
+    requires steps { steps.old ≡ [] }
     ensures uses { candidates.new.keys.uses ≡ candidates.old.keys.uses }
     ensures come { IfOk result (λ whole. (accesses : List Access)
         → EachIdOnce accesses → map as_use candidates.old.keys.uses ≡ uses_in block.now accesses
         → MatchBool whole
-        (HasCome block.now accesses plan.old.set.items plan.new taken.new
-        × (adding_steps block.now.count block.now accesses plan.old.set.items ≡ Some plan.new.steps))
-        (adding_steps block.now.count block.now accesses plan.old.set.items ≡ None)) }
+        (HasCome block.now accesses candidates.old.keys.set.items candidates.new.keys.set.items steps.new
+        × (adding_steps block.now.count block.now accesses candidates.old.keys.set.items ≡ Some steps.new))
+        (adding_steps block.now.count block.now accesses candidates.old.keys.set.items ≡ None)) }
 {
     for _turn in 0..block.count {
         if candidates.cover(block) {
@@ -69,8 +79,7 @@ fn add_steps<'a>(
         match candidates.next(block) {
             None => return Ok(false),
             Some(found) => {
-                take_step(plan, block, found)?;
-                taken.push(found)?;
+                push_step(steps, block, &candidates.keys.set, found)?;
                 candidates.take(block, &found)?;
             }
         }
@@ -92,23 +101,58 @@ pub fn is_served_among(block: &Normal, taken: &[UseAt<'_>], atom: u16) -> bool
     false
 }
 
+// Whether a step has the needed columns of its atom in key or fetched.
+fn has_needed(block: &Normal, accesses: &[Access], step: &DStep) -> bool
+    requires ids { EachIdOnce accesses.now }
+    requires live { IsTrue (is_live accesses.now step.now.access) }
+    ensures { result ≡ holds_needed block.now (use_of accesses.now step.now) }
+{
+    match access_with(accesses, step.access) {
+        Some(access) => {
+            let found = UseAt {
+                atom: step.atom,
+                access,
+            };
+            holds_needed(block, &found)
+        }
+        None => unreachable!(),
+    }
+}
+
+// Whether one of some steps is on an atom and has its needed columns in key or fetched.
+fn is_served_by(block: &Normal, accesses: &[Access], steps: &[DStep], atom: u16) -> bool
+    requires ids { EachIdOnce accesses.now }
+    requires live { All (λ s. IsTrue (is_live accesses.now s.access)) steps.now }
+    ensures { result ≡ is_served_by block.now accesses.now steps.now atom }
+{
+    for step in steps {
+        if step.atom == atom {
+            if has_needed(block, accesses, step) {
+                return true;
+            }
+        }
+    }
+    false
+}
+
 // Adds for each atom in order that none of the steps serves the best use that serves it.
 fn serve_atoms(
     plan: &mut Plan,
     block: &Normal,
     accesses: &[Access],
     uses: &[UseAt<'_>],
-    taken: &[UseAt<'_>],
 ) -> Result<(), NoMemory>
     requires atoms { length block.now.atoms < 65536 }
+    requires ids { EachIdOnce accesses.now }
     requires uses { map as_use uses.now ≡ uses_in block.now accesses.now }
-    requires taken { map (use_of accesses.now) plan.old.steps ≡ map as_use taken.now }
+    requires live { All (λ s. IsTrue (is_live accesses.now s.access)) plan.old.steps }
     ensures { OnOk result (plan.new.steps
         ≡ plan.old.steps
         ++ serving_steps block.now accesses.now plan.old.steps plan.old.set.items (atoms_of block.now)) }
 {
+    let first = plan.steps.len();
     for atom in 0..block.atoms.len() as u16 {
-        if !is_served_among(block, taken, atom) {
+        if !is_served_by(block, accesses, &plan.steps.as_slice()[..first], atom) {
             if let Some(found) = best_serving(block, uses, &plan.set, atom) {
                 take_step(plan, block, found)?;
             }
@@ -133,22 +177,63 @@ pub fn greedy(
     ensures { IfOk result (λ steps. steps ≡ greedy_steps block.now accesses.now start.now) }
 {
     let mut candidates = Candidates::of(alloc, block, accesses.as_slice(), start)?;
-    let mut taken = List::new(alloc);
-    let mut plan = Plan {
-        steps: List::new(alloc),
-        set: Vec::from_slice(alloc, start)?,
-    };
-    if !add_steps(&mut plan, &mut taken, block, &mut candidates)? {
+    let mut steps = List::from_vec(Vec::with_capacity(alloc, block.atoms.len())?);
+    if !add_steps(&mut steps, block, &mut candidates)? {
         return Ok(None);
     }
-    serve_atoms(
-        &mut plan,
-        block,
-        accesses.as_slice(),
-        candidates.keys.uses.as_slice(),
-        taken.as_slice(),
-    )?;
+    let keys = candidates.keys;
+    let uses = keys.uses;
+    let mut plan = Plan {
+        steps,
+        set: keys.set,
+    };
+    serve_atoms(&mut plan, block, accesses.as_slice(), uses.as_slice())?;
     Ok(Some(plan.steps))
+}
+
+/// The derivation of a block from a start set of classes. Nothing where the constraints don't cover it from there.
+pub fn steps_if_covered(
+    alloc: Global,
+    accesses: &List<Access>,
+    block: &Normal,
+    start: &[bool],
+) -> Result<Option<List<DStep>>, NoMemory>
+    requires ranges { ClassesInRange block.now }
+    requires classes { length start.now ≡ block.now.count }
+    requires atoms { length block.now.atoms < 65536 }
+    requires needed { length block.now.needed ≤ 65536 }
+    requires ids { EachIdOnce accesses.now }
+    ensures { IfOk result (λ steps. steps ≡ derivation block.now accesses.now start.now) }
+{
+    match greedy(alloc, accesses, block, start)? {
+        Some(steps) => {
+            let steps = needed_steps(alloc, accesses.as_slice(), block, start, steps)?;
+            Ok(Some(steps))
+        }
+        None => Ok(None),
+    }
+}
+
+/// Why the constraints don't cover a block from a start set of classes, where there is no derivation from it.
+pub fn why_none(
+    alloc: Global,
+    accesses: &List<Access>,
+    block: &Normal,
+    start: &[bool],
+) -> Result<NotCovered, NoMemory>
+    requires ranges { ClassesInRange block.now }
+    requires classes { length start.now ≡ block.now.count }
+    requires atoms { length block.now.atoms < 65536 }
+    requires needed { length block.now.needed ≤ 65536 }
+    requires none { derivation block.now accesses.now start.now ≡ None }
+    ensures { IfOk result (λ why.
+        reason block.now accesses.now (covered_set block.now accesses.now start.now) ≡ Some why) }
+{
+    let covered = close_from(alloc, block, accesses, start)?;
+    match why_not(block, accesses.as_slice(), covered.as_slice()) {
+        Some(why) => Ok(why),
+        None => unreachable!(),
+    }
 }
 
 /// The derivation of a block from a start set of classes, or why its constraints don't cover it from there.
@@ -168,14 +253,9 @@ pub fn derive_from(
         (λ why. (derivation block.now accesses.now start.now ≡ None)
         × (reason block.now accesses.now (covered_set block.now accesses.now start.now) ≡ Some why))) }
 {
-    if let Some(steps) = greedy(alloc, accesses, block, start)? {
-        let steps = needed_steps(alloc, accesses.as_slice(), block, start, steps.as_slice())?;
-        return Ok(Ok(Derivation { steps }));
-    }
-    let covered = close_from(alloc, block, accesses, start)?;
-    match why_not(block, accesses.as_slice(), covered.as_slice()) {
-        Some(why) => Ok(Err(why)),
-        None => unreachable!(),
+    match steps_if_covered(alloc, accesses, block, start)? {
+        Some(steps) => Ok(Ok(Derivation { steps })),
+        None => Ok(Err(why_none(alloc, accesses, block, start)?)),
     }
 }
 

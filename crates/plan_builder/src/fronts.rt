@@ -1,5 +1,5 @@
 // Fronts of derivations: what the first uses bind, and what their steps read at most.
-ghost use Rattle.std.specs.Prelude.{◌≡◌, ◌≤◌, ◌+◌, ◌++◌, ◌∷◌, [], ℕ, IfOk, List, length, map, slice_index_or, take};
+ghost use Rattle.std.specs.Prelude.{◌≡◌, ◌++◌, ◌∷◌, [], IfOk, List, OnOk, map};
 ghost use Rattle.std.specs.Bool.{OnTrue};
 ghost use Rattle.beas_core.specs.Derivations.{with_use};
 ghost use Rattle.beas_core.specs.Types.{ClassSet, Use};
@@ -22,7 +22,8 @@ pub struct Front {
 }
 
 impl Front {
-    fn start(alloc: Global, set: &[bool]) -> Result<Front, NoMemory>
+    /// Before the first use.
+    pub fn start(alloc: Global, set: &[bool]) -> Result<Front, NoMemory>
         ensures { IfOk result (λ front. (normal : Normal) → IsFront normal set.now [] front) }
     {
         Ok(Front {
@@ -31,15 +32,14 @@ impl Front {
         })
     }
 
-    /// The same front, which goes on by itself.
-    pub fn copy(&self, alloc: Global) -> Result<Front, NoMemory>
-        ensures set { IfOk result (λ copy. copy.set.items ≡ self.now.set.items) }
-        ensures sizes { IfOk result (λ copy. copy.sizes ≡ self.now.sizes) }
+    /// Goes back to where no use is taken yet. Its room is kept.
+    pub fn restart(&mut self, set: &[bool]) -> Result<(), NoMemory>
+        ensures { OnOk result ((normal : Normal) → IsFront normal set.now [] self.new) }
     {
-        Ok(Front {
-            set: Vec::from_slice(alloc, &self.set)?,
-            sizes: self.sizes,
-        })
+        self.set.clear();
+        self.set.extend_from_slice(set)?;
+        self.sizes = Some(Sizes { reads: 0, last: 1 });
+        Ok(())
     }
 }
 
@@ -82,25 +82,4 @@ pub fn take_uses(block: &Normal, uses: &[UseAt<'_>], front: &mut Front) -> bool
         take_use(block, found, front);
     }
     true
-}
-
-/// What stands before each use of a derivation, and after the last.
-pub fn fronts_of(
-    alloc: Global,
-    block: &Normal,
-    start: &[bool],
-    uses: &[UseAt<'_>],
-) -> Result<Vec<Front>, NoMemory>
-    ensures length { IfOk result (λ fronts. length fronts.items ≡ length uses.now + 1) }
-    ensures fronts { IfOk result (λ fronts. (place : ℕ) (other : Front) → place ≤ length uses.now
-        → IsFront block.now start.now (take place (map as_use uses.now)) (slice_index_or fronts.items place other)) }
-{
-    let mut fronts = Vec::new(alloc);
-    let mut front = Front::start(alloc, start)?;
-    for found in uses {
-        fronts.push(front.copy(alloc)?)?;
-        take_use(block, found, &mut front);
-    }
-    fronts.push(front)?;
-    Ok(fronts)
 }

@@ -14,9 +14,10 @@ ghost use Rattle.catalogue.specs.Queries.{BlockIsOver, QueryIsOver, RowsAreWide}
 ghost use Rattle.plan_builder.specs.Parts.{Grows, block_reads, block_size, blocks_at, normal_task, task_at, unless_too_large, whole};
 ghost use Rattle.plan_builder.specs.Preparation.{IsWellFormedIn, block_header, header_of, not_covered, place_name, preparation, preparation_over, refusal_of, with_lists};
 
-use crate::blocks::{BlockAt, joined, joined_all, push_blocks};
-use crate::derivations::{derive, derive_from};
+use crate::blocks::{BlockAt, count_blocks, joined, joined_all, push_blocks};
+use crate::derivations::{derive_from, steps_if_covered, why_none};
 use crate::sets::guided_start;
+use attribute_closure::constant_classes;
 use beas_core::{
     Access, Block, Derivation, Duplicate, Fail, List, Name, NoMemory, Normal, NotCovered, Place,
     Prepared, Query, QueryNode, Refusal,
@@ -78,7 +79,7 @@ fn block_header(alloc: Global, catalogue: &Catalogue, block: &Block) -> Result<L
     requires over { BlockIsOver catalogue.now block.now }
     ensures { IfOk result (λ header. header ≡ block_header catalogue.now block.now) }
 {
-    let mut header = List::new(alloc);
+    let mut header = List::from_vec(Vec::with_capacity(alloc, block.output.len())?);
     for place in block.output.as_slice() {
         header.push(column_name(alloc, catalogue, block, *place)?)?;
     }
@@ -147,18 +148,15 @@ fn plan_normal(
         × (task_reason (normal_task normal.now accesses.now has_guide) ≡ None))
         (λ why. task_reason (normal_task normal.now accesses.now has_guide) ≡ Some why)) }
 {
-    match derive(alloc, accesses, normal)? {
-        Ok(derivation) => {
-            return Ok(Ok(TaskPlan {
-                derivation,
-                guided: false,
-            }));
-        }
-        Err(why) => {
-            if !has_guide {
-                return Ok(Err(why));
-            }
-        }
+    let start = constant_classes(alloc, normal)?;
+    if let Some(steps) = steps_if_covered(alloc, accesses, normal, start.as_slice())? {
+        return Ok(Ok(TaskPlan {
+            derivation: Derivation { steps },
+            guided: false,
+        }));
+    }
+    if !has_guide {
+        return Ok(Err(why_none(alloc, accesses, normal, start.as_slice())?));
     }
     let start = guided_start(alloc, normal)?;
     match derive_from(alloc, accesses, normal, start.as_slice())? {
@@ -235,9 +233,9 @@ fn plan_blocks(alloc: Global, catalogue: &Catalogue, blocks: &[BlockAt<'_>]) -> 
         ≡ map task_steps (map (task_at catalogue.now.accesses) blocks.now)) }
 {
     let mut plans = Plans {
-        normals: List::new(alloc),
-        derivations: List::new(alloc),
-        guided: List::new(alloc),
+        normals: List::from_vec(Vec::with_capacity(alloc, blocks.len())?),
+        derivations: List::from_vec(Vec::with_capacity(alloc, blocks.len())?),
+        guided: List::from_vec(Vec::with_capacity(alloc, blocks.len())?),
     };
     for (place, at) in blocks.iter().enumerate() {
         let (normal, plan) = plan_block(alloc, catalogue, place as u32 + 1, *at)?;
@@ -405,7 +403,7 @@ fn parts_of(
         Gives (Ok (whole query.now parts)) (preparation_over catalogue.now extra.now query.now)) }
     ensures plan { IfOk result (λ parts. PlanFits (with_lists catalogue.now.accesses extra.now) (whole query.now parts)) }
 {
-    let mut found = List::new(alloc);
+    let mut found = List::from_vec(Vec::with_capacity(alloc, count_blocks(query))?);
     push_blocks(query, extra, false, &mut found)?;
     let plans = plan_blocks(alloc, catalogue, found.as_slice())?;
     let bound = announce_over(alloc, catalogue.accesses(), extra, query, &plans)?;

@@ -1,16 +1,16 @@
-// Steps that a derivation does without: each is tried, from the last to the first, by the uses of constraints alone.
-ghost use Rattle.std.specs.Prelude.{◌≡◌, ◌≤◌, ◌<◌, All, IfOk, IsTrue, length, map, nat_lt, not, take};
+// Steps that a derivation does without: each whose atom another step serves is tried, from the last to the first, by the
+// uses of constraints alone.
+ghost use Rattle.std.specs.Prelude.{◌≡◌, ◌≤◌, ◌<◌, All, IfOk, IsTrue, length, map, nat_lt, not};
 ghost use Rattle.std.specs.Bool.{OnTrue};
 ghost use Rattle.beas_core.specs.Derivations.{IsSound, is_live, use_of};
 ghost use Rattle.beas_core.specs.Pruning.{pruned};
 ghost use Rattle.beas_core.specs.Shapes.{EachIdOnce};
-ghost use Rattle.beas_core.specs.Types.{ClassSet};
 ghost use Rattle.attribute_closure.specs.Uses.{as_use};
 ghost use Rattle.plan_builder.specs.Fronts.{IsFront, IsKept, reads_or_cap};
 ghost use Rattle.plan_builder.specs.Trials.{all_are_served, are_sound, steps_from, uses_pruned, uses_pruned_at, uses_without};
 
 use crate::derivations::{Plan, is_served_among, take_step};
-use crate::fronts::{Front, fronts_of, take_uses};
+use crate::fronts::{Front, take_uses};
 use attribute_closure::{UseAt, open_place};
 use beas_core::{Access, DStep, List, NoMemory, Normal, Sizes};
 use bound_calculator::access_with;
@@ -33,7 +33,7 @@ fn uses_of_steps<'a>(
     requires live { All (λ s. IsTrue (is_live accesses.now s.access)) steps.now }
     ensures { IfOk result (λ found. map as_use found ≡ map (use_of accesses.now) steps.now) }
 {
-    let mut found = List::new(alloc);
+    let mut found = List::from_vec(Vec::with_capacity(alloc, steps.len())?);
     for step in steps {
         match access_with(accesses, step.access) {
             Some(access) => found.push(UseAt {
@@ -59,23 +59,35 @@ fn is_served_besides(block: &Normal, uses: &[UseAt<'_>], place: usize) -> bool
     is_served_among(block, &uses[..place], atom) || is_served_among(block, &uses[place + 1..], atom)
 }
 
-// Whether uses that are sound are so without the one at a place. `front` is what stands before it, and what the others
-// come to where they are sound.
-fn is_sound_without(block: &Normal, uses: &[UseAt<'_>], place: usize, front: &mut Front) -> bool
+// Whether uses that are sound are so without the one at a place. Where they are, `front` is what the others come to.
+fn is_sound_without(
+    block: &Normal,
+    start: &[bool],
+    uses: &[UseAt<'_>],
+    place: usize,
+    front: &mut Front,
+) -> Result<bool, NoMemory>
     requires needed { length block.now.needed ≤ 65536 }
     requires place { place < length uses.now }
-    ensures sound { (start : ClassSet) → IsFront block.now start (take place (map as_use uses.now)) front.old
-        → IsTrue (are_sound block.now start (map as_use uses.now))
-        → result ≡ are_sound block.now start (uses_without place (map as_use uses.now)) }
-    ensures front { (start : ClassSet) → IsFront block.now start (take place (map as_use uses.now)) front.old
-        → OnTrue result (IsFront block.now start (uses_without place (map as_use uses.now)) front.new) }
+    ensures sound { IfOk result (λ sound. IsTrue (are_sound block.now start.now (map as_use uses.now))
+        → sound ≡ are_sound block.now start.now (uses_without place (map as_use uses.now))) }
+    ensures front { IfOk result (λ sound.
+        OnTrue sound (IsFront block.now start.now (uses_without place (map as_use uses.now)) front.new)) }
 {
+    // What serves its atom alone stays, and no front is made.
+    if !is_served_besides(block, uses, place) {
+        return Ok(false);
+    }
+    front.restart(start)?;
+    if !take_uses(block, &uses[..place], front) {
+        return Ok(false);
+    }
     if !take_uses(block, &uses[place + 1..], front) {
-        return false;
+        return Ok(false);
     }
     match open_place(block, &front.set) {
-        Some(_place) => false,
-        None => is_served_besides(block, uses, place),
+        Some(_place) => Ok(false),
+        None => Ok(true),
     }
 }
 
@@ -92,26 +104,21 @@ fn is_no_greater(sizes: Option<Sizes>, most: Option<Sizes>) -> bool
     }
 }
 
-// The uses without the one at a place, where it may go. `front` is what stands before it, so that a trial reads the
-// later uses alone.
+// The uses without the one at a place, where it may go. `front` is taken for the trial, whatever it was.
 fn pruned_at<'a>(
-    alloc: Global,
     block: &Normal,
-    front: &Front,
+    start: &[bool],
     place: usize,
+    front: &mut Front,
     kept: Kept<'a>,
 ) -> Result<Kept<'a>, NoMemory>
     requires needed { length block.now.needed ≤ 65536 }
     requires place { place < length kept.uses }
-    ensures before { IfOk result (λ left. take place (map as_use left.uses) ≡ take place (map as_use kept.entry.uses)) }
     ensures length { IfOk result (λ left. place ≤ length left.uses) }
-    ensures pruned { IfOk result (λ left. (start : ClassSet)
-        → IsFront block.now start (take place (map as_use kept.entry.uses)) front.now → IsKept block.now start kept.entry
-        → IsKept block.now start left
-        × (map as_use left.uses ≡ uses_pruned_at block.now start place (map as_use kept.entry.uses))) }
+    ensures pruned { IfOk result (λ left. IsKept block.now start.now kept.entry → IsKept block.now start.now left
+        × (map as_use left.uses ≡ uses_pruned_at block.now start.now place (map as_use kept.entry.uses))) }
 {
-    let mut front = front.copy(alloc)?;
-    if !is_sound_without(block, kept.uses.as_slice(), place, &mut front) {
+    if !is_sound_without(block, start, kept.uses.as_slice(), place, front)? {
         return Ok(kept);
     }
     if !is_no_greater(front.sizes, kept.sizes) {
@@ -135,15 +142,17 @@ fn prune<'a>(
     requires sound { IsTrue (are_sound block.now start.now (map as_use uses)) }
     ensures { IfOk result (λ left. map as_use left ≡ uses_pruned block.now start.now (map as_use uses.entry)) }
 {
-    let fronts = fronts_of(alloc, block, start, uses.as_slice())?;
+    let mut front = Front::start(alloc, start)?;
+    // Their keys are all bound, since they are sound.
+    let _bound = take_uses(block, uses.as_slice(), &mut front);
     let mut place = uses.len();
     let mut kept = Kept {
         uses,
-        sizes: fronts[place].sizes,
+        sizes: front.sizes,
     };
     while place > 0 {
         place -= 1;
-        kept = pruned_at(alloc, block, &fronts[place], place, kept)?;
+        kept = pruned_at(block, start, place, &mut front, kept)?;
     }
     Ok(kept.uses)
 }
@@ -158,7 +167,7 @@ fn steps_of(
     ensures { IfOk result (λ steps. steps ≡ steps_from block.now start.now (map as_use uses.now)) }
 {
     let mut plan = Plan {
-        steps: List::new(alloc),
+        steps: List::from_vec(Vec::with_capacity(alloc, uses.len())?),
         set: Vec::from_slice(alloc, start)?,
     };
     for found in uses {
@@ -167,20 +176,24 @@ fn steps_of(
     Ok(plan.steps)
 }
 
-/// The steps of a derivation that are left after each, from the last to the first, has gone where it may.
+/// The steps of a derivation that are left after each, from the last to the first, has gone where it may. It takes no
+/// memory where there are no more steps than atoms: each atom needs one, so that none may go.
 pub fn needed_steps(
     alloc: Global,
     accesses: &[Access],
     block: &Normal,
     start: &[bool],
-    steps: &[DStep],
+    steps: List<DStep>,
 ) -> Result<List<DStep>, NoMemory>
     requires needed { length block.now.needed ≤ 65536 }
     requires ids { EachIdOnce accesses.now }
-    requires sound { IsSound block.now accesses.now start.now steps.now }
-    ensures { IfOk result (λ left. left ≡ pruned block.now accesses.now start.now steps.now) }
+    requires sound { IsSound block.now accesses.now start.now steps }
+    ensures { IfOk result (λ left. left ≡ pruned block.now accesses.now start.now steps) }
 {
-    let uses = uses_of_steps(alloc, accesses, steps)?;
+    if steps.len() <= block.atoms.len() {
+        return Ok(steps);
+    }
+    let uses = uses_of_steps(alloc, accesses, steps.as_slice())?;
     let left = prune(alloc, block, start, uses)?;
     steps_of(alloc, block, start, left.as_slice())
 }

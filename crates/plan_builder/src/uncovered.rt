@@ -7,7 +7,7 @@ ghost use Rattle.beas_core.specs.Trees.{blocks_of};
 ghost use Rattle.plan_builder.specs.Parts.{blocks_at, normal_task, task_at};
 ghost use Rattle.plan_builder.specs.Preparation.{constraints_with};
 
-use crate::blocks::{BlockAt, joined, push_blocks};
+use crate::blocks::{BlockAt, count_blocks, joined, push_blocks};
 use crate::sets::guided_start;
 use attribute_closure::{close, close_from, why_not};
 use beas_core::{Access, List, NoMemory, Normal, NotCovered, Query};
@@ -106,7 +106,7 @@ pub fn lacking(
     ensures { IfOk result (λ found. option_map (λ f. record { block = f.0; why = f.1 }) found
         ≡ first_uncovered (block_tasks (constraints_with catalogue.now.accesses extra.now) query.now)) }
 {
-    let mut found = List::new(alloc);
+    let mut found = List::from_vec(Vec::with_capacity(alloc, count_blocks(query))?);
     push_blocks(query, extra.as_slice(), false, &mut found)?;
     first_lacking(alloc, catalogue.accesses(), found.as_slice())
 }

@@ -1,4 +1,5 @@
 pub mod LiveFacts
+pub mod PlainFields
 pub mod PlanFacts
-pub mod RecordsAreText
-pub mod WriterFacts
+pub mod RecordFacts
+pub mod ReportFacts

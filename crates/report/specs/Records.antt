@@ -1,14 +1,11 @@
--- What a csv writer over bytes has written, and when it stands between two records.
-use Rattle.std.specs.Prelude.{◌≡◌, true, false, ℕ, List, [], Vec, Some, unwrap_or, IsUtf8}
-use Rattle.std.specs.declared.alloc.Global.{Global}
-use Rattle.csv.specs.declared.writer.Writer.{Writer}
-use Rattle.csv.specs.Writing.{default_writer, with_flexible, writer_setup, fields_written, has_written, text_written}
+-- The parts of a record, as csv's default writer writes them.
+--     written_field field       a field, in quotes where a byte of it calls for them
+--     record_end is_blank       what ends a record, which gets two quotes where it shows no byte
+use Rattle.std.specs.Prelude.{ℕ, List, [], ◌∷◌, ◌++◌, Bool, if◌then◌else◌}
+use Rattle.csv.specs.Writing.{default_writer, end_text, field_text, quote_mark}
 
-abbrev pub text_of_writer : Writer (Vec ℕ Global) → List ℕ
-text_of_writer writer = unwrap_or (text_written (λ v. Some v.items) writer) []
+abbrev pub written_field : List ℕ → List ℕ
+written_field field = field_text default_writer field
 
-pub record IsBetweenRecords (writer : Writer (Vec ℕ Global)) : Type 0 where
-  pub setup : writer_setup writer ≡ with_flexible default_writer true
-  pub no_field : fields_written writer ≡ 0
-  pub blank : has_written writer ≡ false
-  pub text : IsUtf8 (text_of_writer writer)
+abbrev pub record_end : Bool → List ℕ
+record_end is_blank = (if is_blank then quote_mark ∷ quote_mark ∷ [] else []) ++ end_text default_writer.terminator

@@ -1,10 +1,10 @@
 // What stands in the fields of records.
-ghost use Rattle.std.specs.Prelude.{◌≡◌, ◌∷◌, ◌++◌, [], ℕ, List, IsUtf8, OnOk};
-ghost use Rattle.csv.specs.Records.{fields_of};
+ghost use Rattle.std.specs.Prelude.{◌≡◌, ◌++◌, ℕ, List, OnOk};
+ghost use Rattle.report.specs.Records.{written_field};
 
+use crate::quoting::push_field;
 use aggregate::Cell;
 use beas_core::{Name, NoMemory, Text, Value};
-use csv::StringRecord;
 use itoa::Buffer;
 
 /// What can stand in a field of a record.
@@ -12,41 +12,40 @@ pub trait Field {
     /// Its text.
     ghost field: { Self → List ℕ };
 
-    /// Adds it to a record.
-    fn push_to(&self, fields: &mut StringRecord) -> Result<(), NoMemory>
-        ensures fields { OnOk result (fields_of fields.new ≡ fields_of fields.old ++ field self.now ∷ []) }
-        ensures text { IsUtf8 (field self.now) };
+    /// Adds it to a text, as csv's default writer writes a field.
+    fn push_to(&self, text: &mut Text) -> Result<(), NoMemory>
+        ensures { OnOk result (text.new ≡ text.old ++ written_field (field self.now)) };
 }
 
+/// A name is written as it is: no letter, digit or `_` calls for quotes.
 impl Field for Name {
     ghost field = { λ name. name };
 
-    fn push_to(&self, fields: &mut StringRecord) -> Result<(), NoMemory> {
-        fields.push_field(self.as_str())?;
-        Ok(())
+    fn push_to(&self, text: &mut Text) -> Result<(), NoMemory> {
+        self.law_is_name();
+        text.push_str(self.as_str())
     }
 }
 
 impl Field for Text {
     ghost field = { λ text. text };
 
-    fn push_to(&self, fields: &mut StringRecord) -> Result<(), NoMemory> {
-        fields.push_field(self.as_str())?;
-        Ok(())
+    fn push_to(&self, text: &mut Text) -> Result<(), NoMemory> {
+        push_field(text, self.as_str())
     }
 }
 
+/// An integer is written as it is: no digit and no sign calls for quotes.
 impl Field for Value {
     ghost use Rattle.report.specs.Reports.{field_text};
 
     ghost field = { field_text };
 
-    fn push_to(&self, fields: &mut StringRecord) -> Result<(), NoMemory> {
+    fn push_to(&self, text: &mut Text) -> Result<(), NoMemory> {
         match self {
-            Value::Int(number) => fields.push_field(Buffer::new().format(*number))?,
-            Value::Str(words) => fields.push_field(words.as_str())?,
+            Value::Int(number) => text.push_str(Buffer::new().format(*number)),
+            Value::Str(words) => push_field(text, words.as_str()),
         }
-        Ok(())
     }
 }
 
@@ -55,12 +54,11 @@ impl Field for Cell {
 
     ghost field = { cell_text };
 
-    fn push_to(&self, fields: &mut StringRecord) -> Result<(), NoMemory> {
+    fn push_to(&self, text: &mut Text) -> Result<(), NoMemory> {
         match self {
-            Cell::Plain(value) => value.push_to(fields)?,
-            Cell::Count(count) => fields.push_field(Buffer::new().format(*count))?,
-            Cell::Sum(sum) => fields.push_field(Buffer::new().format(*sum))?,
+            Cell::Plain(value) => value.push_to(text),
+            Cell::Count(count) => text.push_str(Buffer::new().format(*count)),
+            Cell::Sum(sum) => text.push_str(Buffer::new().format(*sum)),
         }
-        Ok(())
     }
 }

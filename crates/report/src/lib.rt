@@ -5,6 +5,7 @@ mod decimal;
 mod fields;
 mod literals;
 mod plans;
+mod quoting;
 mod records;
 mod refusals;
 mod reports;

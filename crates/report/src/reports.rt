@@ -1,17 +1,21 @@
 // The report of a statement, and its lines.
-ghost use Rattle.std.specs.Prelude.{◌≡◌, ◌++◌, length, map, IfOk};
+ghost use Rattle.std.specs.Prelude.{◌≡◌, [], ◌++◌, length, map, IfOk, OnOk};
 ghost use Rattle.std.specs.List.{flat_map};
-ghost use Rattle.report.specs.declared.reports.Report.TheVariants.{Answered, Grouped, Specialised};
+ghost use Rattle.report.specs.declared.reports.Report.TheVariants.{Answered, Explained, Grouped, Specialised};
 ghost use Rattle.report.specs.Reports.{bound_text, counts_text, pair_line, place_line, records_text, report_text};
 
 use crate::decimal::Decimal;
 use crate::fields::Field;
-use crate::records::with_records;
+use crate::records::push_records;
 use crate::refusals::refusal_text;
 use crate::texts::text;
 use aggregate::Cell;
 use beas_core::{List, Name, NoMemory, Refusal, Row, Text};
+use itoa::Buffer;
 use std::alloc::Global;
+
+/// Room for the lines around the plan lines of a small answer.
+const ROOM_AROUND_PLAN: usize = 256;
 
 /// What is reported of a statement.
 #[derive(Debug, Drop)]
@@ -86,10 +90,7 @@ pub fn text(alloc: Global, number: u32, report: &Report) -> Result<Text, NoMemor
             let pairs = pairs_text(alloc, number, found)?;
             text!(in alloc; "{}{k} ok {} pairs\n", pairs.as_str(), Decimal(found.len()))
         }
-        Report::Explained { bound, plan } => {
-            let head = bound_text(alloc, number, *bound, plan)?;
-            text!(in alloc; "{}{k} ok\n", head.as_str())
-        }
+        Report::Explained { bound, plan } => explained_text(alloc, number, *bound, plan),
         Report::Answered {
             bound,
             plan,
@@ -113,6 +114,18 @@ pub fn text(alloc: Global, number: u32, report: &Report) -> Result<Text, NoMemor
             text!(in alloc; "{k} refused {} {}\n", Decimal(why.number()), said.as_str())
         }
     }
+}
+
+/// The lines of a query that isn't run.
+#[tactic(auto, unfolding(crate::specs::Reports::report_text))]
+fn explained_text(alloc: Global, number: u32, bound: u128, plan: &Text) -> Result<Text, NoMemory>
+    ensures { IfOk result (λ text. text ≡ report_text number (Explained bound plan.now)) }
+{
+    let mut text = empty_text_for(alloc, plan)?;
+    push_bound(&mut text, number, bound, plan)?;
+    text.push_str(Buffer::new().format(number))?;
+    text.push_str(" ok\n")?;
+    Ok(text)
 }
 
 /// The lines of a query's answer.
@@ -174,11 +187,19 @@ fn answer_text<H: Field, F: Field>(
     ensures { IfOk result (λ text. text ≡ (bound_text number bound plan.now
         ++ records_text F.field (map H.field header.now) rows.now) ++ counts_text number (length rows.now) reads) }
 {
-    let head = bound_text(alloc, number, bound, plan)?;
-    let mut text = with_records(alloc, head.as_str(), header, rows)?;
-    let end = counts_text(alloc, number, rows.len(), reads)?;
-    text.push_str(end.as_str())?;
+    let mut text = empty_text_for(alloc, plan)?;
+    push_bound(&mut text, number, bound, plan)?;
+    push_records(&mut text, header, rows)?;
+    push_counts(&mut text, number, rows.len(), reads)?;
     Ok(text)
+}
+
+/// An empty text with room for the plan lines and some more, so that a small answer is written in one block of memory.
+fn empty_text_for(alloc: Global, plan: &Text) -> Result<Text, NoMemory>
+    ensures { IfOk result (λ text. text ≡ []) }
+{
+    let room = plan.as_str().len().saturating_add(ROOM_AROUND_PLAN);
+    Ok(Text::from_string(String::with_capacity(alloc, room)?))
 }
 
 #[tactic(auto, unfolding(crate::specs::Reports::report_text))]
@@ -241,16 +262,25 @@ fn pair_text(
     text!(in alloc; "{k} pair {} {} {}\n", first.as_str(), second.as_str(), Decimal(most))
 }
 
-fn bound_text(alloc: Global, number: u32, bound: u128, plan: &Text) -> Result<Text, NoMemory>
-    ensures { IfOk result (λ text. text ≡ bound_text number bound plan.now) }
+/// Adds the announced number, and the plan lines after it.
+fn push_bound(text: &mut Text, number: u32, bound: u128, plan: &Text) -> Result<(), NoMemory>
+    ensures { OnOk result (text.new ≡ text.old ++ bound_text number bound plan.now) }
 {
-    let k = Decimal(number);
-    text!(in alloc; "{k} bound {}\n{}", Decimal(bound), plan.as_str())
+    text.push_str(Buffer::new().format(number))?;
+    text.push_str(" bound ")?;
+    text.push_str(Buffer::new().format(bound))?;
+    text.push_str("\n")?;
+    text.push_str(plan.as_str())
 }
 
-fn counts_text(alloc: Global, number: u32, rows: usize, reads: u128) -> Result<Text, NoMemory>
-    ensures { IfOk result (λ text. text ≡ counts_text number rows reads) }
+/// Adds the last line of an answer.
+fn push_counts(text: &mut Text, number: u32, rows: usize, reads: u128) -> Result<(), NoMemory>
+    ensures { OnOk result (text.new ≡ text.old ++ counts_text number rows reads) }
 {
-    let k = Decimal(number);
-    text!(in alloc; "{k} ok {} rows {} reads\n", Decimal(rows), Decimal(reads))
+    text.push_str(Buffer::new().format(number))?;
+    text.push_str(" ok ")?;
+    text.push_str(Buffer::new().format(rows))?;
+    text.push_str(" rows ")?;
+    text.push_str(Buffer::new().format(reads))?;
+    text.push_str(" reads\n")
 }

@@ -2,7 +2,7 @@
 --     lead bytes           what the bytes begin with: a gap between tokens or a token, and how many bytes it takes
 --     tokens_of source     the tokens of the script, in order
 --     in_quotes text       the spelling of a text between quotes
-use Rattle.std.specs.Prelude.{ℕ, zero, suc, ◌+◌, ◌-◌, ◌==◌, ◌||◌, ◌&&◌, not, if◌then◌else◌, Bool, nat_lt, nat_le, List, [], ◌∷◌, ◌++◌, length, map, find, flat_map, take_while, codes, option_map, Option, Some, None, eqb}
+use Rattle.std.specs.Prelude.{ℕ, zero, suc, ◌+◌, ◌-◌, ◌==◌, ◌&&◌, not, if◌then◌else◌, Bool, nat_lt, nat_le, List, [], ◌∷◌, ◌++◌, length, map, find, flat_map, take_while, codes, option_map, Option, Some, None, eqb}
 use Rattle.std.specs.Char.{is_ascii_whitespace, is_ascii_digit, to_ascii_lowercase}
 use Rattle.std.specs.List.{starts_with}
 use Rattle.beas_core.specs.Spelling.{begins_word, continues_word}

@@ -3,14 +3,15 @@ ghost use Rattle.sql_text.specs.Cuts.{BeginsToken, StandsAt, LeadsAt, mark_of};
 ghost use Rattle.sql_text.specs.Spans.{AreInOrder, IsSpelled};
 ghost use Rattle.beas_core.specs.Spelling.{begins_word};
 ghost use Rattle.sql_text.specs.Tokens.{tokens_of, with_quotes_doubled, quote, quoted_text, marks};
-ghost use Rattle.std.specs.Char.{is_ascii_digit, is_ascii_whitespace};
+ghost use Rattle.std.specs.Char.{is_ascii_digit, is_ascii_whitespace, to_ascii_lowercase};
 ghost use Rattle.std.specs.List.{starts_with};
-ghost use Rattle.std.specs.Prelude.{◌≡◌, ◌≢◌, ◌==◌, ◌<◌, ◌≤◌, ◌+◌, ◌-◌, [], ◌∷◌, false, length, drop, codes, eqb, find, option_map, slice_index, slice_range, All, IfOk, IfSome, IsCharBoundary, IsTrue};
+ghost use Rattle.std.specs.Prelude.{◌≡◌, ◌≢◌, ◌==◌, ◌<◌, ◌≤◌, ◌+◌, ◌-◌, [], ◌∷◌, false, length, drop, codes, eqb, find, map, option_map, slice_index, slice_range, All, IfOk, IfSome, IsCharBoundary, IsTrue};
 
 use crate::runs::{InChar, InLine, InNumber, InWord, Unquoted, run_end};
 use crate::token::{Token, TokenKind};
 use beas_core::{List, NoMemory, Text, begins_word};
 use std::alloc::Global;
+use std::str;
 
 /// The most bytes of a script.
 const LONGEST_SCRIPT: usize = 16_777_216;
@@ -103,8 +104,24 @@ fn word(alloc: Global, source: &str, at: usize) -> Result<Token, NoMemory>
     if to - at > LONGEST_WORD {
         return plain(alloc, source, TokenKind::Bad, at, to);
     }
-    let text = Text::from_string(source[at..to].to_ascii_lowercase(alloc)?);
+    let text = in_small_letters(alloc, &source[at..to])?;
     Ok(token(TokenKind::Word, at, to, text))
+}
+
+// A word in small letters. They are made in an array, since a text of a few letters then takes no memory.
+fn in_small_letters(alloc: Global, word: &str) -> Result<Text, NoMemory>
+    requires { length word.now ≤ LONGEST_WORD }
+    ensures { IfOk result (λ text. text ≡ map to_ascii_lowercase word.now) }
+{
+    let mut kept = [0; LONGEST_WORD];
+    let letters = &mut kept[..word.len()];
+    letters.copy_from_slice(word.as_bytes());
+    letters.make_ascii_lowercase();
+    match str::from_utf8(letters) {
+        Ok(small) => Text::from_str(alloc, small),
+        // It doesn't come, since words are ASCII, and costs no proof.
+        Err(_) => Ok(Text::from_string(word.to_ascii_lowercase(alloc)?)),
+    }
 }
 
 fn number(alloc: Global, source: &str, at: usize) -> Result<Token, NoMemory>

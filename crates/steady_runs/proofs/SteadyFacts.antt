@@ -1,5 +1,5 @@
 -- What never fails has no fault.
-use Rattle.std.proofs.Common.{◌≡◌, ℕ, List, Option, Some, None, arith, refl}
+use Rattle.std.proofs.Common.{◌≡◌, ℕ, All, List, Option, Some, None, arith, refl}
 use Rattle.std.specs.Prelude.{IsSomeAnd}
 use Rattle.command_words.specs.declared.arguments.Args.{Args}
 use Rattle.command_words.specs.declared.arguments.Args.TheVariants.{Script, Demo}
@@ -9,6 +9,10 @@ use Rattle.session.specs.Ties.{failures}
 use Rattle.session.specs.Turns.{loads_of}
 use Rattle.piece_reader.specs.Sayings.{Reading}
 use Rattle.desk_model.specs.Pieces.{seen_turns, turns}
+use Rattle.refusal_facts.specs.Unreadable.{NamesNone}
+use Rattle.refusal_facts.proofs.FailureFacts.{none_named}
+use Rattle.refusal_facts.proofs.TurnFacts.{script_tells}
+use Rattle.beas_run.specs.Readings.{Readings, pieces}
 use Rattle.beas_run.specs.Runs.{WalkedFor, outcomes_in}
 use Rattle.beas_run.specs.Walks.{Moment}
 
@@ -32,3 +36,13 @@ walked_failures (Some (Script path budget explain)) s readings status before aft
     none_rose_by _ _ _ zero (walked.follows.tied.failed name)
 walked_failures (Some (Demo seed budget explain)) s readings status before after walked name zero =
     none_rose_by _ _ _ refl (walked.walked.follows.tied.failed name)
+
+-- so of its script's turns none names a file as unreadable
+pub walked_readable : (asked : Option Args) (s : Settings) (script : List ℕ) (readings : List Reading) (status : ℕ) (before after : Moment)
+    (walked : WalkedFor asked s readings status before after) → Readings script readings
+    → ((name : List ℕ) → after.files.faults name ≡ 0)
+    → All NamesNone (seen_turns (turns s before.state readings (outcomes_in asked s readings status before after walked)))
+walked_readable asked s script readings status before after walked read zero =
+    let outcomes = outcomes_in asked s readings status before after walked in
+    none_named (seen_turns (turns s before.state readings outcomes)) (script_tells s before.state (pieces script) readings outcomes read)
+    (λ name. walked_failures asked s readings status before after walked name (zero name))

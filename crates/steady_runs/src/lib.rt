@@ -15,8 +15,8 @@ use session::Session;
 use std::alloc::Global;
 use std::sync::ledger::Ledger;
 
-/// A run over the steady kinds, which never fail: it has no fault to end with, no file is unreadable, and every script
-/// that may be run is run, unless memory runs out.
+/// A run over the steady kinds, which never fail: it has no fault to end with, no load of a file fails and no report says of
+/// a file that it can't be read, and every script that may be run is run, unless memory runs out.
 pub fn run_steady<L: Ledger>(
     alloc: Global,
     session: &mut Session,

@@ -21,21 +21,17 @@ pub trait Indexes: Drop {
     fn len(&self) -> usize
         ensures { result ≡ length (seen self.now) };
 
-    /// Whether the constraint at a place, where it holds, holds with one row more too. It takes no memory.
-    fn would_hold(&self, place: usize, row: &Row) -> bool
-        requires { place < length (seen self.now) }
-        ensures { (rows : List Row) → IsIndexOf (index_at (seen self.now) place) rows
-            → Holds rows (index_at (seen self.now) place).access
-            → (IsTrue result ↔ Holds (rows ++ row.now ∷ []) (index_at (seen self.now) place).access) };
-
-    /// Counts one row more in the index at a place, wherever among the rows it stands. After an error all indexes are as
-    /// they were.
-    fn add(&mut self, alloc: Global, place: usize, row: &Row) -> Result<(), NoMemory>
+    /// Counts one row more, which comes after all others, in the index at a place where its constraint holds with it too,
+    /// and else none. After an error all indexes are as they were.
+    fn add_if_holds(&mut self, alloc: Global, place: usize, row: &Row) -> Result<bool, NoMemory>
         requires within { place < length (seen self.old) }
         requires room { (index_at (seen self.old) place).total + 1 < 2 ^ 32 }
         ensures moved { IsMoved (seen self.old) (seen self.new) place }
-        ensures ok { OnOk result ((front back : List Row) → IsIndexOf (index_at (seen self.old) place) (front ++ back)
-            → IsIndexOf (index_at (seen self.new) place) (front ++ row.now ∷ back)) }
+        ensures index { IfOk result (λ held. (front : List Row) → IsIndexOf (index_at (seen self.old) place) front
+            → IsIndexOf (index_at (seen self.new) place) (if held then front ++ row.now ∷ [] else front)) }
+        ensures holds { IfOk result (λ held. (front : List Row) → IsIndexOf (index_at (seen self.old) place) front
+            → Holds front (index_at (seen self.old) place).access
+            → (IsTrue held ↔ Holds (front ++ row.now ∷ []) (index_at (seen self.old) place).access)) }
         ensures err { OnErr result (seen self.new ≡ seen self.old) };
 
     /// Counts one row fewer in the index at a place, wherever among the rows it stood. It takes no memory.
@@ -96,12 +92,13 @@ impl Indexes for Vec<AccessIndex> {
         self.len()
     }
 
-    fn would_hold(&self, place: usize, row: &Row) -> bool {
-        self[place].would_hold(row)
-    }
-
-    fn add(&mut self, alloc: Global, place: usize, row: &Row) -> Result<(), NoMemory> {
-        self[place].add(alloc, row)
+    fn add_if_holds(&mut self, alloc: Global, place: usize, row: &Row) -> Result<bool, NoMemory> {
+        let index = &mut self[place];
+        if !index.would_hold(row) {
+            return Ok(false);
+        }
+        index.add(alloc, row)?;
+        Ok(true)
     }
 
     fn remove(&mut self, place: usize, row: &Row) {

@@ -1,5 +1,5 @@
 // Rows come into and go out of the indexes of their table's constraints.
-ghost use Rattle.std.specs.Prelude.{◌≡◌, ◌≢◌, ◌+◌, ◌<◌, ◌≤◌, ◌^◌, ◌++◌, ◌∷◌, ℕ, List, [], length, take, drop, All, Some, None, if◌then◌else◌, IfOk, OnOk, OnErr, IfSome, IsTrue, option_map, vec_len, ◌==◌, slice_index_or, slice_set};
+ghost use Rattle.std.specs.Prelude.{◌≡◌, ◌≢◌, ◌+◌, ◌<◌, ◌≤◌, ◌^◌, ◌++◌, ◌∷◌, ℕ, List, [], length, take, drop, All, Some, None, if◌then◌else◌, IfOk, OnOk, OnErr, IfSome, MatchOption, IsTrue, option_map, vec_len, ◌==◌, slice_index_or, slice_set};
 ghost use Rattle.std.specs.List.{list_any};
 ghost use Rattle.std.specs.Option.{is_none};
 ghost use Rattle.beas_core.specs.Types.{Row};
@@ -11,7 +11,7 @@ ghost use Rattle.beas_core.specs.Results.{IsRefusedAs};
 ghost use Rattle.update_guard.specs.Guarding.{IndexesOf};
 ghost use Rattle.catalogue.specs.Stored.{HoldOver};
 ghost use Rattle.update_guard.specs.Indexing.{AreIndexed, IsPlaceOn, no_access};
-ghost use Rattle.update_guard.specs.Inserting.{StayIndexed};
+ghost use Rattle.update_guard.specs.Inserting.{TakeRows, StayIndexed};
 
 use crate::indexes::Indexes;
 use beas_core::{AccessId, NoMemory, Row, TableId};
@@ -117,36 +117,47 @@ pub fn remove_rows<I: Indexes>(
     remove_rows_from(catalogue, table, n, indexes, added);
 }
 
-/// Puts a row into the indexes of a table's constraints, or into none.
+/// Puts a row, which is to come after those of its table, into the indexes of its constraints where these all hold with
+/// it, and else into none; it answers where the first constraint stands that doesn't, if there is one. Each index is
+/// searched once.
 pub fn add_row<I: Indexes>(
     alloc: Global,
     catalogue: &Catalogue,
     table: TableId,
     indexes: &mut I,
     row: &Row,
-) -> Result<(), NoMemory>
+) -> Result<Option<usize>, NoMemory>
     requires live { table.0 < length catalogue.now.tables }
     requires count { length (I.seen indexes.old) ≡ length catalogue.now.accesses }
     requires room { All (λ index. index.total + 1 < 2 ^ 32) (I.seen indexes.old) }
-    ensures ok { OnOk result ((rows : List (List Row)) (front back : List Row) → table.0 < length rows
-        → IndexesOf catalogue.now.accesses (slice_set rows table.0 (front ++ back)) (I.seen indexes.old)
-        → IndexesOf catalogue.now.accesses (slice_set rows table.0 (front ++ row.now ∷ back)) (I.seen indexes.new)) }
-    ensures err { OnErr result ((rows : List (List Row)) (front back : List Row) → table.0 < length rows
-        → IndexesOf catalogue.now.accesses (slice_set rows table.0 (front ++ back)) (I.seen indexes.old)
-        → IndexesOf catalogue.now.accesses (slice_set rows table.0 (front ++ back)) (I.seen indexes.new)) }
+    ensures indexed { IfOk result (λ found. MatchOption found
+        (TakeRows catalogue.now.accesses table (row.now ∷ []) (I.seen indexes.old) (I.seen indexes.new))
+        (λ place. StayIndexed catalogue.now.accesses table (I.seen indexes.old) (I.seen indexes.new))) }
+    ensures first { IfOk result (λ found. (rows : List (List Row)) → table.0 < length rows
+        → IndexesOf catalogue.now.accesses rows (I.seen indexes.old) → HoldOver catalogue.now.accesses rows
+        → broken (accesses_on catalogue.now.accesses table) (slice_index_or rows table.0 [] ++ row.now ∷ [])
+        ≡ option_map (λ place. slice_index_or catalogue.now.accesses place no_access) found) }
+    ensures within { IfOk result (λ found. IfSome found (λ place. place < length catalogue.now.accesses)) }
+    ensures key { IfOk result (λ found. IfSome found (λ place.
+        (slice_index_or catalogue.now.accesses place no_access).table.0 ≡ table.0)) }
+    ensures err { OnErr result (StayIndexed catalogue.now.accesses table (I.seen indexes.old) (I.seen indexes.new)) }
     ensures len { length (I.seen indexes.new) ≡ length (I.seen indexes.old) }
 {
     for k in 0..catalogue.ids_on(table).len() {
         let place = place_on(catalogue, table, k);
-        match indexes.add(alloc, place, row) {
-            Ok(()) => {}
+        match indexes.add_if_holds(alloc, place, row) {
+            Ok(true) => {}
+            Ok(false) => {
+                remove_from(catalogue, table, k, indexes, row);
+                return Ok(Some(place));
+            }
             Err(why) => {
                 remove_from(catalogue, table, k, indexes, row);
                 return Err(why);
             }
         }
     }
-    Ok(())
+    Ok(None)
 }
 
 /// Puts rows, which are to come after those of their table, into the indexes of its constraints where these all
@@ -188,30 +199,4 @@ pub fn add_all<I: Indexes>(
         }
     }
     Ok(true)
-}
-
-/// Where the first constraint on a table stands that would not hold with one row more, if there is one. It
-/// takes no memory.
-pub fn first_broken<I: Indexes>(
-    catalogue: &Catalogue,
-    table: TableId,
-    indexes: &I,
-    row: &Row,
-) -> Option<usize>
-    requires live { table.0 < length catalogue.now.tables }
-    requires count { length (I.seen indexes.now) ≡ length catalogue.now.accesses }
-    ensures first { (rows : List (List Row)) → table.0 < length rows
-        → IndexesOf catalogue.now.accesses rows (I.seen indexes.now) → HoldOver catalogue.now.accesses rows
-        → broken (accesses_on catalogue.now.accesses table) (slice_index_or rows table.0 [] ++ row.now ∷ [])
-        ≡ option_map (λ place. slice_index_or catalogue.now.accesses place no_access) result }
-    ensures within { IfSome result (λ place. place < length catalogue.now.accesses) }
-    ensures key { IfSome result (λ place. (slice_index_or catalogue.now.accesses place no_access).table.0 ≡ table.0) }
-{
-    for k in 0..catalogue.ids_on(table).len() {
-        let place = place_on(catalogue, table, k);
-        if !indexes.would_hold(place, row) {
-            return Some(place);
-        }
-    }
-    None
 }

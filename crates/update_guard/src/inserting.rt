@@ -11,7 +11,7 @@ ghost use Rattle.update_guard.specs.Inserting.{IsRefusedOver, TakeRows, StayInde
 ghost use Rattle.std.specs.Option.{option_or};
 
 use crate::indexes::Indexes;
-use crate::indexing::{add_all, add_row, first_broken, remove_rows};
+use crate::indexing::{add_all, add_row, remove_rows};
 use beas_core::{Counted, Fail, Limits, List, Refusal, Row, TableId};
 use catalogue::Catalogue;
 use row_checks::{broken_by, refuse_too_many, refuse_types, refuse_widths};
@@ -44,8 +44,8 @@ fn put_row<I: Indexes>(
     ensures err { OnErr result (StayIndexed catalogue.now.accesses table (I.seen indexes.old) (I.seen indexes.new)) }
     ensures len { length (I.seen indexes.new) ≡ length (I.seen indexes.old) }
 {
-    match first_broken(catalogue, table, indexes, row) {
-        None => Ok(add_row(alloc, catalogue, table, indexes, row)?),
+    match add_row(alloc, catalogue, table, indexes, row)? {
+        None => Ok(()),
         Some(place) => {
             let access = &catalogue.accesses().as_slice()[place];
             Err(Fail::Refused(broken_by(alloc, access, row, number)?))

@@ -1,5 +1,5 @@
 -- The one table that a statement may change.
-use Rattle.std.proofs.Common.{◌≡◌, ◌<◌, ◌==◌, ◌∙◌, ℕ, Bool, true, false, cond, List, [], ◌∷◌, length, find, get_or, Option, Some, None, refl, ap, sym, subst, arith}
+use Rattle.std.proofs.Common.{◌≡◌, ◌<◌, ◌==◌, ◌∙◌, ℕ, Bool, true, false, cond, List, [], ◌∷◌, length, find, get_or, Option, Some, None, refl, ap, sym, subst}
 use Rattle.std.specs.Prelude.{◌≢◌, ◌&&◌, ◌||◌, option_map, AllPairs}
 use Rattle.std.specs.List.{list_any}
 use Rattle.std.specs.Option.{option_map_or}
@@ -23,7 +23,7 @@ use Rattle.evaluation_facts.proofs.UseFacts.{found_by_id}
 use Rattle.sql_tree.specs.declared.tree.Statement.{Statement}
 use Rattle.sql_tree.specs.declared.tree.Statement.TheVariants.{CreateTable, CreateAccess, DropAccess, Load, Insert, Delete, DiscoverGroup, DiscoverPairs, Select, Explain, ScanOk, Grouped, Specialise}
 use Rattle.desk_model.specs.Changes.{changes}
-use Rattle.version_store.specs.Events.{changed_in, table_of_named}
+use Rattle.version_store.specs.Events.{changed_table, table_of_named}
 
 pub once_in : (schema : Schema) → SchemaIsSound schema → EachIdOnce schema.accesses
 once_in schema sound = λ i j d less below. ne_of_lt (sound.ids_rise i j d less below)
@@ -106,7 +106,7 @@ one_named (a ∷ accesses) name t once =
         (option_map (λ (x : Access). x.table) (cond b (Some a) (find (access_has_name name) accesses))) false) e)
 
 pub changes_one : (schema : Schema) → SchemaIsSound schema → (statement : Statement) (t : TableId)
-    → changes schema statement t ≡ option_map_or (λ u. u.0 == t.0) (changed_in schema statement) false
+    → changes schema statement t ≡ option_map_or (λ u. u.0 == t.0) (changed_table schema statement) false
 changes_one schema sound (DropAccess name) t = one_named schema.accesses name t sound.access_names_once
 changes_one schema sound (Insert table tuples) t = refl
 changes_one schema sound (Load table file) t = refl
@@ -123,7 +123,7 @@ changes_one schema sound (Specialise tree) t = refl
 
 -- the table that is changed is kept for all
 pub frozen_all : (schema : Schema) → SchemaIsSound schema → (statement : Statement) (P : TableId → Type 0) (table : TableId)
-    → changed_in schema statement ≡ Some table → P table → (t : TableId) → changes schema statement t ≡ true → P t
+    → changed_table schema statement ≡ Some table → P table → (t : TableId) → changes schema statement t ≡ true → P t
 frozen_all schema sound statement P table is kept t changed =
     let same : (table.0 == t.0) ≡ true =
     sym (changes_one schema sound statement t ∙ ap (λ o. option_map_or (λ (u : TableId). u.0 == t.0) o false) is) ∙ changed in
@@ -131,7 +131,7 @@ frozen_all schema sound statement P table is kept t changed =
     subst P (ap made (eqb-true table.0 t.0 same)) kept
 
 pub none_changed : (schema : Schema) → SchemaIsSound schema → (statement : Statement) (t : TableId)
-    → changed_in schema statement ≡ None → changes schema statement t ≡ true → ⊥
+    → changed_table schema statement ≡ None → changes schema statement t ≡ true → ⊥
 none_changed schema sound statement t is changed =
     let no : false ≡ true =
     sym (changes_one schema sound statement t ∙ ap (λ o. option_map_or (λ (u : TableId). u.0 == t.0) o false) is) ∙ changed in

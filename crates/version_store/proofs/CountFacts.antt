@@ -1,15 +1,19 @@
 -- What a cursor counts, before a turn and after it.
-use Rattle.std.proofs.Common.{◌≡◌, ◌≤◌, ◌+◌, ◌∙◌, ℕ, Bool, true, false, List, [], ◌∷◌, length, map, Option, Some, None, refl, ap, sym, subst, arith}
-use Rattle.std.specs.Prelude.{if◌then◌else◌, max}
+use Rattle.std.proofs.Common.{◌≡◌, ◌≤◌, ◌∙◌, ℕ, Bool, true, false, List, [], ◌∷◌, length, Option, Some, None, refl, ap, sym, subst, arith}
+use Rattle.std.specs.Prelude.{if◌then◌else◌, max, sum_by}
 use Rattle.std.proofs.lemmas.List.Sums.{sum_by-cons}
-use Rattle.beas_core.specs.Queries.{BlockProbe}
+use Rattle.beas_core.specs.declared.schema.Access.{Access}
+use Rattle.beas_core.specs.Reads.{probe_reads}
+use Rattle.beas_core.specs.Types.{Row}
+use Rattle.beas_core.proofs.Sets.{Contains-from_has}
 use Rattle.block_walk.specs.Worlds.{World}
-use Rattle.cursor_executor.specs.declared.cursors.Turn.TheVariants.{Probed, Done}
-use Rattle.cursor_executor.specs.Fetching.{BlockFetched, Seen as CursorSeen, probed, reads_fetched}
+use Rattle.block_walk.proofs.SumFacts.{same_sums}
+use Rattle.cursor_executor.specs.declared.cursors.Turn.TheVariants.{Probed}
+use Rattle.cursor_executor.specs.Fetching.{BlockFetched, Seen as CursorSeen, probe_of, probed, reads_fetched}
 use Rattle.cursor_executor.specs.Turns.{TurnIs}
-use Rattle.kept_facts.specs.OpenQueries.{OpenQuery, reads_of}
+use Rattle.kept_facts.specs.OpenQueries.{OpenQuery, reads_of, share_of}
 use Rattle.open_queries.specs.Held.{IsKept, held, made_by}
-use Rattle.open_queries.proofs.WorldFacts.{reads_are}
+use Rattle.open_queries.proofs.WorldFacts.{reads_are, share_is}
 use Rattle.version_store.specs.Stored.{AreCounted, probes_in, share_in}
 
 -- ---- a cursor that goes on, and one that failed
@@ -48,6 +52,16 @@ one_each (f ∷ fetched) =
     let whole = sum_by-cons (λ (x : BlockFetched). max 1 (length x.pair.tuples)) f fetched in
     omega (arith, later, whole)
 
+-- what was fetched counted as its probes count
+pub shares_are : (w : World) (cursor : CursorSeen) → IsKept w cursor → (session : ℕ) (plan : List ℕ) → cursor.failed ≡ false
+    → reads_fetched cursor.fetched ≡ sum_by (share_of (held w session cursor plan)) (probed cursor.fetched)
+shares_are w cursor kept session plan live =
+    same_sums (λ (f : BlockFetched). max 1 (length f.pair.tuples)) (share_of (held w session cursor plan)) probe_of cursor.fetched (λ f m.
+    let there = Contains-from_has cursor.fetched f m in
+    let a = kept.agrees live f there in
+    sym (share_is w cursor kept session plan (probe_of f) (kept.asked live f there)
+    ∙ ap (λ (c : Access). probe_reads w.rows c f.pair.probe.key) a.access ∙ ap (λ (ts : List Row). max 1 (length ts)) a.tuples))
+
 -- ---- after a turn
 
 module _ (w : World) (old new : CursorSeen) (kept : IsKept w old) (session : ℕ) (plan : List ℕ) (counted : AreCounted (held w session old plan) old) where
@@ -71,17 +85,6 @@ module _ (w : World) (old new : CursorSeen) (kept : IsKept w old) (session : ℕ
         record {
           reads = λ _. omega (arith, before, raised, all);
           most = λ _. omega (arith, before, due, raised, within, reads_still);
-          bound = bound_still;
-        }
-
-    pub counted_done : old.failed ≡ false → (s t : ℕ) → TurnIs w Done old new s t → AreCounted next new
-    counted_done live s t h =
-        let before = counted.reads live in
-        let most = counted.most live in
-        let stay = h.did.stay in
-        record {
-          reads = λ _. stay ∙ before ∙ sym (ap reads_fetched h.did.same);
-          most = λ _. omega (arith, most, stay, reads_still);
           bound = bound_still;
         }
 

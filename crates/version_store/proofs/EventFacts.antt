@@ -1,6 +1,6 @@
 -- What an event does at a desk, by what its parts do.
-use Rattle.std.proofs.Common.{◌≡◌, ◌≤◌, ◌<◌, ◌+◌, ◌∙◌, ℕ, Bool, true, false, List, [], ◌∷◌, length, map, get_or, Option, Some, None, Result, Ok, Err, refl, ap, sym, subst, arith}
-use Rattle.std.specs.Prelude.{◌==◌, All, Contains, IfOk, OnErr, if◌then◌else◌, is_some, position, sum, option_map}
+use Rattle.std.proofs.Common.{◌≡◌, ◌<◌, ◌∙◌, ℕ, Bool, true, false, List, [], ◌∷◌, length, map, get_or, Option, Some, None, Result, Ok, Err, refl, ap, sym, subst, arith}
+use Rattle.std.specs.Prelude.{◌==◌, All, Contains, IfOk, OnErr, if◌then◌else◌, is_some, position, sum, sum_by, option_map}
 use Rattle.std.proofs.lemmas.List.{get_or-map, length-map}
 use Rattle.outside.specs.Seen.{IsLater, Seen as Files}
 use Rattle.outside.proofs.Counts.{raised_none}
@@ -22,7 +22,7 @@ use Rattle.session.proofs.TieFacts.{tied_none}
 use Rattle.sql_tree.specs.declared.tree.Statement.{Statement}
 use Rattle.sql_tree.specs.declared.tree.Statement.TheVariants.{CreateTable, CreateAccess, DropAccess, Load, Insert, Delete, DiscoverGroup, DiscoverPairs, Select, Explain, ScanOk, Grouped, Specialise}
 use Rattle.sql_tree.specs.Trees.{Tree}
-use Rattle.kept_facts.specs.OpenQueries.{OpenQuery, probes_of}
+use Rattle.kept_facts.specs.OpenQueries.{OpenQuery, probes_of, share_of}
 use Rattle.open_queries.specs.Held.{cursor_of}
 use Rattle.open_queries.proofs.WorldFacts.{probes_are}
 use Rattle.desk_model.specs.declared.event.Event.TheVariants.{Said}
@@ -31,7 +31,7 @@ use Rattle.version_store.specs.Desks.{GoesOn, IsDesk, MayCost as MayTakeOf, MayL
 use Rattle.version_store.specs.Events.{Happens, HappensSome}
 use Rattle.version_store.specs.Stored.{AreCounted, AreKept, IsOpenAt, Open, held_at, probes_in, seen_in, share_in, state_in, world_at}
 use Rattle.version_store.proofs.Places.{place_is_found, position-map}
-use Rattle.version_store.proofs.CountFacts.{going, going_probes, going_share, has_failed, lost_probes, lost_share, one_each}
+use Rattle.version_store.proofs.CountFacts.{going, going_probes, going_share, has_failed, lost_probes, lost_share, one_each, shares_are}
 
 -- ---- what is done at once
 
@@ -251,6 +251,7 @@ probes_fit db query is counted = by query.cursor.failed refl
     by true e = record {
       count = λ made h. absurd (let live = going query.cursor made h in let no : true ≡ false = sym e ∙ live in cc);
       own = λ probe m. absurd (Has-from_contains [] probe (subst (λ ps. Contains ps probe) (lost_probes query.cursor e) m));
+      adds_up = lost_share query.cursor e ∙ sym (ap (sum_by (share_of (held_at db query))) (lost_probes query.cursor e));
       least = let n = ap length (lost_probes query.cursor e) in omega (arith, n);
       most = let n = lost_share query.cursor e in omega (arith, n);
       bound = counted.bound;
@@ -266,6 +267,8 @@ probes_fit db query is counted = by query.cursor.failed refl
         record {
           count = λ made h. long ∙ count_is made (sym (ap (λ b. if b then None else Some (length query.cursor.fetched)) e) ∙ h);
           own = λ probe m. own probe e (subst (λ xs. Contains xs probe) ps m);
+          adds_up = n ∙ reads ∙ shares_are (world_at db query) query.cursor is.kept query.session query.plan e
+              ∙ sym (ap (sum_by (share_of (held_at db query))) ps);
           least = omega (arith, long, n, reads, few);
           most = omega (arith, n, most);
           bound = counted.bound;

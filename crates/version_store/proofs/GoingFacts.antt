@@ -1,6 +1,6 @@
 -- What a turn of one of its open queries makes of a desk.
-use Rattle.std.proofs.Common.{◌≡◌, ◌<◌, ◌≤◌, ◌==◌, ◌+◌, ◌∙◌, ℕ, Bool, true, false, List, [], length, map, get_or, set, remove, nat_lt, position, Option, Some, None, inl, inr, refl, ap, sym, subst, arith}
-use Rattle.std.specs.Prelude.{◌⊎◌, if◌then◌else◌, Contains}
+use Rattle.std.proofs.Common.{◌≡◌, ◌≤◌, ◌==◌, ◌+◌, ◌∙◌, ℕ, Bool, true, false, List, length, get_or, set, remove, nat_lt, position, Option, Some, None, inl, inr, refl, ap, sym, subst, arith}
+use Rattle.std.specs.Prelude.{if◌then◌else◌, Contains}
 use Rattle.std.proofs.lemmas.Bool.{lt-ltb, le-ltb}
 use Rattle.std.proofs.lemmas.List.{get_or-set_same}
 use Rattle.std.proofs.lemmas.List.Elements.{All-set}
@@ -23,11 +23,11 @@ use Rattle.kept_facts.specs.OpenQueries.{OpenQuery, answer_of, probes_of, reads_
 use Rattle.open_queries.specs.Turns.{Goes, IsAnswered, MakesProbe}
 use Rattle.open_queries.proofs.WorldFacts.{probes_are as own_probes, reads_are as own_reads, share_is as own_share}
 use Rattle.desk_model.specs.declared.event.Event.TheVariants.{Stepped}
-use Rattle.desk_model.specs.Desks.{DeskEffect, OneEach, State, answered_effect, lost, probed_effect, query_effect, query_of, refused, stepped_effect, with_query}
+use Rattle.desk_model.specs.Desks.{OneEach, State, answered_effect, lost, probed_effect, query_effect, query_of, refused, stepped_effect, with_query}
 use Rattle.desk_model.proofs.OneEachFacts.{removed-apart, set-apart}
-use Rattle.version_store.specs.Desks.{Finishes, MayTake, ProbesOnce, Seen, SpendsOne, desk_wanting, place_in, share_at}
-use Rattle.version_store.specs.Events.{Happens, HappensSome}
-use Rattle.version_store.specs.Stored.{AreCounted, AreKept, IsOpenAt, Open, held_at, probes_in, seen_in, share_in, state_in, world_at}
+use Rattle.version_store.specs.Desks.{Finishes, MayTake, ProbesOnce, Seen, desk_wanting, place_in, share_at}
+use Rattle.version_store.specs.Events.{HappensSome}
+use Rattle.version_store.specs.Stored.{AreCounted, AreKept, IsOpenAt, Open, held_at, probes_in, seen_in, share_in, world_at}
 use Rattle.version_store.proofs.CountFacts.{counted_lost, counted_probed, going, going_probes, going_share, has_failed, lost_probes, lost_share}
 use Rattle.version_store.proofs.Places.{All-remove, remove-set}
 use Rattle.version_store.proofs.SeenFacts as seen
@@ -297,4 +297,4 @@ pub answered_there : (turn : Turn) (q next : OpenQuery) (old new : CursorSeen) (
 answered_there turn q next old new s t is went = subst (λ w. Goes w q old new next s t) is went
 
 pub no_fewer_spent : (w : World) (prepared : Prepared) (fetched : List BlockFetched) (s t : ℕ) → QuerySpent w prepared fetched s t → s ≤ t
-no_fewer_spent w prepared fetched s t spent = elim spent [ | inl same ↦ omega (arith, same) | inr h ↦ let cost = h.cost in omega (arith, cost) ]
+no_fewer_spent w prepared fetched s t spent = elim spent [ inl same ↦ omega (arith, same) | inr h ↦ let cost = h.cost in omega (arith, cost) ]

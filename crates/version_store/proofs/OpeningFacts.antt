@@ -1,5 +1,5 @@
 -- A query that is opened.
-use Rattle.std.proofs.Common.{◌≡◌, ◌≤◌, ◌+◌, ◌++◌, ◌∙◌, ℕ, Bool, true, false, List, [], ◌∷◌, map, Some, None, Result, Ok, Err, refl, ap, sym, subst, arith}
+use Rattle.std.proofs.Common.{◌≡◌, ◌≤◌, ◌++◌, ◌∙◌, ℕ, true, false, List, [], ◌∷◌, map, Some, None, Result, Ok, Err, refl, ap, sym, subst, arith}
 use Rattle.std.specs.Prelude.{All, filter, Contains, IfOk, OnOk, sum}
 use Rattle.std.proofs.lemmas.List.Elements.{All-nil, All-push}
 use Rattle.beas_core.specs.declared.errors.Fail.{Fail}
@@ -13,7 +13,8 @@ use Rattle.beas_core.specs.Fits.{Fits}
 use Rattle.beas_core.specs.Queries.{BlockProbe}
 use Rattle.beas_core.proofs.Sets.{Has-from_contains}
 use Rattle.block_walk.specs.Worlds.{World}
-use Rattle.catalogue.specs.Database.{Database, rows_at}
+use Rattle.catalogue.specs.Database.{Database, rows_at, schema_of}
+use Rattle.catalogue.specs.Schema.{SchemaIsSound}
 use Rattle.cursor_executor.specs.Fetching.{Seen as CursorSeen, reads_fetched}
 use Rattle.report.specs.declared.reports.Report.{Report}
 use Rattle.report.specs.declared.reports.Report.TheVariants as report
@@ -35,7 +36,7 @@ use Rattle.version_store.specs.declared.store.KeptTable.{KeptTable}
 use Rattle.sql_tree.specs.Trees.{Tree}
 use Rattle.version_store.specs.Desks.{Begins, GoesOn, Seen}
 use Rattle.version_store.specs.Events.{Happens}
-use Rattle.version_store.specs.Stored.{AreCounted, AreKept, IsNew, IsOpenAt, Open, Opens, constraints_in, held_at, probes_in, rows_in, seen_in, share_in, state_in, table_in, world_at}
+use Rattle.version_store.specs.Stored.{AreCounted, AreKept, IsNew, IsOpenAt, Open, Opens, constraints_in, held_at, probes_in, rows_in, seen_in, share_in, state_in, table_in}
 use Rattle.version_store.proofs.SeenFacts as seen
 
 -- no part is of any table
@@ -107,6 +108,16 @@ module _ (session : Session) (k : ℕ) (prepared : Prepared) (query : Open) (h :
 
   pub new_probes : probes_in query.cursor ≡ []
   new_probes = ap probes_in h.cursor_is
+
+-- ---- at a desk without open queries
+
+pub none_kept : (db : Database) → SchemaIsSound (schema_of db) → AreKept db []
+none_kept db sound = record {
+  sound = sound;
+  one_each = λ i j d less below. absurd (omega (arith, below));
+  open_queries = All-nil (IsOpenAt db);
+  counts = All-nil (λ (o : Open). AreCounted (held_at db o) o.cursor);
+}
 
 -- ---- at a desk
 

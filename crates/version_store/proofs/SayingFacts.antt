@@ -1,28 +1,23 @@
 -- What a statement leaves of the open queries, and what it does at a desk.
-use Rattle.std.proofs.Common.{◌≡◌, ◌≤◌, ◌<◌, ◌==◌, ◌+◌, ◌∙◌, ℕ, Bool, true, false, List, [], ◌∷◌, length, map, get_or, Option, Some, None, Result, Ok, Err, inl, inr, refl, ap, sym, subst, arith}
+use Rattle.std.proofs.Common.{◌≡◌, ◌<◌, ◌==◌, ◌∙◌, ℕ, Bool, true, false, List, [], ◌∷◌, length, map, get_or, Result, Ok, Err, inl, inr, refl, ap, sym, subst, arith}
 use Rattle.std.specs.Prelude.{◌⊎◌, All, IfOk, OnErr, OnOk}
 use Rattle.std.specs.List.{list_any}
 use Rattle.std.proofs.lemmas.Bool.{eq-eqb}
 use Rattle.std.proofs.lemmas.List.{get_or-map, length-map}
 use Rattle.std.proofs.lemmas.List.Elements.{All-cons, All-head, All-tail}
 use Rattle.std.proofs.lemmas.List.Folds.{list_any_at}
-use Rattle.beas_core.specs.declared.plan.Normal.{Normal}
 use Rattle.beas_core.specs.declared.plan.Prepared.{Prepared}
 use Rattle.beas_core.specs.declared.query.Atom.{Atom}
 use Rattle.beas_core.specs.declared.query.Block.{Block}
-use Rattle.beas_core.specs.declared.schema.Access.{Access}
 use Rattle.beas_core.specs.declared.schema.TableId.{TableId}
 use Rattle.beas_core.specs.Classes.{normal_of}
 use Rattle.beas_core.specs.Fits.{PreparedIsWellFormed}
-use Rattle.beas_core.specs.Queries.{BlockProbe}
 use Rattle.beas_core.specs.Shapes.{EachIdOnce}
 use Rattle.beas_core.specs.Trees.{blocks_of}
 use Rattle.block_walk.specs.Worlds.{World}
 use Rattle.catalogue.specs.Database.{Database, rows_at, schema_of}
 use Rattle.catalogue.specs.Schema.{SchemaIsSound}
-use Rattle.cursor_executor.specs.Fetching.{Seen as CursorSeen}
 use Rattle.kept_facts.specs.Frames.{SameForQuery, SameOn}
-use Rattle.kept_facts.specs.OpenQueries.{OpenQuery}
 use Rattle.kept_facts.proofs.PartFacts.{parts_keep}
 use Rattle.open_queries.specs.Held.{HasPart, cursor_of, has_atom, has_part, names}
 use Rattle.open_queries.proofs.WorldFacts.{held_still, kept_still}

@@ -1,5 +1,5 @@
 -- What is seen of a desk of which one open query changes, is taken out or comes in. `see`, `share` and `probes` are what is seen of each of them.
-use Rattle.std.proofs.Common.{◌≡◌, ◌<◌, ◌==◌, ◌+◌, ◌++◌, ◌∙◌, ℕ, List, [], ◌∷◌, length, map, get_or, set, remove, find, position, Some, None, refl, ap, sym, subst, arith}
+use Rattle.std.proofs.Common.{◌≡◌, ◌<◌, ◌==◌, ◌+◌, ◌++◌, ◌∙◌, ℕ, List, [], ◌∷◌, map, get_or, set, remove, position, Some, None, ap, sym, subst, arith}
 use Rattle.std.specs.Prelude.{sum}
 use Rattle.std.proofs.lemmas.List.{get_or-map, length-map, map-append, map-set}
 use Rattle.std.proofs.lemmas.List.Sums.{sum_by-remove, sum_by-set, sum_by_push}

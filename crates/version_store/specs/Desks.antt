@@ -2,8 +2,8 @@
 -- those after it.
 --     Seen                                  a desk: its settings, its state, and for each open query the probes that were made and their reads
 --     place_in session seen                 where the session's query stands among the open ones; share_at and probes_at are its reads and its probes
---     ProbesFit query share probes          these are probes of an open query, which counted so many reads: at least their number, and at most the
---                                           query's Reads, which are at most the number that was announced
+--     ProbesFit query share probes          these are probes of an open query, which counted so many reads: what each of them counts, in all. That is
+--                                           at least their number, and at most the query's Reads, which are at most the number that was announced
 --     IsDesk seen                           what is true of every desk: its catalogue is sound, no session has two open queries, and each open query
 --                                           has its probes and its share of the reads
 --     loads_by action outcome               the load that an action takes, where its file gives this
@@ -17,7 +17,7 @@
 --     MayCost, MayTake event seen ..        how many reads may have been counted before memory ran out
 --     waits_for_file action, MayLoad action ..      whether the action waits for a file; how many files may have been loaded
 --     EventIsWellFormed event, session_in event     its statement is well formed; its session
-use Rattle.std.specs.Prelude.{◌≡◌, ◌+◌, ◌<◌, ◌≤◌, ◌⊎◌, ◌++◌, ℕ, Bool, true, false, List, [], ◌∷◌, length, sum, remove, slice_index_or, slice_set, Contains, Option, Some, None}
+use Rattle.std.specs.Prelude.{◌≡◌, ◌+◌, ◌<◌, ◌≤◌, ◌⊎◌, ◌++◌, ℕ, Bool, true, false, List, [], ◌∷◌, length, sum, sum_by, remove, slice_index_or, slice_set, Contains, Option, Some, None}
 use Rattle.outside.specs.Counts.{raised}
 use Rattle.outside.specs.Seen.{Seen as Files}
 use Rattle.beas_core.specs.Queries.{BlockProbe}
@@ -56,10 +56,11 @@ probes_at session seen = slice_index_or seen.probes (place_in session seen) []
 
 -- ---- what is true of every desk
 
--- these are the probes that were made for an open query, and they counted so many reads
+-- these are the probes that were made for an open query, and they counted so many reads, each its share of them
 pub record ProbesFit (query : OpenQuery) (share : ℕ) (probes : List BlockProbe) : Type 0 where
   pub count : (made : ℕ) → query.made ≡ Some made → length probes ≡ made
   pub own : (probe : BlockProbe) → Contains probes probe → Contains (probes_of query) probe
+  pub adds_up : share ≡ sum_by (share_of query) probes
   pub least : length probes ≤ share
   pub most : share ≤ reads_of query
   pub bound : reads_of query ≤ query.prepared.bound

@@ -1,7 +1,7 @@
 -- What the parts of an event's call do, by its effect.
 --     Happens effect report before after ..       the report, the desk afterwards and the reads are those of the effect
 --     HappensSome effect report before after ..   there is an effect, and so it is
---     changed_in schema statement                 the one table that the statement may change
+--     changed_table schema statement              the one table that the statement may change
 use Rattle.std.specs.Prelude.{◌≡◌, ◌+◌, ℕ, List, sum, find, option_map, Option, Some, None}
 use Rattle.beas_core.specs.declared.schema.Access.{Access}
 use Rattle.beas_core.specs.declared.schema.TableId.{TableId}
@@ -26,17 +26,17 @@ HappensSome (Some effect) report before after s t = Happens effect report before
 abbrev pub table_of_named : List Access → List ℕ → Option TableId
 table_of_named accesses name = option_map (λ a. a.table) (find (access_has_name name) accesses)
 
-abbrev pub changed_in : Schema → Statement → Option TableId
-changed_in schema (Insert table tuples) = table_named schema table
-changed_in schema (Load table file) = table_named schema table
-changed_in schema (Delete table conditions) = table_named schema table
-changed_in schema (DropAccess name) = table_of_named schema.accesses name
-changed_in schema (CreateTable name columns) = None
-changed_in schema (CreateAccess spec) = None
-changed_in schema (DiscoverGroup table key fetched) = None
-changed_in schema (DiscoverPairs table limit) = None
-changed_in schema (Select tree) = None
-changed_in schema (Explain tree) = None
-changed_in schema (ScanOk tree) = None
-changed_in schema (Grouped items keys inner) = None
-changed_in schema (Specialise tree) = None
+abbrev pub changed_table : Schema → Statement → Option TableId
+changed_table schema (Insert table tuples) = table_named schema table
+changed_table schema (Load table file) = table_named schema table
+changed_table schema (Delete table conditions) = table_named schema table
+changed_table schema (DropAccess name) = table_of_named schema.accesses name
+changed_table schema (CreateTable name columns) = None
+changed_table schema (CreateAccess spec) = None
+changed_table schema (DiscoverGroup table key fetched) = None
+changed_table schema (DiscoverPairs table limit) = None
+changed_table schema (Select tree) = None
+changed_table schema (Explain tree) = None
+changed_table schema (ScanOk tree) = None
+changed_table schema (Grouped items keys inner) = None
+changed_table schema (Specialise tree) = None

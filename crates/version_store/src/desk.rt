@@ -50,10 +50,10 @@ impl Desk {
     /// A desk over a session's database, with no open query. It takes no memory.
     pub fn new(alloc: Global, session: Session) -> Desk
         ensures { result ≡ record {
-            settings = settings_of session;
-            state = record { db = database_of session; queries = [] };
-            shares = [];
-            probes = [];
+          settings = settings_of session;
+          state = record { db = database_of session; queries = [] };
+          shares = [];
+          probes = [];
         } }
     {
         // The constraints aren't used: the call's own clauses tell that the catalogue is sound.

@@ -1,5 +1,8 @@
-//! A desk at which sessions take turns, over the program's store: its tables are kept, as they are, for queries that are
-//! open before they change.
+//! A desk at which sessions take turns at one database. Before a statement changes a table, the table is kept as it is for
+//! each open query that names it, so that the query goes on seeing what it saw where it was opened.
+//!
+//! It isn't promised that what is kept shares memory with what came after it, nor that a session is ever given a turn: who
+//! calls the desk picks the events.
 #![tactic(auto)]
 
 mod desk;
@@ -9,4 +12,4 @@ mod saying;
 mod store;
 
 pub use desk::Desk;
-pub use store::{CurrentStore, KeptTable, current};
+pub use desk_model::Event;

@@ -82,8 +82,8 @@ fn put(
     })
 }
 
-// A refusal is reported.
-fn refused(fail: Fail) -> Result<Report, NoMemory>
+// Reports a refusal.
+fn report_refusal(fail: Fail) -> Result<Report, NoMemory>
     ensures { result ≡ reported (Err fail) }
 {
     match fail {
@@ -115,6 +115,6 @@ pub fn open(
 {
     match session.announce(alloc, tree) {
         Ok(prepared) => put(alloc, session, queries, number, prepared),
-        Err(fail) => refused(fail),
+        Err(fail) => report_refusal(fail),
     }
 }

@@ -12,7 +12,7 @@ ghost use Rattle.session.specs.Effects.{Does, Effect, action_of};
 ghost use Rattle.session.specs.Statements.{StatementIsWellFormed};
 ghost use Rattle.session.specs.Turns.{IsWithin};
 ghost use Rattle.version_store.specs.Desks.{GoesOn, MayCost as MayTakeOf, MayLoad as MayLoadOf, Takes, waits_for_file};
-ghost use Rattle.version_store.specs.Events.{changed_in, table_of_named};
+ghost use Rattle.version_store.specs.Events.{changed_table, table_of_named};
 ghost use Rattle.version_store.specs.Stored.{AreKept, IsOpenAt, held_at, seen_in, state_in, table_in};
 
 use crate::going::place_of;
@@ -41,7 +41,7 @@ fn table_of_named(catalogue: &Catalogue, name: &Name) -> Option<TableId>
 
 // The one table that a statement may change.
 fn changed_table(catalogue: &Catalogue, statement: &Statement) -> Option<TableId>
-    ensures table { result ≡ changed_in catalogue.now statement.now }
+    ensures table { result ≡ changed_table catalogue.now statement.now }
     ensures there { IfSome result (λ t. t.0 < length catalogue.now.tables) }
 {
     match statement {

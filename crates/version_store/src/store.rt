@@ -1,5 +1,4 @@
 // The store as open queries see it: a port whose tables can be kept as they are.
-ghost use Rattle.std.specs.Prelude.{◌≡◌};
 ghost use Rattle.catalogue.specs.Schema.{SchemaIsSound};
 
 use beas_core::{Access, AccessId, AccessPort, ColumnId, Hits, NoMemory, Steps, TableId, Value};
@@ -20,15 +19,6 @@ pub struct KeptTable {
 pub struct CurrentStore<'a> {
     pub store: &'a WordGuarded,
     ghost sound: { SchemaIsSound store.now.catalogue },
-}
-
-/// The store as open queries see it.
-pub fn current(store: &WordGuarded) -> CurrentStore<'_>
-    ensures { result.store.now ≡ store.now }
-{
-    // The constraints aren't used: the call's own clauses tell that the catalogue is sound.
-    let _accesses = store.catalogue.accesses();
-    CurrentStore { store }
 }
 
 impl AccessPort for KeptTable {

@@ -1,12 +1,11 @@
 -- What the calls of an index over codes do, by the values of the codes.
 use Rattle.std.proofs.Common.{◌≡◌, ◌≢◌, ◌≤◌, ◌<◌, ◌+◌, ◌-◌, ℕ, zero, suc, Bool, true, false, cond, inl, inr, List, [], ◌∷◌, ◌++◌, length, map, take, get_or, refl, ap, sym, ◌∙◌, subst, arith}
-use Rattle.std.specs.Prelude.{nat_eq, nat_lt, is_some, slice_get, Option, Some, None, IsTrue, ◌↔◌, MatchOption}
+use Rattle.std.specs.Prelude.{nat_eq, slice_get, Option, Some, None, IsTrue, ◌↔◌}
 use Rattle.std.specs.Option.{option_map, unwrap_or}
 use Rattle.std.specs.List.{AllByRecursion, IsDistinct, filter}
 use Rattle.std.specs.Map.{keys_of, values_of, lookup, set_value}
 use Rattle.std.specs.Cmp.Lexicographic.{pointwise}
-use borrow.Author.Tests.{ltb-true}
-use Rattle.std.proofs.lemmas.Bool.{lt-ltb, eqb-true}
+use Rattle.std.proofs.lemmas.Bool.{eqb-true}
 use Rattle.std.proofs.lemmas.List.{length-map}
 use Rattle.indexmap.specs.IndexMap.{swap_remove_entry}
 use Rattle.beas_core.specs.declared.value.Value.{Value}
@@ -21,6 +20,8 @@ use Rattle.access_index.proofs.Indexing.{take_tuple, group_tuples}
 use Rattle.marked_list.specs.declared.coded.Coded.{Coded}
 use Rattle.word_index.specs.Codes.{value_of}
 use Rattle.word_index.specs.Reading.{WordIndex, IsInOrderFor, IsGroup, Spells, read, read_index, read_group, read_entries, pick, AllKnown, AllWordsKnown, is_keyed, words_in}
+use Rattle.word_index.specs.Taking.{HasRoom, CountsWhere, HoldsWhere}
+use Rattle.word_index.proofs.Holding.{holds_iff}
 use Rattle.word_index.proofs.Keys.{row_same}
 use Rattle.word_index.proofs.Storing.{bucket_at, count_all, own_bucket}
 use Rattle.word_index.proofs.Indexing.{count_bucket}
@@ -166,20 +167,53 @@ module _ (access : Access) (codes : List Value) (total : ℕ) (es : List Entry) 
       (Has-from_contains (tuples_in (tallies (read_index codes (record { access = access; total = total; groups = es })) (key_of access row))) (tuple_of access row) c)))
   is_not g f a l (inr s) = omega (arith, l, s, ap length (group_tallies g f), length_group codes g)
 
-  pub of_nothing : lookup (pointwise nat_eq ws) es ≡ None
-      → IsTrue (nat_lt 0 access.bound) ↔ WouldHold (read_index codes (record { access = access; total = total; groups = es })) row
-  of_nothing f = (λ t. inr (omega (arith, ltb-true 0 access.bound t, ap length (no_tallies f))), back)
-    where
-      back : WouldHold (read_index codes (record { access = access; total = total; groups = es })) row → IsTrue (nat_lt 0 access.bound)
-      back (inl c) = absurd (subst (λ ts. Has (tuples_in ts) (tuple_of access row)) (no_tallies f)
-          (Has-from_contains (tuples_in (tallies (read_index codes (record { access = access; total = total; groups = es })) (key_of access row))) (tuple_of access row) c))
-      back (inr l) = lt-ltb 0 access.bound (omega (arith, l, ap length (no_tallies f)))
+  pub judged : (g : List Coded) → lookup (pointwise nat_eq ws) es ≡ Some g → (answer : Bool) → HasRoom answer access words g
+      → IsTrue answer ↔ WouldHold (read_index codes (record { access = access; total = total; groups = es })) row
+  judged g f true (inl l) = (λ t. room_left g f l, λ would. refl)
+  judged g f true (inr m) =
+      let none : Coded = record { words = []; count = 0 } in (λ t. is_there g f m.at none m.within (m.same none), λ would. refl)
+  judged g f false m = (λ t. cc, λ would. absurd (is_not g f m.1 m.0 would))
 
-  pub searched : (g : List Coded) → lookup (pointwise nat_eq ws) es ≡ Some g → (r : Option ℕ)
-      → MatchOption r (AllByRecursion (λ c. c.words ≢ own_tuple) g) (λ at. (at < length g) × ((d : Coded) → (get_or g at d).words ≡ own_tuple))
-      → access.bound ≤ length g → IsTrue (is_some r) ↔ WouldHold (read_index codes (record { access = access; total = total; groups = es })) row
-  searched g f (Some at) m l = (λ t. is_there g f at (record { words = []; count = 0 }) m.0 (m.1 (record { words = []; count = 0 })), λ would. refl)
-  searched g f None m l = (λ t. cc, λ would. absurd (is_not g f m l would))
+  pub of_nothing : lookup (pointwise nat_eq ws) es ≡ None → (answer : Bool) → (IsTrue answer ↔ (0 < access.bound))
+      → IsTrue answer ↔ WouldHold (read_index codes (record { access = access; total = total; groups = es })) row
+  of_nothing f answer iff = (λ t. inr (omega (arith, iff.0 t, ap length (no_tallies f))), back)
+    where
+      back : WouldHold (read_index codes (record { access = access; total = total; groups = es })) row → IsTrue answer
+      back (inl c) = absurd (subst (λ ts. Has ts (tuple_of access row)) (ap tuples_in (no_tallies f))
+          (Has-from_contains (tuples_in (tallies (read_index codes (record { access = access; total = total; groups = es })) (key_of access row))) (tuple_of access row) c))
+      back (inr l) = iff.1 (omega (arith, l, ap length (no_tallies f)))
+
+-- what is told of a row by the group of its key
+module _ (access : Access) (codes : List Value) (total : ℕ) (es : List Entry) (words : List ℕ) (self : WordIndex)
+    (view : record { access = access; total = total; groups = es } ≡ self) (in_order : IsInOrderFor codes self)
+    (key : List ℕ) (key_is : key ≡ pick access.key words) where
+  abbrev Tells : Bool → WordIndex → Type 0
+  Tells answer index = (row : List Value) → Spells codes (member_columns index.access) words row → IsTrue answer ↔ WouldHold (read_index codes index) row
+
+  holds_where : (answer : Bool) → Tells answer self → HoldsWhere answer codes words self
+  holds_where answer tells row rows s is h = holds_iff (read_index codes self) row answer (tells row s) rows is h
+
+  pub found_tells : (g : List Coded) → lookup (pointwise nat_eq key) es ≡ Some g → (answer : Bool) → HasRoom answer access words g → Tells answer self
+  found_tells g f answer room =
+      subst (Tells answer) view (λ row s. judged access codes total es words (subst (IsInOrderFor codes) (sym view) in_order) row s g
+      (ap (λ j. lookup (pointwise nat_eq j) es) (sym key_is) ∙ f) answer room)
+
+  pub new_tells : lookup (pointwise nat_eq key) es ≡ None → (answer : Bool) → (IsTrue answer ↔ (0 < access.bound)) → Tells answer self
+  new_tells f answer iff =
+      subst (Tells answer) view (λ row s. of_nothing access codes total es words (subst (IsInOrderFor codes) (sym view) in_order) row s
+      (ap (λ j. lookup (pointwise nat_eq j) es) (sym key_is) ∙ f) answer iff)
+
+  pub found_holds : (g : List Coded) → lookup (pointwise nat_eq key) es ≡ Some g → (answer : Bool) → HasRoom answer access words g
+      → HoldsWhere answer codes words self
+  found_holds g f answer room = holds_where answer (found_tells g f answer room)
+
+  pub new_holds : lookup (pointwise nat_eq key) es ≡ None → (answer : Bool) → (IsTrue answer ↔ (0 < access.bound))
+      → HoldsWhere answer codes words self
+  new_holds f answer iff = holds_where answer (new_tells f answer iff)
+
+-- an index that is left as it is
+pub left_alone : (codes : List Value) (words : List ℕ) (old new : WordIndex) → new ≡ old → CountsWhere false codes words old new
+left_alone codes words old new e row front back s is = subst (λ (x : WordIndex). IsIndexOf (read_index codes x) (front ++ back)) (sym e) is
 
 -- the group of a key
 module _ (access : Access) (codes : List Value) (total : ℕ) (es : List Entry) (key : List ℕ)

@@ -1,23 +1,21 @@
 -- A value that was never interned is in no tuple of an index.
-use Rattle.std.proofs.Common.{◌≡◌, ◌∙◌, ◌<◌, ℕ, zero, suc, Bool, true, false, cond, List, [], ◌∷◌, ◌++◌, map, take, length, ap, refl, sym, subst, inl, inr}
-use Rattle.std.specs.Prelude.{filter, flat_map, IsTrue, ◌↔◌}
-use Rattle.std.specs.List.{AllByRecursion, Contains}
+use Rattle.std.proofs.Common.{◌≡◌, ◌∙◌, ℕ, zero, suc, Bool, true, false, cond, List, [], ◌∷◌, ◌++◌, map, take, length, ap, refl, sym, subst, inl, inr}
+use Rattle.std.specs.Prelude.{filter, flat_map}
+use Rattle.std.specs.List.{AllByRecursion}
 use Rattle.std.specs.Map.{values_of}
-use Rattle.std.proofs.lemmas.List.{length-map}
 use Rattle.beas_core.specs.declared.value.Value.{Value}
-use Rattle.beas_core.specs.Groups.{project, group_of, Holds, same_row, member_columns}
+use Rattle.beas_core.specs.Groups.{project, group_of, same_row, member_columns}
 use Rattle.beas_core.proofs.Groups.{same_row_true, same_row_itself}
-use Rattle.beas_core.proofs.Sets.{Has, Has-from_contains, Has-map, Has-filter, Has-distinct, Has-append_right}
+use Rattle.beas_core.proofs.Sets.{Has, Has-map, Has-filter, Has-distinct, Has-append_right}
 use Rattle.beas_core.specs.Order.{row_cmp_total}
 use Rattle.beas_core.proofs.ValueOrder.{row_cmp_tells}
 use Rattle.access_index.specs.declared.tally.Tally.{Tally}
 use Rattle.access_index.specs.Buckets.{tuples_in, is_key}
-use Rattle.access_index.specs.Index.{IsIndexOf, WouldHold, tallies, tuple_of, key_of}
+use Rattle.access_index.specs.Index.{IsIndexOf, tallies, tuple_of, key_of}
 use Rattle.access_index.proofs.Indexing.{group_tuples}
 use Rattle.marked_list.specs.declared.coded.Coded.{Coded}
 use Rattle.word_index.specs.Reading.{read_tally, read_group, read_entries, read_index, AllWordsKnown, IsInOrderFor, WordIndex}
 use Rattle.word_index.specs.Spelling.{AllHaveCodes}
-use Rattle.word_index.proofs.Holding.{holds_iff}
 use Rattle.word_index.proofs.SpellingFacts.{read_coded}
 
 -- what is true of a tally that an index gives for a key
@@ -68,12 +66,6 @@ module _ (codes : List Value) (index : WordIndex) (o : IsInOrderFor codes index)
       ∙ ap tuples_in (none_coded codes (length index.access.key) key (tallies (read_index codes index) key)
       (in_groups codes (length index.access.key) key index.groups o.known) n)
 
-  not_contained : (key x : List Value) → (AllHaveCodes codes x → ⊥) → Contains (tuples_in (tallies (read_index codes index) key)) x → ⊥
-  not_contained key x n c =
-      n (has_coded codes (length index.access.key) key (tallies (read_index codes index) key) x
-      (in_groups codes (length index.access.key) key index.groups o.known)
-      (Has-from_contains (tuples_in (tallies (read_index codes index) key)) x c))
-
   -- a row with a value that has no code is none of the rows
   pub not_among : (front back : List (List Value)) (row : List Value) → IsIndexOf (read_index codes index) (front ++ row ∷ back)
       → (AllHaveCodes codes (tuple_of index.access row) → ⊥) → ⊥
@@ -89,24 +81,3 @@ module _ (codes : List Value) (index : WordIndex) (o : IsInOrderFor codes index)
       n (has_coded codes (length index.access.key) key (tallies (read_index codes index) key) (tuple_of index.access row)
       (in_groups codes (length index.access.key) key index.groups o.known)
       (subst (λ ts. Has ts (tuple_of index.access row)) (sym (ap tuples_in (is.tallies_are key) ∙ group_tuples index.access rows key)) member))
-
-  -- such a row goes in where its group has room
-  pub new_holds : (row : List Value) (answer : Bool) (len : ℕ) → (IsTrue answer ↔ (len < index.access.bound))
-      → (AllHaveCodes codes (tuple_of index.access row) → ⊥)
-      → (rows : List (List Value)) → IsIndexOf (read_index codes index) rows → len ≡ length (group_of rows index.access (key_of index.access row))
-      → Holds rows index.access → IsTrue answer ↔ Holds (rows ++ row ∷ []) index.access
-  new_holds row answer len iff n rows is e h = holds_iff (read_index codes index) row answer (to, from) rows is h
-    where
-      key : List Value
-      key = key_of index.access row
-
-      same : length (tallies (read_index codes index) key) ≡ len
-      same = sym (length-map (tallies (read_index codes index) key) (λ (t : Tally). t.tuple))
-          ∙ ap length (ap tuples_in (is.tallies_are key) ∙ group_tuples index.access rows key) ∙ sym e
-
-      to : IsTrue answer → WouldHold (read_index codes index) row
-      to t = inr (subst (λ k. k < index.access.bound) (sym same) (iff.0 t))
-
-      from : WouldHold (read_index codes index) row → IsTrue answer
-      from (inl c) = absurd (not_contained key (tuple_of index.access row) n c)
-      from (inr l) = iff.1 (subst (λ k. k < index.access.bound) same l)

@@ -2,4 +2,5 @@ pub mod Codes
 pub mod Forms
 pub mod Reading
 pub mod Spelling
+pub mod Taking
 pub mod Widths

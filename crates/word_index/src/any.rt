@@ -1,10 +1,11 @@
 // The index of an access constraint by the width of its key.
-ghost use Rattle.std.specs.Prelude.{◌≡◌, ◌+◌, ◌<◌, ◌≤◌, ◌^◌, ◌↔◌, ◌++◌, ◌∷◌, [], ℕ, List, length, map, slice_index_or, IsTrue, IfSome, MatchOption, IfOk, OnOk, OnErr};
+ghost use Rattle.std.specs.Prelude.{◌≡◌, ◌+◌, ◌<◌, ◌≤◌, ◌^◌, ◌↔◌, ◌++◌, ◌∷◌, [], ℕ, List, length, map, slice_index_or, IsTrue, IfSome, MatchOption, IfOk, OnOk, OnErr, if◌then◌else◌};
 ghost use Rattle.beas_core.specs.declared.value.Value.{Value};
 ghost use Rattle.beas_core.specs.Groups.{Holds, greatest, group_of, member_columns, has_column};
 ghost use Rattle.access_index.specs.Index.{IsIndexOf, WouldHold};
 ghost use Rattle.word_index.specs.Codes.{AreDistinct};
 ghost use Rattle.word_index.specs.Reading.{read, read_index, pick, AllKnown, Spells, IsInOrderFor, words_at, word_in};
+ghost use Rattle.word_index.specs.Taking.{CountsWhere, HoldsWhere};
 ghost use Rattle.word_index.specs.Widths.{index_in};
 
 use crate::fixed::FixedIndex;
@@ -92,6 +93,27 @@ impl AnyIndex {
             → (IsTrue result ↔ Holds (rows ++ row ∷ []) (index_in self.now).access) }
     {
         of_any!(self, index => index.would_hold(words))
+    }
+
+    /// Counts one row more, wherever among the rows it stands, where its tuple is there or its group has fewer members than
+    /// the bound, and else leaves the index as it is. The group is looked up once. After an error the index is as it was.
+    pub fn add_if_holds(
+        &mut self,
+        alloc: Global,
+        codes: &Interner,
+        words: &[u64],
+    ) -> Result<bool, NoMemory>
+        requires in_order { IsInOrderFor codes.now (index_in self.old) }
+        requires known { AllKnown codes.now (pick (member_columns (index_in self.old).access) words.now) }
+        requires room { (index_in self.old).total + 1 < 2 ^ 32 }
+        ensures access { (index_in self.new).access ≡ (index_in self.old).access }
+        ensures total { IfOk result (λ held. (index_in self.new).total ≡ (index_in self.old).total + (if held then 1 else 0)) }
+        ensures in_order { IsInOrderFor codes.now (index_in self.new) }
+        ensures index { IfOk result (λ held. CountsWhere held codes.now words.now (index_in self.old) (index_in self.new)) }
+        ensures holds { IfOk result (λ held. HoldsWhere held codes.now words.now (index_in self.old)) }
+        ensures err { OnErr result (index_in self.new ≡ index_in self.old) }
+    {
+        of_any!(self, index => index.add_if_holds(alloc, codes, words))
     }
 
     /// Counts one row fewer, wherever among the rows it stood. The tuple goes with its last row. It takes no memory.

@@ -9,6 +9,7 @@ ghost use Rattle.access_index.specs.Buckets.{tuples_in, counts_in, AllCounted, I
 ghost use Rattle.marked_list.specs.declared.coded.Coded.{Coded};
 ghost use Rattle.indexmap.specs.IndexMap.{insert_entry};
 ghost use Rattle.word_index.specs.Reading.{read, read_group, pick, AllKnown, AllWordsKnown};
+ghost use Rattle.word_index.specs.Taking.{HasRoom};
 
 use crate::interner::Interner;
 use crate::tuples::Group;
@@ -83,6 +84,16 @@ pub fn search(
         Ordering::Equal => Ok(at),
         _ => Err(at),
     }
+}
+
+/// Whether a group has fewer members than the bound, or a row's tuple already. It takes no memory.
+pub fn has_room(group: &Group, access: &Access, words: &[u64]) -> bool
+    ensures { HasRoom result access.now words.now group.now }
+{
+    if group.len() < access.bound as usize {
+        return true;
+    }
+    group.position_of(access, words).is_some()
 }
 
 /// A group that counts a tuple once.

@@ -1,11 +1,10 @@
 // Words by which maps are asked.
 ghost use Rattle.std.specs.Prelude.{◌≡◌, ◌≤◌, length, IfSome, MatchOption};
-ghost use Rattle.beas_core.specs.Groups.{member_columns, project};
+ghost use Rattle.beas_core.specs.Groups.{member_columns};
 ghost use Rattle.word_index.specs.Reading.{pick};
 ghost use Rattle.word_index.specs.Spelling.{AllHaveCodes, AreCodesOf};
 
 use crate::interner::Interner;
-use crate::spelling::code_in;
 use crate::words::{column_at, word_at};
 use beas_core::{Access, ColumnId, Value};
 use std::marker::Model;
@@ -75,25 +74,6 @@ impl KeyWords {
         Some(KeyWords {
             words,
             len: key.len(),
-        })
-    }
-
-    /// The codes of a row's values in these columns, or none where one of them was never interned.
-    pub fn in_row(codes: &Interner, columns: &[ColumnId], row: &[Value]) -> Option<KeyWords>
-        requires { length columns.now ≤ 64 }
-        ensures { MatchOption result (AllHaveCodes codes.now (project columns.now row.now) → ⊥)
-            (λ words. AreCodesOf codes.now words (project columns.now row.now)) }
-    {
-        let mut words = [0; 64];
-        for (i, column) in columns.iter().enumerate() {
-            match code_in(codes, row, *column) {
-                Some(code) => words[i] = code,
-                None => return None,
-            }
-        }
-        Some(KeyWords {
-            words,
-            len: columns.len(),
         })
     }
 

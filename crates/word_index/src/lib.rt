@@ -19,5 +19,5 @@ pub use bulk::{add_rows, index_of, remove_rows};
 pub use fixed::FixedIndex;
 pub use interner::Interner;
 pub use long::LongIndex;
-pub use rows::{add_if_holds, add_row, find_group, remove_row, would_hold};
+pub use rows::{add_if_holds, find_group, remove_row};
 pub use words::word_at;

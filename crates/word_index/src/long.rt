@@ -1,12 +1,13 @@
 // The index of one access constraint with a long key over codes.
-ghost use Rattle.std.specs.Prelude.{◌≡◌, ◌+◌, ◌<◌, ◌≤◌, ◌^◌, ◌⊎◌, ◌↔◌, ◌++◌, ◌∷◌, [], ℕ, List, length, map, slice_index_or, IsTrue, IfOk, IfSome, MatchOption, OnOk, OnErr};
+ghost use Rattle.std.specs.Prelude.{◌≡◌, ◌+◌, ◌<◌, ◌≤◌, ◌^◌, ◌↔◌, ◌++◌, ◌∷◌, [], ℕ, List, length, map, slice_index_or, IsTrue, IfOk, IfSome, MatchOption, OnOk, OnErr, if◌then◌else◌};
 ghost use Rattle.beas_core.specs.declared.value.Value.{Value};
 ghost use Rattle.beas_core.specs.Groups.{Holds, greatest, group_of, member_columns, has_column};
 ghost use Rattle.access_index.specs.Index.{IsIndexOf, WouldHold};
 ghost use Rattle.word_index.specs.Codes.{AreDistinct};
 ghost use Rattle.word_index.specs.Reading.{read, read_index, pick, AllKnown, Spells, IsInOrderFor, words_at, word_in};
+ghost use Rattle.word_index.specs.Taking.{CountsWhere, HoldsWhere};
 
-use crate::group::{count_down, count_up, of_one, put_copy};
+use crate::group::{count_down, count_up, has_room, of_one, put_copy};
 use crate::interner::Interner;
 use crate::key::KeyWords;
 use crate::tuples::Group;
@@ -120,13 +121,46 @@ impl LongIndex {
         let key = buffer.as_slice();
         match self.groups.get(key) {
             None => self.access.bound > 0,
-            Some(group) => {
-                if group.len() < self.access.bound as usize {
-                    return true;
-                }
-                group.position_of(&self.access, words).is_some()
-            }
+            Some(group) => has_room(group, &self.access, words),
         }
+    }
+
+    /// Counts one row more, wherever among the rows it stands, where its tuple is there or its group has fewer members than
+    /// the bound, and else leaves the index as it is. The group is looked up once. After an error the index is as it was.
+    pub fn add_if_holds(
+        &mut self,
+        alloc: Global,
+        codes: &Interner,
+        words: &[u64],
+    ) -> Result<bool, NoMemory>
+        requires in_order { IsInOrderFor codes.now self.old }
+        requires known { AllKnown codes.now (pick (member_columns self.old.access) words.now) }
+        requires room { self.old.total + 1 < 2 ^ 32 }
+        ensures access { self.new.access ≡ self.old.access }
+        ensures total { IfOk result (λ held. self.new.total ≡ self.old.total + (if held then 1 else 0)) }
+        ensures in_order { IsInOrderFor codes.now self.new }
+        ensures index { IfOk result (λ held. CountsWhere held codes.now words.now self.old self.new) }
+        ensures holds { IfOk result (λ held. HoldsWhere held codes.now words.now self.old) }
+        ensures err { OnErr result (self.new ≡ self.old) }
+    {
+        let buffer = KeyWords::of(self.access.key.as_slice(), words);
+        let key = buffer.as_slice();
+        if let Some(group) = self.groups.get_mut(key) {
+            if !has_room(group, &self.access, words) {
+                return Ok(false);
+            }
+            count_up(alloc, codes, group, &self.access, words)?;
+            self.total += 1;
+            return Ok(true);
+        }
+        if self.access.bound == 0 {
+            return Ok(false);
+        }
+        let group = of_one(alloc, &self.access, words)?;
+        let own = TupleWords::of(alloc, key)?;
+        self.groups.insert(own, group)?;
+        self.total += 1;
+        Ok(true)
     }
 
     /// Counts one row fewer, wherever among the rows it stood. The tuple goes with its last row. It takes no memory.

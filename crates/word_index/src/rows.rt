@@ -1,7 +1,7 @@
 // Rows of values that come into and go out of an index of words.
 ghost use Rattle.std.specs.Prelude.{◌≡◌, ◌≤◌, ◌<◌, ◌+◌, ◌^◌, ◌↔◌, ◌++◌, ◌∷◌, [], List, length, map, IsTrue, IfOk, IfSome, OnOk, OnErr, MatchOption, if◌then◌else◌};
 ghost use Rattle.beas_core.specs.declared.value.Value.{Value};
-ghost use Rattle.beas_core.specs.Groups.{Holds, group_of, project};
+ghost use Rattle.beas_core.specs.Groups.{Holds, group_of};
 ghost use Rattle.beas_core.specs.Shapes.{AccessIsWellFormed};
 ghost use Rattle.access_index.specs.Index.{IsIndexOf};
 ghost use Rattle.word_index.specs.Reading.{read, read_index, IsInOrderFor, KeepsCodes, words_at};
@@ -29,36 +29,6 @@ pub fn find_group(codes: &Interner, index: &AnyIndex, key: &[Value]) -> Option<(
     match KeyWords::known(codes, key) {
         Some(words) => index.find(words.as_slice()),
         None => None,
-    }
-}
-
-/// The number of tuples that have the key of a row. It takes no memory.
-fn group_len(codes: &Interner, index: &AnyIndex, row: &[Value]) -> u32
-    requires in_order { IsInOrderFor codes.now (index_in index.now) }
-    requires form { AccessIsWellFormed 64 (index_in index.now).access }
-    ensures { (rows : List (List Value)) → IsIndexOf (read_index codes.now (index_in index.now)) rows
-        → result ≡ length (group_of rows (index_in index.now).access (project (index_in index.now).access.key row.now)) }
-{
-    match KeyWords::in_row(codes, index.access().key.as_slice(), row) {
-        Some(words) => match index.find(words.as_slice()) {
-            Some((_, len)) => len,
-            None => 0,
-        },
-        None => 0,
-    }
-}
-
-/// Whether a constraint, where it holds, holds with one row more too. It takes no memory.
-pub fn would_hold(codes: &Interner, index: &AnyIndex, row: &[Value]) -> bool
-    requires in_order { IsInOrderFor codes.now (index_in index.now) }
-    requires form { AccessIsWellFormed 64 (index_in index.now).access }
-    ensures { (rows : List (List Value)) → IsIndexOf (read_index codes.now (index_in index.now)) rows
-        → Holds rows (index_in index.now).access
-        → (IsTrue result ↔ Holds (rows ++ row.now ∷ []) (index_in index.now).access) }
-{
-    match known_words(codes, index.access(), row) {
-        Some(words) => index.would_hold(&words),
-        None => group_len(codes, index, row) < index.access().bound,
     }
 }
 
@@ -104,7 +74,8 @@ pub fn add_row(
 }
 
 /// Counts one row more, wherever among the rows it stands, where the constraint, if it held, holds with this row too, and
-/// else changes nothing. After an error the index is as it was.
+/// else leaves the index as it is. Its values are interned where they weren't yet, so that each is looked up once, and
+/// its group too. After an error the index is as it was.
 pub fn add_if_holds(
     alloc: Global,
     codes: &mut Interner,
@@ -126,21 +97,6 @@ pub fn add_if_holds(
         → (IsTrue held ↔ Holds (rows ++ row.now ∷ []) (index_in index.old).access)) }
     ensures err { OnErr result (index_in index.new ≡ index_in index.old) }
 {
-    match known_words(codes, index.access(), row) {
-        // Its values' codes are looked up once for both.
-        Some(words) => {
-            if !index.would_hold(&words) {
-                return Ok(false);
-            }
-            index.add(alloc, codes, &words)?;
-            Ok(true)
-        }
-        None => {
-            if !would_hold(codes, index, row) {
-                return Ok(false);
-            }
-            add_row(alloc, codes, index, row)?;
-            Ok(true)
-        }
-    }
+    let words = interned_words(alloc, codes, index.access(), row)?;
+    index.add_if_holds(alloc, codes, &words)
 }

@@ -143,7 +143,7 @@ impl Group {
             Form::Short(_) => self.scan(access, words),
             Form::Marked(tuples) => match KeyWords::tuple(access, words) {
                 Some(tuple) => tuples.position_of(tuple.as_slice()),
-                // A tuple of more columns than a constraint has.
+                // More than 64 words, as where a key and the fetched columns overlap.
                 None => self.scan(access, words),
             },
         }

@@ -13,9 +13,7 @@ use std::alloc::Global;
 use std::marker::Model;
 use std::sync::ledger::Ledger;
 use update_guard::Indexes;
-use word_index::{
-    AnyIndex, Interner, add_row, add_rows, index_of, remove_row, remove_rows, would_hold,
-};
+use word_index::{AnyIndex, Interner, add_if_holds, add_rows, index_of, remove_row, remove_rows};
 
 /// The indexes of constraints over codes, with the values of these. Each value is kept once, whatever number of tuples
 /// have it. Contracts see the indexes of values. Its tuples are handed out after a probe alone, so it isn't `Debug`.
@@ -98,12 +96,8 @@ impl Indexes for WordIndexes {
         self.indexes.len()
     }
 
-    fn would_hold(&self, place: usize, row: &Row) -> bool {
-        would_hold(&self.codes, &self.indexes[place], row.as_slice())
-    }
-
-    fn add(&mut self, alloc: Global, place: usize, row: &Row) -> Result<(), NoMemory> {
-        add_row(
+    fn add_if_holds(&mut self, alloc: Global, place: usize, row: &Row) -> Result<bool, NoMemory> {
+        add_if_holds(
             alloc,
             &mut self.codes,
             &mut self.indexes[place],

@@ -1,4 +1,4 @@
-use Rattle.steady_runs.proofs.SteadyFacts.{no_fault, none_rose, walked_failures}
+use Rattle.steady_runs.proofs.SteadyFacts.{no_fault, none_rose, walked_failures, walked_readable}
 use Rattle.std.proofs.Common.{refl}
 use Rattle.steady_runs.proofs.run_steady.Goals as goal
 
@@ -19,4 +19,8 @@ returns-clause-complete_without g c = λ name named. c.run.ensures.complete.comp
 pub returns-clause-loads : goal.returns-clause-loads
 returns-clause-loads g c =
     let run = c.run.ensures.ran in
-    record { run = run; none = λ name. walked_failures _ _ _ _ _ _ run.walked name refl }
+    record {
+      run = run;
+      none = λ name. walked_failures _ _ _ _ _ _ run.walked name refl;
+      readable = walked_readable _ _ _ _ _ _ _ run.walked run.read_as (λ name. refl);
+    }

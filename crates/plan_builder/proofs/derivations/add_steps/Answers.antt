@@ -1,21 +1,20 @@
-use Rattle.std.proofs.Common.{◌∙◌, ap, sym, map, arith}
+use Rattle.std.proofs.Common.{◌++◌, ◌∷◌, ◌∙◌, [], ap, sym, map, arith}
 use Rattle.std.specs.List.{filter}
 use Rattle.beas_core.specs.Coverage.{is_covered, uses}
-use Rattle.beas_core.specs.Derivations.{least_bound, enabled_uses, with_use}
+use Rattle.beas_core.specs.Derivations.{least_bound, step_of, with_use}
 use Rattle.attribute_closure.specs.Uses.{as_use}
 use Rattle.plan_builder.specs.Choices.{may_add}
-use Rattle.plan_builder.proofs.Turns.{left_done, left_stuck, left_out, plan_bound, plan_uses, plan_left, chosen_member, by_bool}
+use Rattle.plan_builder.proofs.Turns.{left_done, left_stuck, left_out, plan_bound, plan_live, plan_left, chosen_member, by_bool}
 use Rattle.plan_builder.proofs.derivations.add_steps.Goals as goal
 
 pub returns-then-cover-clause-come : goal.returns-then-cover-clause-come
 returns-then-cover-clause-come c = λ accesses once same.
     let now = c.loop-turn.invariant in
     let so_far = now.come accesses once same in
-    let covered = ap (is_covered c.args.block.now accesses) (sym now.set) ∙ sym (c.cover.ensures accesses (ap (map as_use) now.listed ∙ same))
-    ∙ c.if-cover.true in (
+    let covered = sym (c.cover.ensures accesses (ap (map as_use) now.listed ∙ same)) ∙ c.if-cover.true in (
       so_far.0,
-      left_done c.args.block.now accesses c.args.plan.now.set.items c.loop-turn.plan.set.items c.loop-turn.plan.steps c.args.block.now.count
-          c.loop-turn._turn (omega arith) so_far.1 covered,
+      left_done c.args.block.now accesses c.args.candidates.now.keys.set.items c.loop-turn.candidates.keys.set.items c.loop-turn.steps
+          c.args.block.now.count c.loop-turn._turn (omega arith) so_far.1 covered,
     )
 
 pub returns-in-None-clause-come : goal.returns-in-None-clause-come
@@ -23,44 +22,41 @@ returns-in-None-clause-come c = λ accesses once same.
     let now = c.loop-turn.invariant in
     let listed = ap (map as_use) now.listed ∙ same in
     let so_far = now.come accesses once same in
-    let covered = ap (is_covered c.args.block.now accesses) (sym now.set) ∙ sym (c.cover.ensures accesses listed) ∙ c.if-cover.false in
-    let best = ap (λ s. least_bound (enabled_uses c.args.block.now accesses s)) (sym now.set)
-    ∙ ap (λ us. least_bound (filter (may_add c.args.block.now c.loop-turn.candidates.keys.set.items) us)) (sym listed) ∙ sym c.in-None.ensures.best in
-    left_stuck c.args.block.now accesses c.args.plan.now.set.items c.loop-turn.plan.set.items c.loop-turn.plan.steps c.args.block.now.count
-    c.loop-turn._turn (omega arith) so_far.1 covered best
+    let covered = sym (c.cover.ensures accesses listed) ∙ c.if-cover.false in
+    let best = ap (λ us. least_bound (filter (may_add c.args.block.now c.loop-turn.candidates.keys.set.items) us)) (sym listed)
+    ∙ sym c.in-None.ensures.best in
+    left_stuck c.args.block.now accesses c.args.candidates.now.keys.set.items c.loop-turn.candidates.keys.set.items c.loop-turn.steps
+    c.args.block.now.count c.loop-turn._turn (omega arith) so_far.1 covered best
 
 pub loop-turn-preserved : goal.loop-turn-preserved
 loop-turn-preserved c =
     let now = c.loop-turn.invariant in
     let found = c.in-Some.found in
-    let step = c.in_ok-take_step-in-Some.ensures in
     let take = c.in_ok-take-in-Some.ensures in
     let normal = c.args.block.now in
-    let set = c.loop-turn.plan.set.items in
-    let steps = c.loop-turn.plan.steps in
-    let start = c.args.plan.now.set.items in
-    let plan = c.take_step.new.plan in
+    let set = c.loop-turn.candidates.keys.set.items in
+    let steps = c.loop-turn.steps in
+    let start = c.args.candidates.now.keys.set.items in
+    let set2 = c.take.new.self.keys.set.items in
+    let steps2 = c.push_step.new.steps in
+    let pushed = c.in_ok-push_step-in-Some.ensures
+    ∙ ap (λ s. steps ++ step_of normal s (as_use found) ∷ []) (c.deref.ensures.value ∙ ap (λ k. k.set.items) c.in-Some.ensures.keys) in
+    let grown = take.set ∙ ap (λ k. with_use normal k.set.items (as_use found)) c.in-Some.ensures.keys in
     record {
       are = take.are;
       listed = take.uses ∙ ap (λ k. k.uses) c.in-Some.ensures.keys ∙ now.listed;
-      set = take.set ∙ ap (λ k. with_use normal k.set.items (as_use found)) c.in-Some.ensures.keys ∙ ap (λ s. with_use normal s (as_use found)) now.set
-          ∙ sym step.set;
       come = λ accesses once same.
           let listed = ap (map as_use) now.listed ∙ same in
           let so_far = now.come accesses once same in
-          let covered = ap (is_covered normal accesses) (sym now.set) ∙ sym (c.cover.ensures accesses listed) ∙ c.if-cover.false in
-          let chosen = c.in-Some.ensures.best
-          ∙ ap (λ us. least_bound (filter (may_add normal c.loop-turn.candidates.keys.set.items) us)) listed in
-          let best = ap (λ s. least_bound (enabled_uses normal accesses s)) (sym now.set) ∙ sym chosen in
-          let member = chosen_member (may_add normal c.loop-turn.candidates.keys.set.items) (uses normal accesses) (as_use found) chosen in (
+          let covered = sym (c.cover.ensures accesses listed) ∙ c.if-cover.false in
+          let chosen = c.in-Some.ensures.best ∙ ap (λ us. least_bound (filter (may_add normal set) us)) listed in
+          let member = chosen_member (may_add normal set) (uses normal accesses) (as_use found) chosen in (
             record {
-              bound = plan_bound normal accesses once start set steps c.loop-turn.taken found member plan.set.items plan.steps step.set step.steps
-                  so_far.0.bound;
-              uses = plan_uses normal accesses once start set steps c.loop-turn.taken found member plan.set.items plan.steps step.set step.steps
-                  c.push.new.self c.in_ok-push-in-Some.ensures.ok so_far.0.uses;
+              bound = plan_bound normal accesses once start set steps found member set2 steps2 grown pushed so_far.0.bound;
+              live = plan_live normal accesses once start set steps found member set2 steps2 grown pushed so_far.0.live;
             },
-            plan_left normal accesses once start set steps c.loop-turn.taken found member plan.set.items plan.steps step.set step.steps
-                normal.count c.loop-turn._turn c.loop-turn-test.true so_far.1 covered best,
+            plan_left normal accesses once start set steps found member set2 steps2 grown pushed
+                normal.count c.loop-turn._turn c.loop-turn-test.true so_far.1 covered (sym chosen),
           );
     }
 
@@ -68,12 +64,12 @@ pub returns-clause-come : goal.returns-clause-come
 returns-clause-come c = λ accesses once same.
     let now = c.loop-turn.invariant in
     let so_far = now.come accesses once same in
-    by_bool c.cover-2.result (is_covered c.args.block.now accesses c.loop-turn.plan.set.items)
-    (c.cover-2.ensures accesses (ap (map as_use) now.listed ∙ same) ∙ ap (is_covered c.args.block.now accesses) now.set)
+    by_bool c.cover-2.result (is_covered c.args.block.now accesses c.loop-turn.candidates.keys.set.items)
+    (c.cover-2.ensures accesses (ap (map as_use) now.listed ∙ same))
     (λ h. (
       so_far.0,
-      left_done c.args.block.now accesses c.args.plan.now.set.items c.loop-turn.plan.set.items c.loop-turn.plan.steps c.args.block.now.count
-          c.loop-turn._turn c.loop-turn.auto._turn-end so_far.1 h,
+      left_done c.args.block.now accesses c.args.candidates.now.keys.set.items c.loop-turn.candidates.keys.set.items c.loop-turn.steps
+          c.args.block.now.count c.loop-turn._turn c.loop-turn.auto._turn-end so_far.1 h,
     ))
-    (λ h. left_out c.args.block.now accesses c.args.plan.now.set.items c.loop-turn.plan.set.items c.loop-turn.plan.steps
+    (λ h. left_out c.args.block.now accesses c.args.candidates.now.keys.set.items c.loop-turn.candidates.keys.set.items c.loop-turn.steps
     c.args.block.now.count c.loop-turn._turn c.loop-turn.auto._turn-end so_far.1 h c.loop-turn-test.false)

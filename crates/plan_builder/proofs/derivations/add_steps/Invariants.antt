@@ -13,9 +13,8 @@ abbrev pub invariant-loop-turn : goal.invariant-loop-turn
 invariant-loop-turn l = record {
   are : AreCandidates l.block l.candidates;
   listed : l.candidates.keys.uses ≡ l.initial.candidates.keys.uses;
-  set : l.candidates.keys.set.items ≡ l.plan.set.items;
   come : (accesses : List Access) → EachIdOnce accesses → map as_use l.initial.candidates.keys.uses ≡ uses l.block accesses
-      → HasCome l.block accesses l.initial.plan.set.items l.plan l.taken
-      × (adding_steps l.block.count l.block accesses l.initial.plan.set.items
-      ≡ option_map (λ more. l.plan.steps ++ more) (adding_steps (l.block.count - l._turn) l.block accesses l.plan.set.items));
+      → HasCome l.block accesses l.initial.candidates.keys.set.items l.candidates.keys.set.items l.steps
+      × (adding_steps l.block.count l.block accesses l.initial.candidates.keys.set.items
+      ≡ option_map (λ more. l.steps ++ more) (adding_steps (l.block.count - l._turn) l.block accesses l.candidates.keys.set.items));
 }

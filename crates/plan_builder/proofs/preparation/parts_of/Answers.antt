@@ -24,7 +24,7 @@ plan_blocks-requires-clause-ids c =
     let given = block_tasks (constraints_with live extra) query in
     let made : (a : List Access) → map (task_at a) lent ≡ block_tasks (constraints_with a extra) query = λ a.
     ap (map (task_at a)) c.as_slice.ensures ∙ c.in_ok-push_blocks.ensures.tasks a
-    ∙ ap (λ xs. map (task_at a) xs ++ tasks_from (constraints_with a extra) (length xs) false query) c.new-found.ensures in
+    ∙ ap (λ xs. map (task_at a) xs ++ tasks_from (constraints_with a extra) (length xs) false query) (c.from_vec-found.ensures ∙ c.in_ok-with_capacity.ensures.items) in
     each_once live extra c.requires.ids query lent made
 
 pub returns-in_err-plans-clause-refused : goal.returns-in_err-plans-clause-refused
@@ -36,10 +36,10 @@ returns-in_err-plans-clause-refused c =
     let lent = c.as_slice.result.now in
     let given = block_tasks (constraints_with live extra) query in
     let same : blocks_at lent ≡ blocks_of query =
-    ap blocks_at c.as_slice.ensures ∙ c.in_ok-push_blocks.ensures.blocks ∙ ap (λ xs. blocks_at xs ++ blocks_of query) c.new-found.ensures in
+    ap blocks_at c.as_slice.ensures ∙ c.in_ok-push_blocks.ensures.blocks ∙ ap (λ xs. blocks_at xs ++ blocks_of query) (c.from_vec-found.ensures ∙ c.in_ok-with_capacity.ensures.items) in
     let made : (a : List Access) → map (task_at a) lent ≡ block_tasks (constraints_with a extra) query = λ a.
     ap (map (task_at a)) c.as_slice.ensures ∙ c.in_ok-push_blocks.ensures.tasks a
-    ∙ ap (λ xs. map (task_at a) xs ++ tasks_from (constraints_with a extra) (length xs) false query) c.new-found.ensures in
+    ∙ ap (λ xs. map (task_at a) xs ++ tasks_from (constraints_with a extra) (length xs) false query) (c.from_vec-found.ensures ∙ c.in_ok-with_capacity.ensures.items) in
     let p = err_from_is_err_and c.from_residual-in_err-plans.result c.from_residual-in_err-plans.ensures.1 in
     rw (p.1, p.2) (over_err schema extra query (Unit {0}) _ (blocks_at lent) (map (task_at live) lent) same (made live)
     c.in_err-plans.ensures.refused)
@@ -53,10 +53,10 @@ announce_over-requires-clause-grow c =
     let lent = c.as_slice.result.now in
     let given = block_tasks (constraints_with live extra) query in
     let same : blocks_at lent ≡ blocks_of query =
-    ap blocks_at c.as_slice.ensures ∙ c.in_ok-push_blocks.ensures.blocks ∙ ap (λ xs. blocks_at xs ++ blocks_of query) c.new-found.ensures in
+    ap blocks_at c.as_slice.ensures ∙ c.in_ok-push_blocks.ensures.blocks ∙ ap (λ xs. blocks_at xs ++ blocks_of query) (c.from_vec-found.ensures ∙ c.in_ok-with_capacity.ensures.items) in
     let made : (a : List Access) → map (task_at a) lent ≡ block_tasks (constraints_with a extra) query = λ a.
     ap (map (task_at a)) c.as_slice.ensures ∙ c.in_ok-push_blocks.ensures.tasks a
-    ∙ ap (λ xs. map (task_at a) xs ++ tasks_from (constraints_with a extra) (length xs) false query) c.new-found.ensures in
+    ∙ ap (λ xs. map (task_at a) xs ++ tasks_from (constraints_with a extra) (length xs) false query) (c.from_vec-found.ensures ∙ c.in_ok-with_capacity.ensures.items) in
     subst (λ (a : List Access). All (Grows (with_lists a extra)) c.in_ok-plans.plans.derivations) (sym c.accesses.ensures.accesses)
     (all_grow schema c.accesses.ensures.sound extra c.requires.ids c.requires.extra query c.requires.well_formed c.requires.over lent same made
     c.in_ok-plans.plans.derivations c.in_ok-plans.ensures.derivations)
@@ -70,10 +70,10 @@ returns-in_err-bound-clause-refused c =
     let lent = c.as_slice.result.now in
     let given = block_tasks (constraints_with live extra) query in
     let same : blocks_at lent ≡ blocks_of query =
-    ap blocks_at c.as_slice.ensures ∙ c.in_ok-push_blocks.ensures.blocks ∙ ap (λ xs. blocks_at xs ++ blocks_of query) c.new-found.ensures in
+    ap blocks_at c.as_slice.ensures ∙ c.in_ok-push_blocks.ensures.blocks ∙ ap (λ xs. blocks_at xs ++ blocks_of query) (c.from_vec-found.ensures ∙ c.in_ok-with_capacity.ensures.items) in
     let made : (a : List Access) → map (task_at a) lent ≡ block_tasks (constraints_with a extra) query = λ a.
     ap (map (task_at a)) c.as_slice.ensures ∙ c.in_ok-push_blocks.ensures.tasks a
-    ∙ ap (λ xs. map (task_at a) xs ++ tasks_from (constraints_with a extra) (length xs) false query) c.new-found.ensures in
+    ∙ ap (λ xs. map (task_at a) xs ++ tasks_from (constraints_with a extra) (length xs) false query) (c.from_vec-found.ensures ∙ c.in_ok-with_capacity.ensures.items) in
     let plans = c.in_ok-plans.plans in
     let derived = same_plans (map (task_at live) lent) plans.derivations c.in_ok-plans.ensures.derivations ∙ ap (map task_plan) (made live) in
     let flags = c.in_ok-plans.ensures.guided ∙ ap (map is_guided_task) (made live) in
@@ -93,10 +93,10 @@ returns-clause-prepared c =
     let lent = c.as_slice.result.now in
     let given = block_tasks (constraints_with live extra) query in
     let same : blocks_at lent ≡ blocks_of query =
-    ap blocks_at c.as_slice.ensures ∙ c.in_ok-push_blocks.ensures.blocks ∙ ap (λ xs. blocks_at xs ++ blocks_of query) c.new-found.ensures in
+    ap blocks_at c.as_slice.ensures ∙ c.in_ok-push_blocks.ensures.blocks ∙ ap (λ xs. blocks_at xs ++ blocks_of query) (c.from_vec-found.ensures ∙ c.in_ok-with_capacity.ensures.items) in
     let made : (a : List Access) → map (task_at a) lent ≡ block_tasks (constraints_with a extra) query = λ a.
     ap (map (task_at a)) c.as_slice.ensures ∙ c.in_ok-push_blocks.ensures.tasks a
-    ∙ ap (λ xs. map (task_at a) xs ++ tasks_from (constraints_with a extra) (length xs) false query) c.new-found.ensures in
+    ∙ ap (λ xs. map (task_at a) xs ++ tasks_from (constraints_with a extra) (length xs) false query) (c.from_vec-found.ensures ∙ c.in_ok-with_capacity.ensures.items) in
     let plans = c.in_ok-plans.plans in
     let derived = same_plans (map (task_at live) lent) plans.derivations c.in_ok-plans.ensures.derivations ∙ ap (map task_plan) (made live) in
     let flags = c.in_ok-plans.ensures.guided ∙ ap (map is_guided_task) (made live) in
@@ -118,10 +118,10 @@ returns-clause-plan c =
     let lent = c.as_slice.result.now in
     let given = block_tasks (constraints_with live extra) query in
     let same : blocks_at lent ≡ blocks_of query =
-    ap blocks_at c.as_slice.ensures ∙ c.in_ok-push_blocks.ensures.blocks ∙ ap (λ xs. blocks_at xs ++ blocks_of query) c.new-found.ensures in
+    ap blocks_at c.as_slice.ensures ∙ c.in_ok-push_blocks.ensures.blocks ∙ ap (λ xs. blocks_at xs ++ blocks_of query) (c.from_vec-found.ensures ∙ c.in_ok-with_capacity.ensures.items) in
     let made : (a : List Access) → map (task_at a) lent ≡ block_tasks (constraints_with a extra) query = λ a.
     ap (map (task_at a)) c.as_slice.ensures ∙ c.in_ok-push_blocks.ensures.tasks a
-    ∙ ap (λ xs. map (task_at a) xs ++ tasks_from (constraints_with a extra) (length xs) false query) c.new-found.ensures in
+    ∙ ap (λ xs. map (task_at a) xs ++ tasks_from (constraints_with a extra) (length xs) false query) (c.from_vec-found.ensures ∙ c.in_ok-with_capacity.ensures.items) in
     let plans = c.in_ok-plans.plans in
     plan_fits schema c.accesses.ensures.sound extra c.requires.ids c.requires.extra query c.requires.well_formed c.requires.over lent same made
     plans.derivations c.in_ok-plans.ensures.derivations

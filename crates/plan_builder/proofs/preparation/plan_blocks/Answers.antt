@@ -23,7 +23,7 @@ plan_block-requires-clause-over c =
 
 pub returns-in_err-normal-clause-refused : goal.returns-in_err-normal-clause-refused
 returns-in_err-normal-clause-refused c =
-    let p = err_from_is_err_and c.from_residual.result c.from_residual.ensures.1 in
+    let p = err_from_is_err_and c.from_residual-in_err-normal.result c.from_residual-in_err-normal.ensures.1 in
     rw (p.1, p.2) (refused_here c.args.catalogue.now.accesses c.args.blocks.now c.args.catalogue.now (Unit {0}) (Unit {0}) _ c.loop-place.place c.index-blocks-place.result
     c.loop-place.invariant.covered c.loop-place-test.true c.index-blocks-place.is c.in_err-normal.ensures.refused)
 

@@ -3,7 +3,7 @@ use Rattle.std.specs.Prelude.{map}
 use Rattle.std.proofs.lemmas.Result.{IfOk-weaker}
 use Rattle.report.specs.declared.reports.Report.TheVariants.{Grouped}
 use Rattle.report.specs.Reports.{bound_text, cell_text, counts_text, records_text, report_text}
-use Rattle.report.proofs.WriterFacts.{grouped_whole}
+use Rattle.report.proofs.ReportFacts.{grouped_whole}
 use Rattle.report.proofs.reports.grouped_text.Goals as goal
 
 pub returns : goal.returns

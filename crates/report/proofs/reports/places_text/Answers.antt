@@ -1,6 +1,6 @@
 use Rattle.std.proofs.Common.{◌∙◌}
 use Rattle.report.specs.Reports.{place_line}
-use Rattle.report.proofs.WriterFacts.{lines_next}
+use Rattle.report.proofs.ReportFacts.{lines_next}
 use Rattle.report.proofs.reports.places_text.Goals as goal
 
 pub loop-place-preserved : goal.loop-place-preserved

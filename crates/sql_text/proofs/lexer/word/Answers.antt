@@ -36,8 +36,8 @@ returns c =
     let to = c.run_end-to.result in
     let run : to ≡ c.args.at + prefix_len continues_word (drop c.args.at s) = cc in
     let within : to ≤ length s = omega arith in
-    let folded : c.from_string-text.result ≡ map to_ascii_lowercase (slice_range s c.args.at to) =
-    c.from_string-text.ensures ∙ c.in_ok-to_ascii_lowercase.ensures.ok ∙ ap (map to_ascii_lowercase) c.range.ensures.value in
+    let folded : c.in_ok-text.text ≡ map to_ascii_lowercase (slice_range s c.args.at to) =
+    c.in_ok-text.ensures ∙ ap (map to_ascii_lowercase) c.range.ensures.value in
     let token : List ℕ → Token = λ text. record { kind = Word; from = c.args.at; to = to; text = text } in
     stands-word s c.args.at to c.token.result c.utf8.source c.requires.begins c.requires.class run within (omega arith)
     (c.token.ensures ∙ ap token folded)

@@ -35,7 +35,7 @@ returns-in-Err-clause-did c =
     let queries = c.args.queries.now.items in
     let w = announcement s.limits s.budget (schema_of (database_of s)) c.args.tree.now in
     λ n. subst (λ (r : Result Report NoMemory). IfOk r (λ given. Happens (opened_effect s.explain (state_in s queries) c.args.number w) given
-    (seen_in s queries) (seen_in s queries) n n)) (sym c.refused.ensures)
+    (seen_in s queries) (seen_in s queries) n n)) (sym c.report_refusal.ensures)
     (fail_did s c.args.number queries c.in-Err.fail (announcement s.limits s.budget s.guarded.catalogue c.args.tree.now) w
     (ap (λ schema. announcement s.limits s.budget schema c.args.tree.now) (schema_is_catalogue s.guarded)) c.in-Err.ensures.announced n)
 
@@ -44,7 +44,7 @@ returns-in-Err-clause-goes_on c =
     let s = c.args.session.now in
     let queries = c.args.queries.now.items in
     λ n. subst (λ (r : Result Report NoMemory). IfOk r (λ given. GoesOn (Said c.args.number (Select c.args.tree.now)) given
-    (seen_in s queries) (seen_in s queries) n n)) (sym c.refused.ensures) (fail_goes s c.args.number queries c.in-Err.fail c.args.tree.now n)
+    (seen_in s queries) (seen_in s queries) n n)) (sym c.report_refusal.ensures) (fail_goes s c.args.number queries c.in-Err.fail c.args.tree.now n)
 
 pub returns-in-Err-clause-within : goal.returns-in-Err-clause-within
-returns-in-Err-clause-within c = subst (λ (r : Result Report NoMemory). IfOk r IsWithin) (sym c.refused.ensures) (fail_within c.in-Err.fail)
+returns-in-Err-clause-within c = subst (λ (r : Result Report NoMemory). IfOk r IsWithin) (sym c.report_refusal.ensures) (fail_within c.in-Err.fail)

@@ -7,7 +7,7 @@ use Rattle.desk_model.specs.Changes.{changes}
 use Rattle.open_queries.specs.Held.{HasPart}
 use Rattle.session.specs.Applying.{database_of}
 use Rattle.session.proofs.StoreFacts.{as_many_tables, schema_is_catalogue}
-use Rattle.version_store.specs.Events.{changed_in}
+use Rattle.version_store.specs.Events.{changed_table}
 use Rattle.version_store.specs.Stored.{table_in}
 use Rattle.version_store.proofs.ChangedFacts.{frozen_all, none_changed}
 use Rattle.version_store.proofs.SayingFacts.{on_ok}
@@ -23,7 +23,7 @@ returns-in-Some-clause-frozen c =
     let st = c.args.statement.now in
     let same = schema_is_catalogue store in
     let sound = subst SchemaIsSound (sym same) c.accesses-accesses.ensures.sound in
-    let is = ap (λ schema. changed_in schema st) same ∙ sym c.in-Some.ensures.table in
+    let is = ap (λ schema. changed_table schema st) same ∙ sym c.in-Some.ensures.table in
     on_ok c.keep.result (All (HasPart table_in c.in-Some.table) c.keep.new.queries.items)
     ((t : TableId) → changes (schema_of db) st t ≡ true → All (HasPart table_in t) c.keep.new.queries.items)
     (λ kept. frozen_all (schema_of db) sound st (λ t. All (HasPart table_in t) c.keep.new.queries.items) c.in-Some.table is kept)
@@ -33,7 +33,7 @@ pub returns-in-None-clause-frozen : goal.returns-in-None-clause-frozen
 returns-in-None-clause-frozen c =
     let same = schema_is_catalogue c.args.session.now.guarded in
     λ t changed. absurd (none_changed (schema_of (database_of c.args.session.now)) (subst SchemaIsSound (sym same) c.accesses-accesses.ensures.sound)
-    c.args.statement.now t (ap (λ schema. changed_in schema c.args.statement.now) same ∙ sym c.in-None.ensures.table) changed)
+    c.args.statement.now t (ap (λ schema. changed_table schema c.args.statement.now) same ∙ sym c.in-None.ensures.table) changed)
 
 pub keep-requires-clause-kept : goal.keep-requires-clause-kept
 keep-requires-clause-kept c = c.requires.kept

@@ -1,4 +1,4 @@
-use Rattle.std.proofs.Common.{◌≡◌, ◌∙◌, Some, false, refl, ap, subst, sym, arith}
+use Rattle.std.proofs.Common.{◌∙◌, Some, refl, ap, subst, sym, arith}
 use Rattle.std.specs.Prelude.{IfOk}
 use Rattle.beas_core.specs.declared.refusal.Refusal.TheVariants.{SessionBusy}
 use Rattle.desk_model.specs.Desks.{DeskAction}

@@ -1,6 +1,5 @@
-use Rattle.std.proofs.Common.{◌≡◌, ◌∙◌, ◌<◌, ◌+◌, ◌-◌, ◌++◌, List, length, get_or, take, map, ap, sym, subst, refl, arith}
+use Rattle.std.proofs.Common.{◌≡◌, ◌∙◌, ◌<◌, ◌+◌, ◌-◌, ◌++◌, length, get_or, take, map, ap, sym, subst, refl, arith}
 use Rattle.std.proofs.lemmas.List.{take_all, append-nil, length-map, get_or-map}
-use Rattle.beas_core.specs.declared.value.Value.{Value}
 use Rattle.access_index.specs.Index.{IsIndexOf}
 use Rattle.word_index.specs.Reading.{read_index}
 use Rattle.word_index.specs.Widths.{index_in}

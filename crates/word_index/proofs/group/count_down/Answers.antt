@@ -1,4 +1,4 @@
-use Rattle.std.proofs.Common.{get_or, [], ap, sym, ◌∙◌, subst, refl, arith}
+use Rattle.std.proofs.Common.{get_or, [], sym, subst, refl, arith}
 use Rattle.access_index.specs.Buckets.{IsOneMore}
 use Rattle.blocked_list.proofs.Joined.{all_set, all_at}
 use Rattle.marked_list.specs.declared.coded.Coded.{Coded}

@@ -1,67 +1,40 @@
-use Rattle.std.proofs.Common.{◌≡◌, ap, sym, ◌∙◌, subst, refl, arith}
-use Rattle.std.specs.Prelude.{nat_eq, nat_lt, Some, IsTrue, ◌↔◌}
+use Rattle.std.proofs.Common.{◌≡◌, ap, sym, ◌∙◌}
+use Rattle.std.specs.Prelude.{nat_eq, Some, None}
 use Rattle.std.specs.Map.{lookup}
 use Rattle.std.specs.Cmp.Lexicographic.{pointwise}
-use Rattle.beas_core.specs.Groups.{member_columns}
-use Rattle.access_index.specs.Index.{WouldHold}
-use Rattle.word_index.specs.Reading.{WordIndex, IsInOrderFor, Spells, read_index, pick}
+use borrow.Author.Tests.{ltb-true}
+use Rattle.std.proofs.lemmas.Bool.{lt-ltb}
+use Rattle.word_index.specs.Reading.{read_index, pick}
 use Rattle.word_index.proofs.Holding.{holds_iff}
-use Rattle.word_index.proofs.Steps.{room_left, searched, of_nothing}
+use Rattle.word_index.proofs.Steps.{found_tells, new_tells}
 use Rattle.word_index.proofs.fixed.FixedIndex.would_hold.Goals as goal
-
-pub returns-then-len-self-clause-exactly : goal.returns-then-len-self-clause-exactly
-returns-then-len-self-clause-exactly g c codes row o s =
-    let access = c.self.inside.access in
-    let es = c.self.inside.groups.entries in
-    let total = c.self.inside.total in
-    let words = c.args.words.now in
-    let key_is = c.key_of-key.ensures ∙ ap (λ cs. pick cs words) c.as_slice.ensures in
-    let g0 = c.in-Some.group.now in
-    let found : lookup (pointwise nat_eq (pick access.key words)) es ≡ Some g0 = ap (λ j. lookup (pointwise nat_eq j) es) (sym key_is) ∙ sym c.in-Some.ensures.value in
-    let o2 = subst (IsInOrderFor codes) (sym c.self.view_is) o in
-    let s2 = subst (λ (x : WordIndex). Spells codes (member_columns x.access) words row) (sym c.self.view_is) s in (
-      λ t. subst (λ (x : WordIndex). WouldHold (read_index codes x) row) c.self.view_is
-          (room_left access codes total es words o2 row s2 g0 found (omega (arith, c.if-len-self.true, c.len.ensures))),
-      λ would. refl,
-    )
-
-pub returns-then-len-self-clause-holds : goal.returns-then-len-self-clause-holds
-returns-then-len-self-clause-holds g c codes row rows o s is h =
-    holds_iff (read_index codes c.args.self.now) row _ (returns-then-len-self-clause-exactly g c codes row o s) rows is h
 
 pub returns-in-None-clause-exactly : goal.returns-in-None-clause-exactly
 returns-in-None-clause-exactly g c codes row o s =
     let access = c.self.inside.access in
     let es = c.self.inside.groups.entries in
-    let total = c.self.inside.total in
     let words = c.args.words.now in
+    let key = c.key_of-key.result in
+    let none : lookup (pointwise nat_eq key) es ≡ None = sym c.in-None.ensures.value in
     let key_is = c.key_of-key.ensures ∙ ap (λ cs. pick cs words) c.as_slice.ensures in
-    let none = ap (λ j. lookup (pointwise nat_eq j) es) (sym key_is) ∙ sym c.in-None.ensures.value in
-    let o2 = subst (IsInOrderFor codes) (sym c.self.view_is) o in
-    let s2 = subst (λ (x : WordIndex). Spells codes (member_columns x.access) words row) (sym c.self.view_is) s in
-    subst (λ (x : WordIndex). IsTrue (nat_lt 0 access.bound) ↔ WouldHold (read_index codes x) row) c.self.view_is
-    (of_nothing access codes total es words o2 row s2 none)
+    new_tells access codes c.self.inside.total es words c.args.self.now c.self.view_is o key key_is none _
+    (ltb-true 0 access.bound, lt-ltb 0 access.bound) row s
 
 pub returns-in-None-clause-holds : goal.returns-in-None-clause-holds
 returns-in-None-clause-holds g c codes row rows o s is h =
     holds_iff (read_index codes c.args.self.now) row _ (returns-in-None-clause-exactly g c codes row o s) rows is h
 
-pub returns-else-len-self-clause-exactly : goal.returns-else-len-self-clause-exactly
-returns-else-len-self-clause-exactly g c codes row o s =
+pub returns-in-Some-clause-exactly : goal.returns-in-Some-clause-exactly
+returns-in-Some-clause-exactly g c codes row o s =
     let access = c.self.inside.access in
     let es = c.self.inside.groups.entries in
-    let total = c.self.inside.total in
     let words = c.args.words.now in
-    let key_is = c.key_of-key.ensures ∙ ap (λ cs. pick cs words) c.as_slice.ensures in
+    let key = c.key_of-key.result in
     let g0 = c.in-Some.group.now in
-    let found : lookup (pointwise nat_eq (pick access.key words)) es ≡ Some g0 = ap (λ j. lookup (pointwise nat_eq j) es) (sym key_is) ∙ sym c.in-Some.ensures.value in
-    let o2 = subst (IsInOrderFor codes) (sym c.self.view_is) o in
-    let s2 = subst (λ (x : WordIndex). Spells codes (member_columns x.access) words row) (sym c.self.view_is) s in
-    let tells = searched access codes total es words o2 row s2 g0 found c.position_of.result
-    c.position_of.ensures (omega (arith, c.if-len-self.false, c.len.ensures)) in
-    subst (λ (x : WordIndex). IsTrue c.is_some.result ↔ WouldHold (read_index codes x) row) c.self.view_is
-    (subst (λ b. IsTrue b ↔ WouldHold (read_index codes (record { access = access; total = total; groups = es })) row) (sym c.is_some.ensures) tells)
+    let found : lookup (pointwise nat_eq key) es ≡ Some g0 = sym c.in-Some.ensures.value in
+    let key_is = c.key_of-key.ensures ∙ ap (λ cs. pick cs words) c.as_slice.ensures in
+    found_tells access codes c.self.inside.total es words c.args.self.now c.self.view_is o key key_is g0 found _ c.has_room.ensures row s
 
-pub returns-else-len-self-clause-holds : goal.returns-else-len-self-clause-holds
-returns-else-len-self-clause-holds g c codes row rows o s is h =
-    holds_iff (read_index codes c.args.self.now) row _ (returns-else-len-self-clause-exactly g c codes row o s) rows is h
+pub returns-in-Some-clause-holds : goal.returns-in-Some-clause-holds
+returns-in-Some-clause-holds g c codes row rows o s is h =
+    holds_iff (read_index codes c.args.self.now) row _ (returns-in-Some-clause-exactly g c codes row o s) rows is h

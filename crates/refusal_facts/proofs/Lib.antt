@@ -1,0 +1,6 @@
+mod ListFacts
+mod CheckFacts
+mod BinderFacts
+mod StatementFacts
+pub mod TurnFacts
+pub mod FailureFacts
