@@ -52,11 +52,14 @@ pub struct Walk {
     pub through: List<Row>,
 }
 
+// For so many valuations more there is room from the start, so that a small query's walk seldom moves those it is to visit.
+const ROOM: usize = 24;
+
 // The valuations before the first step, to be visited.
 fn first_pending(alloc: Global, rows: List<Row>) -> Result<Vec<Pending>, NoMemory>
     ensures { IfOk result (λ pending. pending.items ≡ map (pending_at 0) rows) }
 {
-    let mut pending = Vec::new(alloc);
+    let mut pending = Vec::with_capacity(alloc, rows.len().saturating_add(ROOM))?;
     for row in rows.into_vec() {
         pending.push(Pending { step: 0, row })?;
     }
