@@ -124,10 +124,10 @@ module _ (w : World) (r : Route) (at : Pending) (s : Stage) (serves : Serves w r
   pub key_is : key_by r.normal (use_at s) (set_before r.normal s) at.row ≡ (probe_of w r at).key
   key_is = ap (λ v. key_by r.normal v (set_before r.normal s) at.row) serves.uses ∙ ap (λ set. key_by r.normal u set at.row) serves.before
 
-  pub access_is : s.access ≡ access_in w.accesses (step_at r at.step).access
+  pub access_is : s.access.value ≡ access_in w.accesses (step_at r at.step).access
   access_is = ap (λ (v : Use). v.access) serves.uses
 
-  pub group_is : (key : Row) → key ≡ (probe_of w r at).key → group_of (w.rows s.access.table) s.access key ≡ (found_at w r at).tuples
+  pub group_is : (key : Row) → key ≡ (probe_of w r at).key → group_of (w.rows s.access.value.table) s.access.value key ≡ (found_at w r at).tuples
   group_is key e = ap (λ (a : Access). group_of (w.rows a.table) a key) access_is
       ∙ ap (group_of (w.rows (access_in w.accesses (step_at r at.step).access).table) (access_in w.accesses (step_at r at.step).access)) e
 
@@ -143,16 +143,16 @@ pub serves_begun : (w : World) (r : Route) (at : Pending) (walk : Walk) → IsTi
 serves_begun w r at walk tidy agree l d =
     let is = tidy.stages at.step d l in record {
       stage = is.stage;
-      uses = ap (λ k. record { atom = k; access = (get_or walk.stages.items at.step d).access }) is.atom
+      uses = ap (λ k. record { atom = k; access = (get_or walk.stages.items at.step d).access.value }) is.atom
           ∙ ap (use_by (step_at r at.step)) (stage_access w r walk tidy agree at.step d l);
       before = ap (set_of r.normal) is.from ∙ set_is w r walk tidy agree at.step (omega (arith, l));
     }
 
 -- the tuples of a key's group go with the valuation that gives the key
-pub group_all : (rows : TableRows) (normal : Normal) (s : Stage) (v key : Row) (tuples : List Row) → length v ≡ length s.from
-    → key ≡ key_by normal (use_at s) (set_before normal s) v → tuples ≡ group_of (rows s.access.table) s.access key → All (IsPair normal s v) tuples
-group_all rows normal s v key tuples wide keyed is i d l = group_pairs (rows s.access.table) normal s v (get_or tuples i d) wide
-    (subst (λ ts. Has ts (get_or tuples i d)) (is ∙ ap (group_of (rows s.access.table) s.access) keyed) (Has-get_or tuples i d l))
+pub group_all : (rows : TableRows) (normal : Normal) (s : Stage) (v key : Row) (tuples : List Row) → length v ≡ length s.from.value
+    → key ≡ key_by normal (use_at s) (set_before normal s) v → tuples ≡ group_of (rows s.access.value.table) s.access.value key → All (IsPair normal s v) tuples
+group_all rows normal s v key tuples wide keyed is i d l = group_pairs (rows s.access.value.table) normal s v (get_or tuples i d) wide
+    (subst (λ ts. Has ts (get_or tuples i d)) (is ∙ ap (group_of (rows s.access.value.table) s.access.value) keyed) (Has-get_or tuples i d l))
 
 -- a visit by a stage
 module _ (w : World) (r : Route) (at : Pending) (old new : Walk) (tidy : IsTidy r old) (s : Stage) (serves : Serves w r at s)
@@ -186,11 +186,11 @@ module _ (w : World) (r : Route) (at : Pending) (old new : Walk) (tidy : IsTidy 
       ∙ ap (λ (x : Stage). x.join.classes) (here s)
 
   access_alike : (j : ℕ) → j < length old.stages.items → get_or (accesses_in new.stages.items) j no_access ≡ get_or (accesses_in old.stages.items) j no_access
-  access_alike j l = get_or-map (λ (x : Stage). x.access) new.stages.items j s no_access (omega (arith, l, longer))
-      ∙ ap (λ (x : Stage). x.access) (alike j s l) ∙ sym (get_or-map (λ (x : Stage). x.access) old.stages.items j s no_access l)
+  access_alike j l = get_or-map (λ (x : Stage). x.access.value) new.stages.items j s no_access (omega (arith, l, longer))
+      ∙ ap (λ (x : Stage). x.access.value) (alike j s l) ∙ sym (get_or-map (λ (x : Stage). x.access.value) old.stages.items j s no_access l)
 
   access_new : get_or (accesses_in new.stages.items) n no_access ≡ access_in w.accesses (step_at r n).access
-  access_new = get_or-map (λ (x : Stage). x.access) new.stages.items n s no_access inside ∙ ap (λ (x : Stage). x.access) (here s) ∙ access_is w r at s serves
+  access_new = get_or-map (λ (x : Stage). x.access.value) new.stages.items n s no_access inside ∙ ap (λ (x : Stage). x.access.value) (here s) ∙ access_is w r at s serves
 
   stages_new : (j : ℕ) (d : Stage) → j < length new.stages.items → IsStageAt r new.first new.stages.items j (get_or new.stages.items j d)
   stages_new j d l = elim (only j l) [
@@ -434,23 +434,23 @@ module _ (w : World) (r : Route) (at : Pending) (old new : Walk) (tidy : IsTidy 
       (known_entry w r at old agree below_again key keyed tuples known) begun
 
   pub again_probed : (key : Row) → key ≡ (probe_of w r at).key → lookup (is_at (entry_cmp (at.step, key))) old.known.entries ≡ None
-      → new.known.entries ≡ insert_entry entry_cmp old.known.entries (at.step, key) (group_of (w.rows s.access.table) s.access key)
-      → Goes (group_of (w.rows s.access.table) s.access key) → Outcome w r at true old new
+      → new.known.entries ≡ insert_entry entry_cmp old.known.entries (at.step, key) (group_of (w.rows s.access.value.table) s.access.value key)
+      → Goes (group_of (w.rows s.access.value.table) s.access.value key) → Outcome w r at true old new
   again_probed key keyed none entries goes =
       let group = group_is w r at s serves_again key keyed in
       probed_outcome w r at old new tidy s serves_again at_again reach_again first few_again (λ j d l. ap (λ ss. get_or ss j d) stages) longer_again
       (λ j l. inl (subst (λ ss. j < length ss) stages l)) inside_again
       (λ d. ap (λ ss. get_or ss at.step d) stages ∙ get_or_any old.stages.items at.step d s begun ∙ here)
-      (group_of (w.rows s.access.table) s.access key) goes group ordered
+      (group_of (w.rows s.access.value.table) s.access.value key) goes group ordered
       (subst (λ k. lookup (is_at (entry_cmp (at.step, k))) old.known.entries ≡ None) keyed none)
-      (entries ∙ ap (λ k. insert_entry entry_cmp old.known.entries (at.step, k) (group_of (w.rows s.access.table) s.access key)) keyed
+      (entries ∙ ap (λ k. insert_entry entry_cmp old.known.entries (at.step, k) (group_of (w.rows s.access.value.table) s.access.value key)) keyed
       ∙ ap (insert_entry entry_cmp old.known.entries (at.step, (probe_of w r at).key)) group)
 
 -- the first visit before a step
 module _ (w : World) (r : Route) (at : Pending) (old : Walk) (tidy : IsTidy r old) (agree : AgreesWith w r.steps (fetched_in old)) (s : Stage)
     (next : at.step ≡ length old.stages.items) (below : at.step < length r.steps) (is : IsStage r.normal s) (atom : s.atom ≡ (step_at r at.step).atom)
-    (access : s.access ≡ access_in w.accesses (step_at r at.step).access)
-    (from : s.from ≡ classes_at old.first old.stages.items (length old.stages.items)) where
+    (access : s.access.value ≡ access_in w.accesses (step_at r at.step).access)
+    (from : s.from.value ≡ classes_at old.first old.stages.items (length old.stages.items)) where
   at_first : IsStageAt r old.first old.stages.items at.step s
   at_first = record { stage = is; atom = atom; from = from ∙ ap (classes_at old.first old.stages.items) (sym next) }
 
@@ -460,7 +460,7 @@ module _ (w : World) (r : Route) (at : Pending) (old : Walk) (tidy : IsTidy r ol
   pub serves_first : Serves w r at s
   serves_first = record {
     stage = is;
-    uses = ap (λ k. record { atom = k; access = s.access }) atom ∙ ap (use_by (step_at r at.step)) access;
+    uses = ap (λ k. record { atom = k; access = s.access.value }) atom ∙ ap (use_by (step_at r at.step)) access;
     before = ap (set_of r.normal) at_first.from ∙ set_is w r old tidy agree at.step reach_first;
   }
 
@@ -469,8 +469,8 @@ module _ (w : World) (r : Route) (at : Pending) (old : Walk) (tidy : IsTidy r ol
 
   pub first_probed : (new : Walk) → new.first ≡ old.first → new.stages.items ≡ old.stages.items ++ s ∷ []
       → IsOrdered entry_cmp new.known → (key : Row) → key ≡ (probe_of w r at).key
-      → new.known.entries ≡ insert_entry entry_cmp old.known.entries (at.step, key) (group_of (w.rows s.access.table) s.access key)
-      → (let rows = next_by r.normal (use_at s) (set_before r.normal s) at.row (group_of (w.rows s.access.table) s.access key) in
+      → new.known.entries ≡ insert_entry entry_cmp old.known.entries (at.step, key) (group_of (w.rows s.access.value.table) s.access.value key)
+      → (let rows = next_by r.normal (use_at s) (set_before r.normal s) at.row (group_of (w.rows s.access.value.table) s.access.value key) in
       GoesOn (length r.steps) at rows (map (output_row r.normal (bound_with r.normal (use_at s) (set_before r.normal s))) rows)
       old.pending.items new.pending.items old.through new.through) → Outcome w r at true old new
   first_probed new first stages ordered key keyed entries goes =
@@ -480,9 +480,9 @@ module _ (w : World) (r : Route) (at : Pending) (old : Walk) (tidy : IsTidy r ol
       (λ j d l. ap (λ ss. get_or ss j d) stages ∙ get_or-front old.stages.items s d j l) (omega (arith, counted))
       (λ j l. below_or j l counted) (omega (arith, counted, next))
       (λ d. ap (λ ss. get_or ss at.step d) stages ∙ ap (λ n. get_or (old.stages.items ++ s ∷ []) n d) next ∙ get_or-last old.stages.items s d)
-      (group_of (w.rows s.access.table) s.access key) goes group ordered
+      (group_of (w.rows s.access.value.table) s.access.value key) goes group ordered
       (subst (λ k. lookup (is_at (entry_cmp (at.step, k))) old.known.entries ≡ None) keyed (none_first key))
-      (entries ∙ ap (λ k. insert_entry entry_cmp old.known.entries (at.step, k) (group_of (w.rows s.access.table) s.access key)) keyed
+      (entries ∙ ap (λ k. insert_entry entry_cmp old.known.entries (at.step, k) (group_of (w.rows s.access.value.table) s.access.value key)) keyed
       ∙ ap (insert_entry entry_cmp old.known.entries (at.step, (probe_of w r at).key)) group)
     where
       below_or : (j : ℕ) → j < length new.stages.items → length new.stages.items ≡ length old.stages.items + 1
@@ -491,6 +491,6 @@ module _ (w : World) (r : Route) (at : Pending) (old : Walk) (tidy : IsTidy r ol
 
 -- what a probe counts
 pub share_is : (w : World) (r : Route) (at : Pending) (s : Stage) → Serves w r at s → (key : Row) → key ≡ (probe_of w r at).key
-    → probe_reads w.rows s.access key ≡ share_at w r at
+    → probe_reads w.rows s.access.value key ≡ share_at w r at
 share_is w r at s serves key keyed = ap (λ (a : Access). probe_reads w.rows a key) (access_is w r at s serves)
     ∙ ap (probe_reads w.rows (access_in w.accesses (step_at r at.step).access)) keyed

@@ -149,13 +149,13 @@ classes_own r walk tidy (suc n) l = by walk.stages.items refl
 
 -- what a world and a walk that it agrees with have alike
 module _ (w : World) (r : Route) (walk : Walk) (tidy : IsTidy r walk) (agree : AgreesWith w r.steps (fetched_in walk)) where
-  pub stage_access : (n : ℕ) (d : Stage) → n < length walk.stages.items → (get_or walk.stages.items n d).access ≡ access_in w.accesses (step_at r n).access
+  pub stage_access : (n : ℕ) (d : Stage) → n < length walk.stages.items → (get_or walk.stages.items n d).access.value ≡ access_in w.accesses (step_at r n).access
   stage_access n d l =
       let e = tidy.each n l in
       let few = tidy.few in
       let f = fetched_at walk.stages.items e.0 in
       let known = (agree f (Contains-from_has (fetched_in walk) f (Has-map (fetched_at walk.stages.items) walk.known.entries e.0 e.1))).access in
-      sym (get_or-map (λ (s : Stage). s.access) walk.stages.items n d no_access l)
+      sym (get_or-map (λ (s : Stage). s.access.value) walk.stages.items n d no_access l)
       ∙ sym (subst (λ k. access_of_step w.accesses r.steps k ≡ get_or (accesses_in walk.stages.items) k no_access) e.2 known)
       ∙ step_access w r n (omega (arith, l, few))
 
@@ -174,7 +174,7 @@ module _ (w : World) (r : Route) (walk : Walk) (tidy : IsTidy r walk) (agree : A
           let is = tidy.stages n d inside in
           let before : set_before r.normal s ≡ set_at w r n = ap (set_of r.normal) is.from ∙ so_far in
           let same_use : use_at s ≡ use_by (step_at r n) (access_in w.accesses (step_at r n).access) =
-          ap (λ k. record { atom = k; access = s.access }) is.atom ∙ ap (use_by (step_at r n)) (stage_access n d inside) in
+          ap (λ k. record { atom = k; access = s.access.value }) is.atom ∙ ap (use_by (step_at r n)) (stage_access n d inside) in
           ap (λ xs. set_of r.normal (classes_at walk.first xs (suc n))) e
           ∙ ap (set_of r.normal) (get_or-map (λ (x : Stage). x.join.classes) walk.stages.items n d [] inside)
           ∙ set_after r.normal s is.stage

@@ -51,7 +51,7 @@ abbrev pub no_access : Access
 no_access = record { id = record { 0 = 0 }; name = []; table = record { 0 = 0 }; key = []; fetched = []; bound = 0 }
 
 abbrev pub accesses_in : List Stage → List Access
-accesses_in stages = map (λ (s : Stage). s.access) stages
+accesses_in stages = map (λ (s : Stage). s.access.value) stages
 
 abbrev pub fetched_at : List Stage → Entry → Fetched
 fetched_at stages e = record { probe = probe_at e.0.0 e.0.1; access = slice_index_or (accesses_in stages) e.0.0 no_access; tuples = e.1 }
@@ -70,7 +70,7 @@ classes_at first stages n = slice_index_or (first ∷ map (λ (s : Stage). s.joi
 pub record IsStageAt (r : Route) (first : List ℕ) (stages : List Stage) (n : ℕ) (s : Stage) : Type 0 where
   pub stage : IsStage r.normal s
   pub atom : s.atom ≡ (step_at r n).atom
-  pub from : s.from ≡ classes_at first stages n
+  pub from : s.from.value ≡ classes_at first stages n
 
 pub record IsTidy (r : Route) (walk : Walk) : Type 0 where
   pub first : walk.first ≡ classes_in (first_classes r)

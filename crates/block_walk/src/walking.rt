@@ -52,11 +52,14 @@ pub struct Walk {
     pub through: List<Row>,
 }
 
+// For so many valuations more there is room from the start, so that a small query's walk seldom moves those it is to visit.
+const ROOM: usize = 24;
+
 // The valuations before the first step, to be visited.
 fn first_pending(alloc: Global, rows: List<Row>) -> Result<Vec<Pending>, NoMemory>
     ensures { IfOk result (λ pending. pending.items ≡ map (pending_at 0) rows) }
 {
-    let mut pending = Vec::new(alloc);
+    let mut pending = Vec::with_capacity(alloc, rows.len().saturating_add(ROOM))?;
     for row in rows.into_vec() {
         pending.push(Pending { step: 0, row })?;
     }
@@ -221,8 +224,8 @@ fn next_stage<P: AccessPort>(
         (key_classes block.now (record { atom = step.now.atom; access = access_in (P.accesses port.now) step.now.access }))) }
     ensures stage { IfOk result (IsStage block.now) }
     ensures atom { IfOk result (λ stage. stage.atom ≡ step.now.atom) }
-    ensures access { IfOk result (λ stage. stage.access ≡ access_in (P.accesses port.now) step.now.access) }
-    ensures from { IfOk result (λ stage. stage.from ≡ classes_at first.now stages.now (length stages.now)) }
+    ensures access { IfOk result (λ stage. stage.access.value ≡ access_in (P.accesses port.now) step.now.access) }
+    ensures from { IfOk result (λ stage. stage.from.value ≡ classes_at first.now stages.now (length stages.now)) }
 {
     let classes = classes_so_far(first, stages);
     let access = port.access(step.access);
@@ -246,22 +249,22 @@ fn probe<P: AccessPort, L: Ledger>(
     steps: &mut Steps<L>,
 ) -> Result<usize, NoMemory>
     requires live { IsTrue (is_live (P.accesses port.now) id) }
-    requires access { stage.now.access ≡ access_in (P.accesses port.now) id }
+    requires access { stage.now.access.value ≡ access_in (P.accesses port.now) id }
     requires stage { IsStage block.now stage.now }
-    requires wide { length at.now.row ≡ length stage.now.from }
+    requires wide { length at.now.row ≡ length stage.now.from.value }
     requires below { at.now.step < count }
     requires key { key ≡ key_by block.now (use_at stage.now) (set_before block.now stage.now) at.now.row }
     requires room { at.now.step + 1 < 18446744073709551616 }
     ensures goes_on { let next = next_by block.now (use_at stage.now) (set_before block.now stage.now) at.now.row
-        (group_of (P.rows port.now stage.now.access.table) stage.now.access key) in
+        (group_of (P.rows port.now stage.now.access.value.table) stage.now.access.value key) in
         OnOk result (GoesOn count at.now next
         (map (output_row block.now (bound_with block.now (use_at stage.now) (set_before block.now stage.now))) next)
         pending.old.items pending.new.items through.old through.new) }
     ensures known { OnOk result (known.new.entries ≡ insert_entry entry_cmp known.old.entries (at.now.step, key)
-        (group_of (P.rows port.now stage.now.access.table) stage.now.access key)) }
+        (group_of (P.rows port.now stage.now.access.value.table) stage.now.access.value key)) }
     ensures ordered { OnOk result (IsOrdered entry_cmp known.new) }
-    ensures reads { IfOk result (λ reads. reads ≡ probe_reads (P.rows port.now) stage.now.access key) }
-    ensures cost { steps.new ≡ steps.old + probe_reads (P.rows port.now) stage.now.access key }
+    ensures reads { IfOk result (λ reads. reads ≡ probe_reads (P.rows port.now) stage.now.access.value key) }
+    ensures cost { steps.new ≡ steps.old + probe_reads (P.rows port.now) stage.now.access.value key }
 {
     let columns = &stage.join.columns;
     let tuples = fetch(alloc, port, id, columns, key.as_slice(), steps)?;

@@ -1,7 +1,8 @@
 -- What one step of a block makes of a course, where the code has read the block's normal form, its guide and its steps.
-use Rattle.std.proofs.Common.{◌≡◌, ◌+◌, ◌<◌, ℕ, true, false, List, [], ◌∷◌, ◌++◌, length, Option, Some, None, ap, sym, ◌∙◌, subst}
+use Rattle.std.proofs.Common.{◌≡◌, ◌+◌, ◌<◌, ℕ, true, false, List, [], ◌∷◌, ◌++◌, length, Option, Some, None, Result, Ok, Err, refl, ap, sym, ◌∙◌, subst}
 use Rattle.std.specs.List.{slice_get}
 use Rattle.std.specs.Option.{is_some}
+use Rattle.std.specs.Result.{IfOk, OnOk}
 use Rattle.std.proofs.lemmas.Option.{slice_get_within}
 use Rattle.beas_core.specs.declared.plan.DStep.{DStep}
 use Rattle.beas_core.specs.declared.plan.Normal.{Normal}
@@ -20,7 +21,7 @@ use Rattle.cursor_executor.specs.declared.courses.Course.{Course}
 use Rattle.cursor_executor.specs.declared.operations.Operation.TheVariants.{Block}
 use Rattle.cursor_executor.specs.Fetching.{AllAgree, IsWorld, steps_of}
 use Rattle.cursor_executor.specs.Operations.{guide_at, normal_at, route_at, BlockFits}
-use Rattle.cursor_executor.specs.Courses.{IsCourse, StandsOn, fetched_by, walk_fetched}
+use Rattle.cursor_executor.specs.Courses.{HasTurned, IsCourse, StandsOn, fetched_by, walk_fetched}
 use Rattle.cursor_executor.specs.Turns.{HasRun, ProbedOne, QuerySpent, Stepped}
 use Rattle.cursor_executor.proofs.CourseFacts.{agree_front, agree_walk, block, ended_course, ended_fetched, going_course, going_fetched, lift_probed, lift_spent, standing}
 
@@ -28,6 +29,28 @@ is_done : (w : World) (r : Route) (reads : Option ℕ) (old : List Fetched) (fou
     → walk.TurnIs w r reads old found before after → walk.IsDone r old found before after
 is_done w r None old found before after e h = h
 is_done w r (Some reads) old found before after e h = cc
+
+-- a turn of a walk that was begun
+pub after_turn : {E : Type 0} (w : World) (r : Route) (result : Result (Option ℕ) E) (old : Option Walk) (begun found : Walk) (before after : ℕ) → old ≡ Some begun
+    → OnOk result (IsTidy r found) → OnOk result (Stands r found) → IfOk result (λ reads. walk.TurnIs w r reads (fetched_in begun) found before after)
+    → IfOk result (λ reads. HasTurned w r reads old (Some found) before after)
+after_turn w r (Err e) old begun found before after is tidy stands turn = tt
+after_turn w r (Ok reads) old begun found before after is tidy stands turn = record {
+  found = found;
+  is = refl;
+  tidy = tidy;
+  stands = stands;
+  turn = subst (λ u. walk.TurnIs w r reads (walk_fetched u) found before after) (sym is) turn;
+}
+
+abbrev or_walk : Walk → Option Walk → Walk
+or_walk d None = d
+or_walk d (Some found) = found
+
+-- the walk that is taken out after a turn
+pub taken_is : (w : World) (r : Route) (reads : Option ℕ) (old new : Option Walk) (before after : ℕ) (t : HasTurned w r reads old new before after)
+    (taken : Walk) → new ≡ Some taken → t.found ≡ taken
+taken_is w r reads old new before after t taken is = ap (or_walk t.found) (sym t.is ∙ is)
 
 module _ (w : World) (prepared : Prepared) (world : IsWorld w prepared) (old : Course) (is : IsCourse prepared old) (place : Option ℕ)
     (at : slice_get old.operations old.place ≡ Some (Block place)) (agree : AllAgree w prepared (fetched_by old)) where

@@ -3,6 +3,7 @@
 --     left_of course              the operations that are left
 --     IsCourse prepared course    in every world that agrees with what the finished blocks fetched, the operations that are left make the
 --                                 probes that are left and leave the query's answers; a block that is under way stands at its walk
+--     HasTurned w r reads ..      a turn of a block's walk, which was begun where it wasn't yet
 use Rattle.std.specs.Prelude.{◌≡◌, ◌+◌, false, true, Bool, if◌then◌else◌, ℕ, List, [], ◌∷◌, ◌++◌, length, map, drop, slice_index_or, Option, Some, None}
 use Rattle.beas_core.specs.declared.plan.Prepared.{Prepared}
 use Rattle.beas_core.specs.Types.{Row}
@@ -11,6 +12,7 @@ use Rattle.block_walk.specs.declared.walking.Walk.{Walk}
 use Rattle.block_walk.specs.Worlds.{World, Fetched}
 use Rattle.block_walk.specs.Routes.{Route}
 use Rattle.block_walk.specs.Walks.{IsTidy, Stands, fetched_in}
+use Rattle.block_walk.specs.Turns as walk
 use Rattle.cursor_executor.specs.declared.courses.Course.{Course}
 use Rattle.cursor_executor.specs.declared.operations.Operation.{Operation}
 use Rattle.cursor_executor.specs.declared.operations.Operation.TheVariants.{Block, Unite, Subtract}
@@ -51,6 +53,14 @@ RemainsInAll prepared finished operations stack =
 abbrev pub StandsOn : Route → Option Walk → Type 0
 StandsOn r None = Unit {0}
 StandsOn r (Some walk) = IsTidy r walk × Stands r walk
+
+-- a block's walk after a turn, which is begun where it wasn't
+pub record HasTurned (w : World) (r : Route) (reads : Option ℕ) (old new : Option Walk) (before after : ℕ) : Type 0 where
+  pub found : Walk
+  pub is : new ≡ Some found
+  pub tidy : IsTidy r found
+  pub stands : Stands r found
+  pub turn : walk.TurnIs w r reads (walk_fetched old) found before after
 
 -- only a block can be under way
 abbrev pub WalkStands : Prepared → ℕ → List Operation → List (List Row) → Option Walk → Type 0

@@ -6,11 +6,10 @@ ghost use Rattle.beas_core.specs.Derivations.{IsSound};
 ghost use Rattle.beas_core.specs.Fits.{PreparedIsWellFormed};
 ghost use Rattle.beas_core.specs.Full.{set_union, set_difference};
 ghost use Rattle.evaluation_facts.specs.Guides.{GuideFits};
-ghost use Rattle.block_walk.specs.Turns.{SpentOnce, TurnIs};
+ghost use Rattle.block_walk.specs.Turns.{SpentOnce};
 ghost use Rattle.block_walk.specs.Routes.{route};
 ghost use Rattle.block_walk.specs.Worlds.{AgreesWith, world};
-ghost use Rattle.block_walk.specs.Walks.{IsTidy, Stands};
-ghost use Rattle.cursor_executor.specs.Courses.{IsCourse, StandsOn, fetched_by, walk_fetched};
+ghost use Rattle.cursor_executor.specs.Courses.{HasTurned, IsCourse, StandsOn, fetched_by, walk_fetched};
 ghost use Rattle.cursor_executor.specs.Fetching.{AllAgree, IsWorld, steps_of};
 ghost use Rattle.cursor_executor.specs.Operations.{IsJoined, LastTwo, guide_at, normal_at};
 ghost use Rattle.cursor_executor.specs.declared.operations.Operation.TheVariants.{Block};
@@ -83,38 +82,39 @@ fn guide_in(stack: &[List<Row>], place: Option<usize>) -> Option<&List<Row>>
     }
 }
 
-// One turn of a block's walk, which is begun where it isn't yet. Says how many reads its probe took.
+// One turn of a block's walk, which is begun where it isn't yet. Says how many reads its probe took. A walk that is begun
+// stays where it is, since moving it takes longer than much of a turn.
 fn block_turn<P: AccessPort, L: Ledger>(
     alloc: Global,
     port: &P,
     block: &Normal,
     guide: Option<&List<Row>>,
     plan: &[DStep],
-    walk: Option<Walk>,
+    walk: &mut Option<Walk>,
     steps: &mut Steps<L>,
-) -> Result<(Walk, Option<usize>), NoMemory>
+) -> Result<Option<usize>, NoMemory>
     requires classes { ClassesInRange block.now }
     requires constants { ConstantsInRange block.now }
     requires fits { GuideFits block.now (option_copied guide) }
     requires sound { IsSound block.now (P.accesses port.now)
         (start_classes block.now (is_some (option_copied guide))) plan.now }
-    requires walk { StandsOn (route block.now (option_copied guide) plan.now) walk }
-    requires agrees { AgreesWith (world (P.rows port.now) (P.accesses port.now)) plan.now (walk_fetched walk) }
+    requires walk { StandsOn (route block.now (option_copied guide) plan.now) walk.old }
+    requires agrees { AgreesWith (world (P.rows port.now) (P.accesses port.now)) plan.now (walk_fetched walk.old) }
 
-    ensures tidy { IfOk result (λ found. IsTidy (route block.now (option_copied guide.entry) plan.now) found.0) }
-    ensures stands { IfOk result (λ found. Stands (route block.now (option_copied guide.entry) plan.now) found.0) }
-    ensures turn { IfOk result (λ found. TurnIs (world (P.rows port.now) (P.accesses port.now))
-        (route block.now (option_copied guide.entry) plan.now) found.1 (walk_fetched walk) found.0
-        steps.old steps.new) }
+    ensures turned { IfOk result (λ reads. HasTurned (world (P.rows port.now) (P.accesses port.now))
+        (route block.now (option_copied guide.entry) plan.now) reads walk.old walk.new steps.old steps.new) }
     ensures spent { OnErr result (SpentOnce (world (P.rows port.now) (P.accesses port.now))
-        (route block.now (option_copied guide.entry) plan.now) (walk_fetched walk) steps.old steps.new) }
+        (route block.now (option_copied guide.entry) plan.now) (walk_fetched walk.old) steps.old steps.new) }
 {
-    let mut walk = match walk {
-        Some(walk) => walk,
-        None => begin(alloc, block, guide)?,
-    };
-    let reads = turn(alloc, port, block, guide, plan, &mut walk, steps)?;
-    Ok((walk, reads))
+    match walk {
+        Some(walk) => turn(alloc, port, block, guide, plan, walk, steps),
+        None => {
+            let mut begun = begin(alloc, block, guide)?;
+            let reads = turn(alloc, port, block, guide, plan, &mut begun, steps)?;
+            *walk = Some(begun);
+            Ok(reads)
+        }
+    }
 }
 
 // Goes on to the next operation.
@@ -170,12 +170,11 @@ fn step_block<P: AccessPort, L: Ledger>(
     let plan = plan_at(prepared, at);
     let stack = course.stack.as_slice();
     let guide = guide_in(stack, place);
-    let begun = course.walk.take();
-    let (mut walk, reads) = block_turn(alloc, port, block, guide, plan, begun, steps)?;
+    let reads = block_turn(alloc, port, block, guide, plan, &mut course.walk, steps)?;
     if reads.is_some() {
-        course.walk = Some(walk);
         return Ok(reads);
     }
+    let mut walk = course.walk.take().unwrap();
     let rows = answer(alloc, block, guide, plan, &mut walk);
     finish_block(course, walk, rows)?;
     Ok(None)

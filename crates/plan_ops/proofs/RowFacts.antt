@@ -132,27 +132,27 @@ module _ (normal : Normal) (stage : Stage) (is : IsStage normal stage) where
   after = bound_with normal u set
 
   pub set_after : set_of normal stage.join.classes ≡ after
-  set_after = ap (set_of normal) is.join_is.classes_are ∙ set_again normal after (length-with (member_classes normal u) set ∙ counted normal stage.from)
+  set_after = ap (set_of normal) is.join_is.classes_are ∙ set_again normal after (length-with (member_classes normal u) set ∙ counted normal stage.from.value)
 
   pub after_classes : stage.join.classes ≡ classes_in (set_of normal stage.join.classes)
   after_classes = is.join_is.classes_are ∙ ap classes_in (sym set_after)
 
   pub sources_counted : length stage.join.sources.items ≡ length stage.join.classes
-  sources_counted = ap length is.join_is.sources_are ∙ length-map stage.join.classes (place_of (joined_classes normal u stage.from))
+  sources_counted = ap length is.join_is.sources_are ∙ length-map stage.join.classes (place_of (joined_classes normal u stage.from.value))
 
-  pub key_made : (v : Row) → length v ≡ length stage.from → project stage.key.items v ≡ key_by normal u set v
+  pub key_made : (v : Row) → length v ≡ length stage.from.value → project stage.key.items v ≡ key_by normal u set v
   key_made v wide = ap (λ k. project k v) is.key_is
-      ∙ picked_values set stage.from (class_at normal stage.atom) stage.access.key v is.from_are wide
+      ∙ picked_values set stage.from.value (class_at normal stage.atom) stage.access.value.key v is.from_are wide
 
   module _ (v t : Row) (pair : IsPair normal stage v t) where
     pub pair_within : IsWithin (length v + length t) stage.join
     pair_within = subst (λ n. IsWithin n stage.join)
-        (ap (λ n. n + length (member_columns stage.access)) (sym pair.wide) ∙ ap (λ n. length v + n) (sym pair.found.wide)) is.join_is.within
+        (ap (λ n. n + length (member_columns stage.access.value)) (sym pair.wide) ∙ ap (λ n. length v + n) (sym pair.found.wide)) is.join_is.within
 
     pub pair_joined : (fits_by stage.join.checks.items v t ≡ agrees (joined_bindings normal u set v t))
         × (joined_by stage.join.sources.items v t ≡ joined_row normal u set v t)
     pair_joined =
-        let j = joined_over normal stage.atom stage.from is.from_are stage.join stage.access is.join_is v t pair.wide pair.found.wide is.key_held
+        let j = joined_over normal stage.atom stage.from.value is.from_are stage.join stage.access.value is.join_is v t pair.wide pair.found.wide is.key_held
         pair.found.begins in (j.fits, j.row)
 
     -- the comparisons are met by the joined row
@@ -176,16 +176,16 @@ module _ (normal : Normal) (stage : Stage) (is : IsStage normal stage) where
         ∙ ap (output_row normal after) pair_joined.1
 
 -- the members of a group are tuples that begin with its key
-pub group_pairs : (rows : List Row) (normal : Normal) (stage : Stage) (v t : Row) → length v ≡ length stage.from
-    → Has (group_of rows stage.access (key_by normal (use_at stage) (set_before normal stage) v)) t → IsPair normal stage v t
+pub group_pairs : (rows : List Row) (normal : Normal) (stage : Stage) (v t : Row) → length v ≡ length stage.from.value
+    → Has (group_of rows stage.access.value (key_by normal (use_at stage) (set_before normal stage) v)) t → IsPair normal stage v t
 group_pairs rows normal stage v t wide h =
     let key = key_by normal (use_at stage) (set_before normal stage) v in
-    let group = group_of rows stage.access key in
+    let group = group_of rows stage.access.value key in
     let c = Contains-from_has group t h in
-    let fit = subst (IsTuple (member_columns stage.access)) c.2 (group_tuples rows stage.access key c.0 t c.1) in record {
+    let fit = subst (IsTuple (member_columns stage.access.value)) c.2 (group_tuples rows stage.access.value key c.0 t c.1) in record {
       wide = wide;
       found = record {
         wide = fit.wide;
-        begins = λ j l. group_begins rows stage.access key t j (Int (pos 0)) (length-map stage.access.key (λ c. value_of (as_bindings (set_before normal stage) v) (class_at normal stage.atom c))) h l;
+        begins = λ j l. group_begins rows stage.access.value key t j (Int (pos 0)) (length-map stage.access.value.key (λ c. value_of (as_bindings (set_before normal stage) v) (class_at normal stage.atom c))) h l;
       };
     }

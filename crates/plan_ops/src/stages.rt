@@ -18,16 +18,17 @@ use beas_core::{
     Access, ColumnId, Comparison, Duplicate, List, NoMemory, Normal, Operand, Row, Value, compare,
 };
 use std::alloc::Global;
+use std::snapshot::Snapshot;
 
 /// What is worked out once for a step, to go on from any valuation before it.
 #[derive(Drop)]
 pub struct Stage {
     /// The atom that the step is on.
     pub atom: u16,
-    /// The constraint that it uses.
-    pub access: Access,
-    /// The classes that are bound before it, ascending.
-    pub from: List<u16>,
+    /// The constraint that it uses, for clauses alone: a copy of it would take memory at each step.
+    pub access: Snapshot<Access>,
+    /// The classes that are bound before it, ascending, for clauses alone.
+    pub from: Snapshot<List<u16>>,
     /// The columns of its key in valuations of these classes.
     pub key: Vec<ColumnId>,
     /// How tuples of the constraint join these valuations.
@@ -50,8 +51,8 @@ pub fn stage_of(
         (key_classes block.now (record { atom = atom; access = access.now }))) }
     ensures stage { IfOk result (IsStage block.now) }
     ensures atom { IfOk result (λ stage. stage.atom ≡ atom) }
-    ensures access { IfOk result (λ stage. stage.access ≡ access.now) }
-    ensures from { IfOk result (λ stage. stage.from ≡ from.now) }
+    ensures access { IfOk result (λ stage. stage.access.value ≡ access.now) }
+    ensures from { IfOk result (λ stage. stage.from.value ≡ from.now) }
 {
     let key = columns_in(alloc, block, from.as_slice(), atom, access.key.as_slice())?;
     let join = join_of(alloc, block, atom, access, from.as_slice())?;
@@ -61,12 +62,10 @@ pub fn stage_of(
         join.classes.as_slice(),
         block.output.as_slice(),
     )?;
-    let access = access.copy(alloc)?;
-    let from = from.copy(alloc)?;
     Ok(Stage {
         atom,
-        access,
-        from,
+        access: Snapshot::of(access),
+        from: Snapshot::of(from),
         key,
         join,
         output,
@@ -75,7 +74,7 @@ pub fn stage_of(
 
 /// The key that a valuation gives to a step.
 pub fn key_of_row(alloc: Global, stage: &Stage, row: &[Value]) -> Result<Row, NoMemory>
-    ensures { (normal : Normal) → IsStage normal stage.now → length row.now ≡ length stage.now.from
+    ensures { (normal : Normal) → IsStage normal stage.now → length row.now ≡ length stage.now.from.value
         → IfOk result (λ key. key ≡ key_by normal (use_at stage.now) (set_before normal stage.now) row.now) }
 {
     values_in(alloc, &stage.key, row)

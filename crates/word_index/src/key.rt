@@ -1,5 +1,5 @@
 // Words by which maps are asked.
-ghost use Rattle.std.specs.Prelude.{◌≡◌, ◌≤◌, length, IfSome, MatchOption};
+ghost use Rattle.std.specs.Prelude.{◌≡◌, ◌≤◌, length, take, IfSome, MatchOption};
 ghost use Rattle.beas_core.specs.Groups.{member_columns};
 ghost use Rattle.word_index.specs.Reading.{pick};
 ghost use Rattle.word_index.specs.Spelling.{AllHaveCodes, AreCodesOf};
@@ -58,28 +58,25 @@ impl KeyWords {
         Some(KeyWords { words: tuple, len })
     }
 
-    /// The codes of a key's values, or none where one of them was never interned.
-    pub fn known(codes: &Interner, key: &[Value]) -> Option<KeyWords>
-        requires { length key.now ≤ 64 }
-        ensures { MatchOption result (AllHaveCodes codes.now key.now → ⊥)
-            (λ words. AreCodesOf codes.now words key.now) }
-    {
-        let mut words = [0; 64];
-        for (i, value) in key.iter().enumerate() {
-            match codes.code(value) {
-                Some(code) => words[i] = code,
-                None => return None,
-            }
-        }
-        Some(KeyWords {
-            words,
-            len: key.len(),
-        })
-    }
-
     pub fn as_slice(&self) -> &[u64]
         ensures { result.now ≡ self.now }
     {
         &self.words[..self.len]
     }
+}
+
+/// The codes of a key's values, at the front of `N` words, or none where one of them was never interned.
+pub fn known_codes<const N: usize>(codes: &Interner, key: &[Value]) -> Option<[u64; N]>
+    requires { length key.now ≤ N }
+    ensures { MatchOption result (AllHaveCodes codes.now key.now → ⊥)
+        (λ words. AreCodesOf codes.now (take (length key.now) words) key.now) }
+{
+    let mut words = [0; N];
+    for (i, value) in key.iter().enumerate() {
+        match codes.code(value) {
+            Some(code) => words[i] = code,
+            None => return None,
+        }
+    }
+    Some(words)
 }

@@ -9,10 +9,33 @@ ghost use Rattle.word_index.specs.Widths.{index_in};
 
 use crate::any::AnyIndex;
 use crate::interner::Interner;
-use crate::key::KeyWords;
+use crate::key::known_codes;
 use crate::spelling::{interned_words, known_words};
 use beas_core::{NoMemory, Value};
 use std::alloc::Global;
+
+// The place and the length of the group of a key with `N` columns at most.
+fn find_among<const N: usize>(
+    codes: &Interner,
+    index: &AnyIndex,
+    key: &[Value],
+) -> Option<(u64, u32)>
+    requires in_order { IsInOrderFor codes.now (index_in index.now) }
+    requires width { length key.now ≡ length (index_in index.now).access.key }
+    requires few { length key.now ≤ N }
+    requires small { N ≤ 64 }
+    ensures len { IfSome result (λ found. found.1 ≡ length (words_at (index_in index.now) found.0)) }
+    ensures group { (rows : List (List Value)) → IsIndexOf (read_index codes.now (index_in index.now)) rows
+        → MatchOption result (group_of rows (index_in index.now).access key.now ≡ [])
+        (λ found. map (read codes.now) (words_at (index_in index.now) found.0)
+        ≡ group_of rows (index_in index.now).access key.now) }
+    ensures stands { IfSome result (λ found. found.0 < length (index_in index.now).groups) }
+{
+    match known_codes::<N>(codes, key) {
+        Some(words) => index.find(&words[..key.len()]),
+        None => None,
+    }
+}
 
 /// The place and the length of a key's group, or none where it is empty. It takes no memory.
 pub fn find_group(codes: &Interner, index: &AnyIndex, key: &[Value]) -> Option<(u64, u32)>
@@ -26,9 +49,11 @@ pub fn find_group(codes: &Interner, index: &AnyIndex, key: &[Value]) -> Option<(
         ≡ group_of rows (index_in index.now).access key.now) }
     ensures stands { IfSome result (λ found. found.0 < length (index_in index.now).groups) }
 {
-    match KeyWords::known(codes, key) {
-        Some(words) => index.find(words.as_slice()),
-        None => None,
+    // Most keys are short, and 64 words take longer to clear and to move than to look up.
+    if key.len() <= 4 {
+        find_among::<4>(codes, index, key)
+    } else {
+        find_among::<64>(codes, index, key)
     }
 }
 

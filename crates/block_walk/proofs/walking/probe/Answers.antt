@@ -14,7 +14,7 @@ go_on-requires-clause-pairs g c =
     let rows = g.P.AccessPort.rows c.args.port.now in
     let stage = c.args.stage.now in
     let is = c.in_ok-tuples.ensures.tuples ∙ ap (λ (a : Access). group_of (rows a.table) a c.as_slice.result.now) (sym c.requires.access)
-    ∙ ap (group_of (rows stage.access.table) stage.access) c.as_slice.ensures in
+    ∙ ap (group_of (rows stage.access.value.table) stage.access.value) c.as_slice.ensures in
     group_all rows c.args.block.now stage c.args.at.now.row c.args.key c.in_ok-tuples.tuples c.requires.wide c.requires.key is
 
 pub returns-clause-known : goal.returns-clause-known
@@ -22,5 +22,5 @@ returns-clause-known g c =
     let rows = g.P.AccessPort.rows c.args.port.now in
     let stage = c.args.stage.now in
     let is = c.in_ok-tuples.ensures.tuples ∙ ap (λ (a : Access). group_of (rows a.table) a c.as_slice.result.now) (sym c.requires.access)
-    ∙ ap (group_of (rows stage.access.table) stage.access) c.as_slice.ensures in
+    ∙ ap (group_of (rows stage.access.value.table) stage.access.value) c.as_slice.ensures in
     c.in_ok-insert.ensures.entries ∙ ap (insert_entry entry_cmp c.args.known.now.entries (c.args.at.now.step, c.args.key)) is

@@ -1,4 +1,4 @@
-use Rattle.std.proofs.Common.{rules, ◌≡◌, ◌<◌, ◌-◌, ◌∙◌, length, get_or, sym, subst, arith}
+use Rattle.std.proofs.Common.{rules, ◌≡◌, ◌<◌, ◌-◌, ◌∙◌, length, sym, subst, arith}
 use Rattle.beas_core.specs.Valuations.{output_row}
 use Rattle.beas_core.proofs.Sets.{Has, Has-get_or}
 use Rattle.plan_ops.specs.Stages.{bound_with, joined_row, set_before, use_at}

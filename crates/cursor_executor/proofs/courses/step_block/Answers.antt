@@ -1,10 +1,14 @@
-use Rattle.std.proofs.Common.{◌∙◌, ◌<◌, Some, length, refl, ap, sym, subst}
+use Rattle.std.proofs.Common.{◌∙◌, ◌<◌, length, refl, ap, sym, subst}
 use Rattle.std.specs.Option.{option_copied}
+use Rattle.block_walk.specs.Routes.{route}
+use Rattle.block_walk.specs.Turns.{TurnIs}
+use Rattle.block_walk.specs.Walks.{IsTidy, Stands}
 use Rattle.block_walk.specs.Worlds.{world}
 use Rattle.block_walk.proofs.LoopFacts.{on_err}
+use Rattle.cursor_executor.specs.Courses.{walk_fetched}
 use Rattle.cursor_executor.specs.Fetching.{steps_of}
 use Rattle.cursor_executor.specs.Operations.{guide_at, normal_at}
-use Rattle.cursor_executor.proofs.StepFacts.{block_fits, place_inside, step_agrees, step_classes, step_constants, step_course, step_ended, step_finished, step_guide, step_ran, step_sound, step_spent, step_stands, step_stepped}
+use Rattle.cursor_executor.proofs.StepFacts.{block_fits, place_inside, step_agrees, step_classes, step_constants, step_course, step_ended, step_finished, step_guide, step_ran, step_sound, step_spent, step_stands, step_stepped, taken_is}
 use Rattle.cursor_executor.proofs.courses.step_block.Goals as goal
 
 pub block_at-block-requires : goal.block_at-block-requires
@@ -82,7 +86,7 @@ block_turn-requires-clause-walk g c =
     let steps_is = c.plan_at-plan.ensures ∙ ap (steps_of prepared) c.len-at.ensures in
     step_stands w prepared req.fits old req.course c.args.place req.at req.agrees
     c.block_at-block.result.now (option_copied c.guide_in-guide.result) c.plan_at-plan.result.now normal_is own_is steps_is
-    c.take-begun.result c.take-begun.ensures.value
+    old.walk refl
 
 pub block_turn-requires-clause-agrees : goal.block_turn-requires-clause-agrees
 block_turn-requires-clause-agrees g c =
@@ -95,10 +99,10 @@ block_turn-requires-clause-agrees g c =
     let steps_is = c.plan_at-plan.ensures ∙ ap (steps_of prepared) c.len-at.ensures in
     step_agrees w prepared req.fits old req.course c.args.place req.at req.agrees
     c.block_at-block.result.now (option_copied c.guide_in-guide.result) c.plan_at-plan.result.now normal_is own_is steps_is
-    c.take-begun.result c.take-begun.ensures.value
+    old.walk refl
 
-pub returns-in_err-walk-clause-spent : goal.returns-in_err-walk-clause-spent
-returns-in_err-walk-clause-spent g c =
+pub returns-in_err-reads-clause-spent : goal.returns-in_err-reads-clause-spent
+returns-in_err-reads-clause-spent g c =
     let w = world (g.P.AccessPort.rows c.args.port.now) (g.P.AccessPort.accesses c.args.port.now) in
     let prepared = c.args.prepared.now in
     let old = c.args.course.now in
@@ -108,8 +112,8 @@ returns-in_err-walk-clause-spent g c =
     let steps_is = c.plan_at-plan.ensures ∙ ap (steps_of prepared) c.len-at.ensures in
     on_err c.from_residual.result (step_spent w prepared req.fits old req.course c.args.place req.at req.agrees
     c.block_at-block.result.now (option_copied c.guide_in-guide.result) c.plan_at-plan.result.now normal_is own_is steps_is
-    c.take-begun.result c.take-begun.ensures.value
-    c.args.steps.now c.block_turn.new.steps c.in_err-walk.ensures.spent)
+    old.walk refl
+    c.args.steps.now c.block_turn.new.steps c.in_err-reads.ensures.spent)
 
 pub returns-then-is_some-clause-course : goal.returns-then-is_some-clause-course
 returns-then-is_some-clause-course g c =
@@ -120,12 +124,13 @@ returns-then-is_some-clause-course g c =
     let normal_is = c.block_at-block.ensures ∙ ap (normal_at prepared) c.len-at.ensures in
     let own_is = c.guide_in-guide.ensures ∙ ap (λ s. guide_at s c.args.place) c.as_slice-stack.ensures.value in
     let steps_is = c.plan_at-plan.ensures ∙ ap (steps_of prepared) c.len-at.ensures in
+    let turned = c.in_ok-reads.ensures.turned in
     step_course w prepared req.fits old req.course c.args.place req.at req.agrees
     c.block_at-block.result.now (option_copied c.guide_in-guide.result) c.plan_at-plan.result.now normal_is own_is steps_is
-    c.take-begun.result c.take-begun.ensures.value
-    c.in_ok-walk.walk c.in_ok-walk.ensures.tidy c.in_ok-walk.ensures.stands c.in_ok-walk.reads c.args.steps.now c.block_turn.new.steps c.in_ok-walk.ensures.turn
-    (record { operations = old.operations; place = old.place; stack = old.stack; finished = old.finished; walk = Some c.in_ok-walk.walk })
-    refl refl refl refl refl
+    old.walk refl
+    turned.found turned.tidy turned.stands c.in_ok-reads.reads c.args.steps.now c.block_turn.new.steps turned.turn
+    (record { operations = old.operations; place = old.place; stack = old.stack; finished = old.finished; walk = c.block_turn.new.walk })
+    refl refl refl refl turned.is
 
 pub returns-then-is_some-clause-stepped : goal.returns-then-is_some-clause-stepped
 returns-then-is_some-clause-stepped g c =
@@ -136,12 +141,13 @@ returns-then-is_some-clause-stepped g c =
     let normal_is = c.block_at-block.ensures ∙ ap (normal_at prepared) c.len-at.ensures in
     let own_is = c.guide_in-guide.ensures ∙ ap (λ s. guide_at s c.args.place) c.as_slice-stack.ensures.value in
     let steps_is = c.plan_at-plan.ensures ∙ ap (steps_of prepared) c.len-at.ensures in
+    let turned = c.in_ok-reads.ensures.turned in
     step_stepped w prepared req.fits old req.course c.args.place req.at req.agrees
     c.block_at-block.result.now (option_copied c.guide_in-guide.result) c.plan_at-plan.result.now normal_is own_is steps_is
-    c.take-begun.result c.take-begun.ensures.value
-    c.in_ok-walk.walk c.in_ok-walk.ensures.tidy c.in_ok-walk.ensures.stands c.in_ok-walk.reads c.args.steps.now c.block_turn.new.steps c.in_ok-walk.ensures.turn
-    (record { operations = old.operations; place = old.place; stack = old.stack; finished = old.finished; walk = Some c.in_ok-walk.walk })
-    refl refl refl refl refl (sym c.is_some.ensures ∙ c.if-is_some.true)
+    old.walk refl
+    turned.found turned.tidy turned.stands c.in_ok-reads.reads c.args.steps.now c.block_turn.new.steps turned.turn
+    (record { operations = old.operations; place = old.place; stack = old.stack; finished = old.finished; walk = c.block_turn.new.walk })
+    refl refl refl refl turned.is (sym c.is_some.ensures ∙ c.if-is_some.true)
 
 pub answer-rows-requires-clause-ended : goal.answer-rows-requires-clause-ended
 answer-rows-requires-clause-ended g c =
@@ -152,10 +158,18 @@ answer-rows-requires-clause-ended g c =
     let normal_is = c.block_at-block.ensures ∙ ap (normal_at prepared) c.len-at.ensures in
     let own_is = c.guide_in-guide.ensures ∙ ap (λ s. guide_at s c.args.place) c.as_slice-stack.ensures.value in
     let steps_is = c.plan_at-plan.ensures ∙ ap (steps_of prepared) c.len-at.ensures in
+    let taken = c.unwrap-walk.result in
+    let r = route c.block_at-block.result.now (option_copied c.guide_in-guide.result) c.plan_at-plan.result.now in
+    let did_turn = c.in_ok-reads.ensures.turned in
+    let same = taken_is w r c.in_ok-reads.reads old.walk c.block_turn.new.walk c.args.steps.now c.block_turn.new.steps did_turn
+    taken (sym c.take.ensures.value ∙ c.unwrap-walk.ensures) in
+    let tidy = subst (IsTidy r) same did_turn.tidy in
+    let stands = subst (Stands r) same did_turn.stands in
+    let turned = subst (λ found. TurnIs w r c.in_ok-reads.reads (walk_fetched old.walk) found c.args.steps.now c.block_turn.new.steps) same did_turn.turn in
     step_ended w prepared req.fits old req.course c.args.place req.at req.agrees
     c.block_at-block.result.now (option_copied c.guide_in-guide.result) c.plan_at-plan.result.now normal_is own_is steps_is
-    c.take-begun.result c.take-begun.ensures.value
-    c.in_ok-walk.walk c.in_ok-walk.ensures.tidy c.in_ok-walk.ensures.stands c.in_ok-walk.reads c.args.steps.now c.block_turn.new.steps c.in_ok-walk.ensures.turn
+    old.walk refl
+    taken tidy stands c.in_ok-reads.reads c.args.steps.now c.block_turn.new.steps turned
     (sym c.is_some.ensures ∙ c.if-is_some.false)
 
 pub finish_block-requires : goal.finish_block-requires
@@ -176,12 +190,20 @@ returns-clause-course g c =
     let own_is = c.guide_in-guide.ensures ∙ ap (λ s. guide_at s c.args.place) c.as_slice-stack.ensures.value in
     let steps_is = c.plan_at-plan.ensures ∙ ap (steps_of prepared) c.len-at.ensures in
     let did = c.in_ok-finish_block.ensures in
+    let taken = c.unwrap-walk.result in
+    let r = route c.block_at-block.result.now (option_copied c.guide_in-guide.result) c.plan_at-plan.result.now in
+    let did_turn = c.in_ok-reads.ensures.turned in
+    let same = taken_is w r c.in_ok-reads.reads old.walk c.block_turn.new.walk c.args.steps.now c.block_turn.new.steps did_turn
+    taken (sym c.take.ensures.value ∙ c.unwrap-walk.ensures) in
+    let tidy = subst (IsTidy r) same did_turn.tidy in
+    let stands = subst (Stands r) same did_turn.stands in
+    let turned = subst (λ found. TurnIs w r c.in_ok-reads.reads (walk_fetched old.walk) found c.args.steps.now c.block_turn.new.steps) same did_turn.turn in
     step_finished w prepared req.fits old req.course c.args.place req.at req.agrees
     c.block_at-block.result.now (option_copied c.guide_in-guide.result) c.plan_at-plan.result.now normal_is own_is steps_is
-    c.take-begun.result c.take-begun.ensures.value
-    c.in_ok-walk.walk c.in_ok-walk.ensures.tidy c.in_ok-walk.ensures.stands c.in_ok-walk.reads c.args.steps.now c.block_turn.new.steps c.in_ok-walk.ensures.turn
+    old.walk refl
+    taken tidy stands c.in_ok-reads.reads c.args.steps.now c.block_turn.new.steps turned
     (sym c.is_some.ensures ∙ c.if-is_some.false)
-    c.answer-rows.new.walk c.answer-rows.ensures.fetched c.answer-rows.result c.answer-rows.ensures.rows c.finish_block.new.course did.operations did.place did.stack did.finished (did.walk ∙ c.take-begun.ensures.after)
+    c.answer-rows.new.walk c.answer-rows.ensures.fetched c.answer-rows.result c.answer-rows.ensures.rows c.finish_block.new.course did.operations did.place did.stack did.finished (did.walk ∙ c.take.ensures.after)
 
 pub returns-clause-stepped : goal.returns-clause-stepped
 returns-clause-stepped g c =
@@ -193,9 +215,25 @@ returns-clause-stepped g c =
     let own_is = c.guide_in-guide.ensures ∙ ap (λ s. guide_at s c.args.place) c.as_slice-stack.ensures.value in
     let steps_is = c.plan_at-plan.ensures ∙ ap (steps_of prepared) c.len-at.ensures in
     let did = c.in_ok-finish_block.ensures in
+    let taken = c.unwrap-walk.result in
+    let r = route c.block_at-block.result.now (option_copied c.guide_in-guide.result) c.plan_at-plan.result.now in
+    let did_turn = c.in_ok-reads.ensures.turned in
+    let same = taken_is w r c.in_ok-reads.reads old.walk c.block_turn.new.walk c.args.steps.now c.block_turn.new.steps did_turn
+    taken (sym c.take.ensures.value ∙ c.unwrap-walk.ensures) in
+    let tidy = subst (IsTidy r) same did_turn.tidy in
+    let stands = subst (Stands r) same did_turn.stands in
+    let turned = subst (λ found. TurnIs w r c.in_ok-reads.reads (walk_fetched old.walk) found c.args.steps.now c.block_turn.new.steps) same did_turn.turn in
     step_ran w prepared req.fits old req.course c.args.place req.at req.agrees
     c.block_at-block.result.now (option_copied c.guide_in-guide.result) c.plan_at-plan.result.now normal_is own_is steps_is
-    c.take-begun.result c.take-begun.ensures.value
-    c.in_ok-walk.walk c.in_ok-walk.ensures.tidy c.in_ok-walk.ensures.stands c.in_ok-walk.reads c.args.steps.now c.block_turn.new.steps c.in_ok-walk.ensures.turn
+    old.walk refl
+    taken tidy stands c.in_ok-reads.reads c.args.steps.now c.block_turn.new.steps turned
     (sym c.is_some.ensures ∙ c.if-is_some.false)
-    c.answer-rows.new.walk c.answer-rows.ensures.fetched c.answer-rows.result c.answer-rows.ensures.rows c.finish_block.new.course did.operations did.place did.stack did.finished (did.walk ∙ c.take-begun.ensures.after)
+    c.answer-rows.new.walk c.answer-rows.ensures.fetched c.answer-rows.result c.answer-rows.ensures.rows c.finish_block.new.course did.operations did.place did.stack did.finished (did.walk ∙ c.take.ensures.after)
+
+pub answer-rows-requires-clause-stands : goal.answer-rows-requires-clause-stands
+answer-rows-requires-clause-stands g c =
+    let w = world (g.P.AccessPort.rows c.args.port.now) (g.P.AccessPort.accesses c.args.port.now) in
+    let r = route c.block_at-block.result.now (option_copied c.guide_in-guide.result) c.plan_at-plan.result.now in
+    let did_turn = c.in_ok-reads.ensures.turned in
+    subst (Stands r) (taken_is w r c.in_ok-reads.reads c.args.course.now.walk c.block_turn.new.walk c.args.steps.now c.block_turn.new.steps did_turn
+    c.unwrap-walk.result (sym c.take.ensures.value ∙ c.unwrap-walk.ensures)) did_turn.stands
