@@ -3,6 +3,7 @@ pub mod Numbered
 pub mod ScopeFacts
 pub mod AliasFacts
 pub mod FirstFacts
+pub mod FlawFacts
 pub mod LookedUpFacts
 pub mod PartFacts
 pub mod JoinedFacts

@@ -57,7 +57,7 @@ pub fn atoms_of(
 ) -> Result<List<Atom>, NoMemory>
     ensures { IfOk result (λ atoms. atoms ≡ map (atom_of catalogue.now) items.now) }
 {
-    let mut atoms = List::new(alloc);
+    let mut atoms = List::from_vec(Vec::with_capacity(alloc, items.len())?);
     for item in items {
         atoms.push(atom_of(catalogue, item))?;
     }
@@ -71,7 +71,7 @@ fn meanings_of(
 ) -> Result<List<Meaning>, NoMemory>
     ensures { IfOk result (λ meanings. meanings ≡ map (names_of scope.now) references.now) }
 {
-    let mut meanings = List::new(alloc);
+    let mut meanings = List::from_vec(Vec::with_capacity(alloc, references.len())?);
     for reference in references {
         meanings.push(scope.meaning(alloc, reference)?)?;
     }
@@ -107,7 +107,7 @@ pub fn column_of(meaning: &Meaning) -> Option<BoundColumn>
 fn kinds_of(alloc: Global, items: &[Meaning]) -> Result<List<ColType>, NoMemory>
     ensures { IfOk result (λ kinds. kinds ≡ map (λ c. c.kind) (filter_map column_of items.now)) }
 {
-    let mut kinds = List::new(alloc);
+    let mut kinds = List::from_vec(Vec::with_capacity(alloc, items.len())?);
     for item in items {
         if let Some(column) = column_of(item) {
             kinds.push(column.kind)?;
