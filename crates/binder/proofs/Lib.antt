@@ -2,6 +2,7 @@ mod Digits
 pub mod Numbered
 pub mod ScopeFacts
 pub mod AliasFacts
+pub mod FewFacts
 pub mod FirstFacts
 pub mod FlawFacts
 pub mod LookedUpFacts
