@@ -39,14 +39,19 @@ pub fn want_tables(alloc: Global, catalogue: &Catalogue, items: &[FromItem]) -> 
     Ok(())
 }
 
-#[tactic(auto, unfolding(crate::specs::LookedUp::atom_of))]
+#[tactic(auto, unfolding(crate::specs::LookedUp::atom_of, crate::specs::Meanings::columns_named))]
 fn atom_of(catalogue: &Catalogue, item: &FromItem) -> Atom
     ensures { result ≡ atom_of catalogue.now item.now }
 {
-    let columns = columns_named(catalogue, &item.table);
-    Atom {
-        table: catalogue.table(&item.table).unwrap_or(TableId(0)),
-        width: columns.len() as u16,
+    match catalogue.table(&item.table) {
+        Some(table) => Atom {
+            table,
+            width: catalogue.columns(table).len() as u16,
+        },
+        None => Atom {
+            table: TableId(0),
+            width: 0,
+        },
     }
 }
 
