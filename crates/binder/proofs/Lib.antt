@@ -2,7 +2,9 @@ mod Digits
 pub mod Numbered
 pub mod ScopeFacts
 pub mod AliasFacts
+pub mod FewFacts
 pub mod FirstFacts
+pub mod FlawFacts
 pub mod LookedUpFacts
 pub mod PartFacts
 pub mod JoinedFacts

@@ -102,7 +102,7 @@ called_more atoms source atom name is =
     ∙ ap (λ cs. flat_map each (enumerate_from 0 atoms) ++ cs) (append-nil (columns_in (0 + length atoms) name source.columns))
     ∙ ap (λ n. flat_map each (enumerate_from 0 atoms) ++ columns_in n name source.columns) (omega arith)
 
-called_if : (atom : ℕ) (source : Source) (name : List ℕ) (b : Bool) → columns_called name (cond b ((atom, source) ∷ []) []) ≡ cond b
+pub called_if : (atom : ℕ) (source : Source) (name : List ℕ) (b : Bool) → columns_called name (cond b ((atom, source) ∷ []) []) ≡ cond b
     (columns_in atom name source.columns) []
 called_if atom source name true = append-nil (columns_in atom name source.columns)
 called_if atom source name false = refl
@@ -188,7 +188,7 @@ scope_more old new atoms atom alias columns noted added count was fresh = record
 
 -- ---- what a ref stands for
 
-meaning_is : (ref : ColumnRef) (columns : List BoundColumn) → meaning_by ref (found_in columns) ≡ the_one ref columns
+pub meaning_is : (ref : ColumnRef) (columns : List BoundColumn) → meaning_by ref (found_in columns) ≡ the_one ref columns
 meaning_is ref [] = refl
 meaning_is ref (c ∷ []) = refl
 meaning_is ref (c ∷ d ∷ more) = refl

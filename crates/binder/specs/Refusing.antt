@@ -4,9 +4,9 @@
 --     places kind limits shape block    the places of a kind in a block with its names looked up, which has a number;
 --                                       shape is the types of the outputs of the first block
 --     first refusals                    the first, if there is one
-use Rattle.std.specs.Prelude.{ℕ, if◌then◌else◌, Bool, true, false, not, nat_lt, List, [], ◌∷◌, ◌++◌, length, map, Option, Some, None}
+use Rattle.std.specs.Prelude.{ℕ, ◌||◌, if◌then◌else◌, Bool, true, false, not, nat_lt, List, [], ◌∷◌, ◌++◌, length, map, Option, Some, None}
 use Rattle.std.specs.Option.{option_to_list}
-use Rattle.std.specs.List.{enumerate_from, flat_map}
+use Rattle.std.specs.List.{enumerate_from, flat_map, list_any}
 use Rattle.beas_core.specs.declared.limits.Limits.{Limits}
 use Rattle.beas_core.specs.declared.refusal.Counted.TheVariants.{Blocks, Atoms, Outputs}
 use Rattle.beas_core.specs.declared.refusal.Refusal.{Refusal}
@@ -81,6 +81,20 @@ sides (Between value low high) = value ∷ low ∷ high ∷ []
 -- reading order: the items, then the conditions
 abbrev pub meanings : LookedUp → List Meaning
 meanings block = block.items ++ flat_map sides block.conditions
+
+-- whether there is a flaw of any kind
+abbrev pub has_flaw : ℕ → Meaning → Bool
+has_flaw limit (At column) = false
+has_flaw limit (Fixed (Int number)) = false
+has_flaw limit (Fixed (Str text)) = nat_lt limit (length text)
+has_flaw limit _ = true
+
+abbrev pub condition_has_flaw : ℕ → Condition → Bool
+condition_has_flaw limit (Compare left sign right) = has_flaw limit left || has_flaw limit right
+condition_has_flaw limit (Between value low high) = has_flaw limit value || (has_flaw limit low || has_flaw limit high)
+
+abbrev pub block_has_flaw : ℕ → LookedUp → Bool
+block_has_flaw limit block = list_any (has_flaw limit) block.items || list_any (condition_has_flaw limit) block.conditions
 
 -- ---- types
 

@@ -1,7 +1,8 @@
--- The names of a block as its two maps give them.
+-- The names of a block as its atoms, or two maps of them, give them.
 --     found_in columns         whether there is one column, or several, if there is any
 --     found_by scope ref       what the maps find of a ref
 --     names_of scope ref       what it stands for by them
+--     told_by names ref        what a ref stands for by the atoms, where they are few, or else by the maps
 --     IsScope sources scope    the maps are those of these atoms
 use Rattle.std.specs.Prelude.{◌≡◌, ℕ, List, [], ◌∷◌, map, filter, Option, Some, None}
 use Rattle.std.specs.Option.{option_map_or, is_some}
@@ -13,11 +14,14 @@ use Rattle.sql_tree.specs.declared.tree.ColumnRef.{ColumnRef}
 use Rattle.binder.specs.declared.found.Found.{Found}
 use Rattle.binder.specs.declared.found.Found.TheVariants.{One, Several}
 use Rattle.binder.specs.declared.found.AtomColumns.{AtomColumns}
+use Rattle.binder.specs.declared.found.NamedAtom.{NamedAtom}
 use Rattle.binder.specs.declared.meaning.BoundColumn.{BoundColumn}
 use Rattle.binder.specs.declared.meaning.Meaning.{Meaning}
 use Rattle.binder.specs.declared.meaning.Meaning.TheVariants.{At, Unknown, Ambiguous}
+use Rattle.binder.specs.declared.names.Names.{Names}
+use Rattle.binder.specs.declared.names.Names.TheVariants.{Few, Many}
 use Rattle.binder.specs.declared.scope.Scope.{Scope}
-use Rattle.binder.specs.Meanings.{Source, columns_in}
+use Rattle.binder.specs.Meanings.{Source, columns_in, named_by}
 
 abbrev pub found_in : List BoundColumn → Option Found
 found_in [] = None
@@ -60,3 +64,20 @@ pub record IsScope (sources : List Source) (scope : Scope) : Type 0 where
       → option_map_or (λ a. columns_in a.atom name a.columns.now) (found_at scope.atoms alias) []
       ≡ columns_called name (filter (λ a. bytes_eq a.1.alias alias) (enumerate_from 0 sources))
   pub aliases : (alias : List ℕ) → is_some (found_at scope.atoms alias) ≡ list_any (λ s. bytes_eq s.alias alias) sources
+
+-- ---- a block of few atoms
+
+abbrev pub source_of : NamedAtom → Source
+source_of atom = record { alias = atom.alias.now; columns = atom.columns.now }
+
+abbrev pub found_or_more : Option Found → Option Found → Option Found
+found_or_more None more = more
+found_or_more (Some before) None = Some before
+found_or_more (Some before) (Some more) = Some Several
+
+abbrev pub found_of : Names → ColumnRef → Option Found
+found_of (Few atoms) ref = found_in (named_by (map source_of atoms.items) ref)
+found_of (Many scope) ref = found_by scope ref
+
+abbrev pub told_by : Names → ColumnRef → Meaning
+told_by names ref = meaning_by ref (found_of names ref)

@@ -16,7 +16,7 @@ use crate::building::bound_block;
 use crate::kinds::{Flaw, Kind};
 use crate::looking_up::{look_up, want_tables};
 use crate::meaning::LookedUp;
-use crate::refusing::refuse_block;
+use crate::refusing::{any_block_has_flaw, refuse_block};
 use beas_core::{Block, ColType, Fail, Limits, NoMemory, Query, QueryNode};
 use catalogue::Catalogue;
 use sql_tree::{BlockTree, SelectNode, SelectTree};
@@ -70,7 +70,7 @@ fn look_up_all(
     ensures blocks { IfOk result (λ found. found.items ≡ map (λ b. looked_up catalogue.now b.now) blocks.now) }
     ensures repeated { IsRefusedAs result (first (flat_map (λ b. repeated_aliases b.now) blocks.now)) }
 {
-    let mut all = Vec::new(alloc);
+    let mut all = Vec::with_capacity(alloc, blocks.len())?;
     for block in blocks {
         all.push(look_up(alloc, catalogue, block)?)?;
     }
@@ -132,14 +132,18 @@ fn refuse_all(alloc: Global, limits: &Limits, blocks: &[LookedUp]) -> Result<(),
     requires conditions { All (λ b. length b.conditions < 2 ^ 32) blocks.now }
     ensures { IsRefusedAs result (first (looked_refusals limits.now blocks.now)) }
 {
-    refuse_kinds(alloc, &KINDS, limits, shape_of(blocks), blocks)
+    // Most queries have no flaw at all: one walk then answers for the first four kinds.
+    if any_block_has_flaw(limits.text, blocks) {
+        return refuse_kinds(alloc, &KINDS, limits, shape_of(blocks), blocks);
+    }
+    refuse_kinds(alloc, &KINDS[4..], limits, shape_of(blocks), blocks)
 }
 
 fn bound_blocks(alloc: Global, blocks: &[LookedUp]) -> Result<Vec<Block>, NoMemory>
     requires { All BlockIsSmall blocks.now }
     ensures { IfOk result (λ bound. bound.items ≡ map bound_block blocks.now) }
 {
-    let mut all = Vec::new(alloc);
+    let mut all = Vec::with_capacity(alloc, blocks.len())?;
     for block in blocks {
         all.push(bound_block(alloc, block)?)?;
     }

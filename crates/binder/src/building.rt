@@ -178,7 +178,7 @@ fn item_places(alloc: Global, items: &[Meaning]) -> Result<List<Place>, NoMemory
     requires { All IsSmall items.now }
     ensures { IfOk result (λ places. places ≡ map place_of (filter_map column_of items.now)) }
 {
-    let mut places = List::new(alloc);
+    let mut places = List::from_vec(Vec::with_capacity(alloc, items.len())?);
     for item in items {
         if let Meaning::At(column) = item {
             places.push(place_of(*column))?;

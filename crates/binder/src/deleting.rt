@@ -12,8 +12,8 @@ use crate::building::bound_block;
 use crate::kinds::{Flaw, Kind};
 use crate::looking_up::{atoms_of, conditions_of, want_table};
 use crate::meaning::LookedUp;
+use crate::names::names_of_block;
 use crate::refusing::refuse_block;
-use crate::scope::scope_of;
 use beas_core::{Block, Duplicate, Fail, Limits, List, Name};
 use catalogue::Catalogue;
 use sql_tree::{Cond, FromItem};
@@ -42,8 +42,8 @@ fn look_up(
         table: table.copy(alloc)?,
         alias: table.copy(alloc)?,
     })?;
-    let scope = scope_of(alloc, catalogue, items.as_slice())?;
-    let conditions = conditions_of(alloc, &scope, conditions)?;
+    let names = names_of_block(alloc, catalogue, items.as_slice())?;
+    let conditions = conditions_of(alloc, &names, conditions)?;
     let atoms = atoms_of(alloc, catalogue, items.as_slice())?;
     Ok(LookedUp {
         atoms,

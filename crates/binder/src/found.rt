@@ -1,4 +1,4 @@
-// What the maps of a block's names hold.
+// What the names of a block are found in.
 use crate::meaning::BoundColumn;
 use beas_core::Column;
 
@@ -13,5 +13,12 @@ pub enum Found {
 #[derive(Clone, Copy)]
 pub struct AtomColumns<'a> {
     pub atom: usize,
+    pub columns: &'a [Column],
+}
+
+/// An atom's alias and its columns.
+#[derive(Clone, Copy)]
+pub struct NamedAtom<'a> {
+    pub alias: &'a str,
     pub columns: &'a [Column],
 }

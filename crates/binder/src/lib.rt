@@ -17,6 +17,7 @@ mod kinds;
 mod literals;
 mod looking_up;
 mod meaning;
+mod names;
 mod refusing;
 mod rows;
 mod scope;

@@ -6,10 +6,11 @@ ghost use Rattle.binder.specs.LookedUp.{atom_of, looked_up, output_kinds, column
 ghost use Rattle.binder.specs.Meanings.{columns_named, condition, meaning, sources};
 ghost use Rattle.beas_core.specs.Results.{IsRefusedAs};
 ghost use Rattle.binder.specs.Refusing.{first, table_refusals, unknown_tables, repeated_aliases};
-ghost use Rattle.binder.specs.Scopes.{names_of};
+ghost use Rattle.binder.specs.Scopes.{told_by};
 
 use crate::meaning::{BoundColumn, Condition, LookedUp, Meaning};
-use crate::scope::{Scope, columns_named, scope_of};
+use crate::names::{Names, names_of_block};
+use crate::scope::columns_named;
 use beas_core::{Atom, ColType, Duplicate, Fail, List, Name, NoMemory, Refusal, TableId};
 use catalogue::Catalogue;
 use sql_tree::{BlockTree, ColumnRef, Cond, FromItem};
@@ -38,14 +39,19 @@ pub fn want_tables(alloc: Global, catalogue: &Catalogue, items: &[FromItem]) -> 
     Ok(())
 }
 
-#[tactic(auto, unfolding(crate::specs::LookedUp::atom_of))]
+#[tactic(auto, unfolding(crate::specs::LookedUp::atom_of, crate::specs::Meanings::columns_named))]
 fn atom_of(catalogue: &Catalogue, item: &FromItem) -> Atom
     ensures { result ≡ atom_of catalogue.now item.now }
 {
-    let columns = columns_named(catalogue, &item.table);
-    Atom {
-        table: catalogue.table(&item.table).unwrap_or(TableId(0)),
-        width: columns.len() as u16,
+    match catalogue.table(&item.table) {
+        Some(table) => Atom {
+            table,
+            width: catalogue.columns(table).len() as u16,
+        },
+        None => Atom {
+            table: TableId(0),
+            width: 0,
+        },
     }
 }
 
@@ -57,7 +63,7 @@ pub fn atoms_of(
 ) -> Result<List<Atom>, NoMemory>
     ensures { IfOk result (λ atoms. atoms ≡ map (atom_of catalogue.now) items.now) }
 {
-    let mut atoms = List::new(alloc);
+    let mut atoms = List::from_vec(Vec::with_capacity(alloc, items.len())?);
     for item in items {
         atoms.push(atom_of(catalogue, item))?;
     }
@@ -66,14 +72,14 @@ pub fn atoms_of(
 
 fn meanings_of(
     alloc: Global,
-    scope: &Scope,
+    names: &Names,
     references: &[ColumnRef],
 ) -> Result<List<Meaning>, NoMemory>
-    ensures { IfOk result (λ meanings. meanings ≡ map (names_of scope.now) references.now) }
+    ensures { IfOk result (λ meanings. meanings ≡ map (told_by names.now) references.now) }
 {
-    let mut meanings = List::new(alloc);
+    let mut meanings = List::from_vec(Vec::with_capacity(alloc, references.len())?);
     for reference in references {
-        meanings.push(scope.meaning(alloc, reference)?)?;
+        meanings.push(names.meaning(alloc, reference)?)?;
     }
     Ok(meanings)
 }
@@ -81,14 +87,14 @@ fn meanings_of(
 /// Conditions with what their sides stand for. No name is refused here.
 pub fn conditions_of(
     alloc: Global,
-    scope: &Scope,
+    names: &Names,
     conditions: &[Cond],
 ) -> Result<List<Condition>, NoMemory>
-    ensures { IfOk result (λ bound. bound ≡ map (condition (names_of scope.now)) conditions.now) }
+    ensures { IfOk result (λ bound. bound ≡ map (condition (told_by names.now)) conditions.now) }
 {
     let mut all = List::from_vec(Vec::with_capacity(alloc, conditions.len())?);
     for condition in conditions {
-        all.push(scope.condition(alloc, condition)?)?;
+        all.push(names.condition(alloc, condition)?)?;
     }
     Ok(all)
 }
@@ -107,7 +113,7 @@ pub fn column_of(meaning: &Meaning) -> Option<BoundColumn>
 fn kinds_of(alloc: Global, items: &[Meaning]) -> Result<List<ColType>, NoMemory>
     ensures { IfOk result (λ kinds. kinds ≡ map (λ c. c.kind) (filter_map column_of items.now)) }
 {
-    let mut kinds = List::new(alloc);
+    let mut kinds = List::from_vec(Vec::with_capacity(alloc, items.len())?);
     for item in items {
         if let Some(column) = column_of(item) {
             kinds.push(column.kind)?;
@@ -166,10 +172,10 @@ pub fn look_up(alloc: Global, catalogue: &Catalogue, block: &BlockTree) -> Resul
     ensures repeated { IsRefusedAs result (first (repeated_aliases block.now)) }
 {
     let items = block.from_items.as_slice();
-    let scope = scope_of(alloc, catalogue, items)?;
-    let meanings = meanings_of(alloc, &scope, block.items.as_slice())?;
+    let names = names_of_block(alloc, catalogue, items)?;
+    let meanings = meanings_of(alloc, &names, block.items.as_slice())?;
     let kinds = output_kinds(alloc, catalogue, block, meanings.as_slice())?;
-    let conditions = conditions_of(alloc, &scope, block.conditions.as_slice())?;
+    let conditions = conditions_of(alloc, &names, block.conditions.as_slice())?;
     let atoms = atoms_of(alloc, catalogue, items)?;
     Ok(LookedUp {
         atoms,

@@ -1,9 +1,9 @@
 // Refuses blocks with their names looked up.
 ghost use Rattle.std.specs.Prelude.{◌≡◌, ◌++◌, ◌<◌, ◌+◌, ◌^◌, ℕ, List, IsTrue, length, not, nat_lt};
-ghost use Rattle.std.specs.List.{flat_map, enumerate_from};
+ghost use Rattle.std.specs.List.{flat_map, list_any, enumerate_from};
 ghost use Rattle.binder.specs.Binding.{places_in_all};
 ghost use Rattle.beas_core.specs.Results.{IsRefusedAs};
-ghost use Rattle.binder.specs.Refusing.{first, refusals_if, unknown_column, ambiguous_column, number_range, text_too_long, flaws, sides, kind_of, kinds_differ, is_mixed, same_kind, same_kinds, mixed_types, places};
+ghost use Rattle.binder.specs.Refusing.{first, refusals_if, unknown_column, ambiguous_column, number_range, text_too_long, flaws, has_flaw, condition_has_flaw, block_has_flaw, sides, kind_of, kinds_differ, is_mixed, same_kind, same_kinds, mixed_types, places};
 
 use crate::kinds::{Flaw, Kind};
 use crate::meaning::{Condition, LookedUp, Meaning};
@@ -123,6 +123,70 @@ fn refuse_conditions(
         refuse_sides(alloc, flaw, limit, condition)?;
     }
     Ok(())
+}
+
+/// Whether what a ref or a literal stands for has a flaw of any kind.
+fn has_flaw(limit: u32, meaning: &Meaning) -> bool
+    ensures { result ≡ has_flaw limit meaning.now }
+{
+    match meaning {
+        Meaning::At(_) => false,
+        Meaning::Fixed(Value::Int(_)) => false,
+        Meaning::Fixed(Value::Str(text)) => text.as_str().len() > limit as usize,
+        _ => true,
+    }
+}
+
+fn condition_has_flaw(limit: u32, condition: &Condition) -> bool
+    ensures { result ≡ condition_has_flaw limit condition.now }
+{
+    match condition {
+        Condition::Compare { left, right, .. } => has_flaw(limit, left) || has_flaw(limit, right),
+        Condition::Between { value, low, high } => {
+            has_flaw(limit, value) || has_flaw(limit, low) || has_flaw(limit, high)
+        }
+    }
+}
+
+fn any_item_has_flaw(limit: u32, items: &[Meaning]) -> bool
+    ensures { result ≡ list_any (has_flaw limit) items.now }
+{
+    for item in items {
+        if has_flaw(limit, item) {
+            return true;
+        }
+    }
+    false
+}
+
+fn any_condition_has_flaw(limit: u32, conditions: &[Condition]) -> bool
+    ensures { result ≡ list_any (condition_has_flaw limit) conditions.now }
+{
+    for condition in conditions {
+        if condition_has_flaw(limit, condition) {
+            return true;
+        }
+    }
+    false
+}
+
+fn block_has_flaw(limit: u32, block: &LookedUp) -> bool
+    ensures { result ≡ block_has_flaw limit block.now }
+{
+    any_item_has_flaw(limit, block.items.as_slice())
+        || any_condition_has_flaw(limit, block.conditions.as_slice())
+}
+
+/// Whether a ref or a literal of any of these blocks has a flaw of any kind.
+pub fn any_block_has_flaw(limit: u32, blocks: &[LookedUp]) -> bool
+    ensures { result ≡ list_any (block_has_flaw limit) blocks.now }
+{
+    for block in blocks {
+        if block_has_flaw(limit, block) {
+            return true;
+        }
+    }
+    false
 }
 
 fn kind_of(meaning: &Meaning) -> Option<ColType>

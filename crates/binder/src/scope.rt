@@ -1,21 +1,20 @@
-// The names of a block: its atoms by alias, and its columns by name.
+// The names of a block as two maps: its atoms by alias, and its columns by name.
 ghost use Rattle.std.specs.List.{list_any};
 ghost use Rattle.std.specs.Prelude.{false, Some, ◌≡◌, ◌++◌, ◌∷◌, ◌≤◌, [], ℕ, List, Option, IfOk, OnOk, if◌then◌else◌, bytes_eq, take, length};
 ghost use Rattle.std.specs.HashMap.{get_by, HashMap};
 ghost use Rattle.catalogue.specs.Schema.{table_named};
 ghost use Rattle.sql_tree.specs.declared.tree.ColumnRef.{ColumnRef};
 ghost use Rattle.binder.specs.declared.meaning.BoundColumn.{BoundColumn};
-ghost use Rattle.binder.specs.Meanings.{Source, columns_named, columns_in, side_meaning, condition, meaning, sources};
+ghost use Rattle.binder.specs.Meanings.{Source, columns_named, columns_in, meaning, sources};
 ghost use Rattle.beas_core.specs.Results.{IsRefusedAs};
 ghost use Rattle.binder.specs.Refusing.{first, repeated_among};
 ghost use Rattle.binder.specs.Scopes.{found_in, found_at, one_more, found_by, names_of, IsScope};
 
 use crate::found::{AtomColumns, Found};
-use crate::literals::literal_meaning;
-use crate::meaning::{BoundColumn, Condition, Meaning};
+use crate::meaning::BoundColumn;
 use beas_core::{Column, Duplicate, Fail, Name, NoMemory, Refusal};
 use catalogue::Catalogue;
-use sql_tree::{ColumnRef, Cond, FromItem, Side};
+use sql_tree::{ColumnRef, FromItem};
 use std::alloc::Global;
 use std::collections::HashMap;
 
@@ -51,7 +50,7 @@ fn one_more(before: Option<Found>, column: BoundColumn) -> Found
 }
 
 /// The columns of an atom that have this name.
-fn find_in(atom: usize, columns: &[Column], name: &str) -> Option<Found>
+pub fn find_in(atom: usize, columns: &[Column], name: &str) -> Option<Found>
     ensures { result ≡ found_in (columns_in atom name.now columns.now) }
 {
     let mut found = None;
@@ -157,7 +156,7 @@ impl<'a> Scope<'a> {
     }
 
     /// What the maps have of a ref.
-    fn find(&self, reference: &ColumnRef) -> Option<Found>
+    pub fn find(&self, reference: &ColumnRef) -> Option<Found>
         ensures { result ≡ found_by self.now reference.now }
     {
         match &reference.table {
@@ -166,49 +165,6 @@ impl<'a> Scope<'a> {
                 None => None,
             },
             None => self.columns.get(reference.column.as_str()).copied(),
-        }
-    }
-
-    /// What a ref stands for.
-    pub fn meaning(&self, alloc: Global, reference: &ColumnRef) -> Result<Meaning, NoMemory>
-        ensures { IfOk result (λ meaning. meaning ≡ names_of self.now reference.now) }
-    {
-        match self.find(reference) {
-            Some(Found::One(column)) => Ok(Meaning::At(column)),
-            Some(Found::Several) => Ok(Meaning::Ambiguous {
-                column: reference.column.copy(alloc)?,
-            }),
-            None => Ok(Meaning::Unknown {
-                table: copy_of(alloc, &reference.table)?,
-                column: reference.column.copy(alloc)?,
-            }),
-        }
-    }
-
-    fn side(&self, alloc: Global, side: &Side) -> Result<Meaning, NoMemory>
-        ensures { IfOk result (λ meaning. meaning ≡ side_meaning (names_of self.now) side.now) }
-    {
-        match side {
-            Side::Column(reference) => self.meaning(alloc, reference),
-            Side::Fixed(literal) => literal_meaning(alloc, literal),
-        }
-    }
-
-    /// A condition with what its sides stand for.
-    pub fn condition(&self, alloc: Global, cond: &Cond) -> Result<Condition, NoMemory>
-        ensures { IfOk result (λ bound. bound ≡ condition (names_of self.now) cond.now) }
-    {
-        match cond {
-            Cond::Compare { left, sign, right } => Ok(Condition::Compare {
-                left: self.side(alloc, left)?,
-                sign: *sign,
-                right: self.side(alloc, right)?,
-            }),
-            Cond::Between { value, low, high } => Ok(Condition::Between {
-                value: self.meaning(alloc, value)?,
-                low: self.side(alloc, low)?,
-                high: self.side(alloc, high)?,
-            }),
         }
     }
 }

@@ -20,7 +20,7 @@ pub struct Classes {
 fn own_labels(alloc: Global, count: u16) -> Result<Vec<u16>, NoMemory>
     ensures { IfOk result (λ labels. labels.items ≡ range_with_len 0 count) }
 {
-    let mut labels = Vec::new(alloc);
+    let mut labels = Vec::with_capacity(alloc, usize::from(count))?;
     for place in 0..count {
         labels.push(place)?;
     }
@@ -79,7 +79,7 @@ pub fn classes_of(alloc: Global, labels: &[u16]) -> Result<Classes, NoMemory>
     ensures len { IfOk result (λ classes. length classes.numbers.items ≡ length labels.now) }
     ensures count { IfOk result (λ classes. classes.count ≡ length (heads labels.now)) }
 {
-    let mut numbers: Vec<u16> = Vec::new(alloc);
+    let mut numbers: Vec<u16> = Vec::with_capacity(alloc, labels.len())?;
     let mut count: u16 = 0;
     for (place, label) in labels.iter().enumerate() {
         let first = usize::from(*label);

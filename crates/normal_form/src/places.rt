@@ -26,7 +26,7 @@ impl<'a> Places<'a> {
         requires widths { All AtomIsWellFormed atoms.now }
         ensures { IfOk result (λ places. places.atoms.now ≡ atoms.now) }
     {
-        let mut offsets = List::new(alloc);
+        let mut offsets = List::from_vec(Vec::with_capacity(alloc, atoms.len())?);
         let mut count: u16 = 0;
         for atom in atoms {
             offsets.push(count)?;
@@ -65,7 +65,7 @@ impl Places<'_> {
         requires full { length classes.now ≡ self.now.count }
         ensures { IfOk result (λ list. list ≡ class_list self.now.atoms.now classes.now atom width) }
     {
-        let mut list = List::new(alloc);
+        let mut list = List::from_vec(Vec::with_capacity(alloc, usize::from(width))?);
         for column in 0..width {
             let place = Place {
                 atom,
@@ -82,7 +82,7 @@ impl Places<'_> {
         requires { length classes.now ≡ self.now.count }
         ensures { IfOk result (λ lists. lists ≡ class_lists self.now.atoms.now classes.now) }
     {
-        let mut lists = List::new(alloc);
+        let mut lists = List::from_vec(Vec::with_capacity(alloc, self.atoms.len())?);
         for (atom, declared) in self.atoms.iter().enumerate() {
             lists.push(self.class_list(alloc, classes, atom as u16, declared.width)?)?;
         }
@@ -103,7 +103,7 @@ impl Places<'_> {
         requires full { length used.now ≡ self.now.count }
         ensures { IfOk result (λ list. list ≡ used_list self.now.atoms.now used.now atom width) }
     {
-        let mut list = List::new(alloc);
+        let mut list = List::from_vec(Vec::with_capacity(alloc, usize::from(width))?);
         for number in 0..width {
             let column = ColumnId(number);
             if used[self.number(Place { atom, column })] {
@@ -119,7 +119,7 @@ impl Places<'_> {
         requires { length used.now ≡ self.now.count }
         ensures { IfOk result (λ lists. lists ≡ used_lists self.now.atoms.now used.now) }
     {
-        let mut lists = List::new(alloc);
+        let mut lists = List::from_vec(Vec::with_capacity(alloc, self.atoms.len())?);
         for (atom, declared) in self.atoms.iter().enumerate() {
             lists.push(self.used_list(alloc, used, atom as u16, declared.width)?)?;
         }
@@ -138,7 +138,7 @@ impl Places<'_> {
         ensures { IfOk result (λ list. list
             ≡ map (λ c. (slice_index_or classes.now (place_number self.now.atoms.now c.0) 0, c.1)) constants.now) }
     {
-        let mut list = List::new(alloc);
+        let mut list = List::from_vec(Vec::with_capacity(alloc, constants.len())?);
         for constant in constants {
             let class = classes[self.number(constant.0)];
             list.push((class, constant.1.copy(alloc)?))?;

@@ -95,11 +95,16 @@ read_tuple tokens = do
   rest ← expect OPEN tokens
   then_close (read_list read_literal rest)
 
+-- what stands after the first name of a ref
+abbrev pub read_ref_after : List ℕ → List Symbol → Option (ColumnRef × List Symbol)
+read_ref_after first rest =
+    if starts DOT rest then (read_id (rest_of rest) >>= λ p. Some (record { table = Some first; column = p.0 }, p.1)) else Some
+    (record { table = None; column = first }, rest)
+
 unfoldable pub read_ref : List Symbol → Option (ColumnRef × List Symbol)
 read_ref tokens = do
   (first, rest) ← read_id tokens
-  if starts DOT rest then (read_id (rest_of rest) >>= λ p. Some (record { table = Some first; column = p.0 }, p.1)) else Some
-      (record { table = None; column = first }, rest)
+  read_ref_after first rest
 
 unfoldable pub read_side : List Symbol → Option (Side × List Symbol)
 read_side tokens =

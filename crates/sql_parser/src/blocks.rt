@@ -1,11 +1,11 @@
 // Blocks: a head, which is SELECT with its items, and a body, which is the FROM items and conditions.
-ghost use Rattle.std.specs.Prelude.{◌≡◌, ◌∷◌, [], ◌++◌, codes, length};
+ghost use Rattle.std.specs.Prelude.{◌≡◌, ◌∷◌, [], ◌++◌, IfOk, codes, length};
 ghost use Rattle.token_reader.specs.Reading.{GivesWithRest};
 ghost use Rattle.sql_parser.specs.Reading.{Adds, after, after_both, read_alias, read_item, read_joined, read_crossed, starts_join, read_join, read_joins, read_source, read_sources, read_output, read_head, read_body, read_block};
 
 use crate::conditions::{conditions, where_conditions};
 use crate::parts::commas;
-use beas_core::{Duplicate, List, Name};
+use beas_core::{Duplicate, List, Name, NoMemory};
 use sql_tree::{BlockTree, ColumnRef, Cond, FromItem};
 use std::alloc::Global;
 use token_reader::{ReadError, Reader};
@@ -17,10 +17,10 @@ fn alias(reader: &mut Reader, alloc: Global, table: &Name) -> Result<Name, ReadE
     if reader.take_word("as") {
         return reader.name(alloc);
     }
-    if reader.next_is_name() {
-        return reader.name(alloc);
+    match reader.maybe_name(alloc)? {
+        Some(alias) => Ok(alias),
+        None => Ok(table.copy(alloc)?),
     }
-    Ok(table.copy(alloc)?)
 }
 
 #[tactic(auto, unfolding(crate::specs::Reading::read_item))]
@@ -182,6 +182,13 @@ fn block_head(reader: &mut Reader, alloc: Global) -> Result<Head, ReadError>
     })
 }
 
+/// An empty list with room for the conditions of most blocks, so that it seldom has to grow.
+fn list_of_conditions(alloc: Global) -> Result<List<Cond>, NoMemory>
+    ensures { IfOk result (λ list. list ≡ []) }
+{
+    Ok(List::from_vec(Vec::with_capacity(alloc, 8)?))
+}
+
 /// Reads a body: its FROM items, and the conditions after ON and WHERE.
 #[tactic(auto, unfolding(crate::specs::Reading::read_body, crate::specs::Reading::after, crate::specs::Reading::after_both))]
 pub fn block_body(
@@ -192,7 +199,7 @@ pub fn block_body(
 {
     reader.want_word("from")?;
     let mut items = List::new(alloc);
-    let mut found = List::new(alloc);
+    let mut found = list_of_conditions(alloc)?;
     from_sources(reader, alloc, &mut items, &mut found)?;
     where_conditions(reader, alloc, &mut found)?;
     Ok((items, found))

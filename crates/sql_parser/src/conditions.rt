@@ -3,18 +3,18 @@ ghost use Rattle.std.specs.Prelude.{◌≡◌, ◌∷◌, [], ◌++◌, codes, l
 ghost use Rattle.token_reader.specs.Reading.{GivesWithRest, starts_id, sign_of, read_sign};
 ghost use Rattle.sql_parser.specs.Reading.{Adds, after, then_close, read_side, read_range, read_comparison, read_simple, read_condition, read_conditions, read_all_conditions, read_where};
 
-use crate::parts::Part;
+use crate::parts::{Part, column_after};
 use beas_core::{List, Sign};
-use sql_tree::{ColumnRef, Cond, Literal, Side};
+use sql_tree::{Cond, Literal, Side};
 use std::alloc::Global;
 use token_reader::{ReadError, Reader};
 
-#[tactic(auto, unfolding(crate::specs::Reading::read_side))]
+#[tactic(auto, unfolding(crate::specs::Reading::read_side, crate::specs::Reading::read_ref))]
 fn side(reader: &mut Reader, alloc: Global) -> Result<Side, ReadError>
     ensures { GivesWithRest result reader.new (read_side reader.old) }
 {
-    if reader.next_is_name() {
-        let column = ColumnRef::read(reader, alloc)?;
+    if let Some(first) = reader.maybe_name(alloc)? {
+        let column = column_after(reader, alloc, first)?;
         return Ok(Side::Column(column));
     }
     let literal = Literal::read(reader, alloc)?;

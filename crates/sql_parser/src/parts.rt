@@ -1,7 +1,7 @@
 // The small parts of statements, and lists of them.
 ghost use Rattle.std.specs.Prelude.{◌≡◌, List, Option, ◌∷◌, [], codes, length};
 ghost use Rattle.token_reader.specs.Reading.{GivesWithRest, read_id, starts_quoted};
-ghost use Rattle.sql_parser.specs.Reading.{read_commas, read_list, read_column, read_kind, read_signed, read_literal, read_tuple, read_ref, read_maybe_ids, then_close};
+ghost use Rattle.sql_parser.specs.Reading.{read_commas, read_list, read_column, read_kind, read_signed, read_literal, read_tuple, read_ref, read_ref_after, read_maybe_ids, then_close};
 ghost use Rattle.sql_tree.specs.Symbols.{Symbol};
 
 use crate::numbers::significant_digits;
@@ -120,22 +120,29 @@ impl Part for Items<Literal> {
     }
 }
 
+/// Reads what stands after the first name of a column.
+pub fn column_after(reader: &mut Reader, alloc: Global, first: Name) -> Result<ColumnRef, ReadError>
+    ensures { GivesWithRest result reader.new (read_ref_after first reader.old) }
+{
+    if !reader.take_mark(".") {
+        return Ok(ColumnRef {
+            table: None,
+            column: first,
+        });
+    }
+    let column = reader.name(alloc)?;
+    Ok(ColumnRef {
+        table: Some(first),
+        column,
+    })
+}
+
 impl Part for ColumnRef {
     ghost reads = { read_ref };
 
     #[tactic(auto, unfolding(crate::specs::Reading::read_ref))]
     fn read(reader: &mut Reader, alloc: Global) -> Result<ColumnRef, ReadError> {
         let first = reader.name(alloc)?;
-        if !reader.take_mark(".") {
-            return Ok(ColumnRef {
-                table: None,
-                column: first,
-            });
-        }
-        let column = reader.name(alloc)?;
-        Ok(ColumnRef {
-            table: Some(first),
-            column,
-        })
+        column_after(reader, alloc, first)
     }
 }

@@ -1,5 +1,5 @@
 // The tokens that are still to be read.
-ghost use Rattle.std.specs.Prelude.{◌≡◌, ◌∷◌, [], codes, length, if◌then◌else◌, IsTrue, OnOk};
+ghost use Rattle.std.specs.Prelude.{◌≡◌, ◌∷◌, [], codes, length, if◌then◌else◌, true, false, IsTrue, IfOk, OnOk, MatchOption, Some};
 ghost use Rattle.token_reader.specs.Reading.{GivesWithRest, Passes, starts, rest_of, begins_with, expect, read_id, read_number, read_quoted, starts_id, starts_quoted, read_sign, sign_of, is_group, has_group};
 ghost use Rattle.std.specs.List.{list_any};
 ghost use Rattle.sql_tree.specs.Symbols.{word, mark, symbols};
@@ -206,6 +206,22 @@ impl<'a> Reader<'a> {
                     Ok(Name::from_text(token.text.copy(alloc)?))
                 }
             _ => Err(ReadError::Syntax),
+        }
+    }
+
+    /// Reads an identifier where one is next, and else gives none.
+    #[tactic(auto, unfolding(crate::specs::Reading::starts_id, crate::specs::Reading::read_id))]
+    pub fn maybe_name(&mut self, alloc: Global) -> Result<Option<Name>, NoMemory>
+        ensures name { IfOk result (λ found. MatchOption found ((starts_id self.old ≡ false) × (self.new ≡ self.old))
+            (λ name. (starts_id self.old ≡ true) × (read_id self.old ≡ Some (name, self.new)))) }
+    {
+        match self.rest.split_first() {
+            Some((token, rest)) if token.kind == TokenKind::Word && is_name(token.text.as_str()) =>
+                {
+                    self.rest = rest;
+                    Ok(Some(Name::from_text(token.text.copy(alloc)?)))
+                }
+            _ => Ok(None),
         }
     }
 

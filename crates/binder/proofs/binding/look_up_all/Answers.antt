@@ -7,10 +7,10 @@ use Rattle.binder.proofs.FirstFacts.{from_start, next_ok, err_next, at_end}
 use Rattle.binder.proofs.binding.look_up_all.Goals as goal
 
 pub loop-block-init : goal.loop-block-init
-loop-block-init c = record { so_far = c.new-all.ensures.items; once = from_start (λ b. repeated_aliases b.now) c.args.blocks.now }
+loop-block-init c = record { so_far = c.in_ok-all.ensures.items; once = from_start (λ b. repeated_aliases b.now) c.args.blocks.now }
 
 pub returns-in_err-look_up-clause-repeated : goal.returns-in_err-look_up-clause-repeated
-returns-in_err-look_up-clause-repeated c = let p = err_from_is_err_and c.from_residual.result c.from_residual.ensures.1 in rw (p.1, p.2)
+returns-in_err-look_up-clause-repeated c = let p = err_from_is_err_and c.from_residual-in_err-look_up.result c.from_residual-in_err-look_up.ensures.1 in rw (p.1, p.2)
     (err_next (Unit {0}) (Unit {0}) _ (λ b. repeated_aliases b.now) c.args.blocks.now c.loop-block.block-index c.block-item.result c.loop-block.invariant.once
     c.loop-block-test.true c.block-item.is c.in_err-look_up.ensures.repeated)
 

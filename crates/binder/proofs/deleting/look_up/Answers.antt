@@ -5,18 +5,18 @@ use Rattle.binder.specs.Binding.{delete_block}
 use Rattle.binder.specs.LookedUp.{atom_of}
 use Rattle.binder.specs.Meanings.{sources, meaning}
 use Rattle.binder.specs.Refusing.{repeated_among}
-use Rattle.binder.specs.Scopes.{names_of}
+use Rattle.binder.specs.Scopes.{told_by}
 use Rattle.binder.proofs.DeleteFacts.{one_alias, the_item, no_kinds}
 use Rattle.binder.proofs.LookedUpFacts.{looked_up_is}
 use Rattle.binder.proofs.deleting.look_up.Goals as goal
 
-pub returns-in_err-scope-clause-never_refused : goal.returns-in_err-scope-clause-never_refused
-returns-in_err-scope-clause-never_refused c =
+pub returns-in_err-names-clause-never_refused : goal.returns-in_err-names-clause-never_refused
+returns-in_err-names-clause-never_refused c =
     let item : FromItem = record { table = c.args.table.now; alias = c.args.table.now } in
-    let p = err_from_is_err_and c.from_residual-in_err-scope.result c.from_residual-in_err-scope.ensures.1 in
+    let p = err_from_is_err_and c.from_residual-in_err-names.result c.from_residual-in_err-names.ensures.1 in
     let is = the_item c.as_slice.result.now c.push.new.self c.new-items.result c.args.table.now c.in_ok-copy.field-0 c.in_ok-copy-2.field-0
     c.as_slice.ensures c.in_ok-push.ensures.ok c.new-items.ensures c.in_ok-copy.ensures c.in_ok-copy-2.ensures in
-    rw (p.1, p.2) (rw (ap repeated_among is ∙ one_alias item) at c.in_err-scope.ensures.repeated)
+    rw (p.1, p.2) (rw (ap repeated_among is ∙ one_alias item) at c.in_err-names.ensures.repeated)
 
 pub returns-clause-block : goal.returns-clause-block
 returns-clause-block c =
@@ -25,7 +25,7 @@ returns-clause-block c =
     c.as_slice.ensures c.in_ok-push.ensures.ok c.new-items.ensures c.in_ok-copy.ensures c.in_ok-copy-2.ensures in
     let is_again = the_item c.as_slice-2.result.now c.push.new.self c.new-items.result c.args.table.now c.in_ok-copy.field-0 c.in_ok-copy-2.field-0
     c.as_slice-2.ensures c.in_ok-push.ensures.ok c.new-items.ensures c.in_ok-copy.ensures c.in_ok-copy-2.ensures in
-    looked_up_is c.args.catalogue.now block (names_of c.in_ok-scope.scope) (λ ref. c.in_ok-scope.ensures.names ref
+    looked_up_is c.args.catalogue.now block (told_by c.in_ok-names.names) (λ ref. c.in_ok-names.ensures.names ref
     ∙ ap (λ items. meaning (sources c.args.catalogue.now items) ref) is)
     c.in_ok-atoms.atoms c.new.result c.new-2.result c.in_ok-conditions.conditions
     (c.in_ok-atoms.ensures ∙ ap (map (atom_of c.args.catalogue.now)) is_again) c.new.ensures

@@ -1,0 +1,12 @@
+use Rattle.std.proofs.Common.{◌≡◌, take, map}
+use Rattle.binder.specs.Meanings.{sources}
+use Rattle.binder.specs.Scopes.{source_of}
+use Rattle.binder.proofs.AliasFacts.{OnceBelow}
+use Rattle.binder.proofs.names.atoms_in_order.Given as goal
+
+-- the atoms so far, none of whose aliases stands twice
+abbrev pub invariant-loop-item : goal.invariant-loop-item
+invariant-loop-item l = record {
+  so_far : map source_of l.atoms.items ≡ sources l.catalogue (take l.item-index l.items);
+  once : OnceBelow l.items l.item-index;
+}
