@@ -26,7 +26,10 @@ use Rattle.beas_run.specs.Walks.{Moment, AreWithin, Did, whole_status, Follows, 
 use Rattle.beas_run.proofs.ShareFacts.{shares_within}
 use Rattle.beas_run.proofs.ReadsFacts.{greatest-cons, turns_grow}
 use Rattle.beas_run.proofs.TieFacts.{later_twice, same_later, tied_none, tied_twice, tied_later}
-use Rattle.beas_run.proofs.TurnFacts.{out_from, out-append, out-more, cost-append, refused-append, state-append, loads-append, loads_more, puts_more, turns_next, no_loads}
+use Rattle.beas_run.proofs.TurnFacts.{out_from, out-append, out-more, cost-append, refused-append, state-append, loads-append, length_loads-append, loads_more, puts_more, turns_next, no_loads}
+
+abbrev loads_in : List DeskTurn → ℕ
+loads_in ts = length (loads_of (seen_turns ts))
 
 -- these turns are done, and their reports written
 pub record HasDone (done : List DeskTurn) (before : Moment) (now : Scene) : Type 0 where
@@ -191,6 +194,19 @@ follows_all limit done status before now did tied status_is below =
       tied = tied;
     }
 
+-- turns without a load load nothing more
+loads_in-none : (done left all : List DeskTurn) → all ≡ done ++ left → loads_of (seen_turns left) ≡ [] → loads_in all ≡ loads_in done
+loads_in-none done left all is none =
+    let joined : loads_in all ≡ loads_in (done ++ left) = ap loads_in is in
+    let both : loads_in (done ++ left) ≡ loads_in done + loads_in left = length_loads-append done left in
+    let zero : loads_in left ≡ 0 = ap length none in
+    omega (arith, joined, both, zero)
+
+-- no more files were loaded than these turns have loads, where all turns have as many
+loads_within : (done all : List DeskTurn) (before after : ℕ) → loads_in all ≡ loads_in done → after ≡ raised (loads_in done) before
+    → after ≤ raised (loads_in all) before
+loads_within done all before after same is = omega (arith, same, is)
+
 -- the status where all was done
 abbrev pub status_for : Bool → ℕ
 status_for refused = if refused then 1 else 0
@@ -208,6 +224,7 @@ ended s all place refused before now status r status_is =
     record {
       outcomes = r.outcomes ++ [];
       whole = λ _. let l = ap length e in let c = r.count in let p = r.places in omega arith;
+      no_other_load = λ _. loads_within r.done (turns s before.state all (r.outcomes ++ [])) before.files.loads now.files.loads (ap loads_in e) r.did.loads;
       follows =
           subst (λ ts. Follows s.limits.file ts status before (moment_of now)) (sym e)
           (follows_all s.limits.file r.done status before now r.did r.tied (status_is ∙ ap status_for r.refused_is)
@@ -302,15 +319,31 @@ follows_paused limit done left status before now after did told tied none grows 
           (sym (loads-append done left ∙ ap (λ loads. loads_of (seen_turns done) ++ loads) none ∙ append-nil (loads_of (seen_turns done)))) tied;
     }
 
+-- a load that has no turn is that of a piece that has none
+loads_unless_all : (done left all : List DeskTurn) (place rest pieces before now after : ℕ) → all ≡ done ++ left → loads_of (seen_turns left) ≡ []
+    → length done ≡ place → place + rest ≡ pieces → 0 < rest → now ≡ raised (loads_in done) before
+    → (after ≡ now) ⊎ ((left ≡ []) × (after ≡ raised 1 now))
+    → length all ≡ pieces → after ≤ raised (loads_in all) before
+loads_unless_all done left all place rest pieces before now after is none count places some first (inl same) each =
+    loads_within done all before after (loads_in-none done left all is none) (same ∙ first)
+loads_unless_all done left all place rest pieces before now after is none count places some first (inr more) each =
+    absurd (
+    let joined : length all ≡ length (done ++ left) = ap length is in
+    let both = length-append done left in
+    let zero : length left ≡ 0 = ap length more.0 in
+    omega (arith, joined, both, zero, count, places, each, some))
+
 paused : (s : Settings) (all rest : List Reading) (place : ℕ) (refused : Bool) (before : Moment) (now after : Scene) (status : ℕ)
-    → Reached s all rest place refused before now
+    → Reached s all rest place refused before now → 0 < length rest
     → greatest_cost now.desk.state (take 1 (turns s now.desk.state rest [])) ≤ greatest_cost now.desk.state (turns s now.desk.state rest [])
     → IsPaused (turns s now.desk.state rest []) now after
     → IsLater now.files after.files → 2 ≤ status → status ≢ 4 → Walked s all status before (moment_of after)
-paused s all rest place refused before now after status r grows p later early fault =
+paused s all rest place refused before now after status r some grows p later early fault =
     record {
       outcomes = r.outcomes ++ [];
       whole = λ below. absurd (omega arith);
+      no_other_load = loads_unless_all r.done (turns s now.desk.state rest []) (turns s before.state all (r.outcomes ++ [])) place (length rest) (length all)
+          before.files.loads now.files.loads after.files.loads (r.joined []) (no_loads s rest now.desk.state) r.count r.places some r.did.loads p.loads;
       follows =
           subst (λ ts. Follows s.limits.file ts status before (moment_of after)) (sym (r.joined []))
           (follows_paused s.limits.file r.done (turns s now.desk.state rest []) status before now after r.did r.told
@@ -326,7 +359,7 @@ stopped_in_piece s all rest reading place refused before now after status r undo
     let alone = turn_alone s now.desk.state reading in
     let left = undone.left in
     let first = first_cost s rest now.desk.state alone in
-    paused s all (reading ∷ rest) place refused before now after status r (first_le s rest now.desk.state alone)
+    paused s all (reading ∷ rest) place refused before now after status r (omega arith) (first_le s rest now.desk.state alone)
     (record {
       sent = undone.sent;
       no_fewer = left.no_fewer;
@@ -352,6 +385,7 @@ unstarted s readings before after status sent steps state puts loads later early
     record {
       outcomes = [];
       whole = λ below. absurd (omega arith);
+      no_other_load = λ _. omega (arith, loads);
       follows = record {
         whole = λ below. absurd (omega arith);
         refusals = λ below. absurd (omega arith);
@@ -496,6 +530,11 @@ stopped_in_report s all rest reading place refused before now after status why r
     record {
       outcomes = r.outcomes ++ (p.is.outcomes ++ []);
       whole = λ below. absurd (omega (arith, least));
+      no_other_load = λ _. loads_within (r.done ++ p.turn ∷ []) (turns s before.state all (r.outcomes ++ (p.is.outcomes ++ [])))
+          before.files.loads after.files.loads
+          (loads_in-none (r.done ++ p.turn ∷ []) left (turns s before.state all (r.outcomes ++ (p.is.outcomes ++ [])))
+          (e ∙ sym (append_assoc r.done (p.turn ∷ []) left)) (no_loads s rest p.turn.effect.state))
+          (loads_then s reading p.turn place r.done before now after r.did r.count r.told p.is);
       follows =
           subst (λ ts. Follows s.limits.file ts status before (moment_of after)) (sym e)
           (follows_unreported s reading p.turn place status r.done left before now after r.did r.count r.told p.is r.later r.tied p.sent

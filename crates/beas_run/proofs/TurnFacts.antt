@@ -68,7 +68,7 @@ loads-append done left = ap loads_of (seen-append done left) ∙ filter_map-appe
 
 -- ---- counts of calls
 
-length_loads-append : (done left : List DeskTurn)
+pub length_loads-append : (done left : List DeskTurn)
     → length (loads_of (seen_turns (done ++ left))) ≡ length (loads_of (seen_turns done)) + length (loads_of (seen_turns left))
 length_loads-append done left = ap length (loads-append done left) ∙ length-append (loads_of (seen_turns done)) (loads_of (seen_turns left))
 

@@ -111,6 +111,9 @@ pub record Walked (settings : Settings) (readings : List Reading) (status : ℕ)
   -- what the loads of files gave
   pub outcomes : List LoadOutcome
   pub whole : status < 2 → length (turns settings before.state readings outcomes) ≡ length readings
+  -- where each piece has its turn, no file is loaded but theirs
+  pub no_other_load : length (turns settings before.state readings outcomes) ≡ length readings
+      → after.files.loads ≤ raised (length (loads_of (seen_turns (turns settings before.state readings outcomes)))) before.files.loads
   pub follows : Follows settings.limits.file (turns settings before.state readings outcomes) status before after
 
 -- the same, and who took the reports took those of all turns where the script was carried out whole
