@@ -1,9 +1,9 @@
--- What the statements of a run come from, and what is done with them.
+-- What the pieces of a run come from, and what is done with them.
 --     LoadsScript args before after     a script's file is loaded once, and for a demonstration none
 --     IsSource asked ..              this is asked for, and this is its text
 --     IsMade args text               where a demonstration is asked for, this is its text
 --     HasNoScript asked why ..       why there is none
---     RanOver args text ..           the statements of the text were carried out, or as far as the run came
+--     RanOver args text ..           the pieces of the text were carried out, or as far as the run came
 use Rattle.std.specs.Prelude.{◌≡◌, ◌≢◌, ◌<◌, ◌≤◌, ◌⊎◌, ℕ, List, length, Option, Some, None, option_and_then, IsSomeAnd}
 use Rattle.beas_core.specs.declared.limits.Limits.{Limits}
 use Rattle.command_words.specs.declared.arguments.Args.{Args}

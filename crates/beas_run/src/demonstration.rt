@@ -57,7 +57,7 @@ fn put_summary<O: Sink>(alloc: Global, refused: bool, summary: &Summary, out: &m
     }
 }
 
-/// Runs a script that names no session over a session and no files but empty ones, and writes one line of the totals of
+/// Runs a script without `@` over a session and no files but empty ones, and writes one line of the totals of
 /// its reports: 0 where no report is a refusal, 1 where one is, 4 where the output failed, 5 where memory ran out.
 pub fn write_totals<O: Sink, L: Ledger>(
     alloc: Global,

@@ -13,7 +13,7 @@ ghost use Rattle.beas_run.specs.Runs.{longest_script};
 ghost use Rattle.beas_run.specs.Walks.{Moment};
 
 /// A script that names no session means its statements, one after another, as if there were no sessions: its turns are
-/// theirs, after each no query is open, and a run takes exactly their cost.
+/// theirs, after each no query is open, and a run that carries them all out takes exactly their cost.
 pub fn law_no_sessions()
     ensures { (settings : Settings) (before : Moment) (script : List ℕ) (readings : List Reading) (outcomes : List LoadOutcome)
         → SchemaIsSound (schema_of before.state.db) → before.state.queries ≡ []

@@ -1,4 +1,4 @@
-// What the statements of a run come from: the words, and the text that they ask for.
+// What the pieces of a run come from: the words, and the text that they ask for.
 ghost use Rattle.std.specs.Prelude.{◌≡◌, ◌≤◌, None, Some, length, map, IfOk, IfErr, IsErrOf};
 ghost use Rattle.std.specs.Str.{IsUtf8};
 ghost use Rattle.std.specs.String.{string_bytes};
@@ -18,7 +18,7 @@ use std::alloc::Global;
 /// How many bytes a script may have.
 const LONGEST_SCRIPT: u64 = 16_777_216;
 
-/// What the words ask for, and the text of its statements.
+/// What the words ask for, and the text of its pieces.
 #[derive(Debug, Drop)]
 pub struct Source {
     pub args: Args,

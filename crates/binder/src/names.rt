@@ -71,7 +71,7 @@ fn may_name(reference: &ColumnRef, atom: &NamedAtom) -> bool
     }
 }
 
-/// What a name stands for where it stands for both of these.
+/// What is found in both together.
 fn found_or_more(before: Option<Found>, more: Option<Found>) -> Option<Found>
     ensures { result ≡ found_or_more before more }
 {

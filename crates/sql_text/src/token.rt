@@ -21,7 +21,7 @@ pub struct Token {
     pub text: Text,
 }
 
-/// The tokens of a statement: those from `from` up to `to`.
+/// The tokens of a piece of a script: those from `from` up to `to`.
 #[derive(Clone, Copy, Debug, PartialEq, Eq)]
 pub struct Piece {
     pub from: u32,

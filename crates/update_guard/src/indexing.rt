@@ -118,8 +118,7 @@ pub fn remove_rows<I: Indexes>(
 }
 
 /// Puts a row, which is to come after those of its table, into the indexes of its constraints where these all hold with
-/// it, and else into none; it answers where the first constraint stands that doesn't, if there is one. Each index is
-/// searched once.
+/// it, and else into none; it answers where the first constraint stands that doesn't, if there is one.
 pub fn add_row<I: Indexes>(
     alloc: Global,
     catalogue: &Catalogue,

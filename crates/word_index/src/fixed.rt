@@ -123,7 +123,7 @@ impl<const K: usize> FixedIndex<K> {
     }
 
     /// Counts one row more, wherever among the rows it stands, where its tuple is there or its group has fewer members than
-    /// the bound, and else leaves the index as it is. The group is looked up once. After an error the index is as it was.
+    /// the bound, and else it stays the index of its rows. The group is looked up once. After an error the index is as it was.
     pub fn add_if_holds(
         &mut self,
         alloc: Global,

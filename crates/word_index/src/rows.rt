@@ -49,7 +49,7 @@ pub fn find_group(codes: &Interner, index: &AnyIndex, key: &[Value]) -> Option<(
         ≡ group_of rows (index_in index.now).access key.now) }
     ensures stands { IfSome result (λ found. found.0 < length (index_in index.now).groups) }
 {
-    // Most keys are short, and 64 words take longer to clear and to move than to look up.
+    // Most keys are short, and to clear and to move 64 words takes longer than to look a short key up.
     if key.len() <= 4 {
         find_among::<4>(codes, index, key)
     } else {
@@ -99,7 +99,7 @@ pub fn add_row(
 }
 
 /// Counts one row more, wherever among the rows it stands, where the constraint, if it held, holds with this row too, and
-/// else leaves the index as it is. Its values are interned where they weren't yet, so that each is looked up once, and
+/// else it stays the index of its rows. Its values are interned where they weren't yet, so that each is looked up once, and
 /// its group too. After an error the index is as it was.
 pub fn add_if_holds(
     alloc: Global,
