@@ -264,17 +264,6 @@ impl<'a> Reader<'a> {
         }
     }
 
-    /// Whether an identifier is next.
-    #[tactic(auto, unfolding(crate::specs::Reading::starts_id))]
-    pub fn next_is_name(&self) -> bool
-        ensures { result ≡ starts_id self.now }
-    {
-        match self.rest.split_first() {
-            Some((token, _)) => token.kind == TokenKind::Word && is_name(token.text.as_str()),
-            None => false,
-        }
-    }
-
     /// Reads the sign of a comparison.
     #[tactic(auto, unfolding(crate::specs::Reading::read_sign))]
     pub fn sign(&mut self) -> Result<Sign, ReadError>
