@@ -1,10 +1,10 @@
 -- What a text begins with, by cases.
-use Rattle.std.proofs.Common.{◌≡◌, ℕ, suc, ◌+◌, ◌-◌, ◌<◌, ◌≤◌, ◌≢◌, Bool, true, false, List, [], ◌∷◌, length, get_or, take, drop, refl, sym, ap, ◌∙◌, subst, arith, length-drop, length-append, le_refl, add-zero}
+use Rattle.std.proofs.Common.{◌≡◌, ℕ, suc, ◌+◌, ◌-◌, ◌<◌, ◌≤◌, ◌≢◌, Bool, true, false, List, [], ◌∷◌, length, get_or, take, drop, refl, sym, ap, ◌∙◌, subst, inl, inr, arith, length-drop, length-append, le_refl, add-zero}
 use Rattle.std.specs.Prelude.{codes, eqb, Some, None, find, map, take_while, IsCharBoundary, IsUtf8, slice_range}
 use Rattle.std.specs.List.{starts_with, prefix_len}
 use Rattle.std.specs.Char.{is_ascii_whitespace, is_ascii_digit, to_ascii_lowercase}
 use Rattle.std.proofs.lemmas.List.{get_or-drop, length-take-le, drop-drop, take_rest}
-use Rattle.std.proofs.lemmas.Bool.{lt-ltb, le-ltb, ne_eqb}
+use Rattle.std.proofs.lemmas.Bool.{cases_Bool, lt-ltb, le-ltb, ne_eqb}
 use Rattle.std.proofs.lemmas.Bool.Decides.{nat_tests}
 use Rattle.std.proofs.lemmas.Str.{IsCharBoundary-after_ascii, IsCharBoundary-end}
 use Rattle.std.proofs.lemmas.List.Sums.{prefix_len-drop_yes, prefix_len-le-length, prefix_len_passes, prefix_len_stops}
@@ -14,7 +14,7 @@ use Rattle.sql_text.specs.declared.token.TokenKind.TheVariants.{Word, Number, Qu
 use Rattle.beas_core.specs.Spelling.{begins_word, continues_word}
 use Rattle.sql_text.specs.Tokens.{lead, plain, word, quoted_or_bad, in_quotes, with_quotes_doubled, quoted_text, mark_or_bad, marks, is_in_line, continues_char, quote, longest_word}
 use Rattle.sql_text.specs.Tokens.Lead.{Gap, Lexeme}
-use Rattle.sql_text.specs.Cuts.{BeginsToken, StandsAt}
+use Rattle.sql_text.specs.Cuts.{BeginsToken, StandsAt, is_small_in_word}
 
 pub lead-blank : (bs : List ℕ) → 0 < length bs → is_ascii_whitespace (get_or bs 0 0) ≡ true → lead bs ≡ Gap 1
 unfolding lead
@@ -155,6 +155,61 @@ pub word-cut :
     (s : List ℕ) (at to : ℕ) → IsUtf8 s → BeginsToken s at → begins_word (get_or s at 0) ≡ true →
     to ≡ at + prefix_len continues_word (drop at s) → IsCharBoundary s to
 word-cut s at to u b h r = run-cut continues_word word-ascii s at to u b.within (word_from_begins (get_or s at 0) h) r
+
+-- the small letters of a word stand first in it
+prefix_len-twice :
+    (p q : ℕ → Bool) → ((b : ℕ) → q b ≡ true → p b ≡ true) → (bs : List ℕ) →
+    prefix_len p bs ≡ prefix_len q bs + prefix_len p (drop (prefix_len q bs) bs)
+prefix_len-twice p q within [] = refl
+prefix_len-twice p q within (b ∷ bs) =
+    elim (cases_Bool (q b)) [
+      | inl e ↦
+          (let n = prefix_len q bs in
+          let more : prefix_len p (b ∷ bs) ≡ 1 + prefix_len p bs = rw (within b e) refl in
+          let size : suc n ≡ prefix_len q (b ∷ bs) = rw e (omega arith) in
+          let next = prefix_len-twice p q within bs in
+          subst (λ (k : ℕ). prefix_len p (b ∷ bs) ≡ k + prefix_len p (drop k (b ∷ bs))) size (omega (arith, more, next)))
+      | inr e ↦
+          (let size : 0 ≡ prefix_len q (b ∷ bs) = rw e refl in
+          subst (λ (k : ℕ). prefix_len p (b ∷ bs) ≡ k + prefix_len p (drop k (b ∷ bs))) size (omega arith))
+    ]
+
+small-continues : (b : ℕ) → is_small_in_word b ≡ true → continues_word b ≡ true
+small-continues b h = grind (arith, nat_tests)
+
+small-is_small : (b : ℕ) → is_small_in_word b ≡ true → to_ascii_lowercase b ≡ b
+small-is_small b h = grind (arith, nat_tests)
+
+pub word-run :
+    (s : List ℕ) (at small to : ℕ) → small ≡ at + prefix_len is_small_in_word (drop at s) →
+    to ≡ small + prefix_len continues_word (drop small s) → to ≡ at + prefix_len continues_word (drop at s)
+word-run s at small to r t =
+    let n = prefix_len is_small_in_word (drop at s) in
+    let twice = prefix_len-twice continues_word is_small_in_word small-continues (drop at s) in
+    let rest : prefix_len continues_word (drop n (drop at s)) ≡ prefix_len continues_word (drop small s) =
+    ap (prefix_len continues_word) (drop-drop n at s) ∙ ap (λ (k : ℕ). prefix_len continues_word (drop k s)) (sym r) in
+    omega (arith, r, t, twice, rest)
+
+all_small : (bs : List ℕ) → map to_ascii_lowercase (take_while is_small_in_word bs) ≡ take_while is_small_in_word bs
+all_small [] = refl
+all_small (b ∷ bs) =
+    let P : ℕ → Type 0 = λ k. map to_ascii_lowercase (take k (b ∷ bs)) ≡ take k (b ∷ bs) in
+    elim (cases_Bool (is_small_in_word b)) [
+      | inl e ↦
+          (let n = prefix_len is_small_in_word bs in
+          let size : suc n ≡ prefix_len is_small_in_word (b ∷ bs) = rw e (omega arith) in
+          subst P size
+          (ap (λ (x : ℕ). x ∷ map to_ascii_lowercase (take n bs)) (small-is_small b e) ∙ ap (λ (xs : List ℕ). b ∷ xs) (all_small bs)))
+      | inr e ↦ (let size : 0 ≡ prefix_len is_small_in_word (b ∷ bs) = rw e refl in subst P size refl)
+    ]
+
+-- a run without a capital is its own text
+pub small-text :
+    (s : List ℕ) (at to : ℕ) → to ≡ at + prefix_len is_small_in_word (drop at s) →
+    slice_range s at to ≡ map to_ascii_lowercase (slice_range s at to)
+small-text s at to r =
+    let same = run-spelling is_small_in_word s at to r in
+    sym same ∙ sym (all_small (drop at s)) ∙ ap (map to_ascii_lowercase) same
 
 pub stands-long_word :
     (s : List ℕ) (at to : ℕ) (t : Token) → IsUtf8 s → BeginsToken s at → begins_word (get_or s at 0) ≡ true →

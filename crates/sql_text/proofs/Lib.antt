@@ -1,4 +1,5 @@
 pub mod Doubling
+pub mod FirstPiece
 pub mod Leads
 pub mod Parts
 pub mod Quotes

@@ -17,7 +17,7 @@ use Rattle.sql_text.specs.Spans.{AreInOrder, Spells, IsSpelled}
 use Rattle.sql_text.proofs.Leads.{word_from_begins, lead-blank, lead-comment, lead-word, lead-number, lead-quoted, lead-mark}
 
 -- what the bytes begin with takes some of them, and a token is spelled by those
-abbrev Fits : List ℕ → Lead → Type 0
+abbrev pub Fits : List ℕ → Lead → Type 0
 Fits bytes (Gap len) = (0 < len) × (len ≤ length bytes)
 Fits bytes (Lexeme kind len text) = (0 < len) × (len ≤ length bytes) × Spells (take len bytes) kind text
 
@@ -173,7 +173,7 @@ fits-comment b rest e =
     let front = front-run is_in_line b rest in_line in
     (front.some, front.within)
 
-fits : (b : ℕ) (rest : List ℕ) → Fits (b ∷ rest) (lead (b ∷ rest))
+pub fits : (b : ℕ) (rest : List ℕ) → Fits (b ∷ rest) (lead (b ∷ rest))
 fits b rest =
     let some : 0 < length (b ∷ rest) = omega arith in
     elim (cases_Bool (is_ascii_whitespace b)) [
@@ -259,7 +259,7 @@ spelled source at zero (byte ∷ rest) e =
 pub tokens_of-spelled : (source : List ℕ) → All (IsSpelled source) (tokens_of source)
 tokens_of-spelled source = spelled source 0 0 source refl
 
-length-tokens_from : (at skip : ℕ) (bytes : List ℕ) → length (tokens_from at skip bytes) ≤ length bytes
+pub length-tokens_from : (at skip : ℕ) (bytes : List ℕ) → length (tokens_from at skip bytes) ≤ length bytes
 unfolding tokens_from
 length-tokens_from at skip [] = omega arith
 length-tokens_from at (suc skip) (byte ∷ rest) = omega (arith, length-tokens_from (at + 1) skip rest)

@@ -1,30 +1,23 @@
 // Cutting a script into tokens.
-ghost use Rattle.sql_text.specs.Cuts.{BeginsToken, StandsAt, LeadsAt, mark_of};
+ghost use Rattle.sql_text.specs.Cuts.{BeginsToken, IsAtToken, StandsAt, mark_of};
 ghost use Rattle.sql_text.specs.Spans.{AreInOrder, IsSpelled};
 ghost use Rattle.beas_core.specs.Spelling.{begins_word};
-ghost use Rattle.sql_text.specs.Tokens.{tokens_of, with_quotes_doubled, quote, quoted_text, marks};
-ghost use Rattle.std.specs.Char.{is_ascii_digit, is_ascii_whitespace, to_ascii_lowercase};
+ghost use Rattle.sql_text.specs.Tokens.{tokens_from, tokens_of, with_quotes_doubled, quote, quoted_text, marks};
+ghost use Rattle.std.specs.Char.{is_ascii_digit, to_ascii_lowercase};
 ghost use Rattle.std.specs.List.{starts_with};
 ghost use Rattle.std.specs.Prelude.{◌≡◌, ◌≢◌, ◌==◌, ◌<◌, ◌≤◌, ◌+◌, ◌-◌, [], ◌∷◌, false, length, drop, codes, eqb, find, map, option_map, slice_index, slice_range, All, IfOk, IfSome, IsCharBoundary, IsTrue};
 
-use crate::runs::{InChar, InLine, InNumber, InWord, Unquoted, run_end};
+use crate::runs::{Blank, InChar, InLine, InNumber, InSmallWord, InWord, Unquoted, run_end};
 use crate::token::{Token, TokenKind};
 use beas_core::{List, NoMemory, Text, begins_word};
 use std::alloc::Global;
 use std::str;
 
 /// The most bytes of a script.
-const LONGEST_SCRIPT: usize = 16_777_216;
+pub const LONGEST_SCRIPT: usize = 16_777_216;
 
 /// The most bytes of a word.
 const LONGEST_WORD: usize = 64;
-
-/// What a place of a script begins with: white space or a comment up to a place, or a token.
-#[derive(Drop)]
-enum First {
-    Blank(usize),
-    Lexeme(Token),
-}
 
 /// The content of a quoted text, and where its last quote ends.
 #[derive(Drop)]
@@ -43,39 +36,34 @@ pub fn lex(alloc: Global, source: &str) -> Result<List<Token>, NoMemory>
     ensures few { IfOk result (λ tokens. length tokens ≤ length source.now) }
 {
     let mut tokens = List::new(alloc);
-    let mut at = 0;
+    let mut at = past_gaps(source, 0);
     while at < source.len() {
-        at = match read_first(alloc, source, at)? {
-            First::Blank(to) => to,
-            First::Lexeme(token) => {
-                let to = token.to as usize;
-                tokens.push(token)?;
-                to
-            }
-        };
+        let token = lexeme(alloc, source, at)?;
+        at = past_gaps(source, token.to as usize);
+        tokens.push(token)?;
     }
     Ok(tokens)
 }
 
-// What stands first from a place on.
-fn read_first(alloc: Global, source: &str, at: usize) -> Result<First, NoMemory>
-    requires size { length source.now ≤ LONGEST_SCRIPT }
-    requires at { at < length source.now }
+/// Where the white space and the comments end that stand from a place on: where the next token begins, or at the end.
+pub fn past_gaps(source: &str, at: usize) -> usize
+    requires within { at ≤ length source.now }
     requires cut { IsCharBoundary source.now at }
-    ensures { IfOk result (LeadsAt source.now at) }
+    ensures tokens { tokens_from at 0 (drop at source.now) ≡ tokens_from result 0 (drop result source.now) }
+    ensures order { at ≤ result }
+    ensures at_token { IsAtToken source.now result }
 {
     let bytes = source.as_bytes();
-    if bytes[at].is_ascii_whitespace() {
-        return Ok(First::Blank(at + 1));
+    let mut to = run_end::<Blank>(bytes, at);
+    while to < bytes.len() && begins_comment(bytes, to) {
+        let line_end = run_end::<InLine>(bytes, to);
+        to = run_end::<Blank>(bytes, line_end);
     }
-    if begins_comment(bytes, at) {
-        return Ok(First::Blank(run_end::<InLine>(bytes, at)));
-    }
-    Ok(First::Lexeme(lexeme(alloc, source, at)?))
+    to
 }
 
-// The token at a place where neither white space nor a comment begins.
-fn lexeme(alloc: Global, source: &str, at: usize) -> Result<Token, NoMemory>
+/// The token at a place where neither white space nor a comment begins.
+pub fn lexeme(alloc: Global, source: &str, at: usize) -> Result<Token, NoMemory>
     requires size { length source.now ≤ LONGEST_SCRIPT }
     requires begins { BeginsToken source.now at }
     ensures { IfOk result (StandsAt source.now at) }
@@ -93,16 +81,21 @@ fn lexeme(alloc: Global, source: &str, at: usize) -> Result<Token, NoMemory>
     mark(alloc, source, at)
 }
 
-// The word, or the bad token, of the letters and digits from a place on.
+// The word, or the bad token, of the letters and digits from a place on. A word without a capital is its own text.
 fn word(alloc: Global, source: &str, at: usize) -> Result<Token, NoMemory>
     requires size { length source.now ≤ LONGEST_SCRIPT }
     requires begins { BeginsToken source.now at }
     requires class { IsTrue (begins_word (slice_index source.now at)) }
     ensures { IfOk result (StandsAt source.now at) }
 {
-    let to = run_end::<InWord>(source.as_bytes(), at);
+    let bytes = source.as_bytes();
+    let small = run_end::<InSmallWord>(bytes, at);
+    let to = run_end::<InWord>(bytes, small);
     if to - at > LONGEST_WORD {
         return plain(alloc, source, TokenKind::Bad, at, to);
+    }
+    if small == to {
+        return plain(alloc, source, TokenKind::Word, at, to);
     }
     let text = in_small_letters(alloc, &source[at..to])?;
     Ok(token(TokenKind::Word, at, to, text))

@@ -2,12 +2,14 @@
 #![tactic(auto)]
 
 mod lexer;
+mod piece_lexer;
 mod pieces;
 mod quoting;
 mod runs;
 mod token;
 
 pub use lexer::lex;
+pub use piece_lexer::lex_piece;
 pub use pieces::split;
 pub use quoting::push_quoted;
-pub use token::{Piece, Token, TokenKind};
+pub use token::{Piece, PieceTokens, Token, TokenKind};

@@ -1,7 +1,8 @@
 // Runs of bytes of one class.
 ghost use Rattle.beas_core.specs.Spelling.{continues_word};
+ghost use Rattle.sql_text.specs.Cuts.{is_small_in_word};
 ghost use Rattle.sql_text.specs.Tokens.{is_in_line, continues_char, quote};
-ghost use Rattle.std.specs.Char.{is_ascii_digit};
+ghost use Rattle.std.specs.Char.{is_ascii_digit, is_ascii_whitespace};
 ghost use Rattle.std.specs.List.{prefix_len};
 ghost use Rattle.std.specs.Prelude.{◌≡◌, ◌≤◌, ◌+◌, ◌==◌, not, length, drop, Bool, ℕ};
 
@@ -15,8 +16,14 @@ pub trait Class {
         ensures { result ≡ test byte };
 }
 
+/// White space.
+pub struct Blank;
+
 /// The bytes of a word.
 pub struct InWord;
+
+/// The bytes of a word but its capitals.
+pub struct InSmallWord;
 
 /// The digits.
 pub struct InNumber;
@@ -29,6 +36,22 @@ pub struct Unquoted;
 
 /// The bytes of a character after its first.
 pub struct InChar;
+
+impl Class for Blank {
+    ghost test = { is_ascii_whitespace };
+
+    fn has(byte: u8) -> bool {
+        byte.is_ascii_whitespace()
+    }
+}
+
+impl Class for InSmallWord {
+    ghost test = { is_small_in_word };
+
+    fn has(byte: u8) -> bool {
+        byte.is_ascii_lowercase() || byte == b'_' || byte.is_ascii_digit()
+    }
+}
 
 impl Class for InWord {
     ghost test = { continues_word };
