@@ -1,8 +1,8 @@
 -- The first piece from a place of a script on.
 use Rattle.std.proofs.Common.{◌≡◌, ◌≢◌, ℕ, zero, suc, ◌+◌, ◌-◌, ◌<◌, ◌≤◌, ◌⊎◌, Bool, true, false, List, [], ◌∷◌, ◌++◌, length, get_or, drop, take, refl, sym, ap, subst, ◌∙◌, inl, inr, arith, length-append, length-drop, append-nil}
-use Rattle.std.specs.Prelude.{◌==◌, ◌&&◌, All, IsUtf8, codes, filter, nat_lt, not, bytes_eq}
+use Rattle.std.specs.Prelude.{◌==◌, ◌&&◌, All, IsUtf8, codes, filter, nat_lt, not, bytes_eq, if◌then◌else◌, OnErr, Result, Ok, Err}
 use Rattle.std.specs.List.{slice_split}
-use Rattle.std.proofs.lemmas.Bool.{cases_Bool, and_parts, eqb-true, false≢true, lt-ltb, ltb-true}
+use Rattle.std.proofs.lemmas.Bool.{cases_Bool, cases_lt, and_parts, eqb-true, false≢true, le-ltb, lt-ltb, ltb-true}
 use Rattle.std.proofs.lemmas.List.{drop-drop}
 use Rattle.std.proofs.lemmas.List.Splits.{slice_split_at, slice_split_none}
 use Rattle.std.proofs.lemmas.Slice.Eq.{bytes_eq-Decides}
@@ -11,7 +11,7 @@ use Rattle.sql_text.specs.declared.token.Token.{Token}
 use Rattle.sql_text.specs.declared.token.TokenKind.{TokenKind}
 use Rattle.sql_text.specs.declared.token.TokenKind.TheVariants.{Word, Number, Quoted, Mark, Bad}
 use Rattle.sql_text.specs.Cuts.{IsAtToken, StandsAt}
-use Rattle.sql_text.specs.Pieces.{EndsAtSemicolon, EndsWithScript, FirstPieceIs, is_mark, is_semicolon, statements_of, tokens_past}
+use Rattle.sql_text.specs.Pieces.{AreFirst, EndsAtSemicolon, EndsWithScript, FirstPieceIs, is_mark, is_semicolon, statements_of, tokens_past}
 use Rattle.sql_text.specs.Tokens.{lead, tokens_from}
 use Rattle.sql_text.specs.Tokens.Lead.{Lexeme}
 use Rattle.sql_text.proofs.Leads.{first_at}
@@ -74,7 +74,7 @@ going_on s place e =
     let parts = and_parts (nat_lt place (length s)) (not (get_or s place 0 == 59)) e in
     (ltb-true place (length s) parts.0, λ same. false≢true (let no : not (get_or s place 0 == 59) ≡ false = rw same refl in sym no ∙ parts.1))
 
-pub gone_on : (s : List ℕ) (place : ℕ) → goes_on place s ≡ false → place < length s → get_or s place 0 ≡ 59
+gone_on : (s : List ℕ) (place : ℕ) → goes_on place s ≡ false → place < length s → get_or s place 0 ≡ 59
 gone_on s place e l =
     elim (cases_Bool (get_or s place 0 == 59)) [
       | inl same ↦ eqb-true (get_or s place 0) 59 same
@@ -82,7 +82,7 @@ gone_on s place e l =
     ]
 
 -- the next piece begins after a semicolon
-pub ends_at_semicolon :
+ends_at_semicolon :
     (s : List ℕ) (at place : ℕ) (tokens : List Token) → IsUtf8 s → at ≤ place → place < length s → get_or s place 0 ≡ 59 →
     All (λ token. is_semicolon token ≡ false) tokens → tokens ++ tokens_past place s ≡ tokens_past at s →
     FirstPieceIs s at tokens (place + 1)
@@ -99,7 +99,7 @@ ends_at_semicolon s at place tokens u order l q whole known = record {
 }
 
 -- or none is left
-pub ends_with_script :
+ends_with_script :
     (s : List ℕ) (at place : ℕ) (tokens : List Token) → at ≤ place → IsAtToken s place → length s ≤ place →
     All (λ token. is_semicolon token ≡ false) tokens → tokens ++ tokens_past place s ≡ tokens_past at s →
     FirstPieceIs s at tokens place
@@ -113,6 +113,20 @@ ends_with_script s at place tokens order h l whole known = record {
   within = h.within;
   cut = h.cut;
 }
+
+-- where the next piece begins, where this one has ended at a place
+abbrev pub after : ℕ → List ℕ → ℕ
+after place s = if nat_lt place (length s) then place + 1 else place
+
+pub first_piece :
+    (s : List ℕ) (at place : ℕ) (tokens : List Token) → IsUtf8 s → at ≤ place → IsAtToken s place → goes_on place s ≡ false →
+    All (λ token. is_semicolon token ≡ false) tokens → tokens ++ tokens_past place s ≡ tokens_past at s →
+    FirstPieceIs s at tokens (after place s)
+first_piece s at place tokens u order h test whole known =
+    elim (cases_lt place (length s)) [
+      | inl l ↦ rw (lt-ltb place (length s) l) (ends_at_semicolon s at place tokens u order l (gone_on s place test l) whole known)
+      | inr l ↦ rw (le-ltb place (length s) l) (ends_with_script s at place tokens order h l whole known)
+    ]
 
 -- ---- the statements
 
@@ -157,3 +171,11 @@ pub few_cut_off :
 few_cut_off s at place tokens known =
     let all : length (tokens ++ tokens_past place s) ≡ length (tokens_past at s) = ap length known in
     omega (arith, all, length-append tokens (tokens_past place s), length-tokens_from at 0 (drop at s), length-drop at s)
+
+-- what stands in the list where memory runs out
+pub first_on_error :
+    {A E : Type 0} (s : List ℕ) (at place : ℕ) (tokens found : List Token) (result : Result A E) → found ≡ tokens →
+    tokens ++ tokens_past place s ≡ tokens_past at s → OnErr result (AreFirst s at found)
+first_on_error s at place tokens found (Ok next) e known = tt
+first_on_error s at place tokens found (Err none) e known =
+    (tokens_past place s, sym known ∙ ap (λ (ts : List Token). ts ++ tokens_past place s) (sym e))

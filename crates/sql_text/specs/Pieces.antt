@@ -4,6 +4,8 @@
 --     FirstPieceIs source at tokens next
 --                              these tokens stand from the place `at` of a script on, up to the first semicolon or else the end, and the
 --                              next piece begins at the place `next`
+--     AreFirst source at tokens
+--                              these are the first tokens that stand from the place on
 use Rattle.std.specs.Prelude.{◌≡◌, ◌<◌, ◌≤◌, ◌⊎◌, ◌++◌, ℕ, ◌+◌, ◌&&◌, Bool, true, false, nat_lt, List, [], ◌∷◌, length, drop, filter, codes, bytes_eq, All, IsCharBoundary}
 use Rattle.std.specs.List.{slice_split}
 use Rattle.sql_text.specs.declared.token.Token.{Token}
@@ -54,3 +56,6 @@ pub record FirstPieceIs (source : List ℕ) (at : ℕ) (tokens : List Token) (ne
   pub more : at < length source → at < next
   pub within : next ≤ length source
   pub cut : IsCharBoundary source next
+
+abbrev pub AreFirst : List ℕ → ℕ → List Token → Type 0
+AreFirst source at tokens = (left : List Token) × (tokens_past at source ≡ tokens ++ left)

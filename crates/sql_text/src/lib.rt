@@ -12,4 +12,4 @@ pub use lexer::lex;
 pub use piece_lexer::lex_piece;
 pub use pieces::split;
 pub use quoting::push_quoted;
-pub use token::{Piece, PieceTokens, Token, TokenKind};
+pub use token::{Piece, Token, TokenKind};

@@ -1,44 +1,43 @@
 // One piece of a script, cut into tokens.
-ghost use Rattle.sql_text.specs.Pieces.{FirstPieceIs, statements_of, tokens_past};
-ghost use Rattle.std.specs.Prelude.{◌≡◌, ◌<◌, ◌≤◌, ◌==◌, ◌&&◌, [], ◌∷◌, length, nat_lt, not, slice_index, IfOk, IsCharBoundary};
+ghost use Rattle.sql_text.specs.Pieces.{AreFirst, FirstPieceIs, statements_of, tokens_past};
+ghost use Rattle.std.specs.Prelude.{◌≡◌, ◌<◌, ◌≤◌, ◌==◌, ◌&&◌, ◌+◌, [], ◌∷◌, length, if◌then◌else◌, nat_lt, not, slice_index, IfOk, IsCharBoundary, OnErr};
 
 use crate::lexer::{LONGEST_SCRIPT, lexeme, past_gaps};
-use crate::token::{PieceTokens, Token};
+use crate::token::Token;
 use beas_core::{List, NoMemory};
 use std::alloc::Global;
+use std::mem::replace;
 
-/// So many tokens have room at once, so that a usual piece takes one block of memory.
-const USUAL_TOKENS: usize = 64;
-
-/// The tokens of a script of at most 16,777,216 bytes from a place on, up to the next semicolon or else to the end, as
-/// `lex` gives them, and where the next piece begins. Fails only where it runs out of memory.
-pub fn lex_piece(alloc: Global, source: &str, at: usize) -> Result<PieceTokens, NoMemory>
+/// Puts the tokens of a script of at most 16,777,216 bytes from a place on, up to the next semicolon or else to the end, into
+/// a list in the place of those that it has, and gives the place where the next piece begins. They are tokens as `lex`
+/// gives them. Fails only where it runs out of memory, and the first of these tokens are in the list then. A list that takes
+/// piece after piece keeps its room.
+pub fn lex_piece(
+    alloc: Global,
+    source: &str,
+    at: usize,
+    tokens: &mut List<Token>,
+) -> Result<usize, NoMemory>
     requires size { length source.now ≤ LONGEST_SCRIPT }
     requires within { at ≤ length source.now }
     requires cut { IsCharBoundary source.now at }
-    ensures piece { IfOk result (λ piece. FirstPieceIs source.now at piece.tokens piece.next) }
-    ensures none { IfOk result (λ piece. piece.tokens ≡ []
-        → statements_of (tokens_past at source.now)
-        ≡ statements_of (tokens_past piece.next source.now)) }
-    ensures some { IfOk result (λ piece. 0 < length piece.tokens
-        → statements_of (tokens_past at source.now)
-        ≡ piece.tokens ∷ statements_of (tokens_past piece.next source.now)) }
-    ensures few { IfOk result (λ piece. length piece.tokens ≤ length source.now) }
+    ensures piece { IfOk result (FirstPieceIs source.now at tokens.new) }
+    ensures none { IfOk result (λ next. tokens.new ≡ []
+        → statements_of (tokens_past at source.now) ≡ statements_of (tokens_past next source.now)) }
+    ensures some { IfOk result (λ next. 0 < length tokens.new
+        → statements_of (tokens_past at source.now) ≡ tokens.new ∷ statements_of (tokens_past next source.now)) }
+    ensures few { length tokens.new ≤ length source.now }
+    ensures part { OnErr result (AreFirst source.now at tokens.new) }
 {
     let bytes = source.as_bytes();
+    clear(alloc, tokens);
     let mut place = past_gaps(source, at);
-    let mut tokens = room_for_tokens(alloc, bytes, place)?;
     'tokens: while goes_on(bytes, place) {
         let token = lexeme(alloc, source, place)?;
         place = past_gaps(source, token.to as usize);
         tokens.push(token)?;
     }
-    let next = if place < bytes.len() {
-        place + 1
-    } else {
-        place
-    };
-    Ok(PieceTokens { tokens, next })
+    Ok(past_semicolon(bytes, place))
 }
 
 // Whether neither a semicolon nor the end stands at a place.
@@ -48,13 +47,22 @@ fn goes_on(bytes: &[u8], place: usize) -> bool
     place < bytes.len() && bytes[place] != b';'
 }
 
-// The empty list, with room for some tokens where one of a piece stands at the place.
-fn room_for_tokens(alloc: Global, bytes: &[u8], place: usize) -> Result<List<Token>, NoMemory>
-    ensures { IfOk result (λ tokens. tokens ≡ []) }
+// Where the next piece begins, where this one goes up to a semicolon at a place, or to the end.
+fn past_semicolon(bytes: &[u8], place: usize) -> usize
+    ensures { result ≡ (if nat_lt place (length bytes.now) then place + 1 else place) }
 {
-    if goes_on(bytes, place) {
-        Ok(List::from_vec(Vec::with_capacity(alloc, USUAL_TOKENS)?))
+    if place < bytes.len() {
+        place + 1
     } else {
-        Ok(List::new(alloc))
+        place
     }
+}
+
+// Lets the tokens of a list go.
+fn clear(alloc: Global, tokens: &mut List<Token>)
+    ensures { tokens.new ≡ [] }
+{
+    let mut items = replace(tokens, List::new(alloc)).into_vec();
+    items.clear();
+    *tokens = List::from_vec(items);
 }

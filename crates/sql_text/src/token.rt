@@ -1,5 +1,5 @@
 // Tokens and pieces.
-use beas_core::{List, Text};
+use beas_core::Text;
 
 /// What a token is.
 #[derive(Clone, Copy, Debug, PartialEq, Eq)]
@@ -26,11 +26,4 @@ pub struct Token {
 pub struct Piece {
     pub from: u32,
     pub to: u32,
-}
-
-/// The tokens of a piece of a script, and the place of the script where the next piece begins.
-#[derive(Debug, Drop)]
-pub struct PieceTokens {
-    pub tokens: List<Token>,
-    pub next: usize,
 }
