@@ -19,6 +19,9 @@ pub const LONGEST_SCRIPT: usize = 16_777_216;
 /// The most bytes of a word.
 const LONGEST_WORD: usize = 64;
 
+/// The most bytes of a word whose small letters are made in an array.
+const SHORT_WORD: usize = 16;
+
 /// The content of a quoted text, and where its last quote ends.
 #[derive(Drop)]
 struct Content {
@@ -101,20 +104,21 @@ fn word(alloc: Global, source: &str, at: usize) -> Result<Token, NoMemory>
     Ok(token(TokenKind::Word, at, to, text))
 }
 
-// A word in small letters. They are made in an array, since a text of a few letters then takes no memory.
+// A word in small letters. Those of a short one are made in an array, since a text of a few letters then takes no memory.
 fn in_small_letters(alloc: Global, word: &str) -> Result<Text, NoMemory>
-    requires { length word.now ≤ LONGEST_WORD }
     ensures { IfOk result (λ text. text ≡ map to_ascii_lowercase word.now) }
 {
-    let mut kept = [0; LONGEST_WORD];
-    let letters = &mut kept[..word.len()];
-    letters.copy_from_slice(word.as_bytes());
-    letters.make_ascii_lowercase();
-    match str::from_utf8(letters) {
-        Ok(small) => Text::from_str(alloc, small),
-        // It doesn't come, since words are ASCII, and costs no proof.
-        Err(_) => Ok(Text::from_string(word.to_ascii_lowercase(alloc)?)),
+    if word.len() <= SHORT_WORD {
+        let mut kept = [0; SHORT_WORD];
+        let letters = &mut kept[..word.len()];
+        letters.copy_from_slice(word.as_bytes());
+        letters.make_ascii_lowercase();
+        // It always is one, since words are ASCII, and so needs no proof.
+        if let Ok(small) = str::from_utf8(&kept) {
+            return Text::from_str(alloc, &small[..word.len()]);
+        }
     }
+    Ok(Text::from_string(word.to_ascii_lowercase(alloc)?))
 }
 
 fn number(alloc: Global, source: &str, at: usize) -> Result<Token, NoMemory>
