@@ -272,9 +272,12 @@ fn by_first(
     selection(reader, alloc)
 }
 
-/// Reads a statement, or a query that lacks its DISTINCT.
+/// Reads a statement, or a query that lacks its DISTINCT. Most begin with SELECT, as no opening does.
 pub fn statement(reader: &mut Reader, alloc: Global) -> Result<Statement, ReadError>
     ensures { GivesWithRest result reader.new (read_statement reader.old) }
 {
+    if reader.next_is_word("select") {
+        return selection(reader, alloc);
+    }
     by_first(reader, alloc, &OPENINGS)
 }
