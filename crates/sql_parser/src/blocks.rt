@@ -74,6 +74,7 @@ fn next_is_join(reader: &Reader) -> bool
 }
 
 #[tactic(auto, unfolding(crate::specs::Reading::read_join, crate::specs::Reading::after, crate::specs::Reading::after_both))]
+#[inline(never)]
 fn join(
     reader: &mut Reader,
     alloc: Global,

@@ -1,6 +1,7 @@
 // Conditions. Parentheses around them leave no trace.
 ghost use Rattle.std.specs.Prelude.{◌≡◌, ◌∷◌, [], ◌++◌, codes, length};
 ghost use Rattle.token_reader.specs.Reading.{GivesWithRest, starts_id, sign_of, read_sign};
+ghost use Rattle.sql_parser.specs.Alone.{alone};
 ghost use Rattle.sql_parser.specs.Reading.{Adds, after, then_close, read_side, read_range, read_comparison, read_simple, read_condition, read_conditions, read_all_conditions, read_where};
 
 use crate::parts::{Part, column_after};
@@ -21,9 +22,17 @@ fn side(reader: &mut Reader, alloc: Global) -> Result<Side, ReadError>
     Ok(Side::Fixed(literal))
 }
 
-#[tactic(auto, unfolding(crate::specs::Reading::read_range))]
-fn range(reader: &mut Reader, alloc: Global, value: Side) -> Result<Cond, ReadError>
-    ensures { GivesWithRest result reader.new (read_range value reader.old) }
+/// Reads what stands after BETWEEN, and adds the condition.
+#[tactic(auto, unfolding(crate::specs::Reading::read_range, crate::specs::Reading::after))]
+#[inline(never)]
+fn range(
+    reader: &mut Reader,
+    alloc: Global,
+    value: Side,
+    found: &mut List<Cond>,
+) -> Result<(), ReadError>
+    ensures { Adds result found.new reader.new
+        (after found.old (alone (read_range value reader.old))) }
 {
     let Side::Column(value) = value else {
         return Err(ReadError::Syntax);
@@ -31,12 +40,20 @@ fn range(reader: &mut Reader, alloc: Global, value: Side) -> Result<Cond, ReadEr
     let low = side(reader, alloc)?;
     reader.want_word("and")?;
     let high = side(reader, alloc)?;
-    Ok(Cond::Between { value, low, high })
+    found.push(Cond::Between { value, low, high })?;
+    Ok(())
 }
 
-#[tactic(auto, unfolding(crate::specs::Reading::read_comparison))]
-fn comparison(reader: &mut Reader, alloc: Global, left: Side) -> Result<Cond, ReadError>
-    ensures { GivesWithRest result reader.new (read_comparison left reader.old) }
+/// Reads the sign and the right side of a comparison, and adds it.
+#[tactic(auto, unfolding(crate::specs::Reading::read_comparison, crate::specs::Reading::after))]
+fn comparison(
+    reader: &mut Reader,
+    alloc: Global,
+    left: Side,
+    found: &mut List<Cond>,
+) -> Result<(), ReadError>
+    ensures { Adds result found.new reader.new
+        (after found.old (alone (read_comparison left reader.old))) }
 {
     let sign = reader.sign()?;
     let right = side(reader, alloc)?;
@@ -45,18 +62,25 @@ fn comparison(reader: &mut Reader, alloc: Global, left: Side) -> Result<Cond, Re
     {
         return Err(ReadError::Syntax);
     }
-    Ok(Cond::Compare { left, sign, right })
+    found.push(Cond::Compare { left, sign, right })?;
+    Ok(())
 }
 
-#[tactic(auto, unfolding(crate::specs::Reading::read_simple))]
-fn simple_condition(reader: &mut Reader, alloc: Global) -> Result<Cond, ReadError>
-    ensures { GivesWithRest result reader.new (read_simple reader.old) }
+/// Reads a condition without parentheses around it, and adds it.
+#[tactic(auto, unfolding(crate::specs::Reading::read_simple, crate::specs::Reading::after))]
+fn simple_condition(
+    reader: &mut Reader,
+    alloc: Global,
+    found: &mut List<Cond>,
+) -> Result<(), ReadError>
+    ensures { Adds result found.new reader.new
+        (after found.old (alone (read_simple reader.old))) }
 {
     let left = side(reader, alloc)?;
     if reader.take_word("between") {
-        return range(reader, alloc, left);
+        return range(reader, alloc, left, found);
     }
-    comparison(reader, alloc, left)
+    comparison(reader, alloc, left, found)
 }
 
 #[cycle(conditions)]
@@ -74,9 +98,7 @@ fn condition(
         reader.want_mark(")")?;
         return Ok(());
     }
-    let condition = simple_condition(reader, alloc)?;
-    found.push(condition)?;
-    Ok(())
+    simple_condition(reader, alloc, found)
 }
 
 /// Reads conditions with AND between, no more than there is room for.

@@ -59,6 +59,7 @@ fn group_keys(reader: &mut Reader, alloc: Global) -> Result<List<ColumnRef>, Rea
 
 /// Reads a grouped statement.
 #[tactic(auto, unfolding(crate::specs::Reading::read_grouped))]
+#[inline(never)]
 pub fn grouped(reader: &mut Reader, alloc: Global) -> Result<Statement, ReadError>
     ensures { GivesWithRest result reader.new (read_grouped reader.old) }
 {

@@ -18,13 +18,23 @@ fn without_zero(digits: &str) -> Option<&str>
     Some(rest)
 }
 
-/// Digits without their leading zeros, of which one digit is kept.
-pub fn significant_digits(alloc: Global, digits: &Text) -> Result<Text, NoMemory>
-    ensures { IfOk result (λ kept. kept ≡ significant_digits digits.now) }
+/// A copy of digits without their leading zeros, of which one digit is kept.
+fn stripped(alloc: Global, written: &str) -> Result<Text, NoMemory>
+    ensures { IfOk result (λ kept. kept ≡ significant_digits written.now) }
 {
-    let mut digits = digits.as_str();
+    let mut digits = written;
     while let Some(rest) = without_zero(digits) {
         digits = rest;
     }
     Text::from_str(alloc, digits)
+}
+
+/// Digits without their leading zeros, of which one digit is kept. Where none leads, they are the same text.
+pub fn significant_digits(alloc: Global, digits: Text) -> Result<Text, NoMemory>
+    ensures { IfOk result (λ kept. kept ≡ significant_digits digits) }
+{
+    if without_zero(digits.as_str()).is_none() {
+        return Ok(digits);
+    }
+    stripped(alloc, digits.as_str())
 }

@@ -85,7 +85,7 @@ fn signed_number(reader: &mut Reader, alloc: Global, negative: bool) -> Result<L
     ensures { GivesWithRest result reader.new (read_signed negative reader.old) }
 {
     let written = reader.number(alloc)?;
-    let digits = significant_digits(alloc, &written)?;
+    let digits = significant_digits(alloc, written)?;
     let negative = negative && digits.as_str() != "0";
     Ok(Literal::Number { negative, digits })
 }

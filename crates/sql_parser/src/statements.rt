@@ -1,6 +1,6 @@
 // Statements.
 ghost use Rattle.std.specs.Prelude.{◌≡◌, if◌then◌else◌, length};
-ghost use Rattle.token_reader.specs.Reading.{GivesWithRest, begins_with, after_all};
+ghost use Rattle.token_reader.specs.Reading.{GivesWithRest, begins_with, after_all, has_group};
 ghost use Rattle.sql_parser.specs.Reading.{Adds, after, then_close, read_columns, read_key, read_fetched, read_create_table, read_create_access, read_drop_access, read_load, read_insert, read_delete, read_pairs, read_group, read_discover, read_explain, read_scan_ok, read_specialise, read_select, read_selection, words_of, read_opened, read_first, read_statement};
 
 use crate::conditions::where_conditions;
@@ -175,12 +175,13 @@ fn specialise(reader: &mut Reader, alloc: Global) -> Result<Statement, ReadError
     Ok(Statement::Specialise { tree })
 }
 
-/// Reads what begins with no other words: a query or a grouped statement.
+/// Reads what begins with no other words: a query, or a grouped statement, which alone has a word GROUP.
 #[tactic(auto, unfolding(crate::specs::Reading::read_selection))]
-fn selection(reader: &mut Reader, alloc: Global) -> Result<Statement, ReadError>
+fn selection(reader: &mut Reader, alloc: Global, is_grouped: bool) -> Result<Statement, ReadError>
+    requires { is_grouped ≡ has_group reader.now }
     ensures { GivesWithRest result reader.new (read_selection reader.old) }
 {
-    if reader.has_group() {
+    if is_grouped {
         return grouped(reader, alloc);
     }
     select(reader, alloc)
@@ -257,6 +258,7 @@ fn after_opening(
 }
 
 /// Reads a statement by the first of these openings that is next. What begins with none is a query or grouped.
+#[inline(never)]
 fn by_first(
     reader: &mut Reader,
     alloc: Global,
@@ -269,12 +271,21 @@ fn by_first(
             return after_opening(reader, alloc, *opening);
         }
     }
-    selection(reader, alloc)
+    let is_grouped = reader.has_group();
+    selection(reader, alloc, is_grouped)
 }
 
-/// Reads a statement, or a query that lacks its DISTINCT.
-pub fn statement(reader: &mut Reader, alloc: Global) -> Result<Statement, ReadError>
+/// Reads a statement, or a query that lacks its DISTINCT. Most begin with SELECT, as no opening does.
+pub fn statement(
+    reader: &mut Reader,
+    alloc: Global,
+    is_grouped: bool,
+) -> Result<Statement, ReadError>
+    requires { is_grouped ≡ has_group reader.now }
     ensures { GivesWithRest result reader.new (read_statement reader.old) }
 {
+    if reader.next_is_word("select") {
+        return selection(reader, alloc, is_grouped);
+    }
     by_first(reader, alloc, &OPENINGS)
 }

@@ -7,8 +7,9 @@ ghost use Rattle.sql_tree.specs.Symbols.{symbols};
 ghost use Rattle.sql_tree.specs.declared.tree.Statement.{Statement};
 ghost use Rattle.sql_parser.specs.Outcome.{Parses, Reading, lacks_distinct, found_reading};
 ghost use Rattle.sql_parser.specs.Reading.{read_statement};
+ghost use Rattle.token_reader.specs.Reading.{has_group};
 
-use crate::nesting::is_too_deep;
+use crate::nesting::group_unless_too_deep;
 use crate::statements::statement;
 use beas_core::{Fail, Refusal};
 use sql_text::Token;
@@ -17,13 +18,14 @@ use std::alloc::Global;
 use token_reader::{ReadError, Reader};
 
 /// Reads a statement from all of the tokens, or a query that lacks its DISTINCT.
-fn all_of(tokens: &[Token], alloc: Global) -> Result<Statement, ReadError>
+fn all_of(tokens: &[Token], alloc: Global, is_grouped: bool) -> Result<Statement, ReadError>
+    requires { is_grouped ≡ has_group (symbols tokens.now) }
     ensures ok { IfOk result (λ s. read_statement (symbols tokens.now) ≡ Some (s, [])) }
     ensures syntax { IsErrOf result ReadError.Syntax → (s : Statement) → read_statement (symbols tokens.now) ≡ Some (s, [])
         → ⊥ }
 {
     let mut reader = Reader::new(tokens);
-    let found = statement(&mut reader, alloc)?;
+    let found = statement(&mut reader, alloc, is_grouped)?;
     if reader.tokens_left() > 0 {
         return Err(ReadError::Syntax);
     }
@@ -64,10 +66,10 @@ fn lacks_distinct(statement: &Statement) -> bool
 fn reading(alloc: Global, tokens: &[Token]) -> Result<Statement, Fail>
     ensures { Gives result (found_reading (symbols tokens.now)) }
 {
-    if is_too_deep(tokens) {
+    let Some(is_grouped) = group_unless_too_deep(tokens) else {
         return Err(Fail::Refused(Refusal::TooDeep));
-    }
-    let statement = match all_of(tokens, alloc) {
+    };
+    let statement = match all_of(tokens, alloc, is_grouped) {
         Ok(statement) => statement,
         Err(ReadError::Syntax) => return Err(Fail::Refused(Refusal::Syntax)),
         Err(ReadError::NoMemory) => return Err(Fail::NoMemory),

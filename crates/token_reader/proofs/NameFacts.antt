@@ -1,11 +1,11 @@
 -- Words in lower case, and the reserved words that begin with a letter.
-use Rattle.std.proofs.Common.{◌≡◌, ◌∙◌, refl, ap, sym, true, false, ℕ, List, [], ◌∷◌}
-use Rattle.std.specs.Prelude.{◌&&◌, ◌||◌, ◌==◌, Bool, not, nat_le, length, slice_index}
+use Rattle.std.proofs.Common.{◌≡◌, ◌<◌, ◌∙◌, refl, ap, sym, subst, true, false, ℕ, List, [], ◌∷◌}
+use Rattle.std.specs.Prelude.{◌&&◌, ◌||◌, ◌==◌, Bool, not, nat_le, nat_lt, length, slice_index}
 use Rattle.std.specs.List.{list_all, list_any, filter}
 use Rattle.std.specs.Char.{is_ascii_uppercase}
 use Rattle.std.specs.Str.{bytes_eq}
 use Rattle.std.proofs.lemmas.Slice.Eq.{bytes_eq-Decides}
-use Rattle.std.proofs.lemmas.Bool.{eq-eqb}
+use Rattle.std.proofs.lemmas.Bool.{eq-eqb, lt-ltb}
 use Rattle.std.proofs.lemmas.Map.Views.{any-filter_same}
 use Rattle.beas_core.specs.Spelling.{begins_word, continues_word, is_folded, is_name, is_reserved, is_word, reserved_words}
 use Rattle.token_reader.specs.Names.{goes_on_folded, is_folded_word}
@@ -51,6 +51,15 @@ unfolding is_reserved
 by_first word first is =
     sym (any-filter_same (λ r. bytes_eq r word) (λ r. slice_index r 0 == first) true
     (λ r e. same_first r word first is ((bytes_eq-Decides r word).0 e)) reserved_words)
+
+short_one : (word r : List ℕ) → length word < 2 → r ≡ word → nat_lt (length r) 2 ≡ true
+short_one word r short same = lt-ltb (length r) 2 (subst (λ (t : List ℕ). length t < 2) (sym same) short)
+
+-- each reserved word has two letters or more
+pub short : (word : List ℕ) → length word < 2 → is_reserved word ≡ false
+unfolding is_reserved reserved_words
+short word few =
+    sym (any-filter_same (λ r. bytes_eq r word) (λ r. nat_lt (length r) 2) true (λ r e. short_one word r few ((bytes_eq-Decides r word).0 e)) reserved_words)
 
 pub begins_so : (bytes word : List ℕ) (byte first : ℕ) → byte ≡ slice_index bytes 0 → bytes ≡ word → byte ≡ first
     → is_reserved word ≡ list_any (λ r. bytes_eq r word) (filter (λ r. slice_index r 0 == first) reserved_words)

@@ -7,5 +7,7 @@
 
 mod names;
 mod reader;
+mod texts;
 
 pub use reader::{ReadError, Reader};
+pub use texts::is_text;

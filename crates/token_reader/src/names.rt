@@ -1,22 +1,20 @@
 // Whether a word is a name, told by a look at the reserved words that begin with its first letter.
-ghost use Rattle.std.specs.Prelude.{◌≡◌, ◌&&◌, not, slice_index};
+ghost use Rattle.std.specs.Prelude.{◌≡◌, ◌&&◌, not};
 ghost use Rattle.std.specs.List.{list_all, list_any};
 ghost use Rattle.std.specs.Str.{bytes_eq};
 ghost use Rattle.beas_core.specs.Spelling.{is_name, is_reserved};
 ghost use Rattle.token_reader.specs.Names.{goes_on_folded, is_folded_word};
 
-use beas_core::{begins_word, continues_word, is_reserved as is_in_the_list};
-
-fn first_byte(text: &[u8]) -> u8
-    ensures { result ≡ slice_index text.now 0 }
-{
-    if text.is_empty() { 0 } else { text[0] }
-}
+use crate::texts::{first_byte, is_text};
+use beas_core::{begins_word, is_reserved as is_in_the_list};
 
 fn goes_on(byte: u8) -> bool
     ensures { result ≡ goes_on_folded byte }
 {
-    continues_word(byte) && !byte.is_ascii_uppercase()
+    if byte.is_ascii_lowercase() {
+        return true;
+    }
+    byte == b'_' || byte.is_ascii_digit()
 }
 
 fn all_go_on(text: &[u8]) -> bool
@@ -43,7 +41,7 @@ fn is_among(words: &[&str], word: &str) -> bool
     ensures { result ≡ list_any (λ r. bytes_eq r.now word.now) words.now }
 {
     for other in words {
-        if *other == word {
+        if is_text(word, other) {
             return true;
         }
     }
@@ -54,6 +52,9 @@ fn is_among(words: &[&str], word: &str) -> bool
 fn is_reserved(word: &str) -> bool
     ensures { result ≡ is_reserved word.now }
 {
+    if word.len() < 2 {
+        return false;
+    }
     match first_byte(word.as_bytes()) {
         b'a' => is_among(&["access", "all", "and", "as"], word),
         b'b' => is_among(&["between", "by"], word),

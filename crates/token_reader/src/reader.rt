@@ -6,6 +6,7 @@ ghost use Rattle.sql_tree.specs.Symbols.{word, mark, symbols};
 ghost use Rattle.sql_tree.specs.Words.{OPEN};
 
 use crate::names::is_name;
+use crate::texts::is_text;
 use beas_core::{Duplicate, Name, NoMemory, Sign, Text};
 use sql_text::{Token, TokenKind};
 use std::alloc::{AllocError, AllocFailed, Global};
@@ -33,21 +34,28 @@ impl From<NoMemory> for ReadError {
 fn sign_of(text: &str) -> Option<Sign>
     ensures { result ≡ sign_of text.now }
 {
-    match text {
-        "=" => Some(Sign::Equal),
-        "<>" | "!=" => Some(Sign::Differs),
-        "<" => Some(Sign::Less),
-        "<=" => Some(Sign::AtMost),
-        ">" => Some(Sign::More),
-        ">=" => Some(Sign::AtLeast),
-        _ => None,
+    if is_text(text, "=") {
+        Some(Sign::Equal)
+    } else if is_text(text, "<>") || is_text(text, "!=") {
+        Some(Sign::Differs)
+    } else if is_text(text, "<") {
+        Some(Sign::Less)
+    } else if is_text(text, "<=") {
+        Some(Sign::AtMost)
+    } else if is_text(text, ">") {
+        Some(Sign::More)
+    } else if is_text(text, ">=") {
+        Some(Sign::AtLeast)
+    } else {
+        None
     }
 }
 
 fn any_is_group(tokens: &[Token]) -> bool
     ensures { result ≡ list_any is_group tokens.now }
 {
-    tokens.iter().any(|token| token.kind == TokenKind::Word && token.text.as_str() == "group")
+    tokens.iter().any(|token| token.kind == TokenKind::Word
+        && is_text(token.text.as_str(), "group"))
 }
 
 /// The tokens that are still to be read, seen as what they are and their texts.
@@ -86,7 +94,7 @@ impl<'a> Reader<'a> {
         ensures { result ≡ starts (word text.now) self.now }
     {
         match self.rest.split_first() {
-            Some((token, _)) => token.kind == TokenKind::Word && token.text.as_str() == text,
+            Some((token, _)) => token.kind == TokenKind::Word && is_text(token.text.as_str(), text),
             None => false,
         }
     }
@@ -97,7 +105,7 @@ impl<'a> Reader<'a> {
         ensures { result ≡ starts (mark text.now) self.now }
     {
         match self.rest.split_first() {
-            Some((token, _)) => token.kind == TokenKind::Mark && token.text.as_str() == text,
+            Some((token, _)) => token.kind == TokenKind::Mark && is_text(token.text.as_str(), text),
             None => false,
         }
     }

@@ -1,7 +1,10 @@
 use Rattle.std.proofs.Common.{◌∙◌, sym}
 use Rattle.beas_core.specs.Spelling.{reserved_words}
-use Rattle.token_reader.proofs.NameFacts.{begins_so}
+use Rattle.token_reader.proofs.NameFacts.{begins_so, short}
 use Rattle.token_reader.proofs.names.is_reserved.Goals as goal
+
+pub returns-then-word-lt2 : goal.returns-then-word-lt2
+returns-then-word-lt2 c = sym (short c.args.word.now c.if-word-lt2.true)
 
 pub returns-in-97 : goal.returns-in-97
 unfolding reserved_words

@@ -2,7 +2,7 @@ use Rattle.std.proofs.Common.{◌≡◌, length}
 use denote.Text.{Utf8}
 use denote.Shadow.{shadow}
 use Rattle.sql_tree.specs.Grammar.{significant_digits}
-use Rattle.sql_parser.proofs.numbers.significant_digits.Given as goal
+use Rattle.sql_parser.proofs.numbers.stripped.Given as goal
 
 abbrev pub invariant-loop-rest : goal.invariant-loop-rest
 invariant-loop-rest l = shadow (Utf8 l.digits) × (significant_digits l.digits ≡ significant_digits l.initial.digits)
