@@ -1,7 +1,6 @@
 // The walk of a block, depth first.
-ghost use Rattle.std.specs.Prelude.{◌≡◌, ◌<◌, ◌≤◌, ◌+◌, ◌++◌, ◌∷◌, [], length, map, All, IfOk, IsTrue, OnErr, OnOk, is_some};
+ghost use Rattle.std.specs.Prelude.{◌≡◌, ◌<◌, ◌≤◌, ◌+◌, ◌++◌, ◌∷◌, [], length, map, max, All, IfOk, IsTrue, OnErr, OnOk, is_some};
 ghost use Rattle.std.specs.Option.{option_copied};
-ghost use Rattle.std.specs.BTreeMap.{insert_entry, IsOrdered};
 ghost use Rattle.beas_core.specs.Coverage.{ClassesInRange, ConstantsInRange, holds_classes, key_classes, start_classes};
 ghost use Rattle.beas_core.specs.Derivations.{access_in, is_live, IsSound};
 ghost use Rattle.beas_core.specs.Groups.{group_of};
@@ -13,7 +12,7 @@ ghost use Rattle.plan_ops.specs.Over.{set_of};
 ghost use Rattle.plan_ops.specs.Stages.{IsPair, IsStage, bound_with, joined_row, key_by, next_by, set_before, use_at};
 ghost use Rattle.block_walk.specs.Worlds.{AgreesWith, World, world};
 ghost use Rattle.block_walk.specs.Routes.{IsSoundIn, route};
-ghost use Rattle.block_walk.specs.Walks.{HasEnded, IsTidy, IsTidyForAll, Stands, StandsForAll, children, classes_at, entry_cmp, fetched_in, pending_at};
+ghost use Rattle.block_walk.specs.Walks.{HasEnded, IsTidy, IsTidyForAll, Stands, StandsForAll, children, classes_at, fetched_in, pending_at};
 ghost use Rattle.block_walk.specs.Turns.{SpentOnce, GoesOn, TurnIs, VisitCosts, VisitSpent, Visited, probed};
 
 use beas_core::{
@@ -26,6 +25,7 @@ use plan_ops::{
 };
 use std::alloc::Global;
 use std::collections::BTreeMap;
+use std::collections::btree_map::Entry;
 use std::mem;
 use std::sync::ledger::Ledger;
 
@@ -232,46 +232,47 @@ fn next_stage<P: AccessPort>(
     stage_of(alloc, block, step.atom, access, classes)
 }
 
-// Makes a probe that wasn't made, puts the valuations on top that it leads to, and keeps what it found. Gives how many
-// reads it took.
+// Makes a probe that wasn't made, and puts the valuations on top that it leads to. Gives what it found.
 fn probe<P: AccessPort, L: Ledger>(
     alloc: Global,
     port: &P,
     block: &Normal,
     id: AccessId,
     stage: &Stage,
-    known: &mut BTreeMap<(usize, Row), Tuples>,
     pending: &mut Vec<Pending>,
     through: &mut List<Row>,
     at: &Pending,
     count: usize,
-    key: Row,
+    key: &[Value],
     steps: &mut Steps<L>,
-) -> Result<usize, NoMemory>
+) -> Result<Tuples, NoMemory>
     requires live { IsTrue (is_live (P.accesses port.now) id) }
     requires access { stage.now.access.value ≡ access_in (P.accesses port.now) id }
     requires stage { IsStage block.now stage.now }
     requires wide { length at.now.row ≡ length stage.now.from.value }
     requires below { at.now.step < count }
-    requires key { key ≡ key_by block.now (use_at stage.now) (set_before block.now stage.now) at.now.row }
+    requires key { key.now ≡ key_by block.now (use_at stage.now) (set_before block.now stage.now) at.now.row }
     requires room { at.now.step + 1 < 18446744073709551616 }
     ensures goes_on { let next = next_by block.now (use_at stage.now) (set_before block.now stage.now) at.now.row
-        (group_of (P.rows port.now stage.now.access.value.table) stage.now.access.value key) in
+        (group_of (P.rows port.now stage.now.access.value.table) stage.now.access.value key.now) in
         OnOk result (GoesOn count at.now next
         (map (output_row block.now (bound_with block.now (use_at stage.now) (set_before block.now stage.now))) next)
         pending.old.items pending.new.items through.old through.new) }
-    ensures known { OnOk result (known.new.entries ≡ insert_entry entry_cmp known.old.entries (at.now.step, key)
-        (group_of (P.rows port.now stage.now.access.value.table) stage.now.access.value key)) }
-    ensures ordered { OnOk result (IsOrdered entry_cmp known.new) }
-    ensures reads { IfOk result (λ reads. reads ≡ probe_reads (P.rows port.now) stage.now.access.value key) }
-    ensures cost { steps.new ≡ steps.old + probe_reads (P.rows port.now) stage.now.access.value key }
+    ensures tuples { IfOk result (λ tuples. tuples
+        ≡ group_of (P.rows port.now stage.now.access.value.table) stage.now.access.value key.now) }
+    ensures cost { steps.new ≡ steps.old + probe_reads (P.rows port.now) stage.now.access.value key.now }
 {
     let columns = &stage.join.columns;
-    let tuples = fetch(alloc, port, id, columns, key.as_slice(), steps)?;
+    let tuples = fetch(alloc, port, id, columns, key, steps)?;
     go_on(alloc, block, stage, at, count, &tuples, pending, through)?;
-    let reads = tuples.len().max(1);
-    known.insert((at.step, key), tuples)?;
-    Ok(reads)
+    Ok(tuples)
+}
+
+// How many reads the probe took that found these tuples.
+fn reads_of(tuples: &Tuples) -> usize
+    ensures { result ≡ max 1 (length tuples.now) }
+{
+    tuples.len().max(1)
 }
 
 // Visits a valuation before a step that was begun.
@@ -304,35 +305,37 @@ fn visit_again<P: AccessPort, L: Ledger>(
     let stage = &walk.stages[at.step];
     let key = key_of_row(alloc, stage, at.row.as_slice())?;
     let entry = (at.step, key);
-    if let Some(tuples) = walk.known.get(&entry) {
-        go_on(
-            alloc,
-            block,
-            stage,
-            at,
-            count,
-            tuples,
-            &mut walk.pending,
-            &mut walk.through,
-        )?;
-        return Ok(None);
-    }
-    let id = plan[at.step].access;
-    let (_, key) = entry;
-    let reads = probe(
+    let vacant = match walk.known.entry(entry)? {
+        Entry::Occupied(found) => {
+            go_on(
+                alloc,
+                block,
+                stage,
+                at,
+                count,
+                found.get(),
+                &mut walk.pending,
+                &mut walk.through,
+            )?;
+            return Ok(None);
+        }
+        Entry::Vacant(vacant) => vacant,
+    };
+    let tuples = probe(
         alloc,
         port,
         block,
-        id,
+        plan[at.step].access,
         stage,
-        &mut walk.known,
         &mut walk.pending,
         &mut walk.through,
         at,
         count,
-        key,
+        vacant.key().1.as_slice(),
         steps,
     )?;
+    let reads = reads_of(&tuples);
+    vacant.insert_entry(tuples);
     Ok(Some(reads))
 }
 
@@ -368,20 +371,21 @@ fn visit_first<P: AccessPort, L: Ledger>(
     let step = &plan[at.step];
     let stage = next_stage(alloc, port, block, step, &walk.first, &walk.stages)?;
     let key = key_of_row(alloc, &stage, at.row.as_slice())?;
-    let reads = probe(
+    let tuples = probe(
         alloc,
         port,
         block,
         step.access,
         &stage,
-        &mut walk.known,
         &mut walk.pending,
         &mut walk.through,
         at,
         count,
-        key,
+        key.as_slice(),
         steps,
     )?;
+    let reads = reads_of(&tuples);
+    walk.known.insert((at.step, key), tuples)?;
     walk.stages.push(stage)?;
     Ok(Some(reads))
 }

@@ -5,7 +5,7 @@ use Rattle.std.specs.List.{sum_by, AllZip, filter}
 use Rattle.std.proofs.Math.Seq.{take-suc}
 use Rattle.std.proofs.lemmas.Bool.{eqb-true}
 use Rattle.std.proofs.lemmas.Nat.{mul-le}
-use Rattle.std.proofs.lemmas.List.{get_or-map, get_or_append_left, length-append}
+use Rattle.std.proofs.lemmas.List.{get_or-map, get_or_append_left, length-append, take_at}
 use Rattle.std.proofs.lemmas.List.Sums.{sum_by-append}
 use Rattle.beas_core.specs.declared.value.Value.TheVariants.{Int}
 use Rattle.beas_core.specs.declared.schema.ColumnId.{ColumnId}
@@ -16,7 +16,7 @@ use Rattle.beas_core.specs.Derivations.{access_in, is_live}
 use Rattle.beas_core.specs.declared.schema.AccessId.{AccessId}
 use Rattle.beas_core.specs.Order.{row_cmp_total}
 use Rattle.beas_core.specs.Groups.{value_at, value_in, project, same_row, group_of, member_columns}
-use Rattle.beas_core.proofs.Groups.{length-project, same_row_true}
+use Rattle.beas_core.proofs.Groups.{length-project, project-append, same_row_true}
 use Rattle.beas_core.proofs.Sets.{Has-get_or, Has-from_distinct, Has-from_map, Has-from_filter, Has}
 use Rattle.beas_core.proofs.ValueOrder.{row_cmp_tells}
 use Rattle.evaluation_facts.proofs.UseFacts.{same_number}
@@ -62,6 +62,21 @@ group_begins rows access key tuple j d wide h l =
     ∙ ap (value_at m.0) (get_or_append_left access.key access.fetched column j l)
     ∙ sym (get_or-map (value_at m.0) access.key j column d l)
     ∙ ap (λ t. get_or t j d) (same_row_true (project access.key m.0) key f.1)
+
+-- so that their first values are the key
+pub group_takes : (rows : List Row) (access : Access) (key : Row) → length key ≡ length access.key
+    → All (λ tuple. take (length key) tuple ≡ key) (group_of rows access key)
+group_takes rows access key wide k d l =
+    let columns = member_columns access in
+    let held = filter (λ row. same_row (project access.key row) key) rows in
+    let tuple = get_or (group_of rows access key) k d in
+    let m = Has-from_map (project columns) held tuple (Has-from_distinct row_cmp_total row_cmp_tells (map (project columns) held) tuple
+    (Has-get_or (group_of rows access key) k d l)) in
+    let f = Has-from_filter (λ row. same_row (project access.key row) key) rows m.0 m.1 in
+    let n : length (project access.key m.0) ≡ length key = length-project access.key m.0 ∙ sym wide in
+    ap (take (length key)) (m.2 ∙ project-append access.key access.fetched m.0)
+    ∙ take_at (project access.key m.0) (project access.fetched m.0) (length key) n
+    ∙ same_row_true (project access.key m.0) key f.1
 
 pub zip_push : {A B : Type 0} (R : A → B → Type 0) (xs : List A) (ys : List B) (x : A) (y : B) → AllZip R xs ys → R x y
     → AllZip R (xs ++ x ∷ []) (ys ++ y ∷ [])

@@ -1,11 +1,12 @@
 // What one probe fetches, to be kept.
-ghost use Rattle.std.specs.Prelude.{◌≡◌, ◌+◌, ◌++◌, ◌<◌, length, slice_index_or, [], IfOk, IsTrue, OnOk};
+ghost use Rattle.std.specs.Prelude.{◌≡◌, ◌+◌, ◌++◌, ◌<◌, ◌≤◌, length, slice_index_or, take, vec_capacity, vec_len, [], All, IfOk, IsTrue, OnOk};
 ghost use Rattle.beas_core.specs.Derivations.{access_in, is_live};
-ghost use Rattle.beas_core.specs.Groups.{group_of, has_column, member_columns, value_in};
+ghost use Rattle.beas_core.specs.Groups.{group_of, member_columns};
 ghost use Rattle.beas_core.specs.Reads.{probe_reads};
 ghost use Rattle.plan_ops.specs.Joins.{HitsAre};
 
-use beas_core::{AccessId, AccessPort, ColumnId, Duplicate, Hits, NoMemory, Steps, Value};
+use crate::copying::push_copy;
+use beas_core::{AccessId, AccessPort, ColumnId, Hits, NoMemory, Steps, Value};
 use std::alloc::Global;
 use std::marker::Model;
 use std::sync::ledger::Ledger;
@@ -47,29 +48,26 @@ impl Tuples {
     }
 }
 
-// A copy of a value of a tuple that a probe found.
-fn copied_value<P: AccessPort>(
-    alloc: Global,
-    port: &P,
-    hits: &Hits,
-    i: u32,
-    column: &ColumnId,
-) -> Result<Value, NoMemory>
-    requires hits { HitsAre (P.accesses port.now) (P.stands port.now) (P.members port.now) hits.now }
-    requires member { i < hits.now.len }
-    requires column { IsTrue (has_column (member_columns (access_in (P.accesses port.now) hits.now.access)) column.now) }
-    ensures { IfOk result (λ value. value ≡ value_in (member_columns (access_in (P.accesses port.now) hits.now.access))
-        (slice_index_or (P.members port.now hits.now) i []) column.now) }
+// Adds copies of a key's values, where there is room for them.
+fn push_key(alloc: Global, key: &[Value], values: &mut Vec<Value>) -> Result<(), NoMemory>
+    requires room { vec_len values.old + length key.now ≤ vec_capacity values.old }
+    ensures items { OnOk result (values.new.items ≡ values.old.items ++ key.now) }
+    ensures len { OnOk result (vec_len values.new ≡ vec_len values.old + length key.now) }
+    ensures room { OnOk result (vec_capacity values.new ≡ vec_capacity values.old) }
 {
-    let value = port.value(hits, i, *column);
-    value.copy(alloc)
+    for value in key {
+        push_copy(alloc, value, values)?;
+    }
+    Ok(())
 }
 
-// Adds the values of one tuple that a probe found.
+// Adds the values of one tuple that a probe found, where there is room for them. It begins with the key that was probed,
+// so that the port is asked for the others alone.
 fn push_tuple<P: AccessPort>(
     alloc: Global,
     port: &P,
     columns: &[ColumnId],
+    key: &[Value],
     hits: &Hits,
     i: u32,
     values: &mut Vec<Value>,
@@ -77,30 +75,42 @@ fn push_tuple<P: AccessPort>(
     requires hits { HitsAre (P.accesses port.now) (P.stands port.now) (P.members port.now) hits.now }
     requires columns { columns.now ≡ member_columns (access_in (P.accesses port.now) hits.now.access) }
     requires member { i < hits.now.len }
-    ensures { OnOk result (values.new.items ≡ values.old.items ++ slice_index_or (P.members port.now hits.now) i []) }
+    requires width { length key.now ≤ length columns.now }
+    requires begins { take (length key.now) (slice_index_or (P.members port.now hits.now) i []) ≡ key.now }
+    requires room { vec_len values.old + length columns.now ≤ vec_capacity values.old }
+    ensures items { OnOk result (values.new.items ≡ values.old.items ++ slice_index_or (P.members port.now hits.now) i []) }
+    ensures len { OnOk result (vec_len values.new ≡ vec_len values.old + length columns.now) }
+    ensures room { OnOk result (vec_capacity values.new ≡ vec_capacity values.old) }
 {
-    for column in columns {
-        values.push(copied_value(alloc, port, hits, i, column)?)?;
+    push_key(alloc, key, values)?;
+    for at in key.len()..columns.len() {
+        push_copy(alloc, port.value(hits, i, columns[at]), values)?;
     }
     Ok(())
 }
 
-// Copies of the tuples that a probe found.
+// Copies of the tuples that a probe of a key found.
 fn copied_tuples<P: AccessPort>(
     alloc: Global,
     port: &P,
     columns: &[ColumnId],
+    key: &[Value],
     hits: &Hits,
 ) -> Result<Tuples, NoMemory>
     requires hits { HitsAre (P.accesses port.now) (P.stands port.now) (P.members port.now) hits.now }
     requires columns { columns.now ≡ member_columns (access_in (P.accesses port.now) hits.now.access) }
+    requires width { length key.now ≤ length columns.now }
+    requires begins { All (λ tuple. take (length key.now) tuple ≡ key.now) (P.members port.now hits.now) }
     ensures { IfOk result (λ tuples. tuples ≡ P.members port.now hits.now) }
 {
     let width = columns.len();
     let count = hits.len() as usize;
-    let mut values = Vec::with_capacity(alloc, width.saturating_mul(count))?;
+    let Some(room) = width.checked_mul(count) else {
+        return Err(NoMemory);
+    };
+    let mut values = Vec::with_capacity(alloc, room)?;
     for i in 0..hits.len() {
-        push_tuple(alloc, port, columns, hits, i, &mut values)?;
+        push_tuple(alloc, port, columns, key, hits, i, &mut values)?;
     }
     Ok(Tuples {
         width,
@@ -128,5 +138,5 @@ pub fn fetch<P: AccessPort, L: Ledger>(
         ≡ steps.old + probe_reads (P.rows port.now) (access_in (P.accesses port.now) id) key.now }
 {
     let hits = port.probe(id, key, steps);
-    copied_tuples(alloc, port, columns, &hits)
+    copied_tuples(alloc, port, columns, key, &hits)
 }

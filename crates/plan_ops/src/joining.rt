@@ -51,7 +51,7 @@ fn classes_joined(
     let mut joined = Vec::with_capacity(alloc, count)?;
     joined.extend_from_slice(classes)?;
     for column in columns {
-        joined.push(class_at(block, atom, *column))?;
+        joined.push_reserved(class_at(block, atom, *column));
     }
     Ok(joined)
 }

@@ -5,6 +5,7 @@
 //! the matter of the crate above.
 #![tactic(auto)]
 
+mod copying;
 mod extending;
 mod fetching;
 mod joining;

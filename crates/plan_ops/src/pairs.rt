@@ -3,8 +3,9 @@ ghost use Rattle.std.specs.Prelude.{◌≡◌, ◌<◌, ◌+◌, length, IfOk};
 ghost use Rattle.beas_core.specs.Full.{same_value};
 ghost use Rattle.plan_ops.specs.Joins.{IsWithin, at_place, fits_by, joined_by};
 
+use crate::copying::push_copy;
 use crate::joining::Join;
-use beas_core::{Duplicate, List, NoMemory, Row, Value};
+use beas_core::{List, NoMemory, Row, Value};
 use std::alloc::Global;
 
 /// The value of a joined row at a place.
@@ -54,8 +55,7 @@ pub fn joined_pair(
 {
     let mut joined = Vec::with_capacity(alloc, join.sources.len())?;
     for place in &join.sources {
-        let value = value_in_pair(row, tuple, *place);
-        joined.push_reserved(value.copy(alloc)?);
+        push_copy(alloc, value_in_pair(row, tuple, *place), &mut joined)?;
     }
     Ok(List::from_vec(joined))
 }

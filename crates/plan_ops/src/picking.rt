@@ -4,7 +4,8 @@ ghost use Rattle.beas_core.specs.Groups.{project};
 ghost use Rattle.beas_core.specs.Order.{row_cmp};
 ghost use Rattle.beas_core.specs.Sets.{distinct};
 
-use beas_core::{ColumnId, Duplicate, List, NoMemory, Row, Value, sort_distinct};
+use crate::copying::push_copy;
+use beas_core::{ColumnId, List, NoMemory, Row, Value, sort_distinct};
 use std::alloc::Global;
 
 /// The values of a row in some columns. One past the row's end is made up, since nothing reaches it.
@@ -13,11 +14,10 @@ pub fn values_in(alloc: Global, columns: &[ColumnId], row: &[Value]) -> Result<R
 {
     let mut values = Vec::with_capacity(alloc, columns.len())?;
     for column in columns {
-        let value = match row.get(usize::from(column.0)) {
-            Some(value) => value.copy(alloc)?,
-            None => Value::Int(0),
-        };
-        values.push_reserved(value);
+        match row.get(usize::from(column.0)) {
+            Some(value) => push_copy(alloc, value, &mut values)?,
+            None => values.push_reserved(Value::Int(0)),
+        }
     }
     Ok(List::from_vec(values))
 }

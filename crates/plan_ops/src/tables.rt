@@ -35,11 +35,12 @@ pub fn classes_of(
     requires places { places.now ≡ places_in block.now.count classes.now }
     ensures { IfOk result (λ found. found ≡ classes_in (set_of block.now classes.now)) }
 {
-    let mut found = List::from_vec(Vec::with_capacity(alloc, classes.len())?);
+    let room = usize::from(block.count);
+    let mut found = Vec::with_capacity(alloc, room)?;
     for class in 0..block.count {
         if places[usize::from(class)] < classes.len() {
-            found.push(class)?;
+            found.push_reserved(class);
         }
     }
-    Ok(found)
+    Ok(List::from_vec(found))
 }

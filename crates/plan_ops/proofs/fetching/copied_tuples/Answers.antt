@@ -1,4 +1,4 @@
-use Rattle.std.proofs.Common.{rules, ◌≡◌, ◌<◌, ◌+◌, ◌*◌, ◌++◌, ◌∷◌, ◌∙◌, [], length, take, get_or, sym, ap, arith, length-append}
+use Rattle.std.proofs.Common.{rules, ◌<◌, ◌+◌, ◌++◌, ◌∷◌, ◌∙◌, [], length, get_or, sym, ap, arith, length-append}
 use Rattle.std.proofs.lemmas.List.{take_more}
 use Rattle.plan_ops.specs.Fetched.{rows_in}
 use Rattle.plan_ops.proofs.FetchedFacts.{rows_more, tuple_at}
@@ -16,10 +16,16 @@ loop-i-preserved g c =
     let count = c.requires.hits.count in
     let wide = (tuple_at (g.P.AccessPort.accesses c.args.port.now) (g.P.AccessPort.stands c.args.port.now) members hits c.requires.hits columns
     c.requires.columns i below).wide in
-    let pushed = c.in_ok-push_tuple.ensures in
+    let pushed = c.in_ok-push_tuple.ensures.items in
+    let long = c.in_ok-push_tuple.ensures.len in
+    let kept = c.in_ok-push_tuple.ensures.room in
+    let len = c.loop-i.invariant.len in
+    let room = c.loop-i.invariant.room in
     let whole = c.loop-i.invariant.whole in
     let sum = length-append values tuple in record {
       cut = ap (rows_in (length columns) (i + 1)) pushed ∙ rows_more (length columns) i values tuple whole wide
           ∙ ap (λ rows. rows ++ tuple ∷ []) c.loop-i.invariant.cut ∙ sym (take_more (members hits) i [] (omega (arith, below, count)));
       whole = ap length pushed ∙ omega (arith, sum, whole, wide);
+      len = omega (arith, long, len);
+      room = kept ∙ room;
     }

@@ -1,5 +1,10 @@
-use Rattle.std.proofs.Common.{◌≡◌, ◌++◌, take, [], get_or}
+use Rattle.std.proofs.Common.{◌≡◌, ◌+◌, ◌++◌, take, [], get_or}
+use Rattle.std.specs.Prelude.{vec_len, vec_capacity}
 use Rattle.plan_ops.proofs.fetching.push_tuple.Given as goal
 
-abbrev pub invariant-loop-column : goal.invariant-loop-column
-invariant-loop-column g l = l.values.items ≡ l.initial.values.items ++ take l.column-index (get_or (g.P.AccessPort.members l.port l.hits) l.i [])
+abbrev pub invariant-loop-at : goal.invariant-loop-at
+invariant-loop-at g l = record {
+  items : l.values.items ≡ l.fn.values.items ++ take l.at (get_or (g.P.AccessPort.members l.port l.hits) l.i []);
+  len : vec_len l.values ≡ vec_len l.fn.values + l.at;
+  room : vec_capacity l.values ≡ vec_capacity l.fn.values;
+}

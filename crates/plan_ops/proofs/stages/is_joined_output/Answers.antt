@@ -1,4 +1,4 @@
-use Rattle.std.proofs.Common.{◌≡◌, ◌∙◌, ap, sym}
+use Rattle.std.proofs.Common.{◌∙◌, ap, sym}
 use Rattle.beas_core.specs.Groups.{project}
 use Rattle.plan_ops.specs.Joins.{joined_by}
 use Rattle.plan_ops.proofs.RowFacts.{output_made}

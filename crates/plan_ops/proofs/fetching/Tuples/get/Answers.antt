@@ -1,4 +1,4 @@
-use Rattle.std.proofs.Common.{rules, ◌≡◌, ◌<◌, ◌+◌, ◌-◌, ◌*◌, length, take, drop, get_or, [], sym, ap, ◌∙◌, arith}
+use Rattle.std.proofs.Common.{rules, ◌≡◌, ◌+◌, ◌-◌, ◌*◌, length, take, drop, get_or, [], sym, ap, ◌∙◌, arith}
 use Rattle.beas_core.specs.Types.{Row}
 use Rattle.plan_ops.proofs.FetchedFacts.{length-rows_in, row_at, row_within}
 use Rattle.plan_ops.proofs.fetching.Tuples.get.Goals as goal
