@@ -1,20 +1,21 @@
 -- What a turn of its cursor makes of an open query.
 use Rattle.std.proofs.Common.{◌≡◌, ◌+◌, ◌∙◌, ℕ, Bool, true, false, List, length, map, Some, None, Result, Ok, Err, inl, inr, refl, ap, sym, subst, arith}
-use Rattle.std.specs.Prelude.{if◌then◌else◌, Contains, IfOk, IsErr, OnErr}
+use Rattle.std.specs.Prelude.{if◌then◌else◌, Contains, IfOk, IsErr, OnErr, OnOk}
 use Rattle.std.proofs.lemmas.List.{length-map}
 use Rattle.beas_core.specs.declared.errors.NoMemory.{NoMemory}
 use Rattle.beas_core.specs.declared.plan.Prepared.{Prepared}
 use Rattle.beas_core.specs.Fits.{Fits}
+use Rattle.beas_core.specs.Full.{full_of}
 use Rattle.beas_core.proofs.Sets.{Contains-from_has, Has-from_contains, Has-from_map, Has-map}
 use Rattle.block_walk.specs.Turns.{Fetches}
 use Rattle.block_walk.specs.Worlds.{World}
 use Rattle.cursor_executor.specs.declared.cursors.Turn.{Turn}
 use Rattle.cursor_executor.specs.declared.cursors.Turn.TheVariants.{Probed, Done}
-use Rattle.cursor_executor.specs.Fetching.{AllAgree, BlockFetched, Seen, probe_of, probes_due}
-use Rattle.cursor_executor.specs.Turns.{TurnIs}
+use Rattle.cursor_executor.specs.Fetching.{AllAgree, BlockFetched, Seen, probe_of, probes_due, reads_due}
+use Rattle.cursor_executor.specs.Turns.{SpentWithin, TurnIs}
 use Rattle.kept_facts.specs.OpenQueries.{OpenQuery}
 use Rattle.open_queries.specs.Held.{IsKept, held}
-use Rattle.open_queries.specs.Turns.{Goes}
+use Rattle.open_queries.specs.Turns.{Goes, IsCompleted, SpendsWithin}
 use Rattle.open_queries.proofs.WorldFacts.{answer_is, probes_are, reads_are, share_is}
 
 -- what is fetched for one pair more is probed for one probe more
@@ -41,7 +42,7 @@ module _ (w : World) (old new : Seen) (kept : IsKept w old) (prepared : new.prep
   fits_still = subst (Fits w.accesses w.rows) (sym prepared) kept.fits
 
   -- what failed is kept whatever it fetched
-  kept_failed : new.failed ≡ true → IsKept w new
+  pub kept_failed : new.failed ≡ true → IsKept w new
   kept_failed failed = record {
     fits = fits_still;
     agrees = λ going. absurd (let no : true ≡ false = sym failed ∙ going in cc);
@@ -77,8 +78,8 @@ module _ (w : World) (old new : Seen) (kept : IsKept w old) (prepared : new.prep
     abbrev q : OpenQuery
     q = held w session old plan
 
-    after_is : held w session new plan ≡ record q { made = (held w session new plan).made }
-    after_is = ap (λ (p : Prepared). held w session (record new { prepared = p }) plan) prepared
+    pub sees_still : held w session new plan ≡ record q { made = (held w session new plan).made }
+    sees_still = ap (λ (p : Prepared). held w session (record new { prepared = p }) plan) prepared
 
     goes_turn : (turn : Turn) (s t : ℕ) → old.failed ≡ false → TurnIs w turn old new s t → Goes turn q old new (held w session new plan) s t
     goes_turn Probed s t going h =
@@ -97,7 +98,7 @@ module _ (w : World) (old new : Seen) (kept : IsKept w old) (prepared : new.prep
           wanted = subst (λ ps. Contains ps probe) (sym (probes_are w old kept session plan)) made.due.wanted;
           not_made = made.due.not_made;
           makes = fetches_map probe_of made.one old.fetched new.fetched made.fetches;
-          is = after_is ∙ ap (λ m. let r : OpenQuery = record q { made = m } in r) one;
+          is = sees_still ∙ ap (λ m. let r : OpenQuery = record q { made = m } in r) one;
           reads = h.did.raised ∙ ap (λ n. old.reads + n) share;
           steps = made.cost ∙ ap (λ n. s + n) share;
         }
@@ -111,7 +112,7 @@ module _ (w : World) (old new : Seen) (kept : IsKept w old) (prepared : new.prep
           made = length old.fetched;
           was = ap (λ b. if b then None else Some (length old.fetched)) going;
           none_due = omega (arith, whole, count);
-          is = after_is ∙ ap (λ m. let r : OpenQuery = record q { made = m } in r) one;
+          is = sees_still ∙ ap (λ m. let r : OpenQuery = record q { made = m } in r) one;
           answer = h.did.answered ∙ ap (λ rows. Some rows) (sym (answer_is w old kept session plan));
           reads = h.did.reads_are ∙ sym (reads_are w old kept session plan);
           same = h.did.stay;
@@ -123,10 +124,36 @@ module _ (w : World) (old new : Seen) (kept : IsKept w old) (prepared : new.prep
     goes_after (Ok turn) s t going h = goes_turn turn s t going h
     goes_after (Err e) s t going h = tt
 
-    pub lost_after : (r : Result Turn NoMemory) → OnErr r (new.failed ≡ true) → OnErr r (held w session new plan ≡ record q { made = None })
-    lost_after (Ok turn) failed = tt
+    pub lost_after : {T : Type 0} (r : Result T NoMemory) → OnErr r (new.failed ≡ true) → OnErr r (held w session new plan ≡ record q { made = None })
+    lost_after (Ok done) failed = tt
     lost_after (Err e) failed =
-        after_is ∙ ap (λ m. let r : OpenQuery = record q { made = m } in r) (ap (λ b. if b then None else Some (length new.fetched)) failed)
+        sees_still ∙ ap (λ m. let r : OpenQuery = record q { made = m } in r) (ap (λ b. if b then None else Some (length new.fetched)) failed)
+
+-- ---- all turns that are left
+
+pub on_error : {T : Type 0} (r : Result T NoMemory) (P Q : Type 0) → (P → Q) → OnErr r P → OnErr r Q
+on_error (Ok done) P Q f h = tt
+on_error (Err e) P Q f h = f h
+
+module _ (w : World) (old new : Seen) (kept : IsKept w old) (session : ℕ) (plan : List ℕ) (s t : ℕ) where
+  pub completed : (r : Result (Unit {0}) NoMemory) → OnOk r (new.answer ≡ Some (full_of w.rows old.prepared.query))
+      → OnOk r (new.reads ≡ reads_due w old.prepared) → OnOk r (t + old.reads ≡ s + new.reads)
+      → OnOk r (IsCompleted (held w session old plan) old new s t)
+  completed (Ok done) answer reads cost =
+      let all = reads_are w old kept session plan in
+      record {
+        answer = answer ∙ ap (λ rows. Some rows) (sym (answer_is w old kept session plan));
+        reads = reads ∙ sym all;
+        steps = omega (arith, cost, reads, all);
+      }
+  completed (Err e) answer reads cost = tt
+
+  pub spends_within : (r : Result (Unit {0}) NoMemory) → OnErr r (SpentWithin w old.prepared old.reads s t)
+      → OnErr r (SpendsWithin (held w session old plan) old s t)
+  spends_within (Ok done) spent = tt
+  spends_within (Err e) spent =
+      let all = reads_are w old kept session plan in
+      elim spent [ inl same ↦ inl same | inr within ↦ inr (omega (arith, within, all)) ]
 
 -- a turn that went well began with a cursor that hadn't failed
 pub was_going : (r : Result Turn NoMemory) (failed : Bool) → (failed ≡ true → IsErr r) → IfOk r (λ turn. failed ≡ false)

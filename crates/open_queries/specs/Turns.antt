@@ -1,9 +1,11 @@
--- What one turn does for an open query.
+-- What one turn does for an open query, and what all those do that are left.
 --     MakesProbe query old new next before after    exactly one probe of the query was made, which hadn't been made, and it counted its share
 --     IsAnswered query old new next before after    all its probes had been made: it is answered, and counted nothing
 --     Goes turn query old new next before after     a turn of its cursor, from `old` to `new`, made of the open query what `next` is, by one of
 --                                                   these two; `before` and `after` are the counts of reads
-use Rattle.std.specs.Prelude.{◌≡◌, ◌+◌, ◌<◌, ◌≤◌, ℕ, length, Contains, Some}
+--     IsCompleted query old new before after        the query is answered, and counted the reads that were left
+--     SpendsWithin query old before after           what failed counted nothing, or no more than the reads that were left
+use Rattle.std.specs.Prelude.{◌≡◌, ◌+◌, ◌<◌, ◌≤◌, ◌⊎◌, ℕ, length, Contains, Some}
 use Rattle.beas_core.specs.Queries.{BlockProbe}
 use Rattle.block_walk.specs.Turns.{Fetches}
 use Rattle.cursor_executor.specs.declared.cursors.Turn.{Turn}
@@ -37,3 +39,11 @@ pub record IsAnswered (query : OpenQuery) (old new : Seen) (next : OpenQuery) (b
 abbrev pub Goes : Turn → OpenQuery → Seen → Seen → OpenQuery → ℕ → ℕ → Type 0
 Goes Probed query old new next before after = MakesProbe query old new next before after
 Goes Done query old new next before after = IsAnswered query old new next before after
+
+pub record IsCompleted (query : OpenQuery) (old new : Seen) (before after : ℕ) : Type 0 where
+  pub answer : new.answer ≡ Some (answer_of query)
+  pub reads : new.reads ≡ reads_of query
+  pub steps : after + old.reads ≡ before + reads_of query
+
+abbrev pub SpendsWithin : OpenQuery → Seen → ℕ → ℕ → Type 0
+SpendsWithin query old before after = (after ≡ before) ⊎ (after + old.reads ≤ before + reads_of query)

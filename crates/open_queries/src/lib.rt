@@ -7,4 +7,4 @@ mod turns;
 
 pub use freezing::freeze_for;
 pub use open::{Freezes, OpenQuery};
-pub use turns::turn;
+pub use turns::{complete, turn};

@@ -1,8 +1,8 @@
-// One turn of an open query.
-ghost use Rattle.std.specs.Prelude.{◌≡◌, true, IfOk, IsErr, None, OnErr};
+// One turn of an open query, and all those that are left.
+ghost use Rattle.std.specs.Prelude.{◌≡◌, ◌≤◌, false, true, IfOk, IsErr, None, OnErr, OnOk};
 ghost use Rattle.cursor_executor.specs.Turns.{QuerySpent, TurnIs};
 ghost use Rattle.open_queries.specs.Held.{IsOpen, held_of, world_of};
-ghost use Rattle.open_queries.specs.Turns.{Goes};
+ghost use Rattle.open_queries.specs.Turns.{Goes, IsCompleted, SpendsWithin};
 
 use crate::open::{Freezes, OpenQuery};
 use beas_core::{NoMemory, Steps};
@@ -44,4 +44,41 @@ pub fn turn<G: Freezes<P>, P: Part, L: Ledger>(
         parts: &query.parts,
     };
     query.cursor.advance(alloc, &port, steps)
+}
+
+/// Makes all probes of a query that are due, one after another, over the parts that are kept for it and the store, so that
+/// its answer is there. Those that were made before aren't made again. Out of memory its cursor has failed, and no more
+/// was counted than the reads that were left.
+pub fn complete<G: Freezes<P>, P: Part, L: Ledger>(
+    alloc: Global,
+    guard: &G,
+    query: &mut OpenQuery<P>,
+    steps: &mut Steps<L>,
+) -> Result<(), NoMemory>
+    requires kept { IsOpen P.table_of P.rows P.accesses (G.rows guard.now) (G.accesses guard.now) query.old }
+    requires going { query.old.cursor.failed ≡ false }
+    ensures session { query.new.session ≡ query.old.session }
+    ensures header { query.new.header ≡ query.new.cursor.prepared.header }
+    ensures sees { held_of P.table_of P.rows P.accesses (G.rows guard.now) (G.accesses guard.now) query.new
+        ≡ record (held_of P.table_of P.rows P.accesses (G.rows guard.now) (G.accesses guard.now) query.old)
+        { made = (held_of P.table_of P.rows P.accesses (G.rows guard.now) (G.accesses guard.now) query.new).made } }
+    ensures completed { OnOk result (IsCompleted
+        (held_of P.table_of P.rows P.accesses (G.rows guard.now) (G.accesses guard.now) query.old)
+        query.old.cursor query.new.cursor steps.old steps.new) }
+
+    // Out of memory.
+    ensures kept { OnErr result
+        (IsOpen P.table_of P.rows P.accesses (G.rows guard.now) (G.accesses guard.now) query.new) }
+    ensures lost { OnErr result
+        (held_of P.table_of P.rows P.accesses (G.rows guard.now) (G.accesses guard.now) query.new
+        ≡ record (held_of P.table_of P.rows P.accesses (G.rows guard.now) (G.accesses guard.now) query.old)
+        { made = None }) }
+    ensures spent { OnErr result (SpendsWithin
+        (held_of P.table_of P.rows P.accesses (G.rows guard.now) (G.accesses guard.now) query.old)
+        query.old.cursor steps.old steps.new) }
+    ensures no_fewer { steps.old ≤ steps.new }
+{
+    let parts = query.parts.as_slice();
+    let port = KeptPort { guard, parts };
+    query.cursor.complete(alloc, &port, steps)
 }
