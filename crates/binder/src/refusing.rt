@@ -231,16 +231,25 @@ fn is_mixed(condition: &Condition) -> bool
     }
 }
 
+/// Refuses a condition whose sides differ in type. A refusal is made only where there is one, since that takes longer than the test.
+fn refuse_if_mixed(number: u32, nth: u32, condition: &Condition) -> Result<(), Fail>
+    ensures { IsRefusedAs result (first (refusals_if (is_mixed condition.now) (Refusal.MixedTypes number nth))) }
+{
+    if is_mixed(condition) {
+        return Err(Fail::Refused(Refusal::MixedTypes {
+            block: number,
+            condition: nth,
+        }));
+    }
+    Ok(())
+}
+
 fn refuse_mixed(number: u32, conditions: &[Condition]) -> Result<(), Fail>
     requires { length conditions.now < 2 ^ 32 }
     ensures { IsRefusedAs result (first (mixed_types number conditions.now)) }
 {
     for (place, condition) in conditions.iter().enumerate() {
-        let why = Refusal::MixedTypes {
-            block: number,
-            condition: place as u32 + 1,
-        };
-        refuse_if(is_mixed(condition), why)?;
+        refuse_if_mixed(number, place as u32 + 1, condition)?;
     }
     Ok(())
 }

@@ -10,15 +10,15 @@ use Rattle.binder.proofs.refusing.refuse_mixed.Goals as goal
 pub loop-place-init : goal.loop-place-init
 loop-place-init c = from_start (λ p. refusals_if (is_mixed p.1) (MixedTypes c.args.number p.0)) (enumerate_from 1 c.args.conditions.now)
 
-pub returns-in_err-refuse_if : goal.returns-in_err-refuse_if
-returns-in_err-refuse_if c =
+pub returns-in_err-refuse_if_mixed : goal.returns-in_err-refuse_if_mixed
+returns-in_err-refuse_if_mixed c =
     let p = err_from_is_err_and c.from_residual.result c.from_residual.ensures.1 in
     let pair : ℕ × Condition = (c.loop-place.place + 1, c.index-conditions-place.result) in
     rw (p.1, p.2) (err_next (Unit {0}) (Unit {0}) _ (λ p. refusals_if (is_mixed p.1) (MixedTypes c.args.number p.0))
     (enumerate_from 1 c.args.conditions.now) c.loop-place.place pair
     c.loop-place.invariant (numbered_below c.args.conditions.now c.loop-place.place c.loop-place-test.true)
     (numbered_at c.args.conditions.now c.loop-place.place c.index-conditions-place.result c.loop-place-test.true c.index-conditions-place.is)
-    (rw c.is_mixed.ensures at c.in_err-refuse_if.ensures))
+    c.in_err-refuse_if_mixed.ensures)
 
 pub loop-place-preserved : goal.loop-place-preserved
 loop-place-preserved c =
@@ -26,7 +26,7 @@ loop-place-preserved c =
     sym (next_ok (λ p. refusals_if (is_mixed p.1) (MixedTypes c.args.number p.0)) (enumerate_from 1 c.args.conditions.now) c.loop-place.place pair
     (numbered_below c.args.conditions.now c.loop-place.place c.loop-place-test.true)
     (numbered_at c.args.conditions.now c.loop-place.place c.index-conditions-place.result c.loop-place-test.true c.index-conditions-place.is)
-    (rw c.is_mixed.ensures at c.in_ok-refuse_if.ensures))
+    c.in_ok-refuse_if_mixed.ensures)
     ∙ c.loop-place.invariant
 
 pub returns : goal.returns
