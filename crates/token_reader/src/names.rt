@@ -1,5 +1,5 @@
 // Whether a word is a name, told by a look at the reserved words that begin with its first letter.
-ghost use Rattle.std.specs.Prelude.{◌≡◌, ◌&&◌, not};
+ghost use Rattle.std.specs.Prelude.{◌≡◌, ◌≤◌, ◌&&◌, true, not, length, take};
 ghost use Rattle.std.specs.List.{list_all, list_any};
 ghost use Rattle.std.specs.Str.{bytes_eq};
 ghost use Rattle.beas_core.specs.Spelling.{is_name, is_reserved};
@@ -17,13 +17,27 @@ fn goes_on(byte: u8) -> bool
     byte == b'_' || byte.is_ascii_digit()
 }
 
+// How many letters in lower case a text begins with, which most names are made of.
+fn letters_before(text: &[u8]) -> usize
+    ensures within { result ≤ length text.now }
+    ensures letters { list_all goes_on_folded (take result text.now) ≡ true }
+{
+    let mut at = 0;
+    while at < text.len() && text[at].is_ascii_lowercase() {
+        at += 1;
+    }
+    at
+}
+
 fn all_go_on(text: &[u8]) -> bool
     ensures { result ≡ list_all goes_on_folded text.now }
 {
-    for byte in text {
-        if !goes_on(*byte) {
+    let mut at = letters_before(text);
+    while at < text.len() {
+        if !goes_on(text[at]) {
             return false;
         }
+        at += 1;
     }
     true
 }
