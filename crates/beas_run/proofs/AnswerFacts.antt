@@ -1,188 +1,120 @@
--- How a query of session 0 that was opened goes on, event by event, to its answer.
-use Rattle.std.proofs.Common.{◌≡◌, ◌<◌, ◌≤◌, ◌+◌, ◌-◌, ◌∙◌, ap, subst, sym, refl, ℕ, zero, suc, Bool, true, false, Option, None, Some, arith, length, ltb-false, ltb-true}
-use Rattle.std.specs.Prelude.{if◌then◌else◌, nat_lt, option_map, sum, IsSomeAnd, unwrap_or}
+-- How a query of session 0 that was opened comes to its answer: at once, and as so many events of its session would bring it there.
+use Rattle.std.proofs.Common.{◌≡◌, ◌≤◌, ◌+◌, ◌∙◌, ap, subst, sym, refl, ℕ, zero, suc, Bool, true, false, not, cond, List, [], ◌∷◌, Option, None, Some, Result, Ok, Err, arith, find, length, remove, set}
+use Rattle.std.specs.Prelude.{if◌then◌else◌, nat_lt, is_some, sum, IfOk, IsSome, IsSomeAnd, OnErr}
+use Rattle.std.specs.List.{position_or_len}
 use Rattle.std.specs.Option.{option_map_or}
-use Rattle.kept_facts.specs.OpenQueries.{OpenQuery, probes_of, reads_of}
+use Rattle.std.proofs.lemmas.Bool.{lt-ltb, le-ltb}
+use Rattle.beas_core.specs.declared.errors.NoMemory.{NoMemory as Out}
+use Rattle.kept_facts.specs.OpenQueries.{OpenQuery, answer_of, probes_of, reads_of}
 use Rattle.report.specs.declared.reports.Report.{Report}
-use Rattle.outside.specs.Seen.{Seen}
+use Rattle.report.specs.declared.reports.Report.TheVariants.{Answered}
 use Rattle.desk_model.specs.declared.event.Event.TheVariants.{Stepped}
-use Rattle.desk_model.specs.Desks.{AtOnce, DeskEffect, State, action_of_event, answered_effect, is_of, probed_effect, query_effect, query_of, stepped_effect}
+use Rattle.desk_model.specs.Desks.{DeskEffect, State, answered_effect, is_of, probed_effect, query_effect, query_of, stepped_effect, with_query}
 use Rattle.desk_model.specs.Pieces.{after_cost, and_step, and_steps, probes_due}
 use Rattle.desk_model.proofs.Places.{find_passes}
-use Rattle.version_store.specs.Desks.{IsDesk, MayTake, Seen as DeskSeen, Takes, TakesSome, desk_wanting}
-use Rattle.session.specs.Effects.{Settings}
-use Rattle.beas_run.specs.Pieces.{Reaches, answered_from, is_probed}
-use Rattle.beas_run.specs.Shares.{open_reads, probes_made}
+use Rattle.version_store.specs.Desks.{Completes, IsDesk, MaySpend, Seen as DeskSeen, desk_wanting}
+use Rattle.version_store.proofs.Places.{remove-set}
+use Rattle.beas_run.specs.Pieces.{Reaches, answered_from}
+use Rattle.beas_run.specs.Shares.{open_reads}
 use Rattle.beas_run.proofs.FoundFacts.{find-set-found}
 use Rattle.beas_run.proofs.LeftFacts.{wanting_db}
-use Rattle.beas_run.proofs.ShareFacts.{may_take, shares_fit}
-use Rattle.beas_run.proofs.ReadsFacts.{probed_reads}
+use Rattle.beas_run.proofs.ShareFacts.{may_spend, shares_fit}
 
--- how many probes are left
-abbrev pub probes_left : State → ℕ
-probes_left state = option_map_or (λ query. length (probes_of query) - probes_made query) (query_of 0 state) 0
-
--- the effect that is reached while it goes on
-pub record Comes (left : ℕ) (now : State) (first : DeskEffect) : Type 0 where
-  pub effect : DeskEffect
-  pub is : answered_from first ≡ and_steps 0 (suc left) effect
-  pub state : effect.state ≡ now
-  pub free : effect.cost ≡ 0
-
-pub record Going (start now : DeskSeen) (s t : ℕ) : Type 0 where
-  pub query : OpenQuery
-  pub made : ℕ
-  pub left : ℕ
-  pub is : query_of 0 now.state ≡ Some query
-  pub was : query.made ≡ Some made
-  pub left_is : made + left ≡ length (probes_of query)
-  pub comes : (first : DeskEffect) → first.state ≡ start.state → first.cost ≡ 0 → Comes left now.state first
-  pub counts : t + sum start.shares ≡ s + sum now.shares
-  pub reads : open_reads now.state ≡ open_reads start.state
-  pub db : now.state.db ≡ start.state.db
-
-left_at : (state : State) (query : OpenQuery) (made left : ℕ) → query_of 0 state ≡ Some query → query.made ≡ Some made
-    → made + left ≡ length (probes_of query) → probes_left state ≡ left
-left_at state query made left is was e =
-    ap (λ o. option_map_or (λ (q : OpenQuery). length (probes_of q) - probes_made q) o 0) is
-    ∙ ap (λ o. length (probes_of query) - unwrap_or o 0) was ∙ omega (arith, e)
-
-begun_at : (start : DeskSeen) (s : ℕ) (query : OpenQuery) → query_of 0 start.state ≡ Some query → query.made ≡ Some 0 → Going start start s s
-begun_at start s query is was = record {
-  query = query;
-  made = 0;
-  left = length (probes_of query);
-  is = is;
-  was = was;
-  left_is = omega arith;
-  comes = λ first same free.
-      let due : probes_due 0 first.state ≡ length (probes_of query) =
-      ap (λ st. probes_due 0 st) same ∙ ap (λ o. option_map_or (λ (q : OpenQuery). length (probes_of q)) o 0) is in
-      let one : probes_due 0 first.state + 1 ≡ suc (length (probes_of query)) = omega (arith, due) in
-      record { effect = first; is = ap (λ n. and_steps 0 n first) one; state = same; free = free };
-  counts = refl;
-  reads = refl;
-  db = refl;
-}
-
-pub begun_going : (start : DeskSeen) (s : ℕ) → IsSomeAnd (query_of 0 start.state) (λ query. query.made ≡ Some 0) → Going start start s s
-begun_going start s new = by (query_of 0 start.state) refl new
+-- the first that passes stands where it stood if another that passes takes its place
+place-set-found : {X : Type 0} (p : X → Bool) (xs : List X) (x y : X) → find p xs ≡ Some x → p y ≡ true
+    → position_or_len p (set xs (position_or_len p xs) y) ≡ position_or_len p xs
+place-set-found p [] x y h own = cc
+place-set-found p (z ∷ xs) x y h own = by (p z) refl h (λ g. place-set-found p xs x y g own)
   where
-    by : (o : Option OpenQuery) → query_of 0 start.state ≡ o → IsSomeAnd o (λ query. query.made ≡ Some 0) → Going start start s s
-    by None is h = absurd h
-    by (Some query) is h = begun_at start s query is h
+    by : (b : Bool) → p z ≡ b → cond b (Some z) (find p xs) ≡ Some x
+        → (find p xs ≡ Some x → position_or_len p (set xs (position_or_len p xs) y) ≡ position_or_len p xs)
+        → position_or_len p (set (z ∷ xs) (cond (not b) (1 + position_or_len p xs) 0) y) ≡ cond (not b) (1 + position_or_len p xs) 0
+    by true e g later = ap (λ b. cond (not b) (1 + position_or_len p xs) 0) own
+    by false e g later =
+        let one : 1 + position_or_len p xs ≡ suc (position_or_len p xs) = omega arith in
+        ap (λ i. position_or_len p (set (z ∷ xs) i y)) one
+        ∙ ap (λ b. cond (not b) (1 + position_or_len p (set xs (position_or_len p xs) y)) 0) e ∙ ap (λ n. 1 + n) (later g)
 
--- ---- one event more
+remove-set-found : {X : Type 0} (p : X → Bool) (xs : List X) (x y : X) → find p xs ≡ Some x → p y ≡ true
+    → remove (set xs (position_or_len p xs) y) (position_or_len p (set xs (position_or_len p xs) y)) ≡ remove xs (position_or_len p xs)
+remove-set-found p xs x y h own =
+    ap (remove (set xs (position_or_len p xs) y)) (place-set-found p xs x y h own) ∙ remove-set xs (position_or_len p xs) y
 
--- it goes on after it, with fewer probes left
-pub record IsOn (start now after : DeskSeen) (s u : ℕ) : Type 0 where
-  pub going : Going start after s u
-  pub fewer : probes_left after.state < probes_left now.state
+-- ---- event by event
 
-module _ (start now after : DeskSeen) (s t u limit : ℕ) (settings : Settings) (report : Report) (x y : Seen) (g : Going start now s t)
-    (did : TakesSome limit (action_of_event settings now.state (Stepped 0)) report now after t u x y) where
-  abbrev going_on : Bool → DeskEffect
-  going_on b = if b then probed_effect now.state 0 g.query g.made else answered_effect now.state 0 g.query
+step_is : (k : ℕ) (effect : DeskEffect) (q : OpenQuery) (made : ℕ) → query_of k effect.state ≡ Some q → q.made ≡ Some made → (b : Bool)
+    → nat_lt made (length (probes_of q)) ≡ b
+    → and_step k effect ≡ after_cost effect.cost (if b then probed_effect effect.state k q made else answered_effect effect.state k q)
+step_is k effect q made is was b e =
+    ap (λ o. option_map_or (after_cost effect.cost) o effect)
+    (ap (stepped_effect effect.state k) is ∙ ap (query_effect effect.state k q) was
+    ∙ ap (λ c. Some (if c then probed_effect effect.state k q made else answered_effect effect.state k q)) e)
 
-  abbrev due : Bool
-  due = nat_lt g.made (length (probes_of g.query))
+-- a probe more leaves the answer as it is
+answer_stays : (state : State) (k : ℕ) (q : OpenQuery) (made : Option ℕ) → query_of k state ≡ Some q
+    → answered_effect (with_query k (record q { made = made }) state) k (record q { made = made }) ≡ answered_effect state k q
+answer_stays state k q made is =
+    ap (λ queries. let e : DeskEffect = record {
+      report = Answered q.prepared.bound q.plan q.prepared.header (answer_of q) (reads_of q);
+      cost = reads_of q;
+      state = record { db = state.db; queries = queries };
+    } in e) (remove-set-found (is_of k) state.queries q (record q { made = made }) is (find_passes (is_of k) state.queries q is))
 
-  step_is : stepped_effect now.state 0 (query_of 0 now.state) ≡ Some (going_on due)
-  step_is = ap (stepped_effect now.state 0) g.is ∙ ap (query_effect now.state 0 g.query) g.was
+reached : (left k : ℕ) (effect : DeskEffect) (q : OpenQuery) (made : ℕ) → query_of k effect.state ≡ Some q → q.made ≡ Some made
+    → made + left ≡ length (probes_of q) → and_steps k (suc left) effect ≡ after_cost effect.cost (answered_effect effect.state k q)
+reached zero k effect q made is was e =
+    step_is k effect q made is was false (le-ltb made (length (probes_of q)) (omega (arith, e)))
+reached (suc left) k effect q made is was e =
+    let next : OpenQuery = record q { made = Some (made + 1) } in
+    let one : DeskEffect = after_cost effect.cost (probed_effect effect.state k q made) in
+    let free : effect.cost + 0 ≡ effect.cost = omega arith in
+    let fewer : made + 1 + left ≡ length (probes_of q) = omega (arith, e) in
+    let there : query_of k one.state ≡ Some next =
+    find-set-found (is_of k) effect.state.queries q next is (find_passes (is_of k) effect.state.queries q is) in
+    ap (and_steps k (suc left)) (step_is k effect q made is was true (lt-ltb made (length (probes_of q)) (omega (arith, e))))
+    ∙ reached left k one next (made + 1) there refl fewer
+    ∙ ap (λ n. after_cost n (answered_effect one.state k next)) free
+    ∙ ap (after_cost effect.cost) (answer_stays effect.state k q (Some (made + 1)) is)
 
-  took : Takes limit (AtOnce (going_on due)) report now after t u x y
-  took = subst (λ o. TakesSome limit (option_map AtOnce o) report now after t u x y) step_is did
+-- ---- at once
 
-  -- the same of an effect that is reached
-  next_effect : (effect : DeskEffect) → effect.state ≡ now.state → and_step 0 effect ≡ after_cost effect.cost (going_on due)
-  next_effect effect same =
-      ap (λ o. option_map_or (after_cost effect.cost) o effect) (ap (λ st. stepped_effect st 0 (query_of 0 st)) same ∙ step_is)
+pub goes_on : (o : Option OpenQuery) → IsSomeAnd o (λ query. query.made ≡ Some 0) → IsSomeAnd o (λ query. IsSome query.made)
+goes_on None new = new
+goes_on (Some q) new = ap is_some new
 
-  -- a probe was due, and was made
-  abbrev next_query : OpenQuery
-  next_query = record g.query { made = Some (g.made + 1) }
-
-  probed_on : (l : ℕ) → g.left ≡ suc l → due ≡ true → IsOn start now after s u
-  probed_on l more on =
-      let probed : Takes limit (AtOnce (going_on true)) report now after t u x y =
-      subst (λ b. Takes limit (AtOnce (going_on b)) report now after t u x y) on took in
-      let there : query_of 0 after.state ≡ Some next_query =
-      ap (λ st. query_of 0 st) probed.state_is
-      ∙ find-set-found (is_of 0) now.state.queries g.query next_query g.is (find_passes (is_of 0) now.state.queries g.query g.is) in
-      let left_is : g.made + 1 + l ≡ length (probes_of g.query) = omega (arith, g.left_is, more) in
-      let before = left_at now.state g.query g.made g.left g.is g.was g.left_is in
-      let later = left_at after.state next_query (g.made + 1) l there refl left_is in
+module _ (start after : DeskSeen) (s t : ℕ) where
+  is_answered : (report : Report) → IsSomeAnd (query_of 0 start.state) (λ query. query.made ≡ Some 0) → IsDesk after → Completes 0 report start after s t
+      → (first : DeskEffect) → first.state ≡ start.state → first.cost ≡ 0 → Reaches (answered_from first) report start after s t
+  is_answered report new told h first same free =
+      let q = h.query in
+      let is : query_of 0 first.state ≡ Some q = ap (λ st. query_of 0 st) same ∙ h.is in
+      let was : q.made ≡ Some 0 = subst (λ o. IsSomeAnd o (λ (query : OpenQuery). query.made ≡ Some 0)) h.is new in
+      let due : probes_due 0 first.state ≡ length (probes_of q) = ap (λ o. option_map_or (λ (r : OpenQuery). length (probes_of r)) o 0) is in
+      let one : probes_due 0 first.state + 1 ≡ suc (length (probes_of q)) = omega (arith, due) in
+      let last : answered_from first ≡ after_cost first.cost (answered_effect start.state 0 q) =
+      ap (λ n. and_steps 0 n first) one ∙ reached (length (probes_of q)) 0 first q 0 is was (omega arith)
+      ∙ ap (λ st. after_cost first.cost (answered_effect st 0 q)) same in
+      let cost : (answered_from first).cost ≡ first.cost + reads_of q = ap (λ (e : DeskEffect). e.cost) last in
+      let counts = h.counts in
       record {
-        going = record {
-          query = next_query;
-          made = g.made + 1;
-          left = l;
-          is = there;
-          was = refl;
-          left_is = left_is;
-          comes = λ first same free.
-              let c = g.comes first same free in
-              let next = next_effect c.effect c.state ∙ ap (λ b. after_cost c.effect.cost (going_on b)) on in
-              record {
-                effect = and_step 0 c.effect;
-                is = c.is ∙ ap (λ n. and_steps 0 (suc n) c.effect) more;
-                state = ap (λ (e : DeskEffect). e.state) next ∙ sym probed.state_is;
-                free = ap (λ (e : DeskEffect). e.cost) next ∙ omega (arith, c.free);
-              };
-          counts = omega (arith, g.counts, probed.counts);
-          reads = ap open_reads probed.state_is ∙ probed_reads now.state 0 g.query g.is (Some (g.made + 1)) ∙ g.reads;
-          db = ap (λ (st : State). st.db) probed.state_is ∙ g.db;
-        };
-        fewer = omega (arith, before, later, more);
-      }
-
-  -- none was due, and it was answered
-  answered_on : due ≡ false → (first : DeskEffect) → first.state ≡ start.state → first.cost ≡ 0 → IsDesk after → Reaches (answered_from first) report start after s u
-  answered_on none first same free told =
-      let c = g.comes first same free in
-      let answered : Takes limit (AtOnce (going_on false)) report now after t u x y =
-      subst (λ b. Takes limit (AtOnce (going_on b)) report now after t u x y) none took in
-      let past : length (probes_of g.query) ≤ g.made = ltb-false g.made (length (probes_of g.query)) none in
-      let last : g.left ≡ 0 = omega (arith, g.left_is, past) in
-      let is : answered_from first ≡ after_cost c.effect.cost (going_on false) =
-      c.is ∙ ap (λ n. and_steps 0 (suc n) c.effect) last ∙ next_effect c.effect c.state
-      ∙ ap (λ b. after_cost c.effect.cost (going_on b)) none in
-      let cost : (answered_from first).cost ≡ c.effect.cost + reads_of g.query = ap (λ (e : DeskEffect). e.cost) is in
-      record {
-        report_is = answered.report_is ∙ sym (ap (λ (e : DeskEffect). e.report) is);
-        state_is = answered.state_is ∙ sym (ap (λ (e : DeskEffect). e.state) is);
+        report_is = h.report_is ∙ sym (ap (λ (e : DeskEffect). e.report) last);
+        state_is = h.state_is ∙ sym (ap (λ (e : DeskEffect). e.state) last);
         shares = λ _. shares_fit after told;
-        counts = omega (arith, g.counts, answered.counts, cost, c.free);
+        counts = omega (arith, counts, cost, free);
       }
 
-  report_of : (b : Bool) → due ≡ b → report ≡ (going_on b).report
-  report_of b e = took.report_is ∙ ap (λ c. (going_on c).report) e
+  pub answered : (r : Result Report Out) → IsSomeAnd (query_of 0 start.state) (λ query. query.made ≡ Some 0) → IsDesk after
+      → IfOk r (λ report. Completes 0 report start after s t)
+      → IfOk r (λ report. (first : DeskEffect) → first.state ≡ start.state → first.cost ≡ 0 → Reaches (answered_from first) report start after s t)
+  answered (Ok report) new told h = is_answered report new told h
+  answered (Err why) new told h = tt
 
-  -- what was reported says which of the two it was
-  pub goes_on : is_probed report ≡ true → IsOn start now after s u
-  goes_on on = by due refl g.left refl
-    where
-      by : (b : Bool) → due ≡ b → (left : ℕ) → g.left ≡ left → IsOn start now after s u
-      by false e left is = let other : true ≡ false = sym on ∙ ap is_probed (report_of false e) in cc
-      by true e zero is =
-          let below : g.made < length (probes_of g.query) = ltb-true g.made (length (probes_of g.query)) e in
-          absurd (omega (arith, below, is, g.left_is))
-      by true e (suc l) is = probed_on l is e
+  -- out of memory
+  pub lost_db : (r : Result Report Out) → OnErr r (after ≡ desk_wanting (Stepped 0) start) → OnErr r (after.state.db ≡ start.state.db)
+  lost_db (Ok report) e = tt
+  lost_db (Err why) e = wanting_db 0 start after e
 
-  pub is_answered : is_probed report ≡ false → IsDesk after → (first : DeskEffect) → first.state ≡ start.state → first.cost ≡ 0
-      → Reaches (answered_from first) report start after s u
-  is_answered off told first same free = by due refl
-    where
-      by : (b : Bool) → due ≡ b → Reaches (answered_from first) report start after s u
-      by true e = let other : true ≡ false = sym (ap is_probed (report_of true e)) ∙ off in cc
-      by false e = answered_on e first same free told
-
--- ---- out of memory
-
-pub lost_db : (start now after : DeskSeen) (s t : ℕ) → Going start now s t → after ≡ desk_wanting (Stepped 0) now → after.state.db ≡ start.state.db
-lost_db start now after s t g e = wanting_db 0 now after e ∙ g.db
-
-pub lost_reads : (start now : DeskSeen) (s t u : ℕ) → Going start now s t → IsDesk now → MayTake (Stepped 0) now t u
-    → u + sum start.shares ≤ s + open_reads start.state
-lost_reads start now s t u g told may =
-    let h = may_take 0 now t u told may in omega (arith, h, g.counts, g.reads)
+  pub lost_reads : (r : Result Report Out) → IsDesk start → s ≤ t → OnErr r (MaySpend 0 start s t)
+      → OnErr r (t + sum start.shares ≤ s + open_reads start.state)
+  lost_reads (Ok report) told later may = tt
+  lost_reads (Err why) told later may = may_spend 0 start s t told later may

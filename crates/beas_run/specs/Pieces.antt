@@ -2,7 +2,6 @@
 --     Scene                             a desk, the steps, the output and the files; scene makes one
 --     moment_of scene                   what a run comes to that ends there
 --     SayingIsWellFormed saying         its session has a number of at most 64, and its statement is well formed
---     is_probed report                  the report is that of a probe
 --     answered_from first               the effect of going on, to its answer, with a query of session 0 that was opened
 --     IsTaken event result ..           what a desk tells of an event that was to be done there
 --     Reaches last report ..            what was done came to this effect
@@ -14,14 +13,13 @@
 --     reads_by state turn               what is read at most for all that was opened, where this turn comes next
 --     IsLeft settings reading ..        out of memory the piece wasn't carried out, and the database is as it was
 --     IsUndone ..                       the same, and nothing was sent
-use Rattle.std.specs.Prelude.{◌≡◌, ◌≤◌, ◌+◌, ◌++◌, ◌⊎◌, ℕ, Bool, true, false, List, [], ◌∷◌, length, sum, Option, None, Some, Result, IfOk, OnErr}
+use Rattle.std.specs.Prelude.{◌≡◌, ◌≤◌, ◌+◌, ◌++◌, ◌⊎◌, ℕ, Bool, true, List, [], ◌∷◌, length, sum, Option, None, Some, Result, IfOk, OnErr}
 use Rattle.std.specs.Option.{option_map_or}
 use Rattle.beas_core.specs.declared.errors.NoMemory.{NoMemory}
 use Rattle.outside.specs.Counts.{raised}
 use Rattle.outside.specs.Parts.{SentPart}
 use Rattle.outside.specs.Seen.{IsLater, Seen, Sent}
 use Rattle.report.specs.declared.reports.Report.{Report}
-use Rattle.report.specs.declared.reports.Report.TheVariants.{Probed}
 use Rattle.report.specs.Reports.{report_text}
 use Rattle.session.specs.declared.loading.LoadOutcome.{LoadOutcome}
 use Rattle.session.specs.Effects.{Settings}
@@ -58,10 +56,6 @@ abbrev pub SayingIsWellFormed : Saying → Type 0
 SayingIsWellFormed (saying.Plain statement) = StatementIsWellFormed statement
 SayingIsWellFormed (saying.Said session statement) = (session ≤ 64) × StatementIsWellFormed statement
 SayingIsWellFormed (saying.Stepped session) = session ≤ 64
-
-abbrev pub is_probed : Report → Bool
-is_probed (Probed session) = true
-is_probed _ = false
 
 abbrev pub answered_from : DeskEffect → DeskEffect
 answered_from first = and_steps 0 (probes_due 0 first.state + 1) first

@@ -5,7 +5,7 @@ ghost use Rattle.desk_model.specs.Desks.{DeskEffect, query_of};
 ghost use Rattle.piece_reader.specs.Sayings.{reading_of};
 ghost use Rattle.session.specs.Statements.{StatementIsWellFormed};
 ghost use Rattle.session.specs.Turns.{IsWithin};
-ghost use Rattle.beas_run.specs.Pieces.{IsDone, IsLeft, IsTaken, Reaches, SayingIsWellFormed, answered_from, is_probed};
+ghost use Rattle.beas_run.specs.Pieces.{IsDone, IsLeft, IsTaken, Reaches, SayingIsWellFormed, answered_from};
 ghost use Rattle.beas_run.specs.Shares.{open_reads};
 
 use beas_core::{Fail, NoMemory, Steps};
@@ -21,12 +21,6 @@ use version_store::Desk;
 
 /// The session of the pieces that name none.
 const UNNAMED: u32 = 0;
-
-fn is_probed(report: &Report) -> bool
-    ensures { result ≡ is_probed report.now }
-{
-    matches!(report, Report::Probed { .. })
-}
 
 /// Lets a report go. A function that calls this doesn't prove anew what that does to each kind of report.
 fn discard(_report: Report) {}
@@ -65,10 +59,9 @@ fn step<F: Files, L: Ledger>(
 }
 
 /// Goes on with the query that the pieces without a session have opened, to its answer.
-fn answer<F: Files, L: Ledger>(
+fn answer<L: Ledger>(
     alloc: Global,
     desk: &mut Desk,
-    files: &mut F,
     steps: &mut Steps<L>,
 ) -> Result<Report, NoMemory>
     requires { IsSomeAnd (query_of 0 desk.old.state) (λ query. query.made ≡ Some 0) }
@@ -79,15 +72,8 @@ fn answer<F: Files, L: Ledger>(
     ensures at_most { OnErr result (steps.new + sum desk.old.shares ≤ steps.old + open_reads desk.old.state) }
     ensures no_fewer { steps.old ≤ steps.new }
     ensures settings { desk.new.settings ≡ desk.old.settings }
-    ensures unread { files.new ≡ files.old }
 {
-    'events: loop {
-        let report = step(alloc, desk, UNNAMED, files, steps)?;
-        if !is_probed(&report) {
-            return Ok(report);
-        }
-        discard(report);
-    }
+    desk.answer(alloc, UNNAMED, steps)
 }
 
 /// Carries out a statement that names no session. A query that it opens is answered before anything else is done.
@@ -110,7 +96,7 @@ fn carry_out_statement<F: Files, L: Ledger>(
     let report = say(alloc, desk, UNNAMED, statement, files, steps)?;
     if !was_open && desk.has_open(UNNAMED) {
         discard(report);
-        answer(alloc, desk, files, steps)
+        answer(alloc, desk, steps)
     } else {
         Ok(report)
     }

@@ -1,12 +1,13 @@
 // A desk.
-ghost use Rattle.std.specs.Prelude.{◌≡◌, ◌≤◌, [], false, IfOk, OnErr, is_some};
+ghost use Rattle.std.specs.Prelude.{◌≡◌, ◌≤◌, [], false, IfOk, IsSome, IsSomeAnd, OnErr, is_some};
 ghost use Rattle.outside.specs.Seen.{IsLater};
 ghost use Rattle.desk_model.specs.Desks.{action_of_event, query_of};
+ghost use Rattle.desk_model.specs.declared.event.Event.TheVariants.{Stepped};
 ghost use Rattle.session.specs.Applying.{database_of, settings_of};
 ghost use Rattle.session.specs.Turns.{IsWithin};
-ghost use Rattle.version_store.specs.Desks.{EventIsWellFormed, GoesOn, IsDesk, MayLoad, MayTake, TakesSome, desk_wanting, session_in, waits_for_file};
+ghost use Rattle.version_store.specs.Desks.{Completes, EventIsWellFormed, GoesOn, IsDesk, MayLoad, MaySpend, MayTake, TakesSome, desk_wanting, session_in, waits_for_file};
 
-use crate::going::{place_of, step};
+use crate::going::{finish, place_of, step};
 use crate::saying::say;
 use crate::store::KeptTable;
 use beas_core::{NoMemory, Steps};
@@ -122,6 +123,31 @@ impl Desk {
                 step(alloc, &self.session, &mut self.queries, *session, steps)
             }
         }
+    }
+
+    /// Goes on with a session's open query to its answer in one call: its due probes are made, each counts its share of the
+    /// reads, and the query is answered over the rows of its opening, and closed. Who calls this knows that the session has
+    /// an open query which memory didn't run out for.
+    ///
+    /// Out of memory that query is lost, as in a turn by `event`, and all else is as it was.
+    pub fn answer<L: Ledger>(
+        &mut self,
+        alloc: Global,
+        session: u32,
+        steps: &mut Steps<L>,
+    ) -> Result<Report, NoMemory>
+        requires { IsSomeAnd (query_of session self.old.state) (λ query. IsSome query.made) }
+        ensures did { IfOk result (λ report. Completes session report self.old self.new steps.old steps.new) }
+        ensures within { IfOk result IsWithin }
+        ensures told { IsDesk self.old × IsDesk self.new }
+        ensures settings { self.new.settings ≡ self.old.settings }
+
+        // Out of memory.
+        ensures err { OnErr result (self.new ≡ desk_wanting (Stepped session) self.old) }
+        ensures at_most { OnErr result (MaySpend session self.old steps.old steps.new) }
+        ensures no_fewer { steps.old ≤ steps.new }
+    {
+        finish(alloc, &self.session, &mut self.queries, session, steps)
     }
 
     /// The session as it stands. The open queries are dropped. It takes no memory.

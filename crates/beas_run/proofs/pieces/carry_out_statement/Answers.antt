@@ -27,7 +27,7 @@ returns-then-has_open-clause-done g c =
     let opened : HasOpened c.args.desk.now.settings c.args.statement c.args.desk.now c.say.new.desk =
     has_opened c.args.desk.now.settings c.args.statement c.args.desk.now c.say.new.desk (sym c.has_open-was_open.ensures.open ∙ c.if-not-was_open.true)
     (sym c.has_open.ensures.open ∙ c.if-has_open.true) _ _ _ _ _ e.did in
-    rw a.unread (answer_done c.args.desk.now.settings c.args.statement _ _ _ opened _ _ _ _ _ c.in_ok-report.report c.answer.result e.did e.is_desk.1 a.within a.answered)
+    answer_done c.args.desk.now.settings c.args.statement _ _ _ opened _ _ _ _ _ c.in_ok-report.report c.answer.result e.did e.is_desk.1 a.within a.answered
 
 pub returns-then-has_open-clause-left : goal.returns-then-has_open-clause-left
 returns-then-has_open-clause-left g c =
@@ -36,8 +36,7 @@ returns-then-has_open-clause-left g c =
     let opened : HasOpened c.args.desk.now.settings c.args.statement c.args.desk.now c.say.new.desk =
     has_opened c.args.desk.now.settings c.args.statement c.args.desk.now c.say.new.desk (sym c.has_open-was_open.ensures.open ∙ c.if-not-was_open.true)
     (sym c.has_open.ensures.open ∙ c.if-has_open.true) _ _ _ _ _ e.did in
-    rw a.unread
-    (answer_left c.args.desk.now.settings c.args.statement _ _ _ opened _ _ _ _ _ c.in_ok-report.report c.answer.result e.did e.no_fewer a.no_fewer a.at_most a.db)
+    answer_left c.args.desk.now.settings c.args.statement _ _ _ opened _ _ _ _ _ c.in_ok-report.report c.answer.result e.did e.no_fewer a.no_fewer a.at_most a.db
 
 pub returns-else-not-was_open-clause-done : goal.returns-else-not-was_open-clause-done
 returns-else-not-was_open-clause-done g c =
