@@ -1,4 +1,4 @@
-use Rattle.std.proofs.Common.{◌≡◌, ◌≤◌, ◌<◌, ◌+◌, ◌∙◌, ap, subst, refl, sym, ℕ, Bool, List, Ok, Err, true, false, length, [], ◌∷◌, arith}
+use Rattle.std.proofs.Common.{◌≡◌, ◌<◌, ◌∙◌, ap, subst, refl, sym, ℕ, Bool, List, Ok, Err, true, false, length, [], ◌∷◌, arith}
 use Rattle.std.proofs.lemmas.Bool.{false≢true}
 use Rattle.std.proofs.lemmas.Result.{err_from_is_err_and}
 use Rattle.std.proofs.lemmas.Str.{IsCharBoundary-start}
@@ -14,7 +14,7 @@ use Rattle.beas_run.specs.Walks.{Moment}
 use Rattle.beas_run.proofs.ReachedFacts.{status_for}
 use Rattle.beas_run.proofs.ReadingFacts.{past_end, past_none, past_one}
 use Rattle.beas_run.proofs.TieFacts.{later_twice, same_later, sink_later, sink_later_twice}
-use Rattle.beas_run.proofs.WalkFacts.{Walking, begun_walk, has_taken, walk_ended, walk_more, walk_stopped, walk_uncut}
+use Rattle.beas_run.proofs.WalkFacts.{Walking, begun_walk, walk_ended, walk_more, walk_stopped, walk_uncut}
 use Rattle.beas_run.proofs.script.carry_out_all.Goals as goal
 
 -- the same walk, with what is left said in another way
