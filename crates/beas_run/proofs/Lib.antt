@@ -1,6 +1,5 @@
 mod AnswerFacts
 mod CompleteFacts
-mod CountingFacts
 mod DemoFacts
 mod DoneFacts
 mod FoundFacts

@@ -23,6 +23,7 @@ use Rattle.beas_run.specs.Pieces.{IsReported, IsTurn, IsUndone, IsUnreported, Sc
 use Rattle.beas_run.specs.Shares.{AreShares, greatest_cost, open_reads}
 use Rattle.beas_run.specs.States.{state_after}
 use Rattle.beas_run.specs.Walks.{Moment, AreWithin, Did, whole_status, Follows, Walked}
+use Rattle.beas_run.proofs.LeftFacts.{left_alone}
 use Rattle.beas_run.proofs.ShareFacts.{shares_within}
 use Rattle.beas_run.proofs.ReadsFacts.{greatest-cons, turns_grow}
 use Rattle.beas_run.proofs.TieFacts.{later_twice, same_later, tied_none, tied_twice, tied_later}
@@ -374,6 +375,36 @@ stopped_in_piece s all rest reading place refused before now after status r undo
         → (after.files.loads ≡ now.files.loads) ⊎ ((turns_from s rest turn ≡ []) × (after.files.loads ≡ raised 1 now.files.loads))
     by turn (inl same) = inl same
     by turn (inr more) = inr (ap (turns_from s rest) more.0, more.1)
+
+-- where nothing was done since the last report
+alone : (now : Scene) → AreShares now.desk.state.queries now.desk.shares → IsPaused [] now now
+alone now shares =
+    let few = shares_within now.desk.state now.desk.shares shares in
+    record {
+      sent = λ _. refl;
+      no_fewer = omega arith;
+      at_most = omega (arith, few);
+      db = refl;
+      puts = refl;
+      loads = inl refl;
+    }
+
+-- out of memory before the next piece is cut out, where there may be none
+pub stopped_before : (s : Settings) (all rest : List Reading) (place : ℕ) (refused : Bool) (before : Moment) (now : Scene) (status : ℕ)
+    → Reached s all rest place refused before now → 2 ≤ status → status ≢ 4 → Walked s all status before (moment_of now)
+stopped_before s all [] place refused before now status r early fault =
+    record {
+      outcomes = r.outcomes ++ [];
+      whole = λ below. absurd (omega arith);
+      no_other_load = λ _. loads_within r.done (turns s before.state all (r.outcomes ++ [])) before.files.loads now.files.loads
+          (loads_in-none r.done [] (turns s before.state all (r.outcomes ++ [])) (r.joined []) refl) r.did.loads;
+      follows =
+          subst (λ ts. Follows s.limits.file ts status before (moment_of now)) (sym (r.joined []))
+          (follows_paused s.limits.file r.done [] status before now now r.did r.told r.tied refl (omega arith) (alone now r.did.shares) early fault);
+    }
+stopped_before s all (reading ∷ rest) place refused before now status r early fault =
+    stopped_in_piece s all rest reading place refused before now now status r
+    (record { left = left_alone s reading now.desk now.steps now.files; sent = λ _. refl; puts = refl }) (same_later now.files) early fault
 
 -- out of memory before there was a desk
 pub unstarted : (s : Settings) (readings : List Reading) (before after : Moment) (status : ℕ)

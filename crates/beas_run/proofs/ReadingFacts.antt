@@ -1,15 +1,13 @@
 -- The readings of a script's pieces.
-use Rattle.std.proofs.Common.{◌≡◌, List, [], ◌∷◌, ℕ, refl, ap, ◌∙◌, map}
-use Rattle.std.specs.Prelude.{slice_range}
+use Rattle.std.proofs.Common.{◌≡◌, ◌≤◌, List, [], ◌∷◌, ℕ, ap, length, map}
 use Rattle.std.specs.List.{AllZip}
 use Rattle.sql_text.specs.declared.token.Token.{Token}
-use Rattle.sql_text.specs.declared.token.Piece.{Piece}
-use Rattle.sql_text.specs.Tokens.{tokens_of}
-use Rattle.sql_text.specs.Pieces.{statements_of}
+use Rattle.sql_text.specs.Pieces.{statements_of, tokens_past}
+use Rattle.sql_text.proofs.Steps.{tokens_past-end}
 use Rattle.sql_tree.specs.Symbols.{symbols}
 use Rattle.piece_reader.specs.Sayings.{IsReadAs, reading_of}
 use Rattle.piece_reader.proofs.SayingFacts.{found-says}
-use Rattle.beas_run.specs.Readings.{Readings, pieces, readings_of, readings_at}
+use Rattle.beas_run.specs.Readings.{Readings, pieces, readings_of, readings_past}
 
 each_read : (parts : List (List Token)) → AllZip IsReadAs parts (map reading_of parts)
 each_read [] = tt
@@ -19,16 +17,15 @@ each_read (tokens ∷ parts) = (found-says (symbols tokens), each_read parts)
 pub found : (script : List ℕ) → Readings script (readings_of script)
 found script = each_read (pieces script)
 
-at_once : (tokens : List Token) (places : List Piece) → readings_at tokens places ≡ map reading_of (map (λ p. slice_range tokens p.from p.to) places)
-at_once tokens [] = refl
-at_once tokens (p ∷ places) = ap (λ rest. reading_of (slice_range tokens p.from p.to) ∷ rest) (at_once tokens places)
+-- the readings from a place on, where a piece without a token or with some stands there
+pub past_none : (script : List ℕ) (at next : ℕ) → statements_of (tokens_past at script) ≡ statements_of (tokens_past next script)
+    → readings_past at script ≡ readings_past next script
+past_none script at next e = ap (map reading_of) e
 
-found_at : (tokens : List Token) (places : List Piece) (script : List ℕ) → map (λ p. slice_range tokens p.from p.to) places ≡ pieces script
-    → readings_at tokens places ≡ readings_of script
-found_at tokens places script e = at_once tokens places ∙ ap (map reading_of) e
+pub past_one : (script : List ℕ) (at next : ℕ) (tokens : List Token)
+    → statements_of (tokens_past at script) ≡ tokens ∷ statements_of (tokens_past next script)
+    → readings_past at script ≡ reading_of tokens ∷ readings_past next script
+past_one script at next tokens e = ap (map reading_of) e
 
--- the same where the text's tokens and places are handed on
-pub found_text : (script : List ℕ) (tokens seen : List Token) (found places : List Piece) → tokens ≡ tokens_of script → seen ≡ tokens → places ≡ found
-    → map (λ p. slice_range tokens p.from p.to) found ≡ statements_of tokens → readings_at seen places ≡ readings_of script
-found_text script tokens seen found places t s p parts =
-    ap (λ ts. readings_at ts places) s ∙ ap (readings_at tokens) p ∙ found_at tokens found script (parts ∙ ap statements_of t)
+pub past_end : (script : List ℕ) (at : ℕ) → length script ≤ at → readings_past at script ≡ []
+past_end script at l = ap (λ (tokens : List Token). map reading_of (statements_of tokens)) (tokens_past-end script at l)

@@ -19,7 +19,7 @@ use Rattle.beas_run.specs.Pieces.{IsReported, IsUndone, IsUnreported, Scene, mom
 use Rattle.piece_reader.specs.Sayings.{Reading}
 use Rattle.beas_run.specs.Walks.{Moment, Walked, WalkedBefore}
 use Rattle.beas_run.proofs.NoSessionFacts.{CostsAlone}
-use Rattle.beas_run.proofs.ReachedFacts.{Reached, begun, begun_done, ended, ended_turns, more, more_done, status_for, stopped_in_piece, stopped_in_report, unstarted}
+use Rattle.beas_run.proofs.ReachedFacts.{Reached, begun, begun_done, ended, ended_turns, more, more_done, status_for, stopped_before, stopped_in_piece, stopped_in_report}
 
 -- these turns are done, and their reports taken
 pub record Walking (took : List Report → Type 0) (s : Settings) (all rest : List Reading) (place : ℕ) (refused : Bool) (before : Moment) (now : Scene)
@@ -96,15 +96,16 @@ walk_stopped took took_after s here all rest reading place refused before now af
       took_all = λ below. absurd (omega arith);
     }
 
--- out of memory before the first piece
-pub walk_unstarted : (took : List Report → Type 0) (s : Settings) (readings : List Reading) (before after : Moment) (status : ℕ)
-    → (before.out.told ≡ true → after.out.bytes ≡ before.out.bytes) → after.steps ≡ before.steps → after.state ≡ before.state
-    → after.out.puts ≡ before.out.puts → after.files.loads ≡ before.files.loads
-    → IsLater before.files after.files → status ≡ 5 → WalkedBefore took s readings status before after
-walk_unstarted took s readings before after status sent steps state puts loads later five = record {
-  walked = unstarted s readings before after status sent steps state puts loads later (omega arith) (omega arith);
-  took_all = λ below. absurd (omega arith);
-}
+-- the exit where memory ran out before the next piece was cut out
+pub walk_uncut : (took : List Report → Type 0) (s : Settings) (all rest : List Reading) (place : ℕ) (refused : Bool) (before : Moment) (now : Scene)
+    (result : Result Bool Ending)
+    → Walking took s all rest place refused before now → result ≡ Err NoMemory → WalkedBefore took s all (status_of result) before (moment_of now)
+walk_uncut took s all rest place refused before now result w e =
+    let five : status_of result ≡ 5 = ap status_of e in
+    record {
+      walked = stopped_before s all rest place refused before now (status_of result) w.reached (omega arith) (omega arith);
+      took_all = λ below. absurd (omega arith);
+    }
 
 -- ---- the line of the totals
 

@@ -1,9 +1,8 @@
-//! The top of beas: a script is cut into pieces, what each says is done at a desk, and each report is written, or the
-//! totals of all.
+//! The top of beas: a script is cut into pieces one by one, what each says is done at a desk, and each report is written, or
+//! the totals of all.
 #![tactic(auto)]
 
 mod audience;
-mod cut_script;
 mod demonstration;
 mod ending;
 mod laws;

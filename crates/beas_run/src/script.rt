@@ -1,5 +1,5 @@
 // A script, piece by piece, before one that takes the reports.
-ghost use Rattle.std.specs.Prelude.{◌≡◌, ◌≢◌, ◌<◌, ◌≤◌, ◌+◌, ◌-◌, ◌^◌, ◌⊎◌, [], length, All, IfOk, IfErr};
+ghost use Rattle.std.specs.Prelude.{◌≡◌, ◌≢◌, ◌<◌, ◌≤◌, ◌-◌, ◌^◌, ◌⊎◌, [], length, IfOk, IfErr};
 ghost use Rattle.outside.specs.Counts.{Rose};
 ghost use Rattle.outside.specs.Seen.{IsLater, IsLaterSink, Sent};
 ghost use Rattle.piece_reader.specs.Sayings.{reading_of};
@@ -8,18 +8,17 @@ ghost use Rattle.session.specs.Turns.{is_refusal};
 ghost use Rattle.beas_run.specs.Audiences.{HasTaken, unshown};
 ghost use Rattle.beas_run.specs.Endings.{TellsFault, status_of};
 ghost use Rattle.beas_run.specs.Pieces.{IsReported, IsUndone, IsUnreported, moment_of, scene};
-ghost use Rattle.beas_run.specs.Readings.{readings_at, readings_of};
+ghost use Rattle.beas_run.specs.Readings.{readings_of};
 ghost use Rattle.beas_run.specs.Walks.{moment, Walked, WalkedBefore};
 
 use crate::audience::{Audience, Writer};
-use crate::cut_script::cut_script;
 use crate::ending::Ending;
 use crate::pieces::report_on;
-use beas_core::{Limits, NoMemory, Steps};
+use beas_core::{Limits, List, Steps};
 use outside::{Files, Sink};
 use report::Report;
 use session::Session;
-use sql_text::{Piece, Token};
+use sql_text::{Token, lex_piece};
 use std::alloc::Global;
 use std::mem::replace;
 use std::sync::ledger::Ledger;
@@ -65,24 +64,21 @@ fn carry_out<A: Audience, F: Files, O: Sink, L: Ledger>(
     }
 }
 
-/// Carries out the pieces at these places, and hands on each report before the next piece.
+/// Carries out the pieces of a text. Each is cut out when it comes, and its report is handed on before the next piece.
 fn carry_out_all<A: Audience, F: Files, O: Sink, L: Ledger>(
     alloc: Global,
     desk: &mut Desk,
-    tokens: &[Token],
-    pieces: &[Piece],
+    script: &str,
     audience: &mut A,
     files: &mut F,
     out: &mut O,
     steps: &mut Steps<L>,
 ) -> Result<bool, Ending>
-    requires few { length pieces.now < 2 ^ 32 - 1 }
-    requires short { length tokens.now < 2 ^ 32 - 1 }
-    requires within { All (λ p. (p.from < p.to) × (p.to ≤ length tokens.now)) pieces.now }
+    requires few { length script.now ≤ 16777216 }
     requires none { A.took audience.old [] }
     requires idle { (desk.old.state.queries ≡ []) × (desk.old.shares ≡ []) }
     ensures walked { WalkedBefore (A.took audience.new)
-        desk.old.settings (readings_at tokens.now pieces.now) (status_of result)
+        desk.old.settings (readings_of script.now) (status_of result)
         (moment_of (scene desk.old steps.old (A.shown (O.seen out.old)) (F.seen files.old)))
         (moment_of (scene desk.new steps.new (A.shown (O.seen out.new)) (F.seen files.new))) }
     ensures settings { desk.new.settings ≡ desk.old.settings }
@@ -91,9 +87,16 @@ fn carry_out_all<A: Audience, F: Files, O: Sink, L: Ledger>(
     ensures unused { ((sent : Sent) → A.shown sent ≡ unshown) → out.new ≡ out.old }
 {
     let mut refused = false;
-    for (place, piece) in pieces.iter().enumerate() {
-        let words = &tokens[piece.from as usize..piece.to as usize];
-        let number = place as u32 + 1;
+    let mut tokens = List::new(alloc);
+    let mut number = 0;
+    let mut at = 0;
+    'pieces: while at < script.len() {
+        at = lex_piece(alloc, script, at, &mut tokens)?;
+        if tokens.is_empty() {
+            continue;
+        }
+        number += 1;
+        let words = tokens.as_slice();
         refused |= carry_out(alloc, desk, words, number, audience, files, out, steps)?;
     }
     Ok(refused)
@@ -122,19 +125,11 @@ pub fn walk<A: Audience, F: Files, O: Sink, L: Ledger>(
     ensures out { TellsFault result (A.shown (O.seen out.old)) (A.shown (O.seen out.new)) }
     ensures unused { ((sent : Sent) → A.shown sent ≡ unshown) → out.new ≡ out.old }
 {
-    match cut_script(alloc, script) {
-        Ok(cut) => {
-            let (tokens, pieces) = (cut.tokens.as_slice(), cut.pieces.as_slice());
-            let spare = Session::new(alloc, Limits::standard(), None, false);
-            let mut desk = Desk::new(alloc, replace(session, spare));
-            let ended = carry_out_all(
-                alloc, &mut desk, tokens, pieces, audience, files, out, steps,
-            );
-            replace(session, desk.close()).discard();
-            ended
-        }
-        Err(NoMemory) => Err(Ending::NoMemory),
-    }
+    let spare = Session::new(alloc, Limits::standard(), None, false);
+    let mut desk = Desk::new(alloc, replace(session, spare));
+    let ended = carry_out_all(alloc, &mut desk, script, audience, files, out, steps);
+    replace(session, desk.close()).discard();
+    ended
 }
 
 /// How a run over a script ends, as the status of the program.
