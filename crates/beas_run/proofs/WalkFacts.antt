@@ -1,6 +1,6 @@
 -- Where a run is in the turns of its script, before one that takes the reports, and the line of their totals.
 use Rattle.std.proofs.Common.{◌≡◌, ◌≢◌, ◌<◌, ◌≤◌, ◌+◌, ◌++◌, ◌||◌, ◌⊎◌, ◌∙◌, sym, ap, subst, refl, inl, inr, ℕ, Bool, true, false, List, [], ◌∷◌, Ok, Err, Result, arith, append-nil}
-use Rattle.std.proofs.lemmas.List.{length-map, map-append}
+use Rattle.std.proofs.lemmas.List.{map-append}
 use Rattle.demo_gen.specs.Summaries.{Totals, summary_text}
 use Rattle.outside.specs.Counts.{Rose, raised}
 use Rattle.outside.specs.Parts.{SentPart}
@@ -12,7 +12,7 @@ use Rattle.session.specs.Turns.{cost_of}
 use Rattle.desk_model.specs.Pieces.{DeskTurn, seen_turns, turns}
 use Rattle.beas_run.specs.declared.ending.Ending.{Ending}
 use Rattle.beas_run.specs.declared.ending.Ending.TheVariants.{Fault, NoMemory}
-use Rattle.beas_run.specs.Audiences.{HasTaken, reports_in, totals_in, totals_over}
+use Rattle.beas_run.specs.Audiences.{reports_in, totals_in, totals_over}
 use Rattle.beas_run.specs.Demonstrations.{Demonstrated, summary_of, without_outside}
 use Rattle.beas_run.specs.Endings.{status_of}
 use Rattle.beas_run.specs.Pieces.{IsReported, IsUndone, IsUnreported, Scene, moment_of}
@@ -32,17 +32,6 @@ pub begun_walk : (took : List Report → Type 0) (s : Settings) (readings : List
 begun_walk took s readings now idle none nothing = record {
   reached = begun s readings now idle none;
   took_these = subst (λ done. took (reports_in done)) (sym (begun_done s readings now idle none)) nothing;
-}
-
--- the next report is the one after those that were taken
-pub has_taken : (took : List Report → Type 0) (s : Settings) (all rest : List Reading) (place number : ℕ) (refused : Bool) (before : Moment) (now : Scene)
-    → Walking took s all rest place refused before now → number ≡ place + 1 → HasTaken took number
-has_taken took s all rest place number refused before now w e = record {
-  reports = reports_in w.reached.done;
-  these = w.took_these;
-  count =
-      let l = length-map w.reached.done (λ (t : DeskTurn). t.effect.report) in
-      let c = w.reached.count in omega arith;
 }
 
 pub walk_more : (took took_after : List Report → Type 0) (s here : Settings) (all rest : List Reading) (reading : Reading) (place : ℕ) (refused is : Bool)

@@ -1,4 +1,4 @@
-use Rattle.std.proofs.Common.{◌∙◌, Some, refl, subst, sym}
+use Rattle.std.proofs.Common.{Some, subst, sym}
 use Rattle.std.proofs.lemmas.Result.{err_from_is_err_and}
 use Rattle.desk_model.specs.Desks.{query_of}
 use Rattle.version_store.specs.Desks.{Completes}
