@@ -51,7 +51,7 @@ pub record Did (turns : List DeskTurn) (before after : Moment) : Type 0 where
   pub puts : after.out.puts ≡ raised (length turns) before.out.puts
   pub loads : after.files.loads ≡ raised (length (loads_of (seen_turns turns))) before.files.loads
 
--- in the piece after those that were done, or before the first: the database is as it was before that piece
+-- in the piece after those that were done, or before it, or after the last: the database is as it was before that piece
 pub record StoppedInPiece (turns : List DeskTurn) (status : ℕ) (before after : Moment) : Type 0 where
   pub done : List DeskTurn
   pub left : List DeskTurn

@@ -46,9 +46,8 @@ pub fn turn<G: Freezes<P>, P: Part, L: Ledger>(
     query.cursor.advance(alloc, &port, steps)
 }
 
-/// Makes all probes of a query that are due, one after another, over the parts that are kept for it and the store, so that
-/// its answer is there. Those that were made before aren't made again. Out of memory its cursor has failed, and no more
-/// was counted than the reads that were left.
+/// Brings a query to its answer, over the parts that are kept for it and the store, and counts exactly the reads that were
+/// left. Which probes it made isn't told. Out of memory its cursor has failed, and no more was counted than these reads.
 pub fn complete<G: Freezes<P>, P: Part, L: Ledger>(
     alloc: Global,
     guard: &G,

@@ -142,7 +142,7 @@ GoesOn (Stepped session) (Probed k) before after s t = ProbesOnce session before
 GoesOn (Stepped session) (Answered bound plan header rows reads) before after s t = Finishes session before after s t
 GoesOn (Stepped session) report before after s t = Stays before after × (t ≡ s)
 
--- a session's query came to its answer, and was closed: so the turns of its own that are left do together
+-- a session's query came to its answer, and was closed, with all reads that were left
 pub record Completes (session : ℕ) (report : Report) (before after : Seen) (s t : ℕ) : Type 0 where
   pub query : OpenQuery
   pub is : query_of session before.state ≡ Some query

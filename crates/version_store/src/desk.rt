@@ -125,9 +125,9 @@ impl Desk {
         }
     }
 
-    /// Goes on with a session's open query to its answer in one call: its due probes are made, each counts its share of the
-    /// reads, and the query is answered over the rows of its opening, and closed. Who calls this knows that the session has
-    /// an open query which memory didn't run out for.
+    /// Goes on with a session's open query to its answer in one call: it counts exactly the reads that were left, and the query
+    /// is answered over the rows of its opening, and closed. Which probes it made isn't told, as it is of a turn. Who calls this
+    /// knows that the session has an open query which memory didn't run out for.
     ///
     /// Out of memory that query is lost, as in a turn by `event`, and all else is as it was.
     pub fn answer<L: Ledger>(
