@@ -1,12 +1,14 @@
 -- What a text begins with, by cases.
 use Rattle.std.proofs.Common.{◌≡◌, ℕ, suc, ◌+◌, ◌-◌, ◌<◌, ◌≤◌, ◌≢◌, Bool, true, false, List, [], ◌∷◌, length, get_or, take, drop, refl, sym, ap, ◌∙◌, subst, inl, inr, arith, length-drop, length-append, le_refl, add-zero}
-use Rattle.std.specs.Prelude.{codes, eqb, Some, None, find, map, take_while, IsCharBoundary, IsUtf8, slice_range}
+use Rattle.std.specs.Prelude.{codes, eqb, Some, None, find, map, take_while, IsAscii, IsCharBoundary, IsUtf8, slice_range}
 use Rattle.std.specs.List.{starts_with, prefix_len}
 use Rattle.std.specs.Char.{is_ascii_whitespace, is_ascii_digit, to_ascii_lowercase}
-use Rattle.std.proofs.lemmas.List.{get_or-drop, length-take-le, drop-drop, take_rest}
-use Rattle.std.proofs.lemmas.Bool.{cases_Bool, lt-ltb, le-ltb, ne_eqb}
+use Rattle.std.proofs.Math.ListN.{get_or-map}
+use Rattle.std.proofs.lemmas.List.{get_or-drop, get_or-take, get_or_past, length-take-le, drop-drop, take_rest}
+use Rattle.std.proofs.lemmas.Bool.{cases_Bool, cases_lt, lt-ltb, le-ltb, ne_eqb}
 use Rattle.std.proofs.lemmas.Bool.Decides.{nat_tests}
 use Rattle.std.proofs.lemmas.Str.{IsCharBoundary-after_ascii, IsCharBoundary-end}
+use Rattle.std.proofs.lemmas.Str.Ascii.{lowercase_ascii}
 use Rattle.std.proofs.lemmas.List.Sums.{prefix_len-drop_yes, prefix_len-le-length, prefix_len_passes, prefix_len_stops}
 use Rattle.sql_text.specs.declared.token.Token.{Token}
 use Rattle.sql_text.specs.declared.token.TokenKind.{TokenKind}
@@ -210,6 +212,38 @@ pub small-text :
 small-text s at to r =
     let same = run-spelling is_small_in_word s at to r in
     sym same ∙ sym (all_small (drop at s)) ∙ ap (map to_ascii_lowercase) same
+
+-- a word is ASCII, and so is it in small letters
+pub word-is_ascii : (s : List ℕ) (at to : ℕ) → to ≤ length s → to ≡ at + prefix_len continues_word (drop at s) → IsAscii (slice_range s at to)
+word-is_ascii s at to within r = λ i.
+    let size = length-spelling s at to within in
+    elim (cases_lt i (to - at)) [
+      | inl l ↦
+          (let passes : continues_word (get_or (drop at s) i 0) ≡ true = prefix_len_passes continues_word (drop at s) i 0 (omega (arith, r, l)) in
+          let here : get_or (slice_range s at to) i 0 ≡ get_or (drop at s) i 0 = get_or-take (to - at) (drop at s) i 0 l in
+          subst (λ (b : ℕ). b < 128) (sym here) (word-ascii (get_or (drop at s) i 0) passes))
+      | inr l ↦
+          (let none : get_or (slice_range s at to) i 0 ≡ 0 = get_or_past (slice_range s at to) i 0 (omega (arith, size, l)) in
+          subst (λ (b : ℕ). b < 128) (sym none) (omega arith))
+    ]
+
+pub small-ascii : (bs : List ℕ) → IsAscii bs → IsAscii (map to_ascii_lowercase bs)
+small-ascii bs h = λ i.
+    subst (λ (b : ℕ). b < 128) (sym (get_or-map to_ascii_lowercase bs i 0)) (lowercase_ascii (get_or bs i 0) (h i))
+
+-- where a run without a capital ends, no small letter stands
+pub small-ended :
+    (s : List ℕ) (at small : ℕ) → small ≡ at + prefix_len is_small_in_word (drop at s) → is_small_in_word (get_or s small 0) ≡ false
+small-ended s at small r =
+    let n = prefix_len is_small_in_word (drop at s) in
+    elim (cases_lt small (length s)) [
+      | inl l ↦
+          (let stops : is_small_in_word (get_or (drop at s) n 0) ≡ false =
+          prefix_len_stops is_small_in_word (drop at s) 0 (omega (arith, r, l, length-drop at s)) in
+          let here : get_or (drop at s) n 0 ≡ get_or s small 0 = get_or-drop at s n 0 ∙ ap (λ (k : ℕ). get_or s k 0) (sym r) in
+          sym (ap is_small_in_word here) ∙ stops)
+      | inr l ↦ ap is_small_in_word (get_or_past s small 0 l)
+    ]
 
 pub stands-long_word :
     (s : List ℕ) (at to : ℕ) (t : Token) → IsUtf8 s → BeginsToken s at → begins_word (get_or s at 0) ≡ true →

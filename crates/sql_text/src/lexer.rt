@@ -1,11 +1,11 @@
 // Cutting a script into tokens.
-ghost use Rattle.sql_text.specs.Cuts.{BeginsToken, IsAtToken, StandsAt, mark_of};
+ghost use Rattle.sql_text.specs.Cuts.{BeginsToken, IsAtToken, StandsAt, is_small_in_word, mark_of};
 ghost use Rattle.sql_text.specs.Spans.{AreInOrder, IsSpelled};
-ghost use Rattle.beas_core.specs.Spelling.{begins_word};
+ghost use Rattle.beas_core.specs.Spelling.{begins_word, continues_word};
 ghost use Rattle.sql_text.specs.Tokens.{tokens_from, tokens_of, with_quotes_doubled, quote, quoted_text, marks};
 ghost use Rattle.std.specs.Char.{is_ascii_digit, to_ascii_lowercase};
-ghost use Rattle.std.specs.List.{starts_with};
-ghost use Rattle.std.specs.Prelude.{◌≡◌, ◌≢◌, ◌==◌, ◌<◌, ◌≤◌, ◌+◌, ◌-◌, [], ◌∷◌, false, length, drop, codes, eqb, find, map, option_map, slice_index, slice_range, All, IfOk, IfSome, IsCharBoundary, IsTrue};
+ghost use Rattle.std.specs.List.{prefix_len, starts_with};
+ghost use Rattle.std.specs.Prelude.{◌≡◌, ◌≢◌, ◌==◌, ◌<◌, ◌≤◌, ◌+◌, ◌-◌, [], ◌∷◌, false, length, drop, codes, eqb, find, map, option_map, slice_index, slice_range, All, IfOk, IfSome, IsAscii, IsCharBoundary, IsTrue};
 
 use crate::runs::{Blank, InChar, InLine, InNumber, InSmallWord, InWord, Unquoted, run_end};
 use crate::token::{Token, TokenKind};
@@ -92,8 +92,8 @@ fn word(alloc: Global, source: &str, at: usize) -> Result<Token, NoMemory>
     ensures { IfOk result (StandsAt source.now at) }
 {
     let bytes = source.as_bytes();
-    let small = run_end::<InSmallWord>(bytes, at);
-    let to = run_end::<InWord>(bytes, small);
+    let small = small_end(bytes, at);
+    let to = word_end(bytes, small);
     if to - at > LONGEST_WORD {
         return plain(alloc, source, TokenKind::Bad, at, to);
     }
@@ -104,19 +104,45 @@ fn word(alloc: Global, source: &str, at: usize) -> Result<Token, NoMemory>
     Ok(token(TokenKind::Word, at, to, text))
 }
 
-// A word in small letters. Those of a short one are made in an array, since a text of a few letters then takes no memory.
+// Where the small letters, digits and `_` end that a word begins with.
+fn small_end(bytes: &[u8], at: usize) -> usize
+    requires within { at < length bytes.now }
+    requires begins { IsTrue (begins_word (slice_index bytes.now at)) }
+    ensures len { result ≡ at + prefix_len is_small_in_word (drop at bytes.now) }
+    ensures within { result ≤ length bytes.now }
+{
+    if bytes[at].is_ascii_uppercase() {
+        return at;
+    }
+    run_end::<InSmallWord>(bytes, at + 1)
+}
+
+// Where a word ends that goes on up to a place, and past it if a capital stands there.
+fn word_end(bytes: &[u8], small: usize) -> usize
+    requires within { small ≤ length bytes.now }
+    requires no_small { is_small_in_word (slice_index bytes.now small) ≡ false }
+    ensures len { result ≡ small + prefix_len continues_word (drop small bytes.now) }
+    ensures within { result ≤ length bytes.now }
+{
+    if small < bytes.len() && bytes[small].is_ascii_uppercase() {
+        return run_end::<InWord>(bytes, small + 1);
+    }
+    small
+}
+
+// A word in small letters. Those of a short one are made in an array, since a text of a few letters then takes no memory,
+// and all of the array is made small, since its length is known to the compiler and that of the word is not.
 fn in_small_letters(alloc: Global, word: &str) -> Result<Text, NoMemory>
+    requires { IsAscii word.now }
     ensures { IfOk result (λ text. text ≡ map to_ascii_lowercase word.now) }
 {
     if word.len() <= SHORT_WORD {
         let mut kept = [0; SHORT_WORD];
-        let letters = &mut kept[..word.len()];
-        letters.copy_from_slice(word.as_bytes());
-        letters.make_ascii_lowercase();
-        // It always is one, since words are ASCII, and so needs no proof.
-        if let Ok(small) = str::from_utf8(&kept) {
-            return Text::from_str(alloc, &small[..word.len()]);
-        }
+        kept[..word.len()].copy_from_slice(word.as_bytes());
+        kept.make_ascii_lowercase();
+        // The letters are ASCII as those of the word are, and so they are UTF-8.
+        let small = unsafe { str::from_utf8_unchecked(&kept[..word.len()]) };
+        return Text::from_str(alloc, small);
     }
     Ok(Text::from_string(word.to_ascii_lowercase(alloc)?))
 }
@@ -223,7 +249,8 @@ fn mark_len(bytes: &[u8], at: usize) -> usize
     }
 }
 
-// A token whose text is its spelling.
+// A token whose text is its spelling. About half of a query's tokens take one byte, and a copy of a known length is cheap: the
+// compiler makes it without a call.
 fn plain(
     alloc: Global,
     source: &str,
@@ -243,6 +270,10 @@ fn plain(
       text = slice_range source.now from to;
     }) }
 {
+    if to == from + 1 {
+        let text = Text::from_str(alloc, &source[from..from + 1])?;
+        return Ok(token(kind, from, to, text));
+    }
     let text = Text::from_str(alloc, &source[from..to])?;
     Ok(token(kind, from, to, text))
 }

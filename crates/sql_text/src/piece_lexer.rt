@@ -9,9 +9,11 @@ use std::alloc::Global;
 use std::mem::replace;
 
 /// Puts the tokens of a script of at most 16,777,216 bytes from a place on, up to the next semicolon or else to the end, into
-/// a list in the place of those that it has, and gives the place where the next piece begins. They are tokens as `lex`
-/// gives them. Fails only where it runs out of memory, and the first of these tokens are in the list then. A list that takes
-/// piece after piece keeps its room.
+/// a list in the place of those that it has, and gives the place where the next piece begins, which lies further on unless
+/// the first place is the end. Where these tokens are none, the statements from the one place on are those from the other
+/// on; else these tokens are a statement, and those from the next place on are the ones after it. Whether it fails or not,
+/// the list has no more tokens than the script has bytes. Fails only where it runs out of memory, and the list then has the
+/// first of the tokens that stand from the place on.
 pub fn lex_piece(
     alloc: Global,
     source: &str,

@@ -49,7 +49,7 @@ impl Class for InSmallWord {
     ghost test = { is_small_in_word };
 
     fn has(byte: u8) -> bool {
-        byte.is_ascii_lowercase() || byte == b'_' || byte.is_ascii_digit()
+        matches!(byte, b'a'..=b'z' | b'_' | b'0'..=b'9')
     }
 }
 
