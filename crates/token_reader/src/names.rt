@@ -1,8 +1,8 @@
 // Whether a word is a name, told by a look at the reserved words that begin with its first letter.
-ghost use Rattle.std.specs.Prelude.{◌≡◌, ◌≤◌, ◌&&◌, true, not, length, take};
+ghost use Rattle.std.specs.Prelude.{◌≡◌, ◌<◌, ◌≤◌, ◌&&◌, true, not, length, slice_index, take};
 ghost use Rattle.std.specs.List.{list_all, list_any};
 ghost use Rattle.std.specs.Str.{bytes_eq};
-ghost use Rattle.beas_core.specs.Spelling.{is_name, is_reserved};
+ghost use Rattle.beas_core.specs.Spelling.{begins_word, is_name, is_reserved};
 ghost use Rattle.token_reader.specs.Names.{goes_on_folded, is_folded_word};
 
 use crate::texts::{first_byte, is_text};
@@ -21,6 +21,7 @@ fn goes_on(byte: u8) -> bool
 fn letters_before(text: &[u8]) -> usize
     ensures within { result ≤ length text.now }
     ensures letters { list_all goes_on_folded (take result text.now) ≡ true }
+    ensures first { 0 < result → begins_word (slice_index text.now 0) ≡ true }
 {
     let mut at = 0;
     while at < text.len() && text[at].is_ascii_lowercase() {
@@ -29,10 +30,13 @@ fn letters_before(text: &[u8]) -> usize
     at
 }
 
-fn all_go_on(text: &[u8]) -> bool
+// Whether all the bytes of a text go on with a word, where those up to a place do.
+fn all_go_on(text: &[u8], from: usize) -> bool
+    requires within { from ≤ length text.now }
+    requires before { list_all goes_on_folded (take from text.now) ≡ true }
     ensures { result ≡ list_all goes_on_folded text.now }
 {
-    let mut at = letters_before(text);
+    let mut at = from;
     while at < text.len() {
         if !goes_on(text[at]) {
             return false;
@@ -42,11 +46,16 @@ fn all_go_on(text: &[u8]) -> bool
     true
 }
 
+// Whether a text is a word without capitals. Most are of letters alone, and told by one look at each.
 fn is_folded_word(text: &[u8]) -> bool
     ensures { result ≡ is_folded_word text.now }
 {
+    let letters = letters_before(text);
+    if letters == text.len() {
+        return 0 < letters && letters <= 64;
+    }
     let begins = begins_word(first_byte(text));
-    let goes_on = all_go_on(text);
+    let goes_on = all_go_on(text, letters);
     let fits = text.len() <= 64;
     begins && goes_on && fits
 }

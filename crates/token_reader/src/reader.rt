@@ -6,7 +6,7 @@ ghost use Rattle.sql_tree.specs.Symbols.{word, mark, symbols};
 ghost use Rattle.sql_tree.specs.Words.{OPEN};
 
 use crate::names::is_name;
-use crate::texts::is_text;
+use crate::texts::{copy_of, is_text};
 use beas_core::{Duplicate, Name, NoMemory, Sign, Text};
 use sql_text::{Token, TokenKind};
 use std::alloc::{AllocError, AllocFailed, Global};
@@ -211,7 +211,7 @@ impl<'a> Reader<'a> {
             Some((token, rest)) if token.kind == TokenKind::Word && is_name(token.text.as_str()) =>
                 {
                     self.rest = rest;
-                    Ok(Name::from_text(token.text.copy(alloc)?))
+                    Ok(Name::from_text(copy_of(alloc, token.text.as_str())?))
                 }
             _ => Err(ReadError::Syntax),
         }
@@ -227,7 +227,7 @@ impl<'a> Reader<'a> {
             Some((token, rest)) if token.kind == TokenKind::Word && is_name(token.text.as_str()) =>
                 {
                     self.rest = rest;
-                    Ok(Some(Name::from_text(token.text.copy(alloc)?)))
+                    Ok(Some(Name::from_text(copy_of(alloc, token.text.as_str())?)))
                 }
             _ => Ok(None),
         }

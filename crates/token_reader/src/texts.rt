@@ -1,5 +1,9 @@
-// Whether a text is a word or a mark that is asked for. The lengths and the first bytes tell most texts apart.
-ghost use Rattle.std.specs.Prelude.{◌≡◌, bytes_eq, length, slice_index};
+// Whether the text of a token is a word or a mark that is asked for, and copies of such texts. Lengths and first bytes tell most
+// texts apart.
+ghost use Rattle.std.specs.Prelude.{◌≡◌, bytes_eq, length, slice_index, IfOk};
+
+use beas_core::{NoMemory, Text};
+use std::alloc::Global;
 
 /// The first byte of a text, and 0 where it has none.
 pub fn first_byte(text: &[u8]) -> u8
@@ -36,4 +40,14 @@ pub fn is_text(found: &str, text: &str) -> bool
     ensures { result ≡ bytes_eq text.now found.now }
 {
     is_so(found.as_bytes(), text.as_bytes())
+}
+
+/// A copy of a text. Many names are one letter, and a copy of a known length is cheap: the compiler makes it without a call.
+pub fn copy_of(alloc: Global, text: &str) -> Result<Text, NoMemory>
+    ensures { IfOk result (λ copy. copy ≡ text.now) }
+{
+    if text.len() == 1 {
+        return Text::from_str(alloc, &text[..1]);
+    }
+    Text::from_str(alloc, text)
 }
