@@ -2,7 +2,7 @@
 ghost use Rattle.std.specs.Prelude.{◌≡◌, filter, map, option_map};
 ghost use Rattle.beas_core.specs.Derivations.{least_bound};
 ghost use Rattle.attribute_closure.specs.Uses.{as_use};
-ghost use Rattle.plan_builder.specs.Choices.{is_better, may_serve};
+ghost use Rattle.plan_builder.specs.Choices.{is_better, may_add, may_serve};
 
 use crate::sets::adds;
 use attribute_closure::{UseAt, holds_columns, serves};
@@ -17,6 +17,12 @@ fn beats(found: &UseAt<'_>, best: &Option<UseAt<'_>>) -> bool
     }
 }
 
+fn adds_now(block: &Normal, set: &[bool], found: &UseAt<'_>) -> bool
+    ensures { result ≡ may_add block.now set.now (as_use found.now) }
+{
+    holds_columns(block, set, found.atom, found.access.key.as_slice()) && adds(block, set, found)
+}
+
 fn serves_now(block: &Normal, set: &[bool], atom: u16, found: &UseAt<'_>) -> bool
     ensures { result ≡ may_serve block.now set.now atom (as_use found.now) }
 {
@@ -25,6 +31,21 @@ fn serves_now(block: &Normal, set: &[bool], atom: u16, found: &UseAt<'_>) -> boo
     } else {
         false
     }
+}
+
+/// The use of least bound whose key a set holds and that adds a class to it, the first of those where several have it.
+pub fn best_adding<'a>(block: &Normal, uses: &[UseAt<'a>], set: &[bool]) -> Option<UseAt<'a>>
+    ensures { option_map as_use result ≡ least_bound (filter (may_add block.now set.now) (map as_use uses.now)) }
+{
+    let mut best: Option<UseAt<'a>> = None;
+    for found in uses {
+        let may = adds_now(block, set, found);
+        let better = beats(found, &best);
+        if may & better {
+            best = Some(*found);
+        }
+    }
+    best
 }
 
 /// The use of least bound that serves an atom, the first of those where several have it.

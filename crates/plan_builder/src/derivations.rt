@@ -2,7 +2,7 @@
 ghost use Rattle.std.specs.Prelude.{◌≡◌, ◌≤◌, ◌<◌, ◌++◌, ◌∷◌, [], All, IfOk, IsTrue, OnOk, MatchBool, MatchResult, None, Some, length, map, take};
 ghost use Rattle.std.specs.List.{list_any};
 ghost use Rattle.beas_core.specs.declared.schema.Access.{Access};
-ghost use Rattle.beas_core.specs.Coverage.{ClassesInRange, atoms_of, covered_set, holds_needed, own_reason, reason, uses as uses_in};
+ghost use Rattle.beas_core.specs.Coverage.{ClassesInRange, atoms_of, covered_set, holds_needed, is_covered, own_reason, reason, uses as uses_in};
 ghost use Rattle.beas_core.specs.Derivations.{adding_steps, greedy_steps, is_live, is_served_by, serving_steps, step_of, use_of, with_use};
 ghost use Rattle.beas_core.specs.Pruning.{derivation, own_derivation};
 ghost use Rattle.beas_core.specs.Shapes.{EachIdOnce};
@@ -11,13 +11,17 @@ ghost use Rattle.plan_builder.specs.Candidates.{AreCandidates};
 ghost use Rattle.plan_builder.specs.Plans.{HasCome, served_among};
 
 use crate::candidates::Candidates;
-use crate::choices::best_serving;
+use crate::choices::{best_adding, best_serving};
 use crate::pruning::needed_steps;
 use crate::sets::{add_use, adds};
-use attribute_closure::{UseAt, close_from, constant_classes, holds_needed, why_not};
+use attribute_closure::{UseAt, close_from, constant_classes, holds_needed, uses_of, why_not};
 use beas_core::{Access, DStep, Derivation, List, NoMemory, Normal, NotCovered};
 use bound_calculator::access_with;
 use std::alloc::Global;
+
+/// The most uses of constraints of which the best is looked for anew at each turn. That takes no memory, and is slower
+/// than a queue where there are many.
+const FEW_USES: usize = 16;
 
 /// The steps so far, and the classes that are bound after them.
 #[derive(Drop)]
@@ -85,6 +89,46 @@ fn add_steps(
         }
     }
     Ok(candidates.cover(block))
+}
+
+fn covers(block: &Normal, accesses: &[Access], set: &[bool]) -> bool
+    requires atoms { length block.now.atoms ≤ 65536 }
+    requires needed { length block.now.needed ≤ 65536 }
+    ensures { result ≡ is_covered block.now accesses.now set.now }
+{
+    match why_not(block, accesses, set) {
+        None => true,
+        Some(_why) => false,
+    }
+}
+
+// Adds steps until the set covers the block, going over all uses for each. False where none is left that adds a class.
+fn add_best(
+    plan: &mut Plan,
+    block: &Normal,
+    accesses: &[Access],
+    uses: &[UseAt<'_>],
+) -> Result<bool, NoMemory>
+    requires atoms { length block.now.atoms ≤ 65536 }
+    requires needed { length block.now.needed ≤ 65536 }
+    requires ids { EachIdOnce accesses.now }
+    requires uses { map as_use uses.now ≡ uses_in block.now accesses.now }
+    requires steps { plan.old.steps ≡ [] }
+    ensures { IfOk result (λ whole. MatchBool whole
+        (HasCome block.now accesses.now plan.old.set.items plan.new.set.items plan.new.steps
+        × (adding_steps block.now.count block.now accesses.now plan.old.set.items ≡ Some plan.new.steps))
+        (adding_steps block.now.count block.now accesses.now plan.old.set.items ≡ None)) }
+{
+    for _turn in 0..block.count {
+        if covers(block, accesses, &plan.set) {
+            return Ok(true);
+        }
+        match best_adding(block, uses, &plan.set) {
+            None => return Ok(false),
+            Some(found) => take_step(plan, block, found)?,
+        }
+    }
+    Ok(covers(block, accesses, &plan.set))
 }
 
 /// Whether one of some uses is on an atom and has its needed columns in key or fetched.
@@ -161,9 +205,8 @@ fn serve_atoms(
     Ok(())
 }
 
-/// The steps of a derivation from a start set of classes: those that add classes, and then those that serve atoms.
-/// Nothing where the constraints don't cover the block from there.
-pub fn greedy(
+// The steps of `greedy`, with the uses that may come next in a queue.
+fn greedy_by_queue(
     alloc: Global,
     accesses: &List<Access>,
     block: &Normal,
@@ -187,6 +230,36 @@ pub fn greedy(
         steps,
         set: keys.set,
     };
+    serve_atoms(&mut plan, block, accesses.as_slice(), uses.as_slice())?;
+    Ok(Some(plan.steps))
+}
+
+/// The steps of a derivation from a start set of classes: those that add classes, and then those that serve atoms.
+/// Nothing where the constraints don't cover the block from there.
+pub fn greedy(
+    alloc: Global,
+    accesses: &List<Access>,
+    block: &Normal,
+    start: &[bool],
+) -> Result<Option<List<DStep>>, NoMemory>
+    requires ranges { ClassesInRange block.now }
+    requires classes { length start.now ≡ block.now.count }
+    requires atoms { length block.now.atoms < 65536 }
+    requires needed { length block.now.needed ≤ 65536 }
+    requires ids { EachIdOnce accesses.now }
+    ensures { IfOk result (λ steps. steps ≡ greedy_steps block.now accesses.now start.now) }
+{
+    let uses = uses_of(alloc, block, accesses.as_slice())?;
+    if uses.len() > FEW_USES {
+        return greedy_by_queue(alloc, accesses, block, start);
+    }
+    let mut plan = Plan {
+        steps: List::from_vec(Vec::with_capacity(alloc, block.atoms.len())?),
+        set: Vec::from_slice(alloc, start)?,
+    };
+    if !add_best(&mut plan, block, accesses.as_slice(), uses.as_slice())? {
+        return Ok(None);
+    }
     serve_atoms(&mut plan, block, accesses.as_slice(), uses.as_slice())?;
     Ok(Some(plan.steps))
 }
