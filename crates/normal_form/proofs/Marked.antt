@@ -1,6 +1,6 @@
 -- Places that are marked as used, and the lists of the normal form that are read off.
-use Rattle.std.proofs.Common.{◌≡◌, ◌==◌, ◌||◌, ◌<◌, ◌≤◌, ◌+◌, ℕ, zero, suc, Bool, true, false, cond, List, [], ◌∷◌, ◌++◌, length, map, take, get_or, replicate, ◌⊎◌, inl, inr, refl, ap, sym, ◌∙◌, subst, arith, add-one, length-set, All, append_assoc, zero-add, add-zero}
-use Rattle.std.specs.List.{list_any, filter, flat_map, enumerate_from, range_with_len, slice_set, fold}
+use Rattle.std.proofs.Common.{◌≡◌, ◌==◌, ◌||◌, ◌<◌, ◌+◌, ℕ, zero, suc, Bool, true, false, cond, List, [], ◌∷◌, ◌++◌, length, map, take, get_or, replicate, inl, inr, refl, ap, sym, ◌∙◌, subst, arith, add-one, length-set, All, append_assoc, zero-add, add-zero}
+use Rattle.std.specs.List.{list_any, filter, flat_map, enumerate_from, range_with_len, slice_set}
 use Rattle.std.proofs.Math.Seq.{take-suc, take-length}
 use Rattle.std.proofs.lemmas.List.{map-append, append-nil, length-replicate}
 use Rattle.std.proofs.lemmas.Bool.Decides.{nat_tests}
@@ -16,7 +16,7 @@ use Rattle.beas_core.specs.declared.query.Block.{Block}
 use Rattle.beas_core.specs.declared.value.Value.{Value}
 use Rattle.beas_core.specs.declared.plan.Normal.{Normal}
 use Rattle.beas_core.specs.Shapes.{IsPlace, BlockIsWellFormed, ComparisonIsWellFormed, OperandIsPlace, width_of}
-use Rattle.beas_core.specs.Classes.{same_place, operand_places, used_places, needed_columns, class_of, leaders, normal_of}
+use Rattle.beas_core.specs.Classes.{same_place, operand_places, used_places, needed_columns, class_of, normal_of}
 use Rattle.beas_core.specs.Coverage.{has, with_classes}
 use Rattle.beas_core.proofs.Sets.{Has}
 use Rattle.normal_form.specs.Places.{offset, place_number, mark, place_at, class_list, used_list, class_lists, used_lists}
@@ -89,10 +89,6 @@ marked_sides atoms used cs i d l =
     ∙ ap (mark atoms used) (sym (flat_map_more (λ c. c.left ∷ operand_places c.right) cs i d l))
 
 -- one more column, and one more atom
-pub class_list_more : (atoms : List Atom) (classes : List ℕ) (atom n : ℕ)
-    → class_list atoms classes atom (n + 1) ≡ class_list atoms classes atom n ++ get_or classes (place_number atoms (place_at atom n)) 0 ∷ []
-class_list_more atoms classes atom n = map-range_with_len_more (λ c. get_or classes (place_number atoms (place_at atom c)) 0) 0 n n (zero-add n)
-
 pub range_more : (n : ℕ) → range_with_len 0 (n + 1) ≡ range_with_len 0 n ++ n ∷ []
 range_more n = sym (same (range_with_len 0 (n + 1))) ∙ map-range_with_len_more (λ k. k) 0 n n (zero-add n) ∙ ap (λ ks. ks ++ n ∷ []) (same (range_with_len 0 n))
   where

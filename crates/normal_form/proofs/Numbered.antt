@@ -1,12 +1,10 @@
 -- Labels numbered in order of their first place.
-use Rattle.std.proofs.Common.{◌≡◌, ◌≢◌, ◌==◌, ◌&&◌, ◌||◌, ◌<◌, ◌≤◌, ◌+◌, ℕ, zero, suc, Bool, true, false, not, cond, List, [], ◌∷◌, ◌++◌, length, map, take, get_or, ◌⊎◌, inl, inr, refl, ap, sym, ◌∙◌, subst, arith, add-one, add-zero, length-append, append_assoc}
+use Rattle.std.proofs.Common.{◌≡◌, ◌≢◌, ◌==◌, ◌||◌, ◌<◌, ◌≤◌, ◌+◌, ℕ, zero, suc, Bool, true, false, not, cond, List, [], ◌∷◌, ◌++◌, length, map, take, drop, set, get_or, refl, ap, sym, ◌∙◌, subst, arith, add-one, add-zero, length-append, append_assoc}
 use Rattle.std.specs.List.{list_any, filter, position_or_len}
 use Rattle.std.proofs.Math.Seq.{take-suc}
 use Rattle.std.proofs.lemmas.Bool.{eqb-true, eqb-false, eq-eqb}
-use Rattle.std.proofs.lemmas.Bool.Decides.{nat_tests}
-use Rattle.std.proofs.lemmas.List.{map-append, get_or-map, get_or-take, length-take}
+use Rattle.std.proofs.lemmas.List.{map-append, get_or-map, get_or-take, get_or_at, get_or_append_left, set_at, drop_more, length-map, length-take}
 use Rattle.std.proofs.lemmas.List.Elements.{filter-append}
-use Rattle.beas_core.proofs.Sets.{Has}
 use Rattle.normal_form.specs.Labels.{AreFirst, label_at, heads, rank}
 
 abbrev is : ℕ → ℕ → Bool
@@ -208,3 +206,34 @@ module _ (labels : List ℕ) (i : ℕ) (first : AreFirst labels) (l : i < length
       h ∙ ap (λ ns. get_or ns k r) en ∙ ap (λ j. get_or (map (rank (take i labels)) (take i labels)) j r) ek
       ∙ get_or-map (rank (take i labels)) (take i labels) (label_at labels i) 0 r inside
       ∙ sym (get_or-map (rank (take i labels)) (take i labels) (label_at labels i) 0 0 inside)
+
+-- the numbers of the first labels, and the labels that are left
+abbrev pub part_way : List ℕ → ℕ → List ℕ
+part_way labels i = map (rank (take i labels)) (take i labels) ++ drop i labels
+
+module _ (labels : List ℕ) (i : ℕ) (first : AreFirst labels) (l : i < length labels) (xs : List ℕ) (e : xs ≡ part_way labels i) where
+  abbrev front : List ℕ
+  front = map (rank (take i labels)) (take i labels)
+
+  long : length front ≡ i
+  long = length-map (take i labels) (rank (take i labels)) ∙ omega (arith, length-take i labels)
+
+  parts : (d : ℕ) → xs ≡ front ++ get_or labels i d ∷ drop (i + 1) labels
+  parts d = e ∙ ap (λ ls. front ++ ls) (drop_more labels i d l)
+
+  pub label_here : (d : ℕ) → get_or xs i d ≡ get_or labels i d
+  label_here d = ap (λ ls. get_or ls i d) (parts d) ∙ get_or_at front _ _ d i long
+
+  put : (n : ℕ) → set xs i n ≡ (front ++ n ∷ []) ++ drop (i + 1) labels
+  put n = ap (λ ls. set ls i n) (parts 0) ∙ set_at front _ _ n i long ∙ sym (append_assoc front (n ∷ []) _)
+
+  pub put_new : (n : ℕ) → n ≡ length (heads (take i labels)) → label_at labels i ≡ i → set xs i n ≡ part_way labels (i + 1)
+  put_new n en h = put n ∙ ap (λ ls. ls ++ drop (i + 1) labels) (ap (λ m. front ++ m ∷ []) en ∙ sym (numbers_new labels i first l h))
+
+  pub put_old : (k r : ℕ) → k ≡ label_at labels i → label_at labels i ≢ i → r ≡ get_or xs k r → set xs i r ≡ part_way labels (i + 1)
+  put_old k r ek h is =
+      let b = first_before labels i first l h in
+      let inside : k < length front = omega (arith, long) in
+      let read : r ≡ get_or front k r = is ∙ ap (λ ls. get_or ls k r) e ∙ get_or_append_left front (drop i labels) r k inside in
+      put r ∙ ap (λ ls. ls ++ drop (i + 1) labels)
+      (ap (λ m. front ++ m ∷ []) (old_number labels i first l front k r refl ek h read) ∙ sym (numbers_old labels i first l h))

@@ -1,9 +1,11 @@
 -- Numbers of places: below the count of all, and different for different places.
-use Rattle.std.proofs.Common.{◌≡◌, ◌==◌, ◌&&◌, ◌<◌, ◌≤◌, ◌+◌, ◌-◌, ◌*◌, ◌^◌, ℕ, zero, suc, Bool, true, false, List, [], ◌∷◌, ◌++◌, length, map, get_or, ◌⊎◌, inl, inr, refl, ap, sym, ◌∙◌, subst, arith, All, add-one, zero-add, add-zero}
+use Rattle.std.proofs.Common.{◌≡◌, ◌==◌, ◌&&◌, ◌<◌, ◌≤◌, ◌+◌, ◌-◌, ◌*◌, ◌^◌, ℕ, zero, suc, Bool, true, false, List, [], ◌∷◌, ◌++◌, length, map, take, drop, set, get_or, inl, inr, refl, ap, sym, ◌∙◌, subst, arith, All, add-one, zero-add, add-zero}
 use Rattle.std.specs.List.{range_with_len, flat_map, enumerate_from}
-use Rattle.std.proofs.lemmas.Bool.{eqb-true, eq-eqb}
-use Rattle.std.proofs.lemmas.List.{map-append}
-use Rattle.std.proofs.lemmas.List.FromFn.{get_or-map-range_with_len, length-map-range_with_len, map-range_with_len_more}
+use Rattle.std.proofs.lemmas.Bool.{eqb-true, eqb-false, eq-eqb}
+use Rattle.std.proofs.lemmas.Grind.{get_or-set_at}
+use Rattle.std.proofs.Math.Seq.{take-suc}
+use Rattle.std.proofs.lemmas.List.{map-append, get_or-drop, get_or-set_other, length-drop}
+use Rattle.std.proofs.lemmas.List.FromFn.{map-range_with_len_more}
 use Rattle.beas_core.specs.declared.query.Atom.{Atom}
 use Rattle.beas_core.specs.declared.query.Place.{Place}
 use Rattle.beas_core.specs.Shapes.{AtomIsWellFormed, IsPlace, width_of}
@@ -24,8 +26,14 @@ offset_step atoms i d l = ap (offset atoms) (add-one i) ∙ by atoms i l
     by (a ∷ atoms) zero l = omega arith
     by (a ∷ atoms) (suc i) l = let h = by atoms i (omega arith) in omega arith
 
-pub offsets_step : (atoms : List Atom) (i : ℕ) → map (offset atoms) (range_with_len 0 (i + 1)) ≡ map (offset atoms) (range_with_len 0 i) ++ offset atoms i ∷ []
-offsets_step atoms i = map-range_with_len_more (offset atoms) 0 i i (zero-add i)
+-- one more offset, at a step of a loop
+pub offset_written : (atoms : List Atom) (xs : List ℕ) (i n : ℕ) → i < length xs → n ≡ offset atoms i
+    → ((k : ℕ) → k < i → get_or xs k 0 ≡ offset atoms k) → (k : ℕ) → k < i + 1 → get_or (set xs i n) k 0 ≡ offset atoms k
+offset_written atoms xs i n l e h k b = by (k == i) refl
+  where
+    by : (t : Bool) → (k == i) ≡ t → get_or (set xs i n) k 0 ≡ offset atoms k
+    by true s = let same = eqb-true k i s in get_or-set_at xs i k n 0 same l ∙ e ∙ ap (offset atoms) (sym same)
+    by false s = let other = eqb-false k i s in get_or-set_other xs i k n 0 other ∙ h k (omega arith)
 
 rest_are : (a : Atom) (atoms : List Atom) → All AtomIsWellFormed (a ∷ atoms) → All AtomIsWellFormed atoms
 rest_are a atoms h = λ k d l. h (suc k) d (omega arith)
@@ -51,12 +59,6 @@ offset_next_fits atoms i d h few l =
     let e = offset_step atoms i d l in
     let g = offset_le atoms h (i + 1) in
     omega arith
-
-pub offsets_at : (atoms : List Atom) (n k d : ℕ) → k < n → get_or (map (offset atoms) (range_with_len 0 n)) k d ≡ offset atoms k
-offsets_at atoms n k d l = get_or-map-range_with_len (offset atoms) 0 n k k d l (zero-add k)
-
-pub length_offsets : (atoms : List Atom) (n : ℕ) → length (map (offset atoms) (range_with_len 0 n)) ≡ n
-length_offsets atoms n = length-map-range_with_len (offset atoms) 0 n
 
 place_before : (atoms : List Atom) (k j c : ℕ) → k < j → k < length atoms → c < width_of atoms k → offset atoms k + c < offset atoms j
 unfolding offset
@@ -185,3 +187,22 @@ pieces_are all i (a ∷ rest) h n p m = elim (Has-append_cases (map (place_at i)
 
 pub places_are : (atoms : List Atom) (p : Place) → Has (places_of atoms) p → IsPlace atoms p
 places_are atoms p h = pieces_are atoms 0 atoms (λ k d l. ap (λ n. get_or atoms n d) (zero-add k)) (zero-add (length atoms)) p h
+
+-- the places of an atom stand side by side
+pub places_within : (atoms : List Atom) (k : ℕ) → k < length atoms → offset atoms k + width_of atoms k ≤ offset atoms (length atoms)
+places_within atoms k l =
+    let d : Atom = record { table = record { 0 = 0 }; width = 0 } in
+    let s = offset_step atoms k d l in
+    let g = width_at atoms k d l in
+    let n = number_le atoms (k + 1) (omega arith) in
+    omega arith
+
+pub window : (xs : List ℕ) (a n : ℕ) → a + n ≤ length xs → map (λ c. get_or xs (a + c) 0) (range_with_len 0 n) ≡ take n (drop a xs)
+window xs a zero l = refl
+window xs a (suc n) l =
+    let long = length-drop a xs in
+    ap (λ k. map (λ c. get_or xs (a + c) 0) (range_with_len 0 k)) (sym (add-one n))
+    ∙ map-range_with_len_more (λ c. get_or xs (a + c) 0) 0 n n (zero-add n)
+    ∙ ap (λ ys. ys ++ get_or xs (a + n) 0 ∷ []) (window xs a n (omega arith))
+    ∙ ap (λ y. take n (drop a xs) ++ y ∷ []) (sym (get_or-drop a xs n 0))
+    ∙ sym (take-suc (drop a xs) n 0 (omega arith))

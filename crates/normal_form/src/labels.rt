@@ -22,7 +22,7 @@ fn own_labels(alloc: Global, count: u16) -> Result<Vec<u16>, NoMemory>
 {
     let mut labels = Vec::with_capacity(alloc, usize::from(count))?;
     for place in 0..count {
-        labels.push(place)?;
+        labels.push_reserved(place);
     }
     Ok(labels)
 }
@@ -70,25 +70,25 @@ pub fn labels_of(
     Ok(labels)
 }
 
-/// Classes numbered in order of their first place.
-#[tactic(auto, using(crate::proofs::Numbered::numbers_new, crate::proofs::Numbered::count_new, crate::proofs::Numbered::numbers_old, crate::proofs::Numbered::count_old, crate::proofs::Numbered::first_before, crate::proofs::Numbered::heads_le))]
-pub fn classes_of(alloc: Global, labels: &[u16]) -> Result<Classes, NoMemory>
-    requires first { AreFirst labels.now }
-    requires few { length labels.now < 65536 }
-    ensures numbers { IfOk result (λ classes. classes.numbers.items ≡ map (rank labels.now) labels.now) }
-    ensures len { IfOk result (λ classes. length classes.numbers.items ≡ length labels.now) }
-    ensures count { IfOk result (λ classes. classes.count ≡ length (heads labels.now)) }
+/// Classes numbered in order of their first place. They take the room of the labels.
+#[tactic(auto, using(crate::proofs::Numbered::heads_le))]
+pub fn classes_of(labels: Vec<u16>) -> Classes
+    requires first { AreFirst labels.items }
+    requires few { length labels.items < 65536 }
+    ensures numbers { result.numbers.items ≡ map (rank labels.items) labels.items }
+    ensures len { length result.numbers.items ≡ length labels.items }
+    ensures count { result.count ≡ length (heads labels.items) }
 {
-    let mut numbers: Vec<u16> = Vec::with_capacity(alloc, labels.len())?;
+    let mut numbers = labels;
     let mut count: u16 = 0;
-    for (place, label) in labels.iter().enumerate() {
-        let first = usize::from(*label);
+    for place in 0..numbers.len() {
+        let first = usize::from(numbers[place]);
         if first == place {
-            numbers.push(count)?;
+            numbers[place] = count;
             count += 1;
         } else {
-            numbers.push(numbers[first])?;
+            numbers[place] = numbers[first];
         }
     }
-    Ok(Classes { numbers, count })
+    Classes { numbers, count }
 }

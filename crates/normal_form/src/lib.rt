@@ -23,9 +23,9 @@ pub fn normalise(alloc: Global, block: &Block) -> Result<Normal, NoMemory>
     requires { BlockIsWellFormed block.now }
     ensures { IfOk result (λ normal. normal ≡ normal_of block.now) }
 {
-    let places = Places::of(alloc, block.atoms.as_slice())?;
+    let places = Places::of(block.atoms.as_slice());
     let labels = labels_of(alloc, &places, block.equalities.as_slice())?;
-    let classes = classes_of(alloc, &labels)?;
+    let classes = classes_of(labels);
     let used = marks_of(alloc, &places, block)?;
     Ok(Normal {
         atoms: block.atoms.copy(alloc)?,

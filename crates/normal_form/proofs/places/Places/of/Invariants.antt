@@ -1,10 +1,10 @@
-use Rattle.std.proofs.Common.{◌≡◌, map}
-use Rattle.std.specs.List.{range_with_len}
+use Rattle.std.proofs.Common.{◌≡◌, ◌<◌, ℕ, length, get_or}
 use Rattle.normal_form.specs.Places.{offset}
 use Rattle.normal_form.proofs.places.Places.of.Given as goal
 
-abbrev pub invariant-loop-atom : goal.invariant-loop-atom
-invariant-loop-atom l = record {
-  offsets : l.offsets ≡ map (offset l.atoms) (range_with_len 0 l.atom-index);
-  count : l.count ≡ offset l.atoms l.atom-index;
+abbrev pub invariant-loop-number : goal.invariant-loop-number
+invariant-loop-number l = record {
+  offsets : (k : ℕ) → k < l.number → get_or l.offsets k 0 ≡ offset l.atoms k;
+  long : length l.offsets ≡ 16;
+  count : l.count ≡ offset l.atoms l.number;
 }
