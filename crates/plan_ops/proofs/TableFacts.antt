@@ -1,13 +1,21 @@
 -- A table of first places, as a loop builds it, and what it says.
-use Rattle.std.proofs.Common.{◌≡◌, ◌==◌, ◌<◌, ◌≤◌, ◌+◌, ℕ, Bool, true, false, cond, List, [], ◌∷◌, ◌++◌, length, get_or, set, take, replicate, inl, inr, refl, ap, sym, subst, ◌∙◌, arith, add-one, length-set, get_or-set_same, get_or-set_other}
+use Rattle.std.proofs.Common.{◌≡◌, ◌==◌, ◌<◌, ◌≤◌, ◌+◌, ℕ, Bool, true, false, cond, List, [], ◌∷◌, ◌++◌, length, get_or, ltb, map, set, take, replicate, inl, inr, refl, ap, sym, subst, ◌∙◌, arith, add-one, length-set, get_or-set_same, get_or-set_other}
 use Rattle.std.proofs.Math.Seq.{take-suc}
 use Rattle.std.proofs.lemmas.Bool.{eqb-true}
 use Rattle.std.proofs.lemmas.List.{same_lists, length-replicate, get_or-replicate, length-take}
 use Rattle.std.proofs.lemmas.List.Folds.{position_or_len_push}
 use Rattle.std.proofs.lemmas.List.FromFn.{length-map-range_with_len, get_or-map-range_with_len}
+use Rattle.std.specs.List.{filter, range_with_len}
+use Rattle.beas_core.specs.declared.plan.Normal.{Normal}
+use Rattle.beas_core.specs.Coverage.{has}
+use Rattle.beas_core.specs.Valuations.{classes_in}
+use Rattle.beas_core.proofs.Sets.{Has}
+use Rattle.evaluation_facts.proofs.BindingFacts.{from_range}
 use Rattle.evaluation_facts.proofs.MemberTests.{which}
 use Rattle.evaluation_facts.proofs.UseFacts.{same_number}
+use Rattle.plan_ops.specs.Over.{set_of}
 use Rattle.plan_ops.specs.Places.{place_of, places_in}
+use Rattle.plan_ops.proofs.BoundSets.{counted, held_by_place}
 use Rattle.plan_ops.proofs.PlaceFacts.{place-le}
 
 pub place_at : (count : ℕ) (classes : List ℕ) (c d : ℕ) → c < count → get_or (places_in count classes) c d ≡ place_of classes c
@@ -133,3 +141,24 @@ placed_all count classes places so = same_lists places (places_in count classes)
 pub place_read : (count : ℕ) (classes places : List ℕ) (c i : ℕ) → places ≡ places_in count classes → i ≡ c → c < count
     → get_or places i 0 ≡ place_of classes c
 place_read count classes places c i e same l = ap (λ xs. get_or xs i 0) e ∙ ap (λ k. get_or (places_in count classes) k 0) same ∙ place_at count classes c 0 l
+
+-- the places of the classes that stand somewhere, in the order of the classes
+pub held_places : (normal : Normal) (cs ks : List ℕ) → ((c : ℕ) → Has ks c → c < normal.count)
+    → filter (λ place. ltb place (length cs)) (map (place_of cs) ks) ≡ map (place_of cs) (filter (has (set_of normal cs)) ks)
+held_places normal cs [] small = refl
+held_places normal cs (k ∷ ks) small = by (ltb (place_of cs k) (length cs)) (has (set_of normal cs) k) (held_by_place normal cs k (small k (inl refl)))
+    (held_places normal cs ks (λ c h. small c (inr h)))
+  where
+    by : (a b : Bool) → b ≡ a
+        → filter (λ place. ltb place (length cs)) (map (place_of cs) ks) ≡ map (place_of cs) (filter (has (set_of normal cs)) ks)
+        → cond a (place_of cs k ∷ filter (λ place. ltb place (length cs)) (map (place_of cs) ks)) (filter (λ place. ltb place (length cs)) (map (place_of cs) ks))
+        ≡ map (place_of cs) (cond b (k ∷ filter (has (set_of normal cs)) ks) (filter (has (set_of normal cs)) ks))
+    by true true e rest = ap (λ ps. place_of cs k ∷ ps) rest
+    by false false e rest = rest
+    by true false e rest = cc
+    by false true e rest = cc
+
+pub places_of_classes : (normal : Normal) (cs : List ℕ)
+    → filter (λ place. ltb place (length cs)) (places_in normal.count cs) ≡ map (place_of cs) (classes_in (set_of normal cs))
+places_of_classes normal cs = held_places normal cs (range_with_len 0 normal.count) (λ c h. let l = from_range normal.count 0 c h in omega (arith, l))
+    ∙ ap (λ n. map (place_of cs) (filter (has (set_of normal cs)) (range_with_len 0 n))) (sym (counted normal cs))

@@ -9,7 +9,7 @@ ghost use Rattle.plan_ops.specs.Started.{one_row};
 ghost use Rattle.plan_ops.specs.Places.{place_of, places_in};
 
 use crate::keeping::keep;
-use crate::tables::{classes_of, first_places};
+use crate::tables::{ClassList, classes_of, first_places};
 use crate::valuations::Valuations;
 use attribute_closure::class_at;
 use beas_core::{Duplicate, List, NoMemory, Normal, Row, Value, sort_distinct};
@@ -94,8 +94,9 @@ pub fn start(alloc: Global, block: &Normal) -> Result<Valuations, NoMemory>
 {
     let constants = block.constants.as_slice();
     let equated = classes_equated(alloc, constants)?;
-    let places = first_places(alloc, block.count, &equated)?;
-    let classes = classes_of(alloc, block, &places, &equated)?;
+    let list = ClassList::of(block, &equated);
+    let places = first_places(alloc, block.count, &list)?;
+    let classes = classes_of(alloc, block, &places, &list)?;
     let mut rows = Vec::new(alloc);
     push_constant_row(
         alloc,
@@ -181,8 +182,9 @@ fn start_guided(alloc: Global, block: &Normal, answers: &[Row]) -> Result<Valuat
         ≡ valued_rows block.now (start_classes block.now true) (starts block.now (Some answers.now))) }
 {
     let equated = classes_with_output(alloc, block)?;
-    let places = first_places(alloc, block.count, &equated)?;
-    let classes = classes_of(alloc, block, &places, &equated)?;
+    let list = ClassList::of(block, &equated);
+    let places = first_places(alloc, block.count, &list)?;
+    let classes = classes_of(alloc, block, &places, &list)?;
     let rows = guided_rows(alloc, block, answers, &places, classes.as_slice())?;
     let mut found = Valuations {
         classes,

@@ -13,26 +13,26 @@ use Rattle.plan_ops.proofs.starting.start_guided.Goals as goal
 pub first_places-requires : goal.first_places-requires
 first_places-requires c =
     let block = c.args.block.now in
-    subst (All (λ class. class < block.count)) (sym (c.deref.ensures.value ∙ c.in_ok-equated.ensures))
+    subst (All (λ class. class < block.count)) (sym (c.of-list.ensures ∙ c.deref.ensures.value ∙ c.in_ok-equated.ensures))
     (keys_small block c.requires.constants c.requires.ranges)
 
 pub classes_of-requires-clause-classes : goal.classes_of-requires-clause-classes
 classes_of-requires-clause-classes c =
     let block = c.args.block.now in
-    subst (All (λ class. class < block.count)) (sym (c.deref-3.ensures.value ∙ c.in_ok-equated.ensures))
+    subst (All (λ class. class < block.count)) (sym (c.of-list.ensures ∙ c.deref.ensures.value ∙ c.in_ok-equated.ensures))
     (keys_small block c.requires.constants c.requires.ranges)
 
 pub guided_rows-requires-clause-classes : goal.guided_rows-requires-clause-classes
 guided_rows-requires-clause-classes c =
     let block = c.args.block.now in
     c.as_slice.ensures ∙ c.in_ok-classes.ensures
-    ∙ ap classes_in (ap (set_of block) (c.deref-3.ensures.value ∙ c.in_ok-equated.ensures) ∙ start_set block)
+    ∙ ap classes_in (ap (set_of block) (c.of-list.ensures ∙ c.deref.ensures.value ∙ c.in_ok-equated.ensures) ∙ start_set block)
 
 pub keep-requires : goal.keep-requires
 keep-requires c =
     let block = c.args.block.now in
     let set = start_classes block true in
-    let classes = c.in_ok-classes.ensures ∙ ap classes_in (ap (set_of block) (c.deref-3.ensures.value ∙ c.in_ok-equated.ensures) ∙ start_set block) in
+    let classes = c.in_ok-classes.ensures ∙ ap classes_in (ap (set_of block) (c.of-list.ensures ∙ c.deref.ensures.value ∙ c.in_ok-equated.ensures) ∙ start_set block) in
     let wide = ap length (sym (start_set block)) ∙ counted block (keys block) in
     record {
       classes_are = classes ∙ ap classes_in (sym (ap (set_of block) classes ∙ set_again block set wide));
@@ -45,7 +45,7 @@ pub returns-clause-over : goal.returns-clause-over
 returns-clause-over c =
     let block = c.args.block.now in
     let classes = c.keep.ensures.classes ∙ c.in_ok-classes.ensures
-    ∙ ap classes_in (ap (set_of block) (c.deref-3.ensures.value ∙ c.in_ok-equated.ensures) ∙ start_set block) in
+    ∙ ap classes_in (ap (set_of block) (c.of-list.ensures ∙ c.deref.ensures.value ∙ c.in_ok-equated.ensures) ∙ start_set block) in
     record {
       classes_are = classes;
       widths = subst (All (λ (row : Row). length row ≡ length c.keep.new.from.classes))
@@ -57,7 +57,7 @@ pub returns-clause-rows : goal.returns-clause-rows
 returns-clause-rows c =
     let block = c.args.block.now in
     let set = start_classes block true in
-    let classes = c.in_ok-classes.ensures ∙ ap classes_in (ap (set_of block) (c.deref-3.ensures.value ∙ c.in_ok-equated.ensures) ∙ start_set block) in
+    let classes = c.in_ok-classes.ensures ∙ ap classes_in (ap (set_of block) (c.of-list.ensures ∙ c.deref.ensures.value ∙ c.in_ok-equated.ensures) ∙ start_set block) in
     let wide = ap length (sym (start_set block)) ∙ counted block (keys block) in
     let ws = starts block (Some c.args.answers.now) in
     c.from_vec-2.ensures ∙ c.sort_distinct.ensures

@@ -12,14 +12,14 @@ use Rattle.plan_ops.proofs.tables.classes_of.Goals.{then-places-from, else-place
 pub bounds-places-from : goal.bounds-places-from
 bounds-places-from c =
     let n = ap length c.requires.places in
-    let k = length-places c.args.block.now.count c.args.classes.now in
+    let k = length-places c.args.block.now.count c.args.list.now in
     omega (arith, n, k)
 
 pub loop-class-preserved : goal.loop-class-preserved
 loop-class-preserved c =
-    let read = place_read c.args.block.now.count c.args.classes.now c.args.places.now c.loop-class.class c.from.result c.requires.places
+    let read = place_read c.args.block.now.count c.args.list.now c.args.places.now c.loop-class.class c.from.result c.requires.places
     c.from.ensures c.loop-class-test.true in
-    let set = set_of c.args.block.now c.args.classes.now in
+    let set = set_of c.args.block.now c.args.list.now in
     let few = c.loop-class.invariant.len in
     elim c.if-places-from.branch [
       | then-places-from w ↦ (
@@ -28,8 +28,8 @@ loop-class-preserved c =
           record {
             items = ap (λ v. v.items) w.found-is ∙ w.push_reserved.ensures.items ∙ ap (λ ks. ks ++ c.loop-class.class ∷ []) c.loop-class.invariant.items
                 ∙ class_held set c.loop-class.class
-                (held_by_place c.args.block.now c.args.classes.now c.loop-class.class c.loop-class-test.true
-                ∙ is_below (place_of c.args.classes.now c.loop-class.class) (length c.args.classes.now) (omega (arith, read, w.if-places-from.true)));
+                (held_by_place c.args.block.now c.args.list.now c.loop-class.class c.loop-class-test.true
+                ∙ is_below (place_of c.args.list.now c.loop-class.class) (length c.args.list.now) (omega (arith, read, w.if-places-from.true, c.len-none.ensures)));
             len = omega (arith, few, is, more);
             room = ap (λ v. vec_capacity v) w.found-is ∙ w.push_reserved.ensures.capacity ∙ c.loop-class.invariant.room;
           })
@@ -38,8 +38,8 @@ loop-class-preserved c =
           record {
             items = ap (λ v. v.items) w.found-is ∙ c.loop-class.invariant.items
                 ∙ class_open set c.loop-class.class
-                (held_by_place c.args.block.now c.args.classes.now c.loop-class.class c.loop-class-test.true
-                ∙ is_above (place_of c.args.classes.now c.loop-class.class) (length c.args.classes.now) (omega (arith, read, w.if-places-from.false)));
+                (held_by_place c.args.block.now c.args.list.now c.loop-class.class c.loop-class-test.true
+                ∙ is_above (place_of c.args.list.now c.loop-class.class) (length c.args.list.now) (omega (arith, read, w.if-places-from.false, c.len-none.ensures)));
             len = omega (arith, few, is);
             room = ap (λ v. vec_capacity v) w.found-is ∙ c.loop-class.invariant.room;
           })
@@ -47,8 +47,8 @@ loop-class-preserved c =
 
 pub returns : goal.returns
 returns c =
-    let set = set_of c.args.block.now c.args.classes.now in
-    let n = counted c.args.block.now c.args.classes.now in
+    let set = set_of c.args.block.now c.args.list.now in
+    let n = counted c.args.block.now c.args.list.now in
     let low = c.loop-class-test.false in
     let high = c.loop-class.auto.class-end in
     let end : c.loop-class.class ≡ length set = omega (arith, n, low, high) in

@@ -7,7 +7,7 @@ use Rattle.plan_ops.proofs.tables.classes_of.Given as goal
 
 abbrev pub invariant-loop-class : goal.invariant-loop-class
 invariant-loop-class l = record {
-  items : l.found.items ≡ filter (has (set_of l.block l.classes)) (range_with_len 0 l.class);
+  items : l.found.items ≡ filter (has (set_of l.block l.list)) (range_with_len 0 l.class);
   len : vec_len l.found ≤ l.class;
   room : vec_capacity l.found ≡ l.block.count;
 }
