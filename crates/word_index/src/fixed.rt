@@ -8,6 +8,7 @@ ghost use Rattle.word_index.specs.Reading.{read, read_index, pick, AllKnown, Spe
 ghost use Rattle.word_index.specs.Taking.{CountsWhere, HoldsWhere};
 
 use crate::group::{count_down, count_up, has_room, of_one, put_copy};
+use crate::hasher::WordHashing;
 use crate::interner::Interner;
 use crate::tuples::Group;
 use crate::words::{array_of, key_of, word_of};
@@ -21,7 +22,7 @@ use std::marker::Model;
 pub struct FixedIndex<const K: usize> {
     access: Access,
     total: u32,
-    groups: IndexMap<[u64; K], Group>,
+    groups: IndexMap<[u64; K], Group, WordHashing>,
 }
 
 impl<const K: usize> Model for FixedIndex<K> {
@@ -39,12 +40,12 @@ impl<const K: usize> Model for FixedIndex<K> {
 /// The same groups under the same keys.
 fn copy_groups<const K: usize>(
     alloc: Global,
-    groups: &IndexMap<[u64; K], Group>,
-) -> Result<IndexMap<[u64; K], Group>, NoMemory>
+    groups: &IndexMap<[u64; K], Group, WordHashing>,
+) -> Result<IndexMap<[u64; K], Group, WordHashing>, NoMemory>
     requires small { K ≤ 4 }
     ensures { IfOk result (λ copy. copy.entries ≡ groups.now.entries) }
 {
-    let mut copy = IndexMap::new(alloc);
+    let mut copy = IndexMap::with_hasher(alloc, WordHashing::new());
     for i in 0..groups.len() {
         let Some((key, group)) = groups.get_index(i) else {
             unreachable!()
@@ -68,7 +69,7 @@ impl<const K: usize> FixedIndex<K> {
         FixedIndex {
             access,
             total: 0,
-            groups: IndexMap::new(alloc),
+            groups: IndexMap::with_hasher(alloc, WordHashing::new()),
         }
     }
 

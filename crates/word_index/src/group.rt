@@ -11,6 +11,7 @@ ghost use Rattle.indexmap.specs.IndexMap.{insert_entry};
 ghost use Rattle.word_index.specs.Reading.{read, read_group, pick, AllKnown, AllWordsKnown};
 ghost use Rattle.word_index.specs.Taking.{HasRoom};
 
+use crate::hasher::WordHashing;
 use crate::interner::Interner;
 use crate::tuples::Group;
 use crate::words::{compare_tuple, tuple_words};
@@ -154,7 +155,7 @@ pub fn count_down(group: &mut Group, at: usize)
 /// Puts a copy of a group under a key.
 pub fn put_copy<K: Eq + Hash + Drop>(
     alloc: Global,
-    groups: &mut IndexMap<K, Group>,
+    groups: &mut IndexMap<K, Group, WordHashing>,
     key: K,
     group: &Group,
 ) -> Result<(), NoMemory>

@@ -5,6 +5,7 @@ ghost use Rattle.access_index.specs.Hashing.{or_zero};
 ghost use Rattle.word_index.specs.Codes.{code_of, extended, value_of, AreDistinct};
 ghost use Rattle.word_index.specs.Reading.{KeepsCodes};
 
+use crate::hasher::WordHashing;
 use beas_core::{Duplicate, NoMemory, Value};
 use indexmap::IndexSet;
 use std::alloc::Global;
@@ -14,7 +15,7 @@ use std::marker::Model;
 /// values are those of rows, which are handed out after a probe alone, so it isn't `Debug`.
 #[derive(Drop)]
 pub struct Interner {
-    values: IndexSet<Value>,
+    values: IndexSet<Value, WordHashing>,
 }
 
 impl Model for Interner {
@@ -36,7 +37,7 @@ impl Interner {
         ensures { result ≡ [] }
     {
         Interner {
-            values: IndexSet::new(alloc),
+            values: IndexSet::with_hasher(alloc, WordHashing::new()),
         }
     }
 
@@ -83,7 +84,11 @@ impl Interner {
     pub fn copy(&self, alloc: Global) -> Result<Interner, NoMemory>
         ensures { IfOk result (λ copy. copy ≡ self.now) }
     {
-        let mut values = IndexSet::with_capacity(alloc, self.values.len())?;
+        let mut values = IndexSet::with_capacity_and_hasher(
+            alloc,
+            self.values.len(),
+            WordHashing::new(),
+        )?;
         for i in 0..self.values.len() {
             values.insert(self.values[i].copy(alloc)?)?;
         }

@@ -6,6 +6,7 @@ mod bulk;
 mod fixed;
 mod form;
 mod group;
+mod hasher;
 mod interner;
 mod key;
 mod long;

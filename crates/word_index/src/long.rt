@@ -8,6 +8,7 @@ ghost use Rattle.word_index.specs.Reading.{read, read_index, pick, AllKnown, Spe
 ghost use Rattle.word_index.specs.Taking.{CountsWhere, HoldsWhere};
 
 use crate::group::{count_down, count_up, has_room, of_one, put_copy};
+use crate::hasher::WordHashing;
 use crate::interner::Interner;
 use crate::key::KeyWords;
 use crate::tuples::Group;
@@ -23,7 +24,7 @@ use std::marker::Model;
 pub struct LongIndex {
     access: Access,
     total: u32,
-    groups: IndexMap<TupleWords, Group>,
+    groups: IndexMap<TupleWords, Group, WordHashing>,
 }
 
 impl Model for LongIndex {
@@ -41,11 +42,11 @@ impl Model for LongIndex {
 /// The same groups under the same keys.
 fn copy_groups(
     alloc: Global,
-    groups: &IndexMap<TupleWords, Group>,
-) -> Result<IndexMap<TupleWords, Group>, NoMemory>
+    groups: &IndexMap<TupleWords, Group, WordHashing>,
+) -> Result<IndexMap<TupleWords, Group, WordHashing>, NoMemory>
     ensures { IfOk result (λ copy. copy.entries ≡ groups.now.entries) }
 {
-    let mut copy = IndexMap::new(alloc);
+    let mut copy = IndexMap::with_hasher(alloc, WordHashing::new());
     for i in 0..groups.len() {
         let Some((key, group)) = groups.get_index(i) else {
             unreachable!()
@@ -68,7 +69,7 @@ impl LongIndex {
         LongIndex {
             access,
             total: 0,
-            groups: IndexMap::new(alloc),
+            groups: IndexMap::with_hasher(alloc, WordHashing::new()),
         }
     }
 

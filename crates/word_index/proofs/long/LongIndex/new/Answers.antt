@@ -7,14 +7,14 @@ use Rattle.word_index.proofs.long.LongIndex.new.Goals as goal
 pub invariant_of-result : goal.invariant_of-result
 invariant_of-result c = (
   c.requires,
-  subst (λ es. IsOrdered (record { access = c.args.access; total = 0; groups = es })) (sym c.new.ensures.empty) (ordered_none c.args.access),
+  subst (λ es. IsOrdered (record { access = c.args.access; total = 0; groups = es })) (sym c.with_hasher.ensures.empty) (ordered_none c.args.access),
 )
 
 pub returns-clause-in_order : goal.returns-clause-in_order
 returns-clause-in_order c codes distinct =
-    subst (λ es. IsInOrderFor codes (record { access = c.args.access; total = 0; groups = es })) (sym c.new.ensures.empty) (none_in_order codes distinct c.args.access)
+    subst (λ es. IsInOrderFor codes (record { access = c.args.access; total = 0; groups = es })) (sym c.with_hasher.ensures.empty) (none_in_order codes distinct c.args.access)
 
 pub returns-clause-index : goal.returns-clause-index
 returns-clause-index c codes =
-    subst (λ es. IsIndexOf (read_index codes (record { access = c.args.access; total = 0; groups = es })) []) (sym c.new.ensures.empty)
+    subst (λ es. IsIndexOf (read_index codes (record { access = c.args.access; total = 0; groups = es })) []) (sym c.with_hasher.ensures.empty)
     (record { tallies_are = λ key. refl; total_is = refl })
