@@ -7,11 +7,12 @@ ghost use Rattle.word_index.specs.Codes.{AreDistinct};
 ghost use Rattle.word_index.specs.Reading.{read, read_index, pick, AllKnown, Spells, IsInOrderFor, words_at, word_in};
 ghost use Rattle.word_index.specs.Taking.{CountsWhere, HoldsWhere};
 
+use crate::asked::AskedWords;
 use crate::group::{count_down, count_up, has_room, of_one, put_copy};
 use crate::hasher::WordHashing;
 use crate::interner::Interner;
 use crate::tuples::Group;
-use crate::words::{array_of, key_of, word_of};
+use crate::words::{key_of, word_of};
 use beas_core::{Access, ColumnId, Duplicate, List, NoMemory};
 use indexmap::IndexMap;
 use std::alloc::Global;
@@ -201,8 +202,7 @@ impl<const K: usize> FixedIndex<K> {
     {
         // Read for what its type tells: there are fewer than 2^32 rows, and so fewer tuples in each group.
         let _in_range = self.total;
-        let wanted = array_of::<K>(key);
-        match self.groups.get_index_of(&wanted) {
+        match self.groups.get_index_of(AskedWords { words: key }) {
             None => None,
             Some(index) => Some((index as u64, self.groups[index].len() as u32)),
         }

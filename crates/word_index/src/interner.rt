@@ -1,11 +1,13 @@
 // Values in the order in which they were first interned.
-ghost use Rattle.std.specs.Prelude.{◌≡◌, ◌↔◌, ◌<◌, [], length, slice_index_or, Some, IsSome, IfOk, OnOk, OnErr};
+ghost use Rattle.std.specs.Prelude.{◌≡◌, ◌↔◌, ◌<◌, [], length, slice_index_or, Some, IsSome, IfSome, IfOk, OnOk, OnErr};
 ghost use Rattle.std.specs.Option.{option_copied};
+ghost use Rattle.beas_core.specs.declared.value.Value.TheVariants.{Int};
 ghost use Rattle.access_index.specs.Hashing.{or_zero};
 ghost use Rattle.word_index.specs.Codes.{code_of, extended, value_of, AreDistinct};
 ghost use Rattle.word_index.specs.Reading.{KeepsCodes};
 
 use crate::hasher::WordHashing;
+use crate::hints::{Hints, integer_in};
 use beas_core::{Duplicate, NoMemory, Value};
 use indexmap::IndexSet;
 use std::alloc::Global;
@@ -16,6 +18,7 @@ use std::marker::Model;
 #[derive(Drop)]
 pub struct Interner {
     values: IndexSet<Value, WordHashing>,
+    hints: Hints,
 }
 
 impl Model for Interner {
@@ -38,6 +41,18 @@ impl Interner {
     {
         Interner {
             values: IndexSet::with_hasher(alloc, WordHashing::new()),
+            hints: Hints::new(alloc),
+        }
+    }
+
+    /// The code of an integer that stands where the hint says. It takes no memory.
+    fn hinted(&self, integer: i64) -> Option<u64>
+        ensures { IfSome result (λ code. code_of self.now (Int integer) ≡ Some code) }
+    {
+        let place = self.hints.place(integer)?;
+        match self.values.get_index(place)? {
+            Value::Int(there) if *there == integer => Some(place as u64),
+            _ => None,
         }
     }
 
@@ -45,6 +60,11 @@ impl Interner {
     pub fn code(&self, value: &Value) -> Option<u64>
         ensures { result ≡ code_of self.now value.now }
     {
+        if let Value::Int(integer) = value {
+            if let Some(code) = self.hinted(*integer) {
+                return Some(code);
+            }
+        }
         match self.values.get_index_of(value) {
             Some(index) => Some(index as u64),
             None => None,
@@ -60,7 +80,10 @@ impl Interner {
         ensures kept { KeepsCodes self.old self.new }
         ensures err { OnErr result (self.new ≡ self.old) }
     {
+        self.hints.make_room(self.values.as_slice())?;
+        let integer = integer_in(&value);
         let (index, _) = self.values.insert_full(value)?;
+        self.hints.note(integer, index);
         Ok(index as u64)
     }
 
@@ -92,6 +115,7 @@ impl Interner {
         for i in 0..self.values.len() {
             values.insert(self.values[i].copy(alloc)?)?;
         }
-        Ok(Interner { values })
+        let hints = self.hints.copy(alloc)?;
+        Ok(Interner { values, hints })
     }
 }

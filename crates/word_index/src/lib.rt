@@ -2,11 +2,13 @@
 #![tactic(auto)]
 
 mod any;
+mod asked;
 mod bulk;
 mod fixed;
 mod form;
 mod group;
 mod hasher;
+mod hints;
 mod interner;
 mod key;
 mod long;

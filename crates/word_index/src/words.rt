@@ -131,18 +131,6 @@ pub fn key_of<const K: usize>(columns: &[ColumnId], words: &[u64]) -> [u64; K]
     key
 }
 
-/// The words of a key.
-pub fn array_of<const K: usize>(words: &[u64]) -> [u64; K]
-    requires width { length words.now ≡ K }
-    ensures { result ≡ words.now }
-{
-    let mut key = [0; K];
-    for i in 0..words.len() {
-        key[i] = words[i];
-    }
-    key
-}
-
 /// A column's word of a tuple.
 pub fn word_of(access: &Access, tuple: &[u64], column: ColumnId) -> u64
     requires width { length tuple.now ≡ length (member_columns access.now) }

@@ -20,7 +20,7 @@ overflow_cast-result g c =
     let es = c.self.inside.groups.entries in
     let total = c.self.inside.total in
     let w = c.self.invariant.2 in
-    let key = c.array_of-wanted.result in
+    let key = c.args.key.now in
     let g0 = c.index.result.now in
     let found : lookup (pointwise nat_eq key) es ≡ Some g0 = sym c.in-Some.ensures.value ∙ c.index.ensures in
     let b = group_holds access w.codes total es key w.in_order g0 found in
@@ -32,7 +32,7 @@ returns-in-None-clause-group g c codes rows o known is =
     let es = c.self.inside.groups.entries in
     let total = c.self.inside.total in
     let key = c.args.key.now in
-    let none = ap (λ k. lookup (pointwise nat_eq k) es) (sym c.array_of-wanted.ensures) ∙ none_from (lookup (pointwise nat_eq c.array_of-wanted.result) es) c.in-None.ensures.found in
+    let none = none_from (lookup (pointwise nat_eq key) es) c.in-None.ensures.found in
     subst (λ (x : WordIndex). group_of rows x.access (read codes key) ≡ []) c.self.view_is
     (no_group access codes total es key (subst (IsInOrderFor codes) (sym c.self.view_is) o) known rows
     (subst (λ (x : WordIndex). IsIndexOf (read_index codes x) rows) (sym c.self.view_is) is) none)
@@ -53,7 +53,7 @@ returns-in-Some-clause-group g c codes rows o known is =
     let key = c.args.key.now in
     let g0 = c.index.result.now in
     let there = at_place (values_of es) c.in-Some.index g0 [] c.index.ensures in
-    let found = ap (λ k. lookup (pointwise nat_eq k) es) (sym c.array_of-wanted.ensures) ∙ sym c.in-Some.ensures.value ∙ c.index.ensures in
+    let found = sym c.in-Some.ensures.value ∙ c.index.ensures in
     subst (λ (x : WordIndex). map (read codes) (words_at x c.in-Some.index) ≡ group_of rows x.access (read codes key)) c.self.view_is
     (ap (λ h. map (read codes) (words_in h)) there
     ∙ found_group access codes total es key (subst (IsInOrderFor codes) (sym c.self.view_is) o) known rows
@@ -64,7 +64,7 @@ returns-in-Some-clause-some g c =
     let access = c.self.inside.access in
     let es = c.self.inside.groups.entries in
     let w = c.self.invariant.2 in
-    let key = c.array_of-wanted.result in
+    let key = c.args.key.now in
     let g0 = c.index.result.now in
     let found : lookup (pointwise nat_eq key) es ≡ Some g0 = sym c.in-Some.ensures.value ∙ c.index.ensures in
     let b = group_holds access w.codes c.self.inside.total es key w.in_order g0 found in

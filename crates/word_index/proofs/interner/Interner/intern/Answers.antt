@@ -28,3 +28,6 @@ pub returns-in_err-index-clause-kept : goal.returns-in_err-index-clause-kept
 returns-in_err-index-clause-kept c =
     subst (λ old. KeepsCodes old c.insert_full.new.self.keys) c.self.view_is
     (subst (KeepsCodes c.self.inside.values.keys) (sym c.in_err-index.ensures.err) (kept_codes c.self.inside.values.keys))
+
+pub returns-in_err-make_room-clause-distinct : goal.returns-in_err-make_room-clause-distinct
+returns-in_err-make_room-clause-distinct c = are_distinct c.self.inside.values.keys c.self.invariant
