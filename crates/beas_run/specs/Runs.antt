@@ -208,6 +208,9 @@ pub record Says (status : ℕ) (before after : Sent) : Type 0 where
   -- out of memory, nothing
   pub unsaid : status ≡ 5 → before.told ≡ true → after.bytes ≡ before.bytes
   pub no_fault : status ≡ 5 → after.faults ≡ before.faults
+  -- by one put; out of memory, by one or by none
+  pub puts : IsWithout status → after.puts ≡ raised 1 before.puts
+  pub puts_out_of_memory : status ≡ 5 → (after.puts ≡ raised 1 before.puts) ⊎ (after.puts ≡ before.puts)
   -- what it tells stays, and its count doesn't fall
   pub later : IsLaterSink before after
 

@@ -4,7 +4,7 @@ ghost use Rattle.beas_core.specs.Fits.{Fits, PreparedIsWellFormed};
 ghost use Rattle.beas_core.specs.Full.{full_of};
 ghost use Rattle.block_walk.specs.Worlds.{world};
 ghost use Rattle.cursor_executor.specs.Courses.{IsCourse, fetched_by, left_of};
-ghost use Rattle.cursor_executor.specs.Fetching.{AllAgree, IsWorld, reads_due, reads_fetched};
+ghost use Rattle.cursor_executor.specs.Fetching.{AllAgree, IsWorld, probed, probes_due, reads_due, reads_fetched};
 ghost use Rattle.cursor_executor.specs.Turns.{HasGone, QuerySpent, SpentWithin, TurnIs};
 
 use crate::courses::{Course, course_of, go};
@@ -177,8 +177,8 @@ impl Cursor {
         Ok(Turn::Done)
     }
 
-    /// Makes all probes that are due, so that the answer is there: as `plan_executor::execute` does, and with its
-    /// reads. Out of memory, the cursor has failed, and no more was counted than the reads that were left.
+    /// Makes all probes that are due, each once and no other, so that the answer is there: as `plan_executor::execute`
+    /// does, and with its reads. Out of memory, the cursor has failed, and no more was counted than the reads that were left.
     pub fn complete<P: AccessPort, L: Ledger>(
         &mut self,
         alloc: Global,
@@ -189,6 +189,9 @@ impl Cursor {
         requires going { self.old.failed ≡ false }
         requires agrees { AllAgree (world (P.rows port.now) (P.accesses port.now)) self.old.prepared self.old.fetched }
         ensures prepared { self.new.prepared ≡ self.old.prepared }
+        ensures fetched { OnOk result (probes_due (world (P.rows port.now) (P.accesses port.now)) self.old.prepared
+            ≡ probed self.new.fetched) }
+        ensures agree { OnOk result (AllAgree (world (P.rows port.now) (P.accesses port.now)) self.old.prepared self.new.fetched) }
         ensures answer { OnOk result (self.new.answer ≡ Some (full_of (P.rows port.now) self.old.prepared.query)) }
         ensures reads { OnOk result (self.new.reads
             ≡ reads_due (world (P.rows port.now) (P.accesses port.now)) self.old.prepared) }

@@ -1,4 +1,4 @@
-use Rattle.std.proofs.Common.{ap, inr, refl, Err}
+use Rattle.std.proofs.Common.{ap, inl, inr, refl, Err}
 use Rattle.beas_run.proofs.SourcelessFacts.{not_without}
 use Rattle.beas_run.proofs.DoneFacts.{none_sent}
 use Rattle.beas_run.proofs.no_script.say.Goals as goal
@@ -12,5 +12,7 @@ returns-in-Err-NoMemory-clause-says g c =
       whole = λ without. absurd (not_without 5 (inr (inr refl)) without);
       unsaid = λ _ told. e.none_sent is told;
       no_fault = λ _. e.no_memory is;
+      puts = λ without. absurd (not_without 5 (inr (inr refl)) without);
+      puts_out_of_memory = λ _. inl c.put.ensures.counted;
       later = c.put.ensures.later;
     }

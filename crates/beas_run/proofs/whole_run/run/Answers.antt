@@ -44,6 +44,8 @@ returns-in-Ok g c =
         whole = λ w. absurd (not_without _ o.statuses w);
         unsaid = λ _ _. refl;
         no_fault = λ _. refl;
+        puts = λ w. absurd (not_without _ o.statuses w);
+        puts_out_of_memory = λ _. inr refl;
         later = sink_later _;
       };
       out_unused = λ w. absurd (not_without _ o.statuses w);
