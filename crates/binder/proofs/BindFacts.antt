@@ -29,7 +29,7 @@ pub none_left : (xs ys : List Refusal) → first (xs ++ ys) ≡ None → first x
 none_left [] ys none = refl
 none_left (x ∷ xs) ys none = cc
 
-none_right : (xs ys : List Refusal) → first (xs ++ ys) ≡ None → first ys ≡ None
+pub none_right : (xs ys : List Refusal) → first (xs ++ ys) ≡ None → first ys ≡ None
 none_right [] ys none = none
 none_right (x ∷ xs) ys none = cc
 
@@ -70,7 +70,7 @@ few_atoms limits blocks none =
 
 -- ---- numbers of 16 bits
 
-small : (atoms : List Atom) → length atoms ≤ 16 → ((i : ℕ) → width_of atoms i ≤ 64) → (m : Meaning) → MeaningFits atoms m → IsSmall m
+pub small : (atoms : List Atom) → length atoms ≤ 16 → ((i : ℕ) → width_of atoms i ≤ 64) → (m : Meaning) → MeaningFits atoms m → IsSmall m
 small atoms few widths (At column) fits = (omega (arith, fits.atom), omega (arith, fits.column, widths column.atom))
 small atoms few widths (Fixed value) fits = tt
 small atoms few widths (Unknown table column) fits = tt

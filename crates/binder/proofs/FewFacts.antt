@@ -5,10 +5,14 @@ use Rattle.std.specs.Str.{bytes_eq}
 use Rattle.std.proofs.lemmas.List.{append-nil, map-append, map_more, length-map, length-take-le}
 use Rattle.std.proofs.lemmas.List.Concat.{flat_map-append}
 use Rattle.std.proofs.lemmas.List.Elements.{filter-append}
+use Rattle.beas_core.specs.declared.query.Atom.{Atom}
+use Rattle.catalogue.specs.Schema.{Schema}
 use Rattle.sql_tree.specs.declared.tree.ColumnRef.{ColumnRef}
+use Rattle.sql_tree.specs.declared.tree.FromItem.{FromItem}
 use Rattle.binder.specs.declared.found.Found.{Found}
 use Rattle.binder.specs.declared.found.NamedAtom.{NamedAtom}
 use Rattle.binder.specs.declared.meaning.BoundColumn.{BoundColumn}
+use Rattle.binder.specs.LookedUp.{atom_of}
 use Rattle.binder.specs.Meanings.{Source, columns_in, may_name, named_by, meaning}
 use Rattle.binder.specs.Scopes.{found_in, found_or_more, source_of, meaning_by}
 use Rattle.binder.proofs.Numbered.{enumerate_append}
@@ -75,6 +79,15 @@ pub source_added : (atoms more : List NamedAtom) (atom : NamedAtom) (before : Li
     → map source_of more ≡ before ++ source_of atom ∷ []
 source_added atoms more atom before added was =
     ap (map source_of) added ∙ map-append source_of atoms (atom ∷ []) ∙ ap (λ ss. ss ++ source_of atom ∷ []) was
+
+pub atoms_added : (schema : Schema) (atoms more : List NamedAtom) (atom : NamedAtom) (items : List FromItem) (i : ℕ) (item : FromItem) → i < length items
+    → item ≡ get_or items i item → more ≡ atoms ++ atom ∷ [] → map (λ a. a.atom) atoms ≡ map (atom_of schema) (take i items)
+    → atom.atom ≡ atom_of schema item → map (λ a. a.atom) more ≡ map (atom_of schema) (take (i + 1) items)
+atoms_added schema atoms more atom items i item below is added so_far here =
+    let plain : NamedAtom → Atom = λ a. a.atom in
+    let before : List Atom = map (atom_of schema) (take i items) in
+    ap (map plain) added ∙ map-append plain atoms (atom ∷ []) ∙ ap (λ some. some ++ atom.atom ∷ []) so_far
+    ∙ ap (λ a. before ++ a ∷ []) here ∙ ap (λ it. before ++ atom_of schema it ∷ []) is ∙ sym (map_more (atom_of schema) items i item below)
 
 -- ---- what a ref stands for
 

@@ -19,11 +19,11 @@ use Rattle.binder.specs.Binding.{places_in_all, shape_of, looked_refusals}
 use Rattle.binder.specs.Refusing.{refusals_if, flaws, sides, has_flaw, condition_has_flaw, block_has_flaw, places}
 
 -- the parts of an `or` that is false
-not_left : (a b : Bool) → (a || b) ≡ false → a ≡ false
+pub not_left : (a b : Bool) → (a || b) ≡ false → a ≡ false
 not_left true b none = none
 not_left false b none = refl
 
-not_right : (a b : Bool) → (a || b) ≡ false → b ≡ false
+pub not_right : (a b : Bool) → (a || b) ≡ false → b ≡ false
 not_right true b none = cc
 not_right false b none = none
 
@@ -54,7 +54,7 @@ no_meaning TextTooLong limit (OutOfRange negative digits) none = refl
 nothing_in_front : (xs ys : List Refusal) → xs ≡ [] → xs ++ ys ≡ ys
 nothing_in_front xs ys none = ap (λ zs. zs ++ ys) none
 
-joined : (xs ys : List Refusal) → xs ≡ [] → ys ≡ [] → xs ++ ys ≡ []
+pub joined : (xs ys : List Refusal) → xs ≡ [] → ys ≡ [] → xs ++ ys ≡ []
 joined xs ys none no_more = nothing_in_front xs ys none ∙ no_more
 
 no_items : (flaw : Flaw) (limit : ℕ) (ms : List Meaning) → list_any (has_flaw limit) ms ≡ false → flat_map (flaws flaw limit) ms ≡ []

@@ -1,5 +1,6 @@
 mod Digits
 pub mod Numbered
+pub mod Sameness
 pub mod ScopeFacts
 pub mod AliasFacts
 pub mod FewFacts
@@ -10,6 +11,7 @@ pub mod PartFacts
 pub mod JoinedFacts
 pub mod Ranges
 pub mod BindFacts
+pub mod AtOnceFacts
 pub mod RowFacts
 pub mod DeleteFacts
 pub mod WellFormed

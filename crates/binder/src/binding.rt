@@ -12,6 +12,7 @@ ghost use Rattle.binder.specs.LookedUp.{looked_up, bound_block, BlockIsSmall};
 ghost use Rattle.beas_core.specs.Results.{IsRefusedAs};
 ghost use Rattle.binder.specs.Refusing.{first, unknown_tables, repeated_aliases, places};
 
+use crate::at_once::bound_at_once;
 use crate::building::bound_block;
 use crate::kinds::{Flaw, Kind};
 use crate::looking_up::{look_up, want_tables};
@@ -246,6 +247,9 @@ pub fn bind(
     ensures count { IfOk result (λ query. length (blocks_in query) ≡ length (blocks_of tree.now)) }
 {
     recall_soundness(catalogue);
+    if let Some(query) = bound_at_once(alloc, catalogue, limits, tree)? {
+        return Ok(query);
+    }
     let blocks = looked_up_blocks(alloc, catalogue, tree)?;
     refuse_all(alloc, limits, &blocks)?;
     let mut bound = bound_blocks(alloc, &blocks)?;

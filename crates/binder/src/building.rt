@@ -1,5 +1,5 @@
 // Makes blocks of blocks with their names looked up.
-ghost use Rattle.std.specs.Prelude.{◌≡◌, ◌++◌, ◌<◌, ◌∷◌, [], All, IfOk, OnOk, length, map};
+ghost use Rattle.std.specs.Prelude.{if◌then◌else◌, ◌≡◌, ◌++◌, ◌<◌, ◌∷◌, [], All, IfOk, OnOk, length, map};
 ghost use Rattle.std.specs.Option.{option_to_list};
 ghost use Rattle.std.specs.List.{filter_map, flat_map, enumerate_from, range_with_len};
 ghost use Rattle.binder.specs.LookedUp.{place_of, place_at, mirrored_sign, with_column, with_value, part_of, parts, column_of, all_places, outputs, bound_block, IsSmall, ConditionIsSmall, BlockIsSmall, Adds};
@@ -104,7 +104,8 @@ fn add_part(block: &mut Block, part: Part) -> Result<(), NoMemory>
     }
 }
 
-fn add_comparison(
+/// Adds what a comparison adds.
+pub fn add_comparison(
     alloc: Global,
     block: &mut Block,
     left: &Meaning,
@@ -187,14 +188,22 @@ fn item_places(alloc: Global, items: &[Meaning]) -> Result<List<Place>, NoMemory
     Ok(places)
 }
 
-fn outputs(alloc: Global, block: &LookedUp) -> Result<List<Place>, NoMemory>
-    requires { BlockIsSmall block.now }
-    ensures { IfOk result (λ places. places ≡ outputs block.now) }
+/// All columns of the atoms where there is a star, and else those that the items stand for.
+pub fn outputs_of(
+    alloc: Global,
+    star: bool,
+    atoms: &[Atom],
+    items: &[Meaning],
+) -> Result<List<Place>, NoMemory>
+    requires atoms { length atoms.now < 65536 }
+    requires items { All IsSmall items.now }
+    ensures { IfOk result (λ places. places
+        ≡ (if star then all_places atoms.now else map place_of (filter_map column_of items.now))) }
 {
-    if block.star {
-        return all_places(alloc, block.atoms.as_slice());
+    if star {
+        return all_places(alloc, atoms);
     }
-    item_places(alloc, block.items.as_slice())
+    item_places(alloc, items)
 }
 
 /// The block whose places are the columns that names were found to stand for.
@@ -207,7 +216,12 @@ pub fn bound_block(alloc: Global, block: &LookedUp) -> Result<Block, NoMemory>
         equalities: List::new(alloc),
         constants: List::new(alloc),
         comparisons: List::new(alloc),
-        output: outputs(alloc, block)?,
+        output: outputs_of(
+            alloc,
+            block.star,
+            block.atoms.as_slice(),
+            block.items.as_slice(),
+        )?,
     };
     add_conditions(alloc, &mut bound, block.conditions.as_slice())?;
     Ok(bound)

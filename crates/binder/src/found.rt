@@ -1,6 +1,6 @@
 // What the names of a block are found in.
 use crate::meaning::BoundColumn;
-use beas_core::Column;
+use beas_core::{Atom, Column};
 
 /// The columns with a name, where there is at least one.
 #[derive(Clone, Copy)]
@@ -16,9 +16,10 @@ pub struct AtomColumns<'a> {
     pub columns: &'a [Column],
 }
 
-/// An atom's alias and its columns.
+/// An atom, its alias and its columns.
 #[derive(Clone, Copy)]
 pub struct NamedAtom<'a> {
+    pub atom: Atom,
     pub alias: &'a str,
     pub columns: &'a [Column],
 }

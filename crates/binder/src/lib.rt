@@ -9,6 +9,7 @@
 //! it looks at their literals alone, nor that it says `NoMemory` only where memory ran out.
 #![tactic(auto)]
 
+mod at_once;
 mod binding;
 mod building;
 mod deleting;
@@ -21,6 +22,7 @@ mod names;
 mod refusing;
 mod rows;
 mod scope;
+mod texts;
 
 pub use binding::bind;
 pub use deleting::bind_delete;

@@ -70,7 +70,8 @@ pub fn atoms_of(
     Ok(atoms)
 }
 
-fn meanings_of(
+/// What refs stand for, in order.
+pub fn meanings_of(
     alloc: Global,
     names: &Names,
     references: &[ColumnRef],

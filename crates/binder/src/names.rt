@@ -2,7 +2,8 @@
 ghost use Rattle.std.specs.List.{list_any};
 ghost use Rattle.std.specs.Prelude.{◌≡◌, IfOk, bytes_eq, map};
 ghost use Rattle.sql_tree.specs.declared.tree.ColumnRef.{ColumnRef};
-ghost use Rattle.binder.specs.Meanings.{side_meaning, condition, meaning, may_name, named_by, sources};
+ghost use Rattle.binder.specs.LookedUp.{atom_of};
+ghost use Rattle.binder.specs.Meanings.{side_meaning, columns_named, condition, meaning, may_name, named_by, sources};
 ghost use Rattle.beas_core.specs.Results.{IsRefusedAs};
 ghost use Rattle.binder.specs.Refusing.{first, repeated_among};
 ghost use Rattle.binder.specs.Scopes.{found_in, found_or_more, source_of, found_of, told_by};
@@ -10,14 +11,15 @@ ghost use Rattle.binder.specs.Scopes.{found_in, found_or_more, source_of, found_
 use crate::found::{Found, NamedAtom};
 use crate::literals::literal_meaning;
 use crate::meaning::{Condition, Meaning};
-use crate::scope::{Scope, columns_named, copy_of, find_in, scope_of};
-use beas_core::{Duplicate, Fail, NoMemory, Refusal};
+use crate::scope::{Scope, copy_of, find_in, scope_of};
+use crate::texts::is_same;
+use beas_core::{Atom, Duplicate, Fail, NoMemory, Refusal, TableId};
 use catalogue::Catalogue;
 use sql_tree::{ColumnRef, Cond, FromItem, Side};
 use std::alloc::Global;
 
 /// So many atoms, and no more, are walked.
-const FEW: usize = 4;
+pub const FEW: usize = 4;
 
 /// The names of a block.
 #[derive(Drop)]
@@ -30,20 +32,50 @@ fn has_alias(atoms: &[NamedAtom], alias: &str) -> bool
     ensures { result ≡ list_any (λ a. bytes_eq a.alias.now alias.now) atoms.now }
 {
     for atom in atoms {
-        if atom.alias == alias {
+        if is_same(atom.alias, alias) {
             return true;
         }
     }
     false
 }
 
+/// The atom of an item, with its alias. A name that no table has stands for table 0, without columns.
+#[tactic(auto, unfolding(crate::specs::LookedUp::atom_of, crate::specs::Meanings::columns_named))]
+fn named_atom<'a>(catalogue: &'a Catalogue, item: &'a FromItem) -> NamedAtom<'a>
+    ensures atom { result.atom ≡ atom_of catalogue.now item.now }
+    ensures alias { result.alias.now ≡ item.now.alias }
+    ensures columns { result.columns.now ≡ columns_named catalogue.now item.now.table }
+{
+    let alias = item.alias.as_str();
+    match catalogue.table(&item.table) {
+        Some(table) => {
+            let columns = catalogue.columns(table).as_slice();
+            let width = columns.len() as u16;
+            NamedAtom {
+                atom: Atom { table, width },
+                alias,
+                columns,
+            }
+        }
+        None => NamedAtom {
+            atom: Atom {
+                table: TableId(0),
+                width: 0,
+            },
+            alias,
+            columns: &[],
+        },
+    }
+}
+
 /// The atoms in order. They are refused where an alias stands twice.
-fn atoms_in_order<'a>(
+pub fn atoms_in_order<'a>(
     alloc: Global,
     catalogue: &'a Catalogue,
     items: &'a [FromItem],
 ) -> Result<Vec<NamedAtom<'a>>, Fail>
-    ensures atoms { IfOk result (λ atoms. map source_of atoms.items ≡ sources catalogue.now items.now) }
+    ensures sources { IfOk result (λ atoms. map source_of atoms.items ≡ sources catalogue.now items.now) }
+    ensures atoms { IfOk result (λ atoms. map (λ a. a.atom) atoms.items ≡ map (atom_of catalogue.now) items.now) }
     ensures repeated { IsRefusedAs result (first (repeated_among items.now)) }
 {
     let mut atoms = Vec::with_capacity(alloc, items.len())?;
@@ -53,10 +85,7 @@ fn atoms_in_order<'a>(
                 name: item.alias.copy(alloc)?,
             }));
         }
-        atoms.push(NamedAtom {
-            alias: item.alias.as_str(),
-            columns: columns_named(catalogue, &item.table),
-        })?;
+        atoms.push(named_atom(catalogue, item))?;
     }
     Ok(atoms)
 }
@@ -66,7 +95,7 @@ fn may_name(reference: &ColumnRef, atom: &NamedAtom) -> bool
     ensures { result ≡ may_name reference.now (source_of atom.now) }
 {
     match &reference.table {
-        Some(alias) => atom.alias == alias.as_str(),
+        Some(alias) => is_same(atom.alias, alias.as_str()),
         None => true,
     }
 }
@@ -138,7 +167,8 @@ impl<'a> Names<'a> {
         }
     }
 
-    fn side(&self, alloc: Global, side: &Side) -> Result<Meaning, NoMemory>
+    /// What a side of a condition stands for.
+    pub fn side(&self, alloc: Global, side: &Side) -> Result<Meaning, NoMemory>
         ensures { IfOk result (λ meaning. meaning ≡ side_meaning (told_by self.now) side.now) }
     {
         match side {

@@ -126,7 +126,7 @@ fn refuse_conditions(
 }
 
 /// Whether what a ref or a literal stands for has a flaw of any kind.
-fn has_flaw(limit: u32, meaning: &Meaning) -> bool
+pub fn has_flaw(limit: u32, meaning: &Meaning) -> bool
     ensures { result ≡ has_flaw limit meaning.now }
 {
     match meaning {
@@ -148,7 +148,8 @@ fn condition_has_flaw(limit: u32, condition: &Condition) -> bool
     }
 }
 
-fn any_item_has_flaw(limit: u32, items: &[Meaning]) -> bool
+/// Whether any of these has a flaw.
+pub fn any_item_has_flaw(limit: u32, items: &[Meaning]) -> bool
     ensures { result ≡ list_any (has_flaw limit) items.now }
 {
     for item in items {
@@ -211,7 +212,8 @@ fn same_kind(left: ColType, right: ColType) -> bool
     }
 }
 
-fn kinds_differ(left: &Meaning, right: &Meaning) -> bool
+/// Whether two sides differ in type.
+pub fn kinds_differ(left: &Meaning, right: &Meaning) -> bool
     ensures { result ≡ kinds_differ (kind_of left.now) (kind_of right.now) }
 {
     match (kind_of(left), kind_of(right)) {

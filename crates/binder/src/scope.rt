@@ -12,6 +12,7 @@ ghost use Rattle.binder.specs.Scopes.{found_in, found_at, one_more, found_by, na
 
 use crate::found::{AtomColumns, Found};
 use crate::meaning::BoundColumn;
+use crate::texts::is_same;
 use beas_core::{Column, Duplicate, Fail, Name, NoMemory, Refusal};
 use catalogue::Catalogue;
 use sql_tree::{ColumnRef, FromItem};
@@ -55,7 +56,7 @@ pub fn find_in(atom: usize, columns: &[Column], name: &str) -> Option<Found>
 {
     let mut found = None;
     for (place, column) in columns.iter().enumerate() {
-        if column.name.as_str() == name {
+        if is_same(column.name.as_str(), name) {
             let kind = column.kind;
             found = Some(one_more(
                 found,

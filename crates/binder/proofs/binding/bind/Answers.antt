@@ -10,12 +10,35 @@ use Rattle.binder.proofs.OverTables.{query_over, as_many_blocks}
 use Rattle.beas_core.specs.Shapes.{QueryIsWellFormed}
 use Rattle.beas_core.specs.Trees as query
 use Rattle.catalogue.specs.Queries.{QueryIsOver}
+use Rattle.binder.proofs.AtOnceFacts.{unrefused_fits, unrefused_over}
 use Rattle.binder.proofs.FirstFacts.{err_first, err_second, first_none}
 use Rattle.binder.proofs.binding.bind.Goals as goal
 
+pub returns-in-Some-clause-refused : goal.returns-in-Some-clause-refused
+returns-in-Some-clause-refused c = c.in_ok-query.ensures.unrefused c.in-Some.query c.in-Some.is
+
+pub returns-in-Some-clause-query : goal.returns-in-Some-clause-query
+returns-in-Some-clause-query c = c.in_ok-query.ensures.query c.in-Some.query c.in-Some.is
+
+pub returns-in-Some-clause-well_formed : goal.returns-in-Some-clause-well_formed
+returns-in-Some-clause-well_formed c = λ some.
+    subst QueryIsWellFormed (sym (c.in_ok-query.ensures.query c.in-Some.query c.in-Some.is))
+    (unrefused_fits c.args.limits.now c.args.catalogue.now c.args.tree.now c.recall_soundness.ensures c.args.limits.now.atoms_in_range.1 some
+    (c.in_ok-query.ensures.unrefused c.in-Some.query c.in-Some.is))
+
+pub returns-in-Some-clause-over : goal.returns-in-Some-clause-over
+returns-in-Some-clause-over c =
+    subst (QueryIsOver c.args.catalogue.now) (sym (c.in_ok-query.ensures.query c.in-Some.query c.in-Some.is))
+    (unrefused_over c.args.limits.now c.args.catalogue.now c.args.tree.now (c.in_ok-query.ensures.unrefused c.in-Some.query c.in-Some.is))
+
+pub returns-in-Some-clause-count : goal.returns-in-Some-clause-count
+returns-in-Some-clause-count c =
+    ap (λ q. length (query.blocks_of q)) (c.in_ok-query.ensures.query c.in-Some.query c.in-Some.is)
+    ∙ as_many_blocks c.args.catalogue.now c.args.tree.now
+
 pub returns-in_err-blocks-clause-refused : goal.returns-in_err-blocks-clause-refused
 unfolding refusals
-returns-in_err-blocks-clause-refused c = let p = err_from_is_err_and c.from_residual.result c.from_residual.ensures.1 in rw (p.1, p.2)
+returns-in_err-blocks-clause-refused c = let p = err_from_is_err_and c.from_residual-in_err-blocks.result c.from_residual-in_err-blocks.ensures.1 in rw (p.1, p.2)
     (err_first (Unit {0}) (Unit {0}) _ (flat_map (unknown_tables c.args.catalogue.now) (blocks_of c.args.tree.now) ++ flat_map repeated_aliases
     (blocks_of c.args.tree.now)) _ c.in_err-blocks.ensures.refused)
 

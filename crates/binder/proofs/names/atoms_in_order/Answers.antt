@@ -4,7 +4,7 @@ use Rattle.std.specs.Str.{bytes_eq}
 use Rattle.beas_core.specs.declared.refusal.Refusal.TheVariants.{DuplicateName}
 use Rattle.binder.specs.Meanings.{Source}
 use Rattle.binder.proofs.AliasFacts.{repeated_here, fresh_here, none_repeated, sources_to}
-use Rattle.binder.proofs.FewFacts.{aliases_among, source_added}
+use Rattle.binder.proofs.FewFacts.{aliases_among, source_added, atoms_added}
 use Rattle.binder.proofs.names.atoms_in_order.Goals as goal
 
 pub returns-then-has_alias-clause-repeated : goal.returns-then-has_alias-clause-repeated
@@ -28,7 +28,9 @@ loop-item-preserved c =
     record {
       so_far = source_added c.loop-item.atoms.items c.push.new.self.items _ _ c.in_ok-push.ensures.items c.loop-item.invariant.so_far
           ∙ sources_to c.args.catalogue.now c.args.items.now c.loop-item.item-index c.item-item.result _ _ c.loop-item-test.true c.item-item.is
-          c.as_str-in-loop-item.ensures c.columns_named.ensures.columns;
+          c.named_atom.ensures.alias c.named_atom.ensures.columns;
+      atoms = atoms_added c.args.catalogue.now c.loop-item.atoms.items c.push.new.self.items _ c.args.items.now c.loop-item.item-index c.item-item.result
+          c.loop-item-test.true c.item-item.is c.in_ok-push.ensures.items c.loop-item.invariant.atoms c.named_atom.ensures.atom;
       once = fresh_here c.args.catalogue.now c.args.items.now c.loop-item.item-index c.item-item.result c.loop-item-test.true c.item-item.is fresh
           c.loop-item.invariant.once;
     }

@@ -1,4 +1,5 @@
 use Rattle.std.proofs.Common.{◌≡◌, take, map}
+use Rattle.binder.specs.LookedUp.{atom_of}
 use Rattle.binder.specs.Meanings.{sources}
 use Rattle.binder.specs.Scopes.{source_of}
 use Rattle.binder.proofs.AliasFacts.{OnceBelow}
@@ -8,5 +9,6 @@ use Rattle.binder.proofs.names.atoms_in_order.Given as goal
 abbrev pub invariant-loop-item : goal.invariant-loop-item
 invariant-loop-item l = record {
   so_far : map source_of l.atoms.items ≡ sources l.catalogue (take l.item-index l.items);
+  atoms : map (λ a. a.atom) l.atoms.items ≡ map (atom_of l.catalogue) (take l.item-index l.items);
   once : OnceBelow l.items l.item-index;
 }
