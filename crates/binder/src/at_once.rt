@@ -1,6 +1,6 @@
 // Binds a query of one block at once where nothing in it is to be refused, as in most queries. Where something may be,
 // it answers nothing, and `binding` finds out what.
-ghost use Rattle.std.specs.Prelude.{◌≡◌, ◌≤◌, ◌<◌, ◌==◌, ◌∷◌, true, false, Some, None, [], List, IfOk, map, length};
+ghost use Rattle.std.specs.Prelude.{◌≡◌, ◌≤◌, ◌<◌, ◌==◌, ◌∷◌, true, false, Some, None, [], IfOk, map, length};
 ghost use Rattle.std.specs.List.{flat_map, list_any};
 ghost use Rattle.beas_core.specs.declared.query.Block.{Block as MadeBlock};
 ghost use Rattle.beas_core.specs.Trees.{QueryTree};

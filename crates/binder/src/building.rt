@@ -2,7 +2,7 @@
 ghost use Rattle.std.specs.Prelude.{if◌then◌else◌, ◌≡◌, ◌++◌, ◌<◌, ◌∷◌, [], All, IfOk, OnOk, length, map};
 ghost use Rattle.std.specs.Option.{option_to_list};
 ghost use Rattle.std.specs.List.{filter_map, flat_map, enumerate_from, range_with_len};
-ghost use Rattle.binder.specs.LookedUp.{place_of, place_at, mirrored_sign, with_column, with_value, part_of, parts, column_of, all_places, outputs, bound_block, IsSmall, ConditionIsSmall, BlockIsSmall, Adds};
+ghost use Rattle.binder.specs.LookedUp.{place_of, place_at, mirrored_sign, with_column, with_value, part_of, parts, column_of, all_places, bound_block, IsSmall, ConditionIsSmall, BlockIsSmall, Adds};
 
 use crate::looking_up::column_of;
 use crate::meaning::{BoundColumn, Condition, LookedUp, Meaning, Part};

@@ -1,4 +1,4 @@
-use Rattle.std.proofs.Common.{take, map}
+use Rattle.std.proofs.Common.{take}
 use Rattle.binder.specs.Meanings.{sources}
 use Rattle.binder.specs.Scopes.{IsScope}
 use Rattle.binder.proofs.AliasFacts.{OnceBelow}
