@@ -113,7 +113,7 @@ fn atoms_of_named(alloc: Global, named: &[NamedAtom]) -> Result<List<Atom>, NoMe
     Ok(List::from_vec(atoms))
 }
 
-/// Whether an atom has no column, as none has whose table there is.
+/// Whether an atom has no column. Each table has one, so the table of such an atom isn't there.
 fn any_is_empty(atoms: &[Atom]) -> bool
     ensures { result ≡ list_any (λ a. a.width == 0) atoms.now }
 {
@@ -138,7 +138,8 @@ fn bound_over(
     ensures { IfOk result (λ bound. (block : MadeBlock) → bound ≡ Some block
         → (list_any (has_flaw limits.now.text) (map (told_by names.now) tree.now.items) ≡ false)
         × (length (map (told_by names.now) tree.now.items) ≤ limits.now.outputs)
-        × (list_any (condition_has_flaw limits.now.text) (map (condition (told_by names.now)) tree.now.conditions) ≡ false)
+        × (list_any (condition_has_flaw limits.now.text)
+        (map (condition (told_by names.now)) tree.now.conditions) ≡ false)
         × (list_any is_mixed (map (condition (told_by names.now)) tree.now.conditions) ≡ false)
         × (block ≡ bound_block (record {
           atoms = atoms;

@@ -18,7 +18,7 @@ use catalogue::Catalogue;
 use sql_tree::{ColumnRef, Cond, FromItem, Side};
 use std::alloc::Global;
 
-/// So many atoms, and no more, are walked.
+/// So many atoms, and no more, are walked, and so many has a block at most that is bound at once.
 pub const FEW: usize = 4;
 
 /// The names of a block.

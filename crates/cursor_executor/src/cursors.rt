@@ -191,7 +191,8 @@ impl Cursor {
         ensures prepared { self.new.prepared ≡ self.old.prepared }
         ensures fetched { OnOk result (probes_due (world (P.rows port.now) (P.accesses port.now)) self.old.prepared
             ≡ probed self.new.fetched) }
-        ensures agree { OnOk result (AllAgree (world (P.rows port.now) (P.accesses port.now)) self.old.prepared self.new.fetched) }
+        ensures agree { OnOk result (AllAgree (world (P.rows port.now) (P.accesses port.now)) self.old.prepared
+            self.new.fetched) }
         ensures answer { OnOk result (self.new.answer ≡ Some (full_of (P.rows port.now) self.old.prepared.query)) }
         ensures reads { OnOk result (self.new.reads
             ≡ reads_due (world (P.rows port.now) (P.accesses port.now)) self.old.prepared) }

@@ -39,6 +39,7 @@ pub fn best_adding<'a>(block: &Normal, uses: &[UseAt<'a>], set: &[bool]) -> Opti
 {
     let mut best: Option<UseAt<'a>> = None;
     for found in uses {
+        // As values both tests are proved once, as in `best_serving`.
         let may = adds_now(block, set, found);
         let better = beats(found, &best);
         if may & better {

@@ -19,7 +19,7 @@ pub fn push_copy(alloc: Global, value: &Value, values: &mut Vec<Value>) -> Resul
     Ok(())
 }
 
-// Adds a copy of a text, or of any value. It stands for itself so that `push_copy` stays short where it is put in.
+// Adds a copy of a text, or of any value. It stands by itself so that `push_copy` stays short where it is put in.
 #[inline(never)]
 fn push_text(alloc: Global, value: &Value, values: &mut Vec<Value>) -> Result<(), NoMemory>
     requires { vec_len values.old < vec_capacity values.old }

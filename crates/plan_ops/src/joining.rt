@@ -1,11 +1,11 @@
 // How the tuples of a step join the valuations before it.
 ghost use Rattle.std.specs.Prelude.{◌≡◌, ◌<◌, ◌≤◌, ◌+◌, ◌++◌, length, vec_capacity, vec_len, All, IfOk};
-ghost use Rattle.beas_core.specs.Coverage.{ClassesInRange, class_at as class_of_column};
+ghost use Rattle.beas_core.specs.Coverage.{ClassesInRange};
 ghost use Rattle.beas_core.specs.Groups.{member_columns};
 ghost use Rattle.beas_core.specs.Valuations.{classes_in};
 ghost use Rattle.plan_ops.specs.Joins.{IsJoin, checks_of as checks_in};
 ghost use Rattle.plan_ops.specs.Over.{set_of};
-ghost use Rattle.plan_ops.specs.Places.{place_of, places_in};
+ghost use Rattle.plan_ops.specs.Places.{places_in};
 
 use crate::tables::{ClassList, classes_of, first_places, places_held};
 use beas_core::{Access, ColumnId, List, NoMemory, Normal};

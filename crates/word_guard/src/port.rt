@@ -14,7 +14,8 @@ use std::sync::ledger::Ledger;
 fn place_in(catalogue: &Catalogue, id: AccessId) -> usize
     requires { IsTrue (list_any (λ a. a.id.0 == id.0) catalogue.now.accesses) }
     ensures within { result < length catalogue.now.accesses }
-    ensures found { (d : Constraint) → slice_index_or catalogue.now.accesses result d ≡ access_with_id catalogue.now.accesses id }
+    ensures found { (d : Constraint)
+        → slice_index_or catalogue.now.accesses result d ≡ access_with_id catalogue.now.accesses id }
     ensures has_id { (access_with_id catalogue.now.accesses id).id.0 ≡ id.0 }
     ensures sound { SchemaIsSound catalogue.now }
 {

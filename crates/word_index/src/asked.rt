@@ -12,7 +12,7 @@ pub struct AskedWords<'a> {
     pub words: &'a [u64],
 }
 
-/// Whether two keys have the same words. Most have three at most, and a call that compares longer ones takes longer.
+/// Whether two keys have the same words. Most have three at most; longer ones are compared by a call, which takes longer.
 fn same_words(left: &[u64], right: &[u64]) -> bool
     ensures { result ≡ pointwise nat_eq left.now right.now }
 {
