@@ -1,7 +1,7 @@
 pub mod BoundSets
 mod ConstantFacts
 mod ExtendFacts
-mod FetchedFacts
+pub mod FetchedFacts
 pub mod FrontFacts
 mod GuidedStarts
 mod JoinFacts

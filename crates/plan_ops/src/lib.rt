@@ -23,13 +23,13 @@ mod tables;
 mod valuations;
 
 pub use extending::extend;
-pub use fetching::{Tuples, fetch};
+pub use fetching::fetch;
 pub use joining::Join;
 pub use keeping::keep;
 pub use projecting::project;
 pub use sets::{subtract, unite};
 pub use stages::{
-    Stage, is_joined_output, joined, joined_output, key_of_row, leads, output_of, stage_of,
+    Stage, is_joined_output, joined_output, key_into, leads, output_of, push_joined, stage_of,
 };
 pub use starting::{start, start_block};
 pub use valuations::Valuations;

@@ -1,11 +1,11 @@
 // A tuple of a step joined with a valuation.
-ghost use Rattle.std.specs.Prelude.{◌≡◌, ◌<◌, ◌+◌, length, IfOk};
+ghost use Rattle.std.specs.Prelude.{◌≡◌, ◌<◌, ◌≤◌, ◌+◌, ◌++◌, ◌∷◌, [], length, take, drop, vec_capacity, vec_len, OnOk};
 ghost use Rattle.beas_core.specs.Full.{same_value};
 ghost use Rattle.plan_ops.specs.Joins.{IsWithin, at_place, fits_by, joined_by};
 
-use crate::copying::push_copy;
+use crate::copying::{push_copy, push_copy_of};
 use crate::joining::Join;
-use beas_core::{List, NoMemory, Row, Value};
+use beas_core::{NoMemory, Value};
 use std::alloc::Global;
 
 /// The value of a joined row at a place.
@@ -43,19 +43,48 @@ pub fn pair_fits(join: &Join, row: &[Value], tuple: &[Value]) -> bool
     true
 }
 
-/// The valuation with a tuple's values.
-pub fn joined_pair(
+// Adds a copy of the value of a joined row at a place.
+#[inline(always)]
+fn push_placed(
+    alloc: Global,
+    values: &mut Vec<Value>,
+    from: usize,
+    width: usize,
+    tuple: &[Value],
+    place: usize,
+) -> Result<(), NoMemory>
+    requires row { from + width ≤ length values.old.items }
+    requires place { place < width + length tuple.now }
+    requires room { vec_len values.old < vec_capacity values.old }
+    ensures items { OnOk result (values.new.items
+        ≡ values.old.items ++ at_place (take width (drop from values.old.items)) tuple.now place ∷ []) }
+    ensures len { OnOk result (vec_len values.new ≡ vec_len values.old + 1) }
+    ensures room { OnOk result (vec_capacity values.new ≡ vec_capacity values.old) }
+{
+    if place < width {
+        push_copy_of(alloc, values, from + place)
+    } else {
+        push_copy(alloc, &tuple[place - width], values)
+    }
+}
+
+/// Adds the values of the valuation that one makes with a tuple. The one stands among these values, from a place on.
+pub fn push_pair(
     alloc: Global,
     join: &Join,
-    row: &[Value],
+    values: &mut Vec<Value>,
+    from: usize,
+    width: usize,
     tuple: &[Value],
-) -> Result<Row, NoMemory>
-    requires { IsWithin (length row.now + length tuple.now) join.now }
-    ensures { IfOk result (λ joined. joined ≡ joined_by join.now.sources.items row.now tuple.now) }
+) -> Result<(), NoMemory>
+    requires row { from + width ≤ length values.old.items }
+    requires within { IsWithin (width + length tuple.now) join.now }
+    ensures { OnOk result (values.new.items
+        ≡ values.old.items ++ joined_by join.now.sources.items (take width (drop from values.old.items)) tuple.now) }
 {
-    let mut joined = Vec::with_capacity(alloc, join.sources.len())?;
+    values.reserve(join.sources.len())?;
     for place in &join.sources {
-        push_copy(alloc, value_in_pair(row, tuple, *place), &mut joined)?;
+        push_placed(alloc, values, from, width, tuple, *place)?;
     }
-    Ok(List::from_vec(joined))
+    Ok(())
 }

@@ -1,5 +1,5 @@
 // One step from one valuation.
-ghost use Rattle.std.specs.Prelude.{◌≡◌, ◌↔◌, ◌<◌, ◌+◌, length, pos, slice_index_or, IfOk, IsTrue};
+ghost use Rattle.std.specs.Prelude.{◌≡◌, ◌↔◌, ◌<◌, ◌≤◌, ◌+◌, ◌++◌, length, pos, slice_index_or, take, drop, IfOk, OnOk, IsTrue};
 ghost use Rattle.beas_core.specs.declared.value.Value.TheVariants.{Int};
 ghost use Rattle.beas_core.specs.Coverage.{ClassesInRange, holds_classes, key_classes};
 ghost use Rattle.beas_core.specs.Groups.{project, value_at};
@@ -11,8 +11,8 @@ ghost use Rattle.plan_ops.specs.Stages.{IsPair, IsStage, bound_with, joined_row,
 
 use crate::joining::{Join, join_of};
 use crate::keeping::{place_among, sign_holds};
-use crate::pairs::{joined_pair, pair_fits, value_in_pair};
-use crate::picking::values_in;
+use crate::pairs::{pair_fits, push_pair, value_in_pair};
+use crate::picking::{push_values, values_in};
 use crate::places::{columns_at, columns_in};
 use beas_core::{
     Access, ColumnId, Comparison, Duplicate, List, NoMemory, Normal, Operand, Row, Value, compare,
@@ -72,12 +72,19 @@ pub fn stage_of(
     })
 }
 
-/// The key that a valuation gives to a step.
-pub fn key_of_row(alloc: Global, stage: &Stage, row: &[Value]) -> Result<Row, NoMemory>
+/// Puts the key that a valuation gives to a step in the place of what stood in a row.
+pub fn key_into(
+    alloc: Global,
+    stage: &Stage,
+    row: &[Value],
+    key: &mut Vec<Value>,
+) -> Result<(), NoMemory>
     ensures { (normal : Normal) → IsStage normal stage.now → length row.now ≡ length stage.now.from.value
-        → IfOk result (λ key. key ≡ key_by normal (use_at stage.now) (set_before normal stage.now) row.now) }
+        → OnOk result (key.new.items ≡ key_by normal (use_at stage.now) (set_before normal stage.now) row.now) }
 {
-    values_in(alloc, &stage.key, row)
+    key.clear();
+    key.reserve(stage.key.len())?;
+    push_values(alloc, &stage.key, row, key)
 }
 
 // A value of a valuation joined with a tuple. The joined row isn't made.
@@ -151,13 +158,24 @@ pub fn leads(block: &Normal, stage: &Stage, row: &[Value], tuple: &[Value]) -> b
     pair_meets_all(block, &stage.join, row, tuple)
 }
 
-/// The valuation with the values of a tuple that its key finds.
-pub fn joined(alloc: Global, stage: &Stage, row: &[Value], tuple: &[Value]) -> Result<Row, NoMemory>
-    requires within { IsWithin (length row.now + length tuple.now) stage.now.join }
-    ensures { (normal : Normal) → IsStage normal stage.now → IsPair normal stage.now row.now tuple.now
-        → IfOk result (λ next. next ≡ joined_row normal (use_at stage.now) (set_before normal stage.now) row.now tuple.now) }
+/// Adds the values of the valuation that one makes with a tuple that its key finds. The one stands among these values, from
+/// a place on.
+pub fn push_joined(
+    alloc: Global,
+    stage: &Stage,
+    values: &mut Vec<Value>,
+    from: usize,
+    width: usize,
+    tuple: &[Value],
+) -> Result<(), NoMemory>
+    requires row { from + width ≤ length values.old.items }
+    requires within { IsWithin (width + length tuple.now) stage.now.join }
+    ensures { (normal : Normal) → IsStage normal stage.now
+        → IsPair normal stage.now (take width (drop from values.old.items)) tuple.now
+        → OnOk result (values.new.items ≡ values.old.items ++ joined_row normal (use_at stage.now)
+        (set_before normal stage.now) (take width (drop from values.old.items)) tuple.now) }
 {
-    joined_pair(alloc, &stage.join, row, tuple)
+    push_pair(alloc, &stage.join, values, from, width, tuple)
 }
 
 // The value of a joined row in a column. One past its end is made up, since nothing reaches it.
