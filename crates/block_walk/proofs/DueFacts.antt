@@ -1,58 +1,25 @@
 -- A probe that is due: it fits beside those that were made, none of which stands twice.
-use Rattle.std.proofs.Common.{◌≡◌, ◌+◌, ◌<◌, ◌≤◌, ℕ, List, [], ◌∷◌, length, map, max, inl, inr, refl, ap, sym, ◌∙◌, subst, arith}
-use Rattle.std.specs.List.{sum_by, AllByRecursion}
-use Rattle.std.specs.List.Sorted.{IsStrictlySortedBy}
-use Rattle.std.specs.Map.{keys_of}
+use Rattle.std.proofs.Common.{◌≡◌, ◌+◌, ◌<◌, ◌≤◌, ℕ, List, [], ◌∷◌, length, max, inl, inr, refl, ap, sym, ◌∙◌, subst, arith}
+use Rattle.std.specs.List.{sum_by}
 use Rattle.std.specs.Cmp.{IsTotalOrder}
-use Rattle.std.specs.Ordering.{is_eq, nat_cmp, ordering_then}
 use Rattle.std.specs.declared.cmp.Ordering.{Ordering}
-use Rattle.std.specs.declared.cmp.Ordering.TheVariants.{Less, Equal, Greater}
-use Rattle.std.proofs.lemmas.Cmp.{nat_cmp_total, on_total, then_total}
+use Rattle.std.specs.declared.cmp.Ordering.TheVariants.{Less}
 use Rattle.std.proofs.lemmas.List.{length-map}
 use Rattle.std.proofs.lemmas.List.Sums.{sum_by-cons}
 use Rattle.beas_core.specs.declared.schema.Access.{Access}
 use Rattle.beas_core.specs.Types.{Row}
-use Rattle.beas_core.specs.Order.{row_cmp, row_cmp_total, TellsApart}
+use Rattle.beas_core.specs.Order.{TellsApart}
 use Rattle.beas_core.specs.Sets.{IsInOrder}
 use Rattle.beas_core.specs.Reads.{Probe, probe_reads}
 use Rattle.beas_core.proofs.Sets.{Has, Contains-from_has, all_at, not_less_itself, not_less_both}
 use Rattle.block_walk.specs.Worlds.{World, Fetched, made, AgreesWith}
-use Rattle.block_walk.specs.Routes.{Route, all_probes, probe_at}
+use Rattle.block_walk.specs.Routes.{Route, all_probes}
 use Rattle.block_walk.specs.Turns.{share, fetched_reads, IsWithin}
 use Rattle.block_walk.proofs.SumFacts.{same_sums}
-use Rattle.block_walk.proofs.ProbeOrder.{probe_cmp, probes_in_order}
+use Rattle.block_walk.proofs.OrderFacts.{probe_tells, probe_total}
+use Rattle.block_walk.proofs.ProbeOrder.{probes_in_order}
 use Rattle.block_walk.specs.declared.walking.Walk.{Walk}
-use Rattle.block_walk.specs.Walks.{Entry, entry_cmp, fetched_at, fetched_in, IsTidy, WasMade, IsProbe, IsWalk}
-use Rattle.block_walk.proofs.EntryFacts.{entry_tells}
-
--- ---- order
-
-pub probe_total : IsTotalOrder probe_cmp
-probe_total = then_total (on_total (λ (p : Probe). p.step) nat_cmp_total) (on_total (λ (p : Probe). p.key) row_cmp_total)
-
-pub probe_tells : TellsApart probe_cmp
-probe_tells p q h = by (nat_cmp p.step q.step) refl (row_cmp p.key q.key) refl h
-  where
-    by : (d : Ordering) → nat_cmp p.step q.step ≡ d → (f : Ordering) → row_cmp p.key q.key ≡ f → ordering_then d f ≡ Equal → p ≡ q
-    by Less a f b t = cc
-    by Greater a f b t = cc
-    by Equal a f b t =
-        let first = entry_tells (p.step, p.key) (q.step, q.key)
-        (ap is_eq (ap (λ x. ordering_then x (row_cmp p.key q.key)) a ∙ b ∙ t)) in
-        ap (λ (x : ℕ × Row). probe_at x.0 x.1) first
-
-made_in_order : (walk : Walk) (es : List Entry) → IsStrictlySortedBy entry_cmp (keys_of es) → IsInOrder probe_cmp (made (map (fetched_at walk.stages.items) es))
-unfolding IsStrictlySortedBy
-made_in_order walk [] h = tt
-made_in_order walk (e ∷ es) h = (each es h.0, made_in_order walk es h.1)
-  where
-    each : (fs : List Entry) → AllByRecursion (λ y. entry_cmp e.0 y ≡ Less) (keys_of fs)
-        → AllByRecursion (λ q. probe_cmp (probe_at e.0.0 e.0.1) q ≡ Less) (made (map (fetched_at walk.stages.items) fs))
-    each [] a = tt
-    each (f ∷ fs) a = (a.0, each fs a.1)
-
-pub in_order : (r : Route) (walk : Walk) → IsTidy r walk → IsInOrder probe_cmp (made (fetched_in walk))
-in_order r walk tidy = made_in_order walk walk.known.entries tidy.ordered
+use Rattle.block_walk.specs.Walks.{fetched_in, IsTidy, WasMade, IsProbe, IsWalk}
 
 -- ---- a part of a set, and a member that isn't in the part
 
@@ -140,7 +107,7 @@ counted w r fetched agree = same_sums (λ (f : Fetched). max 1 (length f.tuples)
 module _ (w : World) (r : Route) (walk : Walk) (tidy : IsTidy r walk) (is : IsWalk w r walk) (agree : AgreesWith w r.steps (fetched_in walk)) (p : Probe)
     (wanted : IsProbe w r p) (not_made : WasMade (fetched_in walk) p → ⊥) where
   beside_made : (f : Probe → ℕ) → sum_by f (made (fetched_in walk)) + f p ≤ sum_by f (all_probes w r)
-  beside_made f = beside probe_total probe_tells f (made (fetched_in walk)) (all_probes w r) p (in_order r walk tidy)
+  beside_made f = beside probe_total probe_tells f (made (fetched_in walk)) (all_probes w r) p tidy.ordered
       (probes_in_order w.rows r.normal w.accesses r.guide r.steps) (λ q h. is.probes_only q (inl h)) wanted not_made
 
   pub fewer : length (fetched_in walk) < length (all_probes w r)

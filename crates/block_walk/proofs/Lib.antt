@@ -1,10 +1,13 @@
 mod ChildFacts
 pub mod DescentFacts
 mod DueFacts
-mod EntryFacts
+mod FindFacts
+mod KnownFacts
 pub mod LoopFacts
+mod OrderFacts
 mod ProbeOrder
 mod SameFacts
+mod StackFacts
 mod StartFacts
 pub mod SumFacts
 mod VisitFacts

@@ -15,10 +15,12 @@ use Rattle.block_walk.specs.Worlds.{World, Fetched, made, Agrees, AgreesWith}
 use Rattle.block_walk.specs.Routes.{Route, IsSoundIn, first_classes, all_probes}
 use Rattle.block_walk.specs.Turns.{fetched_reads, IsWithin, ProbedOne, SpentOnce, GoesOn, outputs_at, Visited, VisitSpent, share_at, IsDone}
 use Rattle.block_walk.proofs.ProbeOrder.{probes_in_order}
-use Rattle.block_walk.specs.declared.walking.Pending.{Pending}
+use Rattle.block_walk.specs.Kept.{Pending}
+use Rattle.block_walk.specs.Stacks.{IsStack, pending_in}
 use Rattle.block_walk.specs.declared.walking.Walk.{Walk}
-use Rattle.block_walk.specs.Walks.{classes_at, fetched_at, fetched_in, IsTidy, WasMade, set_at, children, probe_of, found_at, outputs_from, wanted_from, IsProbe, IsWalk, Stands, next_at}
-use Rattle.block_walk.proofs.DueFacts.{fewer, in_order, probe_tells, probe_total, within}
+use Rattle.block_walk.specs.Walks.{classes_at, fetched_in, IsTidy, WasMade, set_at, children, probe_of, found_at, outputs_from, wanted_from, IsProbe, IsWalk, Stands, next_at}
+use Rattle.block_walk.proofs.DueFacts.{fewer, within}
+use Rattle.block_walk.proofs.OrderFacts.{fetched_from, probe_tells, probe_total}
 use Rattle.block_walk.proofs.WorldFacts.{set_is, step_access, same_next, same_probe}
 use Rattle.block_walk.proofs.VisitFacts.{least}
 use Rattle.block_walk.proofs.WalkFacts.{pending_is_probe, visited_is_walk, through_is_walk}
@@ -30,9 +32,9 @@ on_err (Err error) p = p
 -- ---- a valuation that was popped
 
 -- a walk of the same steps and pairs, where no other valuation is pending
-pub part_tidy : (r : Route) (before after : Walk) → IsTidy r before → ((p : Pending) → Has after.pending.items p → Has before.pending.items p)
+pub part_tidy : (r : Route) (before after : Walk) → IsTidy r before → IsStack after.pending → ((p : Pending) → Has (pending_in after.pending) p → Has (pending_in before.pending) p)
     → IsTidy r (record before { pending = after.pending; through = after.through })
-part_tidy r before after tidy into = record {
+part_tidy r before after tidy stack into = record {
   first = tidy.first;
   few = tidy.few;
   stages = tidy.stages;
@@ -40,18 +42,20 @@ part_tidy r before after tidy into = record {
   each = tidy.each;
   pending = λ p h. tidy.pending p (into p h);
   wide = λ p h. tidy.wide p (into p h);
+  known = tidy.known;
+  stack = stack;
   ordered = tidy.ordered;
 }
 
-pub popped_tidy : (r : Route) (before after : Walk) (at : Pending) → IsTidy r before → before.pending.items ≡ after.pending.items ++ at ∷ []
-    → IsTidy r (record before { pending = after.pending; through = after.through })
-popped_tidy r before after at tidy pending = part_tidy r before after tidy
-    (λ p h. subst (λ ps. Has ps p) (sym pending) (Has-append_left after.pending.items (at ∷ []) p h))
+pub popped_tidy : (r : Route) (before after : Walk) (at : Pending) → IsTidy r before → IsStack after.pending
+    → pending_in before.pending ≡ pending_in after.pending ++ at ∷ [] → IsTidy r (record before { pending = after.pending; through = after.through })
+popped_tidy r before after at tidy stack pending = part_tidy r before after tidy stack
+    (λ p h. subst (λ ps. Has ps p) (sym pending) (Has-append_left (pending_in after.pending) (at ∷ []) p h))
 
-pub at_pending : (before : Walk) (rest : List Pending) (at : Pending) → before.pending.items ≡ rest ++ at ∷ [] → Has before.pending.items at
+pub at_pending : (before : Walk) (rest : List Pending) (at : Pending) → pending_in before.pending ≡ rest ++ at ∷ [] → Has (pending_in before.pending) at
 at_pending before rest at pending = subst (λ ps. Has ps at) (sym pending) (Has-append_right rest (at ∷ []) at (inl refl))
 
-pub at_below : (r : Route) (before : Walk) (rest : List Pending) (at : Pending) → IsTidy r before → before.pending.items ≡ rest ++ at ∷ []
+pub at_below : (r : Route) (before : Walk) (rest : List Pending) (at : Pending) → IsTidy r before → pending_in before.pending ≡ rest ++ at ∷ []
     → (at.step ≡ length r.steps → ⊥) → at.step < length r.steps
 at_below r before rest at tidy pending other =
     let l = tidy.pending at (at_pending before rest at pending) in
@@ -62,7 +66,7 @@ at_below r before rest at tidy pending other =
 
 module _ (w0 : World) (r : Route) (sound0 : IsSoundIn w0 r) (at : Pending) (below : at.step < length r.steps) (before old new : Walk) (did : Bool)
     (v : Visited w0 r at did old new) (tidy_new : IsTidy r new) (agree_old : AgreesWith w0 r.steps (fetched_in old)) (stands : Stands r before)
-    (pending : before.pending.items ≡ old.pending.items ++ at ∷ []) (through : old.through ≡ before.through)
+    (pending : pending_in before.pending ≡ pending_in old.pending ++ at ∷ []) (through : old.through ≡ before.through)
     (fetched : fetched_in before ≡ fetched_in old) where
   found_agrees : Agrees w0 r.steps (found_at w0 r at)
   found_agrees = record { access = step_access w0 r at.step below; tuples = refl }
@@ -75,7 +79,7 @@ module _ (w0 : World) (r : Route) (sound0 : IsSoundIn w0 r) (at : Pending) (belo
 
   reach : at.step + 1 ≤ length new.stages.items
   reach =
-      let m = Has-from_map (fetched_at new.stages.items) new.known.entries (found_at w0 r at) v.made in
+      let m = fetched_from new (found_at w0 r at) v.made in
       let l = tidy_new.steps m.0 m.1 in
       let e = ap (λ (f : Fetched). f.probe.step) m.2 in
       omega (arith, l, e)
@@ -86,7 +90,7 @@ module _ (w0 : World) (r : Route) (sound0 : IsSoundIn w0 r) (at : Pending) (belo
       subst (WasMade (fetched_in new)) (sym m.2) (Has-map (λ (f : Fetched). f.probe) (fetched_in new) m.0 (v.stay m.0 m.1))
 
   goes_in : (w : World) → next_at w r at ≡ next_at w0 r at → set_at w r (at.step + 1) ≡ set_at w0 r (at.step + 1)
-      → GoesOn (length r.steps) at (next_at w r at) (outputs_at w r at) old.pending.items new.pending.items before.through new.through
+      → GoesOn (length r.steps) at (next_at w r at) (outputs_at w r at) (pending_in old.pending) (pending_in new.pending) before.through new.through
   goes_in w next same = elim v.goes_on [
     | inl x ↦ inl (
       x.0,
@@ -95,7 +99,7 @@ module _ (w0 : World) (r : Route) (sound0 : IsSoundIn w0 r) (at : Pending) (belo
           ∙ ap (λ os. before.through ++ os) (sym (ap (λ set. map (output_row r.normal set) (next_at w r at))
           (ap (set_at w r) (sym x.0) ∙ same ∙ ap (set_at w0 r) x.0) ∙ ap (map (output_row r.normal (set_at w0 r (length r.steps)))) next))) x.2,
     )
-    | inr x ↦ inr (x.0, x.1 ∙ ap (λ rows. old.pending.items ++ children at rows) (sym next), x.2 ∙ through)
+    | inr x ↦ inr (x.0, x.1 ∙ ap (λ rows. (pending_in old.pending) ++ children at rows) (sym next), x.2 ∙ through)
   ]
 
   pub visited_stands : Stands r new
@@ -109,7 +113,7 @@ module _ (w0 : World) (r : Route) (sound0 : IsSoundIn w0 r) (at : Pending) (belo
       let next = same_next w w0 r at below same_set here in
       let agree_before : AgreesWith w r.steps (fetched_in before) = λ f c. agree f (Contains-from_has (fetched_in new) f
       (v.stay f (subst (λ fs. Has fs f) fetched (Has-from_contains (fetched_in before) f c)))) in
-      visited_is_walk w r at below before new old.pending.items (stands w sound agree_before) pending
+      visited_is_walk w r at below before new (pending_in old.pending) (stands w sound agree_before) pending
       (goes_in w next same_after) made_new
       (subst (WasMade (fetched_in new)) (sym probe) (Has-map (λ (f : Fetched). f.probe) (fetched_in new) (found_at w0 r at) v.made))
       (λ p h.
@@ -124,7 +128,7 @@ module _ (w0 : World) (r : Route) (sound0 : IsSoundIn w0 r) (at : Pending) (belo
   is_before = stands w0 sound0 (subst (AgreesWith w0 r.steps) (sym fetched) agree_old)
 
   pub wanted_here : IsProbe w0 r (probe_of w0 r at)
-  wanted_here = pending_is_probe w0 r at below before old.pending.items is_before pending
+  wanted_here = pending_is_probe w0 r at below before (pending_in old.pending) is_before pending
 
   pub probed_one : IsTidy r before → did ≡ true → (start : Walk) → fetched_in before ≡ fetched_in start → (reads spent now : ℕ) → reads ≡ share_at w0 r at
       → now ≡ spent + reads → ProbedOne w0 r reads (fetched_in start) (fetched_in new) spent now
@@ -161,11 +165,11 @@ module _ (w0 : World) (r : Route) (sound0 : IsSoundIn w0 r) (at : Pending) (belo
 
 -- a visit that failed
 pub failed_spent : (w : World) (r : Route) (at : Pending) → at.step < length r.steps → (before start old : Walk) → IsTidy r before
-    → IsWalk w r before → AgreesWith w r.steps (fetched_in before) → before.pending.items ≡ old.pending.items ++ at ∷ [] → fetched_in old ≡ fetched_in before → fetched_in before ≡ fetched_in start
+    → IsWalk w r before → AgreesWith w r.steps (fetched_in before) → pending_in before.pending ≡ pending_in old.pending ++ at ∷ [] → fetched_in old ≡ fetched_in before → fetched_in before ≡ fetched_in start
     → (spent so_far now : ℕ) → so_far ≡ spent → VisitSpent w r at old so_far now → SpentOnce w r (fetched_in start) spent now
 failed_spent w r at below before start old tidy is agree pending fetched same spent so_far now free (inl e) = inl (e ∙ free)
 failed_spent w r at below before start old tidy is agree pending fetched same spent so_far now free (inr due) =
-    let wanted = pending_is_probe w r at below before old.pending.items is pending in
+    let wanted = pending_is_probe w r at below before (pending_in old.pending) is pending in
     let not_made : WasMade (fetched_in before) (probe_of w r at) → ⊥ = λ h. due.0 (subst (λ fs. WasMade fs (probe_of w r at)) (sym fetched) h) in
     inr (record {
       probe = probe_of w r at;
@@ -182,13 +186,13 @@ failed_spent w r at below before start old tidy is agree pending fetched same sp
 -- ---- a valuation after the last step
 
 pub last_stands : (r : Route) (at : Pending) → at.step ≡ length r.steps → (before new : Walk) → IsTidy r before → Stands r before
-    → before.pending.items ≡ new.pending.items ++ at ∷ []
+    → pending_in before.pending ≡ pending_in new.pending ++ at ∷ []
     → new.through ≡ before.through ++ output_row r.normal (set_of r.normal
     (classes_at before.first before.stages.items (length before.stages.items))) at.row ∷ []
     → fetched_in new ≡ fetched_in before → Stands r new
 last_stands r at last before new tidy stands pending through fetched w sound agree =
     let agree_before = subst (AgreesWith w r.steps) fetched agree in
-    let l = tidy.pending at (at_pending before new.pending.items at pending) in
+    let l = tidy.pending at (at_pending before (pending_in new.pending) at pending) in
     let few = tidy.few in
     let whole : length before.stages.items ≡ length r.steps = omega (arith, l, few, last) in
     let set = set_is w r before tidy agree_before (length before.stages.items) (omega arith) ∙ ap (set_at w r) whole in
@@ -197,28 +201,28 @@ last_stands r at last before new tidy stands pending through fetched w sound agr
 
 -- ---- the end
 
-pub same_stands : (r : Route) (before new : Walk) → Stands r before → new.pending.items ≡ before.pending.items → new.through ≡ before.through
+pub same_stands : (r : Route) (before new : Walk) → Stands r before → pending_in new.pending ≡ (pending_in before.pending) → new.through ≡ before.through
     → fetched_in new ≡ fetched_in before → Stands r new
 same_stands r before new stands pending through fetched w sound agree =
     let is = stands w sound (subst (AgreesWith w r.steps) fetched agree) in record {
       rows_all = λ y h. subst (λ ps. Has new.through y ⊎ Has (flat_map (outputs_from w r) ps) y) (sym pending)
-          (subst (λ ys. Has ys y ⊎ Has (flat_map (outputs_from w r) before.pending.items) y) (sym through) (is.rows_all y h));
-      rows_only = λ y h. is.rows_only y (subst (λ ys. Has ys y ⊎ Has (flat_map (outputs_from w r) before.pending.items) y) through
+          (subst (λ ys. Has ys y ⊎ Has (flat_map (outputs_from w r) (pending_in before.pending)) y) (sym through) (is.rows_all y h));
+      rows_only = λ y h. is.rows_only y (subst (λ ys. Has ys y ⊎ Has (flat_map (outputs_from w r) (pending_in before.pending)) y) through
           (subst (λ ps. Has new.through y ⊎ Has (flat_map (outputs_from w r) ps) y) pending h));
       probes_all = λ p h. subst (λ ps. WasMade (fetched_in new) p ⊎ Has (flat_map (wanted_from w r) ps) p) (sym pending)
-          (subst (λ fs. WasMade fs p ⊎ Has (flat_map (wanted_from w r) before.pending.items) p) (sym fetched) (is.probes_all p h));
-      probes_only = λ p h. is.probes_only p (subst (λ fs. WasMade fs p ⊎ Has (flat_map (wanted_from w r) before.pending.items) p) fetched
+          (subst (λ fs. WasMade fs p ⊎ Has (flat_map (wanted_from w r) (pending_in before.pending)) p) (sym fetched) (is.probes_all p h));
+      probes_only = λ p h. is.probes_only p (subst (λ fs. WasMade fs p ⊎ Has (flat_map (wanted_from w r) (pending_in before.pending)) p) fetched
           (subst (λ ps. WasMade (fetched_in new) p ⊎ Has (flat_map (wanted_from w r) ps) p) pending h));
     }
 
-pub is_done : (r : Route) (start new : Walk) → IsTidy r new → Stands r new → fetched_in new ≡ fetched_in start → new.pending.items ≡ []
+pub is_done : (r : Route) (start new : Walk) → IsTidy r new → Stands r new → fetched_in new ≡ fetched_in start → pending_in new.pending ≡ []
     → (spent now : ℕ) → now ≡ spent → IsDone r (fetched_in start) new spent now
 is_done r start new tidy stands same none spent now free = record {
   ended = none;
   all_made = λ w sound agree.
       let is = stands w sound (subst (AgreesWith w r.steps) (sym same) agree) in
       same_sets probe_total probe_tells (all_probes w r) (made (fetched_in new)) (probes_in_order w.rows r.normal w.accesses r.guide r.steps)
-      (in_order r new tidy) (λ p. (
+      tidy.ordered (λ p. (
         λ h. elim (is.probes_all p h) [ inl k ↦ k | inr k ↦ absurd (subst (λ ps. Has (flat_map (wanted_from w r) ps) p) none k) ],
         λ h. is.probes_only p (inl h),
       )) ∙ ap made same;
@@ -231,7 +235,7 @@ unfolding answers_of
 answers_in_order w r = IsInOrder-distinct row_cmp_total row_cmp_tells
     (map (output_row r.normal (bound_after r.normal w.accesses (first_classes r) r.steps)) (valuations w.rows r.normal w.accesses r.guide r.steps))
 
-pub ended_answers : (w : World) (r : Route) → (walk : Walk) → IsWalk w r walk → walk.pending.items ≡ []
+pub ended_answers : (w : World) (r : Route) → (walk : Walk) → IsWalk w r walk → pending_in walk.pending ≡ []
     → distinct row_cmp walk.through ≡ answers_of w.rows r.normal w.accesses r.guide r.steps
 ended_answers w r walk is none = sym (distinct_is row_cmp_total row_cmp_tells walk.through (answers_of w.rows r.normal w.accesses r.guide r.steps)
     (answers_in_order w r) (λ y. (

@@ -17,10 +17,7 @@ use Rattle.beas_core.specs.Valuations.{valuations}
 use Rattle.beas_core.specs.Reads.{Probe, key_for, keys_after, probes_after, probes}
 use Rattle.beas_core.proofs.Sets.{Has, Has-from_map, Has-append_cases, Has-append_right, all_at, all_from, IsInOrder-distinct}
 use Rattle.beas_core.proofs.ValueOrder.{row_cmp_tells}
-
--- by step and then key
-abbrev pub probe_cmp : Probe → Probe → Ordering
-probe_cmp p q = ordering_then (nat_cmp p.step q.step) (row_cmp p.key q.key)
+use Rattle.block_walk.specs.Worlds.{probe_cmp}
 
 IsInOrder-append : {K : Type 0} (cmp : K → K → Ordering) (xs ys : List K) → IsInOrder cmp xs → IsInOrder cmp ys
     → ((x y : K) → Has xs x → Has ys y → cmp x y ≡ Less) → IsInOrder cmp (xs ++ ys)

@@ -2,11 +2,11 @@
 use Rattle.std.proofs.Common.{◌≡◌, ◌≤◌, List, [], ◌∷◌, length, map, take, drop, inl, inr, refl, ap, sym, ◌∙◌, subst, arith}
 use Rattle.std.specs.Option.{is_some}
 use Rattle.std.specs.List.{flat_map}
-use Rattle.std.specs.BTreeMap.{IsOrdered}
 use Rattle.std.proofs.lemmas.List.{take_all}
 use Rattle.beas_core.specs.declared.plan.Normal.{Normal}
 use Rattle.beas_core.specs.Types.{Row, Guide}
 use Rattle.beas_core.specs.Order.{row_cmp_total}
+use Rattle.beas_core.specs.Sets.{IsInOrder}
 use Rattle.beas_core.specs.Coverage.{ClassesInRange, ConstantsInRange, start_classes}
 use Rattle.beas_core.specs.Derivations.{bound_after}
 use Rattle.beas_core.specs.Valuations.{answers_of, output_row, starts, valuations, valued_rows}
@@ -19,12 +19,14 @@ use Rattle.evaluation_facts.proofs.MemberTests.{Has-flat_map, Has-from_flat_map}
 use Rattle.plan_ops.specs.declared.valuations.Valuations.{Valuations}
 use Rattle.plan_ops.specs.Over.{IsOver}
 use Rattle.plan_ops.proofs.MeetFacts.{wide_member}
-use Rattle.block_walk.specs.Worlds.{World, made}
+use Rattle.block_walk.specs.Worlds.{World, in_order, made, probe_cmp}
 use Rattle.block_walk.specs.Routes.{Route, route, IsSoundIn, first_classes}
-use Rattle.block_walk.specs.declared.walking.Pending.{Pending}
+use Rattle.block_walk.specs.Kept.{Pending, pending_at}
+use Rattle.block_walk.specs.Entries.{IsKnown, entries_in}
+use Rattle.block_walk.specs.Stacks.{IsStack, pending_in}
 use Rattle.block_walk.specs.declared.walking.Walk.{Walk}
 use Rattle.block_walk.specs.Descents.{reached, wanted}
-use Rattle.block_walk.specs.Walks.{entry_cmp, fetched_at, fetched_in, IsWalk, IsTidyForAll, StandsForAll, classes_at, set_at, pending_at, reached_from, outputs_from, wanted_from, IsAnswer}
+use Rattle.block_walk.specs.Walks.{fetched_at, fetched_in, IsWalk, IsTidyForAll, StandsForAll, classes_at, set_at, reached_from, outputs_from, wanted_from, IsAnswer}
 use Rattle.block_walk.proofs.DescentFacts.{reached_there, reached_back, wanted_there, wanted_back}
 use Rattle.block_walk.proofs.WorldFacts.{all_sound}
 
@@ -73,7 +75,7 @@ module _ (w : World) (r : Route) (ranges : ClassesInRange r.normal) (inside : Co
   unfolding answers_of
   answer_to y h = Has-distinct row_cmp_total row_cmp_tells (map whole (valuations w.rows r.normal w.accesses r.guide r.steps)) y h
 
-  pub first_is_walk : (walk : Walk) → walk.pending.items ≡ map (pending_at 0) (valuations w.rows r.normal w.accesses r.guide []) → walk.through ≡ []
+  pub first_is_walk : (walk : Walk) → pending_in walk.pending ≡ map (pending_at 0) (valuations w.rows r.normal w.accesses r.guide []) → walk.through ≡ []
       → fetched_in walk ≡ [] → IsWalk w r walk
   first_is_walk walk pending through fetched = record {
     rows_all = λ y h. (
@@ -112,24 +114,26 @@ module _ (w : World) (r : Route) (ranges : ClassesInRange r.normal) (inside : Co
 
 module _ (normal : Normal) (guide : Guide) (from : Valuations) (over : IsOver (start_classes normal (is_some guide)) from)
     (rows : from.rows ≡ valued_rows normal (start_classes normal (is_some guide)) (starts normal guide)) (walk : Walk)
-    (first : walk.first ≡ from.classes) (stages : walk.stages.items ≡ []) (known : walk.known.entries ≡ []) (ordered : IsOrdered entry_cmp walk.known)
-    (pending : walk.pending.items ≡ map (pending_at 0) from.rows) (through : walk.through ≡ []) where
+    (first : walk.first ≡ from.classes) (stages : walk.stages.items ≡ []) (known : IsKnown walk.known) (empty : entries_in walk.known ≡ []) (stack : IsStack walk.pending)
+    (pending : pending_in walk.pending ≡ map (pending_at 0) from.rows) (through : walk.through ≡ []) where
   pub first_fetched : fetched_in walk ≡ []
-  first_fetched = ap (map (fetched_at walk.stages.items)) known
+  first_fetched = ap (λ es. in_order (map (fetched_at walk.stages.items) es)) empty
 
   pub first_tidy : IsTidyForAll normal guide walk
   first_tidy steps = record {
     first = first ∙ over.classes_are;
     few = subst (λ ss. length ss ≤ length steps) (sym stages) (omega arith);
     stages = λ n d l. (let z = ap length stages in absurd (omega (arith, l, z)));
-    steps = λ e h. absurd (subst (λ es. Has es e) known h);
+    steps = λ e h. absurd (subst (λ es. Has es e) empty h);
     each = λ n l. (let z = ap length stages in absurd (omega (arith, l, z)));
     pending = λ p h. (let m = Has-from_map (pending_at 0) from.rows p (subst (λ ps. Has ps p) pending h) in
         subst (λ (q : Pending). q.step ≤ length walk.stages.items) (sym m.2) (omega arith));
     wide = λ p h. (let m = Has-from_map (pending_at 0) from.rows p (subst (λ ps. Has ps p) pending h) in
         subst (λ (q : Pending). length q.row ≡ length (classes_at walk.first walk.stages.items q.step)) (sym m.2)
         (wide_member (length from.classes) from.rows m.0 over.widths m.1 ∙ ap length (sym first)));
-    ordered = ordered;
+    known = known;
+    stack = stack;
+    ordered = subst (λ fs. IsInOrder probe_cmp (made fs)) (sym first_fetched) tt;
   }
 
   first_rows : (w : World) → from.rows ≡ valuations w.rows normal w.accesses guide []

@@ -1,33 +1,32 @@
 -- What a visit of a valuation does, by the entries that are known.
-use Rattle.std.proofs.Common.{◌≡◌, ◌+◌, ◌<◌, ◌≤◌, ℕ, zero, suc, Bool, true, false, cond, All, List, [], ◌∷◌, ◌++◌, length, map, max, get_or, Option, Some, None, ◌⊎◌, inl, inr, refl, ap, sym, ◌∙◌, subst, arith, add-one}
-use Rattle.std.specs.Map.{lookup}
-use Rattle.std.specs.BTreeMap.{insert_entry, is_at, IsOrdered}
-use Rattle.std.specs.Ordering.{is_eq, match_ordering}
-use Rattle.std.specs.declared.cmp.Ordering.{Ordering}
-use Rattle.std.specs.declared.cmp.Ordering.TheVariants.{Less, Equal, Greater}
-use Rattle.std.specs.List.{filter, sum_by}
-use Rattle.std.proofs.lemmas.List.{get_or-map, length-append, length-map}
-use Rattle.std.proofs.lemmas.List.Sums.{sum_by-cons}
+use Rattle.std.proofs.Common.{◌≡◌, ◌+◌, ◌<◌, ◌≤◌, ℕ, zero, suc, true, false, All, List, [], ◌∷◌, ◌++◌, length, map, get_or, Option, Some, None, ◌⊎◌, inl, inr, refl, ap, sym, ◌∙◌, subst, arith, add-one, Bool}
+use Rattle.std.specs.List.{filter}
+use Rattle.std.proofs.lemmas.List.{get_or-map, length-append, length-map, map-append}
 use Rattle.beas_core.specs.declared.schema.Access.{Access}
 use Rattle.beas_core.specs.declared.plan.Normal.{Normal}
 use Rattle.beas_core.specs.Types.{Row, TableRows, Use}
+use Rattle.beas_core.specs.Sets.{IsInOrder}
 use Rattle.plan_ops.proofs.RowFacts.{group_pairs}
 use Rattle.plan_ops.specs.Over.{set_of}
 use Rattle.beas_core.specs.Groups.{group_of}
 use Rattle.beas_core.specs.Derivations.{access_in}
-use Rattle.beas_core.specs.Reads.{Probe, probe_reads}
+use Rattle.beas_core.specs.Reads.{Probe, access_of_step}
 use Rattle.beas_core.specs.Valuations.{classes_in, value_of, output_row}
-use Rattle.beas_core.proofs.Sets.{Has, SameMembers, Has-get_or, Has-map, Has-from_map, Has-append_cases, Contains-from_has}
+use Rattle.beas_core.proofs.Sets.{Has, SameMembers, Has-get_or, Has-from_map, Has-append_left, Has-append_right, Has-append_cases, Contains-from_has}
 use Rattle.plan_ops.specs.declared.stages.Stage.{Stage}
 use Rattle.plan_ops.specs.Stages.{IsPair, IsStage, bound_with, joined_bindings, joined_row, key_by, leads_to, next_by, set_before, use_at}
-use Rattle.evaluation_facts.proofs.ReadFacts.{sum_mapped}
-use Rattle.block_walk.specs.Worlds.{World, Fetched, Agrees, AgreesWith}
-use Rattle.block_walk.specs.Turns.{fetched_reads, GoesOn, outputs_at, Visited, VisitSpent, share_at}
+use Rattle.block_walk.specs.Worlds.{World, Fetched, AgreesWith, in_order, made, probe_cmp, put_in}
+use Rattle.block_walk.specs.Turns.{fetched_reads, GoesOn, outputs_at, Visited, VisitCosts, VisitSpent, probed}
 use Rattle.block_walk.specs.Routes.{Route, step_at, probe_at}
-use Rattle.block_walk.specs.declared.walking.Pending.{Pending}
+use Rattle.block_walk.specs.Kept.{Entry, Pending, pending_at}
+use Rattle.block_walk.specs.Entries.{IsKnown, entries_in, entry_of}
+use Rattle.block_walk.specs.Finding.{Finds, FindSpent, Grew, WasNotProbed}
+use Rattle.block_walk.specs.Stacks.{IsStack, pending_in}
+use Rattle.block_walk.specs.declared.known.Known.{Known}
+use Rattle.block_walk.specs.declared.walking.Found.{Found}
 use Rattle.block_walk.specs.declared.walking.Walk.{Walk}
-use Rattle.block_walk.specs.Walks.{Entry, entry_cmp, accesses_in, no_access, classes_at, fetched_at, fetched_in, IsTidy, IsStageAt, WasMade, set_at, pending_at, children, probe_of, found_at, next_at}
-use Rattle.block_walk.proofs.EntryFacts.{Has-inserted, Has-from_inserted, Has-stays, none_at, some_at, entry_tells, entry_itself}
+use Rattle.block_walk.specs.Walks.{accesses_in, no_access, classes_at, fetched_at, fetched_in, IsTidy, IsStageAt, WasMade, set_at, children, probe_of, found_at, next_at}
+use Rattle.block_walk.proofs.OrderFacts.{Has-put, Has-put_old, Has-from_put, IsInOrder-put, fetched_from, fetched_here, in_order_more, length-put, reads-put}
 use Rattle.block_walk.proofs.WorldFacts.{next_kept, set_is, set_more, stage_access, step_access, use_by}
 
 pub least : (a b : ℕ) → a ≤ b → (a < b) ⊎ (a ≡ b)
@@ -40,52 +39,6 @@ map_alike : {A B : Type 0} (f g : A → B) (xs : List A) → ((x : A) → Has xs
 map_alike f g [] h = refl
 map_alike f g (x ∷ xs) h = let a = h x (inl refl) in let b = map_alike f g xs (λ y m. h y (inr m)) in cc
 
-length-inserted : (es : List Entry) (k : ℕ × Row) (v : List Row) → lookup (is_at (entry_cmp k)) es ≡ None
-    → length (insert_entry entry_cmp es k v) ≡ length es + 1
-length-inserted [] k v none = refl
-length-inserted (e ∷ es) k v none = by (entry_cmp k e.0) refl none (length-inserted es k v)
-  where
-    by : (d : Ordering) → entry_cmp k e.0 ≡ d → cond (is_eq d) (Some e.1) (lookup (is_at (entry_cmp k)) es) ≡ None
-        → (lookup (is_at (entry_cmp k)) es ≡ None → length (insert_entry entry_cmp es k v) ≡ length es + 1)
-        → length (match_ordering d ((k, v) ∷ e ∷ es) ((e.0, v) ∷ es) (e ∷ insert_entry entry_cmp es k v)) ≡ length (e ∷ es) + 1
-    by Less c n rest = omega arith
-    by Equal c n rest = cc
-    by Greater c n rest = let l = rest n in omega (arith, l)
-
--- what the probe of an entry counted
-abbrev entry_reads : Entry → ℕ
-entry_reads e = max 1 (length e.1)
-
-read_entries : (stages : List Stage) (es : List Entry) → fetched_reads (map (fetched_at stages) es) ≡ sum_by entry_reads es
-read_entries stages es = sum_mapped (λ (f : Fetched). max 1 (length f.tuples)) (fetched_at stages) es
-
-reads-inserted : (es : List Entry) (k : ℕ × Row) (v : List Row) → lookup (is_at (entry_cmp k)) es ≡ None
-    → sum_by entry_reads (insert_entry entry_cmp es k v) ≡ sum_by entry_reads es + max 1 (length v)
-reads-inserted [] k v none = refl
-reads-inserted (e ∷ es) k v none = by (entry_cmp k e.0) refl none (reads-inserted es k v)
-  where
-    by : (d : Ordering) → entry_cmp k e.0 ≡ d → cond (is_eq d) (Some e.1) (lookup (is_at (entry_cmp k)) es) ≡ None
-        → (lookup (is_at (entry_cmp k)) es ≡ None → sum_by entry_reads (insert_entry entry_cmp es k v) ≡ sum_by entry_reads es + max 1 (length v))
-        → sum_by entry_reads (match_ordering d ((k, v) ∷ e ∷ es) ((e.0, v) ∷ es) (e ∷ insert_entry entry_cmp es k v))
-        ≡ sum_by entry_reads (e ∷ es) + max 1 (length v)
-    by Less c n rest = let a = sum_by-cons entry_reads (k, v) (e ∷ es) in omega (arith, a)
-    by Equal c n rest = cc
-    by Greater c n rest =
-        let l = rest n in
-        let a = sum_by-cons entry_reads e (insert_entry entry_cmp es k v) in
-        let b = sum_by-cons entry_reads e es in
-        omega (arith, l, a, b)
-
-pub lookup_none : (es : List Entry) (step : ℕ) (key : Row) → ((e : Entry) → Has es e → e.0.0 < step) → lookup (is_at (entry_cmp (step, key))) es ≡ None
-lookup_none es step key below = by (lookup (is_at (entry_cmp (step, key))) es) refl
-  where
-    by : (found : Option (List Row)) → lookup (is_at (entry_cmp (step, key))) es ≡ found → lookup (is_at (entry_cmp (step, key))) es ≡ None
-    by None e = e
-    by (Some v) e =
-        let h = some_at entry_cmp entry_tells entry_itself es (step, key) v e in
-        let l = below ((step, key), v) h in
-        absurd (omega (arith, l))
-
 -- the rows after a step have a value for each class
 next_wide : (normal : Normal) (s : Stage) (v : Row) (tuples : List Row) (y : Row) → IsStage normal s
     → Has (next_by normal (use_at s) (set_before normal s) v tuples) y → length y ≡ length s.join.classes
@@ -95,17 +48,14 @@ next_wide normal s v tuples y is h =
     let m = Has-from_map (joined_row normal u set v) (filter (leads_to normal u set v) tuples) y h in
     ap length m.2 ∙ length-map (classes_in (bound_with normal u set)) (value_of (joined_bindings normal u set v m.0)) ∙ ap length (sym is.join_is.classes_are)
 
-not_known : (w : World) (r : Route) (at : Pending) (old : Walk) → lookup (is_at (entry_cmp (at.step, (probe_of w r at).key))) old.known.entries ≡ None
+-- a probe whose key wasn't probed wasn't made
+not_known : (w : World) (r : Route) (at : Pending) (old : Walk) → WasNotProbed old.known at.step (probe_of w r at).key
     → WasMade (fetched_in old) (probe_of w r at) → ⊥
 not_known w r at old none h =
-    let key = (probe_of w r at).key in
     let m = Has-from_map (λ (f : Fetched). f.probe) (fetched_in old) (probe_of w r at) h in
-    let k = Has-from_map (fetched_at old.stages.items) old.known.entries m.0 m.1 in
+    let k = fetched_from old m.0 m.1 in
     let p : probe_of w r at ≡ probe_at k.0.0.0 k.0.0.1 = m.2 ∙ ap (λ (f : Fetched). f.probe) k.2 in
-    let a : k.0.0.0 ≡ at.step = ap (λ (q : Probe). q.step) (sym p) in
-    let b : k.0.0.1 ≡ key = ap (λ (q : Probe). q.key) (sym p) in
-    let whole : k.0 ≡ ((at.step, key), k.0.1) = ap (λ x. (x, k.0.1)) (ap (λ n. (n, k.0.0.1)) a ∙ ap (λ n. (at.step, n)) b) in
-    none_at entry_cmp entry_tells entry_itself old.known.entries (at.step, key) k.0.1 none (subst (Has old.known.entries) whole k.1)
+    none k.0 k.1 (ap (λ (q : Probe). (q.step, q.key)) (sym p))
 
 pub record Outcome (w : World) (r : Route) (at : Pending) (did : Bool) (old new : Walk) : Type 0 where
   pub tidy : IsTidy r new
@@ -121,13 +71,13 @@ module _ (w : World) (r : Route) (at : Pending) (s : Stage) (serves : Serves w r
   abbrev u : Use
   u = use_by (step_at r at.step) (access_in w.accesses (step_at r at.step).access)
 
-  pub key_is : key_by r.normal (use_at s) (set_before r.normal s) at.row ≡ (probe_of w r at).key
+  key_is : key_by r.normal (use_at s) (set_before r.normal s) at.row ≡ (probe_of w r at).key
   key_is = ap (λ v. key_by r.normal v (set_before r.normal s) at.row) serves.uses ∙ ap (λ set. key_by r.normal u set at.row) serves.before
 
   pub access_is : s.access.value ≡ access_in w.accesses (step_at r at.step).access
   access_is = ap (λ (v : Use). v.access) serves.uses
 
-  pub group_is : (key : Row) → key ≡ (probe_of w r at).key → group_of (w.rows s.access.value.table) s.access.value key ≡ (found_at w r at).tuples
+  group_is : (key : Row) → key ≡ (probe_of w r at).key → group_of (w.rows s.access.value.table) s.access.value key ≡ (found_at w r at).tuples
   group_is key e = ap (λ (a : Access). group_of (w.rows a.table) a key) access_is
       ∙ ap (group_of (w.rows (access_in w.accesses (step_at r at.step).access).table) (access_in w.accesses (step_at r at.step).access)) e
 
@@ -138,7 +88,7 @@ module _ (w : World) (r : Route) (at : Pending) (s : Stage) (serves : Serves w r
       ∙ next_kept r.normal (step_at r at.step) at.row (access_in w.accesses (step_at r at.step).access) (set_at w r at.step) (found_at w r at).tuples
 
 -- the stage of a step that was begun
-pub serves_begun : (w : World) (r : Route) (at : Pending) (walk : Walk) → IsTidy r walk → AgreesWith w r.steps (fetched_in walk)
+serves_begun : (w : World) (r : Route) (at : Pending) (walk : Walk) → IsTidy r walk → AgreesWith w r.steps (fetched_in walk)
     → at.step < length walk.stages.items → (d : Stage) → Serves w r at (get_or walk.stages.items at.step d)
 serves_begun w r at walk tidy agree l d =
     let is = tidy.stages at.step d l in record {
@@ -149,10 +99,109 @@ serves_begun w r at walk tidy agree l d =
     }
 
 -- the tuples of a key's group go with the valuation that gives the key
-pub group_all : (rows : TableRows) (normal : Normal) (s : Stage) (v key : Row) (tuples : List Row) → length v ≡ length s.from.value
+group_all : (rows : TableRows) (normal : Normal) (s : Stage) (v key : Row) (tuples : List Row) → length v ≡ length s.from.value
     → key ≡ key_by normal (use_at s) (set_before normal s) v → tuples ≡ group_of (rows s.access.value.table) s.access.value key → All (IsPair normal s v) tuples
 group_all rows normal s v key tuples wide keyed is i d l = group_pairs (rows s.access.value.table) normal s v (get_or tuples i d) wide
     (subst (λ ts. Has ts (get_or tuples i d)) (is ∙ ap (group_of (rows s.access.value.table) s.access.value) keyed) (Has-get_or tuples i d l))
+
+get_or_any : {A : Type 0} (xs : List A) (i : ℕ) (d e : A) → i < length xs → get_or xs i d ≡ get_or xs i e
+get_or_any [] i d e l = absurd (omega (arith, l))
+get_or_any (x ∷ xs) zero d e l = refl
+get_or_any (x ∷ xs) (suc i) d e l = get_or_any xs i d e (omega (arith, l))
+
+get_or-front : {A : Type 0} (xs : List A) (y d : A) (j : ℕ) → j < length xs → get_or (xs ++ y ∷ []) j d ≡ get_or xs j d
+get_or-front [] y d j l = absurd (omega (arith, l))
+get_or-front (x ∷ xs) y d zero l = refl
+get_or-front (x ∷ xs) y d (suc j) l = get_or-front xs y d j (omega (arith, l))
+
+get_or-last : {A : Type 0} (xs : List A) (y d : A) → get_or (xs ++ y ∷ []) (length xs) d ≡ y
+get_or-last [] y d = refl
+get_or-last (x ∷ xs) y d = get_or-last xs y d
+
+-- the entry that is found for the key of a valuation, whose step has a stage
+module _ (w : World) (r : Route) (at : Pending) (old : Walk) (agree : AgreesWith w r.steps (fetched_in old)) (below : at.step < length r.steps)
+    (s : Stage) (serves : Serves w r at s) (found : Found) (known : Known) (before now : ℕ)
+    (stage_finds : Finds w.rows w.accesses (step_at r at.step).access at.step (key_by r.normal (use_at s) (set_before r.normal s) at.row)
+    found old.known known before now) where
+  finds : Finds w.rows w.accesses (step_at r at.step).access at.step (probe_of w r at).key found old.known known before now
+  finds = subst (λ k. Finds w.rows w.accesses (step_at r at.step).access at.step k found old.known known before now) (key_is w r at s serves) stage_finds
+
+  abbrev at_place : Entry
+  at_place = entry_of known found.place
+
+  abbrev group : List Row
+  group = (found_at w r at).tuples
+
+  -- it was there before
+  old_tuples : Has (entries_in old.known) at_place → at_place.1 ≡ group
+  old_tuples h =
+      let was = fetched_at old.stages.items at_place in
+      let agrees = agree was (Contains-from_has (fetched_in old) was (fetched_here old at_place h)) in
+      let keyed : at_place.0 ≡ (at.step, (probe_of w r at).key) = finds.is_key in
+      let access : access_of_step w.accesses r.steps at.step ≡ was.access =
+      subst (λ (k : ℕ × Row). access_of_step w.accesses r.steps k.0 ≡ was.access) keyed agrees.access in
+      sym agrees.tuples ∙ ap (λ (k : ℕ × Row). group_of (w.rows was.access.table) was.access k.1) keyed
+      ∙ ap (λ (a : Access). group_of (w.rows a.table) a (probe_of w r at).key) (sym access ∙ step_access w r at.step below)
+
+  -- it is the last one
+  new_tuples : entries_in known ≡ entries_in old.known ++ ((at.step, (probe_of w r at).key), group) ∷ [] → found.place ≡ length (entries_in old.known)
+      → at_place.1 ≡ group
+  new_tuples more last = ap (λ (e : Entry). e.1) (ap (λ es. get_or es found.place ((0, []), [])) more
+      ∙ ap (λ i. get_or (entries_in old.known ++ ((at.step, (probe_of w r at).key), group) ∷ []) i ((0, []), [])) last
+      ∙ get_or-last (entries_in old.known) ((at.step, (probe_of w r at).key), group) ((0, []), []))
+
+  old_place : entries_in known ≡ entries_in old.known → Has (entries_in old.known) at_place
+  old_place same = subst (λ es. Has es at_place) same (Has-get_or (entries_in known) found.place ((0, []), []) finds.there)
+
+  found_tuples : (entry_of known found.place).1 ≡ (found_at w r at).tuples
+  found_tuples = by found.reads finds.grew finds.is_new
+    where
+      by : (o : Option ℕ) → Grew w.rows w.accesses (step_at r at.step).access at.step (probe_of w r at).key o old.known known before now
+          → ((reads : ℕ) → o ≡ Some reads → found.place ≡ length (entries_in old.known)) → at_place.1 ≡ group
+      by None grew last = old_tuples (old_place grew.0)
+      by (Some reads) grew last = new_tuples grew.1 (last reads refl)
+
+  known_entry : entries_in known ≡ entries_in old.known → Has (entries_in old.known) ((at.step, (probe_of w r at).key), group)
+  known_entry same = subst (Has (entries_in old.known)) (ap (λ (k : ℕ × Row). (k, at_place.1)) finds.is_key
+      ∙ ap (λ (ts : List Row). ((at.step, (probe_of w r at).key), ts)) found_tuples) (old_place same)
+
+  pub found_cost : VisitCosts w r at found.reads before now
+  found_cost = by found.reads finds.grew
+    where
+      by : (o : Option ℕ) → Grew w.rows w.accesses (step_at r at.step).access at.step (probe_of w r at).key o old.known known before now
+          → VisitCosts w r at o before now
+      by None grew = grew.1
+      by (Some reads) grew = (grew.2, grew.3)
+
+  pub found_spent : VisitSpent w r at old before now
+  found_spent = by found.reads finds.grew
+    where
+      by : (o : Option ℕ) → Grew w.rows w.accesses (step_at r at.step).access at.step (probe_of w r at).key o old.known known before now
+          → VisitSpent w r at old before now
+      by None grew = inl grew.1
+      by (Some reads) grew = inr (not_known w r at old grew.0, grew.3 ∙ ap (λ n. before + n) grew.2)
+
+  -- the tuples go with the valuation
+  pub found_pairs : length at.row ≡ length s.from.value → All (IsPair r.normal s at.row) (entry_of known found.place).1
+  found_pairs wide = group_all w.rows r.normal s at.row (key_by r.normal (use_at s) (set_before r.normal s) at.row) at_place.1 wide refl
+      (found_tuples ∙ sym (group_is w r at s serves (key_by r.normal (use_at s) (set_before r.normal s) at.row) (key_is w r at s serves)))
+
+-- what is counted where no entry was found
+pub not_found_spent : (w : World) (r : Route) (at : Pending) (old : Walk) (s : Stage) → Serves w r at s → (before now : ℕ)
+    → FindSpent w.rows w.accesses (step_at r at.step).access at.step (key_by r.normal (use_at s) (set_before r.normal s) at.row) old.known before now
+    → VisitSpent w r at old before now
+not_found_spent w r at old s serves before now spent =
+    elim (subst (λ k. FindSpent w.rows w.accesses (step_at r at.step).access at.step k old.known before now) (key_is w r at s serves) spent) [
+      | inl e ↦ inl e
+      | inr d ↦ inr (not_known w r at old d.0, d.1)
+    ]
+
+-- what becomes of the valuations that one makes with these tuples by a stage
+abbrev Goes : Route → Pending → Stage → List Row → Walk → Walk → Type 0
+Goes r at s tuples old new =
+    let rows = next_by r.normal (use_at s) (set_before r.normal s) at.row tuples in
+    GoesOn (length r.steps) at rows (map (output_row r.normal (bound_with r.normal (use_at s) (set_before r.normal s))) rows)
+    (pending_in old.pending) (pending_in new.pending) old.through new.through
 
 -- a visit by a stage
 module _ (w : World) (r : Route) (at : Pending) (old new : Walk) (tidy : IsTidy r old) (s : Stage) (serves : Serves w r at s)
@@ -162,16 +211,24 @@ module _ (w : World) (r : Route) (at : Pending) (old new : Walk) (tidy : IsTidy 
     (longer : length old.stages.items ≤ length new.stages.items)
     (only : (j : ℕ) → j < length new.stages.items → (j < length old.stages.items) ⊎ (j ≡ at.step))
     (inside : at.step < length new.stages.items) (here : (d : Stage) → get_or new.stages.items at.step d ≡ s)
-    (tuples : List Row)
-    (goes : GoesOn (length r.steps) at (next_by r.normal (use_at s) (set_before r.normal s) at.row tuples)
-    (map (output_row r.normal (bound_with r.normal (use_at s) (set_before r.normal s))) (next_by r.normal (use_at s) (set_before r.normal s) at.row tuples))
-    old.pending.items new.pending.items old.through new.through)
-    (found : tuples ≡ (found_at w r at).tuples) (ordered : IsOrdered entry_cmp new.known) where
+    (agree : AgreesWith w r.steps (fetched_in old)) (found : Found) (before now : ℕ)
+    (stage_finds : Finds w.rows w.accesses (step_at r at.step).access at.step (key_by r.normal (use_at s) (set_before r.normal s) at.row)
+    found old.known new.known before now)
+    (goes : Goes r at s (entry_of new.known found.place).1 old new) (known_new : IsKnown new.known) (stack_new : IsStack new.pending) where
   abbrev n : ℕ
   n = at.step
 
   abbrev key : Row
   key = (probe_of w r at).key
+
+  below : at.step < length r.steps
+  below = omega (arith, inside, few_new)
+
+  abbrev tuples : List Row
+  tuples = (entry_of new.known found.place).1
+
+  is_group : tuples ≡ (found_at w r at).tuples
+  is_group = found_tuples w r at old agree below s serves found new.known before now stage_finds
 
   classes_alike : (j : ℕ) → j ≤ length old.stages.items → classes_at new.first new.stages.items j ≡ classes_at old.first old.stages.items j
   classes_alike zero l = first_same
@@ -210,13 +267,13 @@ module _ (w : World) (r : Route) (at : Pending) (old new : Walk) (tidy : IsTidy 
   abbrev rows : List Row
   rows = next_by r.normal (use_at s) (set_before r.normal s) at.row tuples
 
-  pending_from : (p : Pending) → Has new.pending.items p → Has old.pending.items p ⊎ Has (children at rows) p
+  pending_from : (p : Pending) → Has (pending_in new.pending) p → Has (pending_in old.pending) p ⊎ Has (children at rows) p
   pending_from p h = elim goes [
     | inl x ↦ inl (subst (λ ps. Has ps p) x.1 h)
-    | inr x ↦ Has-append_cases old.pending.items (children at rows) p (subst (λ ps. Has ps p) x.1 h)
+    | inr x ↦ Has-append_cases (pending_in old.pending) (children at rows) p (subst (λ ps. Has ps p) x.1 h)
   ]
 
-  pending_new : (p : Pending) → Has new.pending.items p
+  pending_new : (p : Pending) → Has (pending_in new.pending) p
       → (p.step ≤ length new.stages.items) × (length p.row ≡ length (classes_at new.first new.stages.items p.step))
   pending_new p h = elim (pending_from p h) [
     | inl k ↦ (
@@ -233,9 +290,9 @@ module _ (w : World) (r : Route) (at : Pending) (old new : Walk) (tidy : IsTidy 
       ∙ ap (bound_with r.normal (use_by (step_at r n) (access_in w.accesses (step_at r n).access))) serves.before
       ∙ sym (set_more w r n (omega (arith, inside, few_new)))
 
-  gone_on : GoesOn (length r.steps) at (next_at w r at) (outputs_at w r at) old.pending.items new.pending.items old.through new.through
+  gone_on : GoesOn (length r.steps) at (next_at w r at) (outputs_at w r at) (pending_in old.pending) (pending_in new.pending) old.through new.through
   gone_on =
-      let same = next_is w r at s serves tuples found in
+      let same = next_is w r at s serves tuples is_group in
       elim goes [
         | inl x ↦ inl (
           x.0,
@@ -243,11 +300,11 @@ module _ (w : World) (r : Route) (at : Pending) (old new : Walk) (tidy : IsTidy 
           subst (λ ys. SameMembers new.through (old.through ++ ys)) (ap (λ set. map (output_row r.normal set) rows) (set_next ∙ ap (set_at w r) x.0)
               ∙ ap (map (output_row r.normal (set_at w r (length r.steps)))) same) x.2,
         )
-        | inr x ↦ inr (x.0, x.1 ∙ ap (λ rs. old.pending.items ++ children at rs) same, x.2)
+        | inr x ↦ inr (x.0, x.1 ∙ ap (λ rs. (pending_in old.pending) ++ children at rs) same, x.2)
       ]
 
-  old_alike : map (fetched_at new.stages.items) old.known.entries ≡ fetched_in old
-  old_alike = map_alike (fetched_at new.stages.items) (fetched_at old.stages.items) old.known.entries
+  old_alike : map (fetched_at new.stages.items) (entries_in old.known) ≡ map (fetched_at old.stages.items) (entries_in old.known)
+  old_alike = map_alike (fetched_at new.stages.items) (fetched_at old.stages.items) (entries_in old.known)
       (λ e h. let c = access_alike e.0.0 (tidy.steps e h) in ap (λ a. record { probe = probe_at e.0.0 e.0.1; access = a; tuples = e.1 }) c)
 
   abbrev one : Entry
@@ -257,11 +314,11 @@ module _ (w : World) (r : Route) (at : Pending) (old new : Walk) (tidy : IsTidy 
   one_is = ap (λ a. record { probe = probe_of w r at; access = a; tuples = (found_at w r at).tuples }) access_new
 
   -- the tuples were known
-  module _ (entries : new.known.entries ≡ old.known.entries) (known : Has old.known.entries one) (begun : at.step < length old.stages.items) where
+  module _ (entries : entries_in new.known ≡ (entries_in old.known)) (known : Has (entries_in old.known) one) where
     all_same : fetched_in new ≡ fetched_in old
-    all_same = ap (map (fetched_at new.stages.items)) entries ∙ old_alike
+    all_same = ap (λ es. in_order (map (fetched_at new.stages.items) es)) entries ∙ ap in_order old_alike
 
-    pub known_outcome : Outcome w r at false old new
+    known_outcome : Outcome w r at false old new
     known_outcome = record {
       tidy = record {
         first = first_same ∙ tidy.first;
@@ -274,12 +331,13 @@ module _ (w : World) (r : Route) (at : Pending) (old new : Walk) (tidy : IsTidy 
         ];
         pending = λ p h. (pending_new p h).0;
         wide = λ p h. (pending_new p h).1;
-        ordered = ordered;
+        known = known_new;
+        stack = stack_new;
+        ordered = subst (λ fs. IsInOrder probe_cmp (made fs)) (sym all_same) tidy.ordered;
       };
       visited = record {
         goes_on = gone_on;
-        made = subst (Has (fetched_in new)) one_is (Has-map (fetched_at new.stages.items) new.known.entries one
-            (subst (λ es. Has es one) (sym entries) known));
+        made = subst (Has (fetched_in new)) one_is (fetched_here new one (subst (λ es. Has es one) (sym entries) known));
         others = λ f h. inr (subst (λ fs. Has fs f) all_same h);
         stay = λ f h. subst (λ fs. Has fs f) (sym all_same) h;
         was_due = λ e. absurd (differ e);
@@ -293,21 +351,27 @@ module _ (w : World) (r : Route) (at : Pending) (old new : Walk) (tidy : IsTidy 
         differ e = cc
 
   -- they were probed
-  module _ (none : lookup (is_at (entry_cmp (n, key))) old.known.entries ≡ None)
-      (entries : new.known.entries ≡ insert_entry entry_cmp old.known.entries (n, key) (found_at w r at).tuples) where
-    abbrev group : List Row
-    group = (found_at w r at).tuples
+  module _ (none : WasNotProbed old.known n key) (entries : entries_in new.known ≡ entries_in old.known ++ one ∷ []) where
+    all_new : fetched_in new ≡ put_in (found_at w r at) (fetched_in old)
+    all_new = ap (λ es. in_order (map (fetched_at new.stages.items) es)) entries
+        ∙ ap in_order (map-append (fetched_at new.stages.items) (entries_in old.known) (one ∷ []))
+        ∙ in_order_more (map (fetched_at new.stages.items) (entries_in old.known)) (fetched_at new.stages.items one)
+        ∙ ap (λ f. put_in f (in_order (map (fetched_at new.stages.items) (entries_in old.known)))) one_is
+        ∙ ap (λ fs. put_in (found_at w r at) (in_order fs)) old_alike
 
-    has_one : Has new.known.entries one
-    has_one = subst (λ es. Has es one) (sym entries) (Has-inserted entry_cmp entry_tells entry_itself old.known.entries (n, key) group)
+    has_one : Has (entries_in new.known) one
+    has_one = subst (λ es. Has es one) (sym entries) (Has-append_right (entries_in old.known) (one ∷ []) one (inl refl))
 
-    stays : (e : Entry) → Has old.known.entries e → Has new.known.entries e
-    stays e h = subst (λ es. Has es e) (sym entries) (Has-stays entry_cmp entry_tells entry_itself old.known.entries (n, key) group e none h)
+    stays : (e : Entry) → Has (entries_in old.known) e → Has (entries_in new.known) e
+    stays e h = subst (λ es. Has es e) (sym entries) (Has-append_left (entries_in old.known) (one ∷ []) e h)
 
-    from_new : (e : Entry) → Has new.known.entries e → (e ≡ one) ⊎ Has old.known.entries e
-    from_new e h = Has-from_inserted entry_cmp entry_tells entry_itself old.known.entries (n, key) group e (subst (λ es. Has es e) entries h)
+    from_new : (e : Entry) → Has (entries_in new.known) e → (e ≡ one) ⊎ Has (entries_in old.known) e
+    from_new e h = elim (Has-append_cases (entries_in old.known) (one ∷ []) e (subst (λ es. Has es e) entries h)) [
+      | inl k ↦ inr k
+      | inr k ↦ elim k [ inl d ↦ inl d | inr none_here ↦ absurd none_here ]
+    ]
 
-    pub probed_outcome : Outcome w r at true old new
+    probed_outcome : Outcome w r at true old new
     probed_outcome = record {
       tidy = record {
         first = first_same ∙ tidy.first;
@@ -323,31 +387,19 @@ module _ (w : World) (r : Route) (at : Pending) (old new : Walk) (tidy : IsTidy 
         ];
         pending = λ p h. (pending_new p h).0;
         wide = λ p h. (pending_new p h).1;
-        ordered = ordered;
+        known = known_new;
+        stack = stack_new;
+        ordered = subst (λ fs. IsInOrder probe_cmp (made fs)) (sym all_new)
+            (IsInOrder-put (found_at w r at) (fetched_in old) tidy.ordered (not_known w r at old none));
       };
       visited = record {
         goes_on = gone_on;
-        made = subst (Has (fetched_in new)) one_is (Has-map (fetched_at new.stages.items) new.known.entries one has_one);
-        others = λ f h. (
-            let m = Has-from_map (fetched_at new.stages.items) new.known.entries f h in
-            elim (from_new m.0 m.1) [
-              | inl e ↦ inl (m.2 ∙ ap (fetched_at new.stages.items) e ∙ one_is)
-              | inr k ↦ inr (subst (λ fs. Has fs f) old_alike
-                  (subst (Has (map (fetched_at new.stages.items) old.known.entries)) (sym m.2)
-                  (Has-map (fetched_at new.stages.items) old.known.entries m.0 k)))
-            ]);
-        stay = λ f h. (
-            let m = Has-from_map (fetched_at new.stages.items) old.known.entries f (subst (λ fs. Has fs f) (sym old_alike) h) in
-            subst (Has (fetched_in new)) (sym m.2) (Has-map (fetched_at new.stages.items) new.known.entries m.0 (stays m.0 m.1)));
-        was_due = λ e h. not_known w r at old none h;
-        more = λ e. (
-            let a = length-map new.known.entries (fetched_at new.stages.items) in
-            let b = length-map old.known.entries (fetched_at old.stages.items) in
-            let c = ap length entries ∙ length-inserted old.known.entries (n, key) group none in
-            omega (arith, a, b, c));
-        all_reads = λ e. read_entries new.stages.items new.known.entries ∙ ap (sum_by entry_reads) entries
-            ∙ reads-inserted old.known.entries (n, key) group none
-            ∙ ap (λ m. m + max 1 (length group)) (sym (read_entries old.stages.items old.known.entries));
+        made = subst (λ fs. Has fs (found_at w r at)) (sym all_new) (Has-put (found_at w r at) (fetched_in old));
+        others = λ f h. Has-from_put (found_at w r at) (fetched_in old) f (subst (λ fs. Has fs f) all_new h);
+        stay = λ f h. subst (λ fs. Has fs f) (sym all_new) (Has-put_old (found_at w r at) (fetched_in old) f h);
+        was_due = λ e. not_known w r at old none;
+        more = λ e. ap length all_new ∙ length-put (found_at w r at) (fetched_in old);
+        all_reads = λ e. ap fetched_reads all_new ∙ reads-put (found_at w r at) (fetched_in old);
         was_known = λ e. absurd (differ e);
       };
     }
@@ -355,48 +407,17 @@ module _ (w : World) (r : Route) (at : Pending) (old new : Walk) (tidy : IsTidy 
         differ : true ≡ false → ⊥
         differ e = cc
 
--- what was probed was due
-pub due_spent : (w : World) (r : Route) (at : Pending) (old : Walk) (k : Row) → k ≡ (probe_of w r at).key
-    → lookup (is_at (entry_cmp (at.step, k))) old.known.entries ≡ None → (before now : ℕ) → now ≡ before + share_at w r at
-    → VisitSpent w r at old before now
-due_spent w r at old k e none before now cost =
-    inr (not_known w r at old (subst (λ x. lookup (is_at (entry_cmp (at.step, x))) old.known.entries ≡ None) e none), cost)
-
-get_or_any : {A : Type 0} (xs : List A) (i : ℕ) (d e : A) → i < length xs → get_or xs i d ≡ get_or xs i e
-get_or_any [] i d e l = absurd (omega (arith, l))
-get_or_any (x ∷ xs) zero d e l = refl
-get_or_any (x ∷ xs) (suc i) d e l = get_or_any xs i d e (omega (arith, l))
-
-get_or-front : {A : Type 0} (xs : List A) (y d : A) (j : ℕ) → j < length xs → get_or (xs ++ y ∷ []) j d ≡ get_or xs j d
-get_or-front [] y d j l = absurd (omega (arith, l))
-get_or-front (x ∷ xs) y d zero l = refl
-get_or-front (x ∷ xs) y d (suc j) l = get_or-front xs y d j (omega (arith, l))
-
-get_or-last : {A : Type 0} (xs : List A) (y d : A) → get_or (xs ++ y ∷ []) (length xs) d ≡ y
-get_or-last [] y d = refl
-get_or-last (x ∷ xs) y d = get_or-last xs y d
-
--- what is known for a key are the tuples of its group
-module _ (w : World) (r : Route) (at : Pending) (old : Walk) (agree : AgreesWith w r.steps (fetched_in old)) (below : at.step < length r.steps)
-    (key : Row) (keyed : key ≡ (probe_of w r at).key) (tuples : List Row) (known : Has old.known.entries ((at.step, key), tuples)) where
-  abbrev was : Fetched
-  was = fetched_at old.stages.items ((at.step, key), tuples)
-
-  agrees : Agrees w r.steps was
-  agrees = agree was (Contains-from_has (fetched_in old) was (Has-map (fetched_at old.stages.items) old.known.entries ((at.step, key), tuples) known))
-
-  pub known_tuples : tuples ≡ (found_at w r at).tuples
-  known_tuples = sym agrees.tuples ∙ ap (group_of (w.rows was.access.table) was.access) keyed
-      ∙ ap (λ (a : Access). group_of (w.rows a.table) a (probe_of w r at).key) (sym agrees.access ∙ step_access w r at.step below)
-
-  pub known_entry : Has old.known.entries ((at.step, (probe_of w r at).key), (found_at w r at).tuples)
-  known_entry = subst (λ k. Has old.known.entries ((at.step, k), (found_at w r at).tuples)) keyed
-      (subst (λ ts. Has old.known.entries ((at.step, key), ts)) known_tuples known)
+  outcome : Outcome w r at (probed found.reads) old new
+  outcome = by found.reads (finds w r at old agree below s serves found new.known before now stage_finds).grew
+    where
+      by : (o : Option ℕ) → Grew w.rows w.accesses (step_at r at.step).access at.step key o old.known new.known before now → Outcome w r at (probed o) old new
+      by None grew = known_outcome grew.0 (known_entry w r at old agree below s serves found new.known before now stage_finds grew.0)
+      by (Some reads) grew = probed_outcome grew.0 grew.1
 
 -- a step that was begun
 module _ (w : World) (r : Route) (at : Pending) (old new : Walk) (tidy : IsTidy r old) (agree : AgreesWith w r.steps (fetched_in old)) (s : Stage)
     (begun : at.step < length old.stages.items) (here : get_or old.stages.items at.step s ≡ s) (first : new.first ≡ old.first)
-    (stages : new.stages.items ≡ old.stages.items) (ordered : IsOrdered entry_cmp new.known) where
+    (stages : new.stages.items ≡ old.stages.items) where
   pub serves_again : Serves w r at s
   serves_again = subst (Serves w r at) here (serves_begun w r at old tidy agree begun s)
 
@@ -409,7 +430,7 @@ module _ (w : World) (r : Route) (at : Pending) (old new : Walk) (tidy : IsTidy 
   reach_again : at.step ≤ length old.stages.items
   reach_again = omega (arith, begun)
 
-  below_again : at.step < length r.steps
+  pub below_again : at.step < length r.steps
   below_again = let few = tidy.few in omega (arith, begun, few)
 
   longer_again : length old.stages.items ≤ length new.stages.items
@@ -418,33 +439,14 @@ module _ (w : World) (r : Route) (at : Pending) (old new : Walk) (tidy : IsTidy 
   inside_again : at.step < length new.stages.items
   inside_again = subst (λ ss. at.step < length ss) (sym stages) begun
 
-  abbrev Goes : List Row → Type 0
-  Goes tuples = GoesOn (length r.steps) at (next_by r.normal (use_at s) (set_before r.normal s) at.row tuples)
-      (map (output_row r.normal (bound_with r.normal (use_at s) (set_before r.normal s))) (next_by r.normal (use_at s) (set_before r.normal s) at.row tuples))
-      old.pending.items new.pending.items old.through new.through
-
-  pub again_known : (key : Row) → key ≡ (probe_of w r at).key → (tuples : List Row) → lookup (is_at (entry_cmp (at.step, key))) old.known.entries ≡ Some tuples
-      → new.known.entries ≡ old.known.entries → Goes tuples → Outcome w r at false old new
-  again_known key keyed tuples found entries goes =
-      let known = some_at entry_cmp entry_tells entry_itself old.known.entries (at.step, key) tuples found in
-      known_outcome w r at old new tidy s serves_again at_again reach_again first few_again (λ j d l. ap (λ ss. get_or ss j d) stages) longer_again
+  pub visited_again : (found : Found) (before now : ℕ)
+      → Finds w.rows w.accesses (step_at r at.step).access at.step (key_by r.normal (use_at s) (set_before r.normal s) at.row)
+      found old.known new.known before now
+      → Goes r at s (entry_of new.known found.place).1 old new → IsKnown new.known → IsStack new.pending → Outcome w r at (probed found.reads) old new
+  visited_again found before now stage_finds goes known stack =
+      outcome w r at old new tidy s serves_again at_again reach_again first few_again (λ j d l. ap (λ ss. get_or ss j d) stages) longer_again
       (λ j l. inl (subst (λ ss. j < length ss) stages l)) inside_again
-      (λ d. ap (λ ss. get_or ss at.step d) stages ∙ get_or_any old.stages.items at.step d s begun ∙ here) tuples goes
-      (known_tuples w r at old agree below_again key keyed tuples known) ordered entries
-      (known_entry w r at old agree below_again key keyed tuples known) begun
-
-  pub again_probed : (key : Row) → key ≡ (probe_of w r at).key → lookup (is_at (entry_cmp (at.step, key))) old.known.entries ≡ None
-      → new.known.entries ≡ insert_entry entry_cmp old.known.entries (at.step, key) (group_of (w.rows s.access.value.table) s.access.value key)
-      → Goes (group_of (w.rows s.access.value.table) s.access.value key) → Outcome w r at true old new
-  again_probed key keyed none entries goes =
-      let group = group_is w r at s serves_again key keyed in
-      probed_outcome w r at old new tidy s serves_again at_again reach_again first few_again (λ j d l. ap (λ ss. get_or ss j d) stages) longer_again
-      (λ j l. inl (subst (λ ss. j < length ss) stages l)) inside_again
-      (λ d. ap (λ ss. get_or ss at.step d) stages ∙ get_or_any old.stages.items at.step d s begun ∙ here)
-      (group_of (w.rows s.access.value.table) s.access.value key) goes group ordered
-      (subst (λ k. lookup (is_at (entry_cmp (at.step, k))) old.known.entries ≡ None) keyed none)
-      (entries ∙ ap (λ k. insert_entry entry_cmp old.known.entries (at.step, k) (group_of (w.rows s.access.value.table) s.access.value key)) keyed
-      ∙ ap (insert_entry entry_cmp old.known.entries (at.step, (probe_of w r at).key)) group)
+      (λ d. ap (λ ss. get_or ss at.step d) stages ∙ get_or_any old.stages.items at.step d s begun ∙ here) agree found before now stage_finds goes known stack
 
 -- the first visit before a step
 module _ (w : World) (r : Route) (at : Pending) (old : Walk) (tidy : IsTidy r old) (agree : AgreesWith w r.steps (fetched_in old)) (s : Stage)
@@ -464,33 +466,18 @@ module _ (w : World) (r : Route) (at : Pending) (old : Walk) (tidy : IsTidy r ol
     before = ap (set_of r.normal) at_first.from ∙ set_is w r old tidy agree at.step reach_first;
   }
 
-  pub none_first : (key : Row) → lookup (is_at (entry_cmp (at.step, key))) old.known.entries ≡ None
-  none_first key = lookup_none old.known.entries at.step key (λ e h. let l = tidy.steps e h in omega (arith, l, next))
-
-  pub first_probed : (new : Walk) → new.first ≡ old.first → new.stages.items ≡ old.stages.items ++ s ∷ []
-      → IsOrdered entry_cmp new.known → (key : Row) → key ≡ (probe_of w r at).key
-      → new.known.entries ≡ insert_entry entry_cmp old.known.entries (at.step, key) (group_of (w.rows s.access.value.table) s.access.value key)
-      → (let rows = next_by r.normal (use_at s) (set_before r.normal s) at.row (group_of (w.rows s.access.value.table) s.access.value key) in
-      GoesOn (length r.steps) at rows (map (output_row r.normal (bound_with r.normal (use_at s) (set_before r.normal s))) rows)
-      old.pending.items new.pending.items old.through new.through) → Outcome w r at true old new
-  first_probed new first stages ordered key keyed entries goes =
-      let group = group_is w r at s serves_first key keyed in
+  pub visited_first : (new : Walk) → new.first ≡ old.first → new.stages.items ≡ old.stages.items ++ s ∷ [] → (found : Found) (before now : ℕ)
+      → Finds w.rows w.accesses (step_at r at.step).access at.step (key_by r.normal (use_at s) (set_before r.normal s) at.row)
+      found old.known new.known before now
+      → Goes r at s (entry_of new.known found.place).1 old new → IsKnown new.known → IsStack new.pending → Outcome w r at (probed found.reads) old new
+  visited_first new first stages found before now stage_finds goes known stack =
       let counted : length new.stages.items ≡ length old.stages.items + 1 = ap length stages ∙ length-append old.stages.items (s ∷ []) in
-      probed_outcome w r at old new tidy s serves_first at_first reach_first first (omega (arith, counted, next, below))
+      outcome w r at old new tidy s serves_first at_first reach_first first (omega (arith, counted, next, below))
       (λ j d l. ap (λ ss. get_or ss j d) stages ∙ get_or-front old.stages.items s d j l) (omega (arith, counted))
       (λ j l. below_or j l counted) (omega (arith, counted, next))
       (λ d. ap (λ ss. get_or ss at.step d) stages ∙ ap (λ n. get_or (old.stages.items ++ s ∷ []) n d) next ∙ get_or-last old.stages.items s d)
-      (group_of (w.rows s.access.value.table) s.access.value key) goes group ordered
-      (subst (λ k. lookup (is_at (entry_cmp (at.step, k))) old.known.entries ≡ None) keyed (none_first key))
-      (entries ∙ ap (λ k. insert_entry entry_cmp old.known.entries (at.step, k) (group_of (w.rows s.access.value.table) s.access.value key)) keyed
-      ∙ ap (insert_entry entry_cmp old.known.entries (at.step, (probe_of w r at).key)) group)
+      agree found before now stage_finds goes known stack
     where
       below_or : (j : ℕ) → j < length new.stages.items → length new.stages.items ≡ length old.stages.items + 1
           → (j < length old.stages.items) ⊎ (j ≡ at.step)
       below_or j l c = elim (least j (length old.stages.items) (omega (arith, l, c))) [ inl m ↦ inl m | inr e ↦ inr (e ∙ sym next) ]
-
--- what a probe counts
-pub share_is : (w : World) (r : Route) (at : Pending) (s : Stage) → Serves w r at s → (key : Row) → key ≡ (probe_of w r at).key
-    → probe_reads w.rows s.access.value key ≡ share_at w r at
-share_is w r at s serves key keyed = ap (λ (a : Access). probe_reads w.rows a key) (access_is w r at s serves)
-    ∙ ap (probe_reads w.rows (access_in w.accesses (step_at r at.step).access)) keyed

@@ -9,11 +9,12 @@ use Rattle.evaluation_facts.proofs.MemberTests.{Has-flat_map, Has-from_flat_map}
 use Rattle.beas_core.specs.Valuations.{output_row}
 use Rattle.block_walk.specs.Worlds.{World, Fetched}
 use Rattle.block_walk.specs.Routes.{Route}
-use Rattle.block_walk.specs.declared.walking.Pending.{Pending}
+use Rattle.block_walk.specs.Kept.{Pending, pending_at}
+use Rattle.block_walk.specs.Stacks.{pending_in}
 use Rattle.block_walk.specs.declared.walking.Walk.{Walk}
-use Rattle.block_walk.specs.Walks.{WasMade, fetched_in, set_at, children, pending_at, probe_of, next_at, outputs_from, wanted_from, work_from, IsProbe, IsWalk, StandsAt}
+use Rattle.block_walk.specs.Walks.{WasMade, fetched_in, set_at, children, probe_of, next_at, outputs_from, wanted_from, work_from, IsProbe, IsWalk, StandsAt}
 use Rattle.block_walk.specs.Turns.{GoesOn, outputs_at}
-use Rattle.block_walk.proofs.WorldFacts.{outputs_is, wanted_is, work_is, outputs_last, wanted_last, work_last}
+use Rattle.block_walk.proofs.WorldFacts.{outputs_is, wanted_is, work_is, outputs_last, wanted_last}
 
 -- a flat map over two parts, by members
 pub split : {A B : Type 0} (f : A → List B) (xs ys : List A) (b : B) → Has (flat_map f (xs ++ ys)) b → Has (flat_map f xs) b ⊎ Has (flat_map f ys) b
@@ -41,7 +42,7 @@ to_last f rest x b (inr h) = join f rest (x ∷ []) b (inr (Has-append_left (f x
 
 -- a pending valuation wants its probe
 pub pending_is_probe : (w : World) (r : Route) (at : Pending) → at.step < length r.steps → (walk : Walk) (rest : List Pending)
-    → IsWalk w r walk → walk.pending.items ≡ rest ++ at ∷ [] → IsProbe w r (probe_of w r at)
+    → IsWalk w r walk → pending_in walk.pending ≡ rest ++ at ∷ [] → IsProbe w r (probe_of w r at)
 pending_is_probe w r at below walk rest is pending = is.probes_only (probe_of w r at)
     (inr (subst (λ ps. Has (flat_map (wanted_from w r) ps) (probe_of w r at)) (sym pending)
     (to_last (wanted_from w r) rest at (probe_of w r at) (inr (subst (λ ys. Has ys (probe_of w r at)) (sym (wanted_is w r at below)) (inl refl))))))
@@ -150,8 +151,8 @@ same_through w r rest fetched now was same walk = record {
 }
 
 pub visited_is_walk : (w : World) (r : Route) (at : Pending) → at.step < length r.steps → (before new : Walk) (rest : List Pending) → IsWalk w r before
-    → before.pending.items ≡ rest ++ at ∷ []
-    → GoesOn (length r.steps) at (next_at w r at) (outputs_at w r at) rest new.pending.items before.through new.through
+    → pending_in before.pending ≡ rest ++ at ∷ []
+    → GoesOn (length r.steps) at (next_at w r at) (outputs_at w r at) rest (pending_in new.pending) before.through new.through
     → ((p : Probe) → WasMade (fetched_in before) p → WasMade (fetched_in new) p) → WasMade (fetched_in new) (probe_of w r at)
     → ((p : Probe) → WasMade (fetched_in new) p → (p ≡ probe_of w r at) ⊎ WasMade (fetched_in before) p) → IsWalk w r new
 visited_is_walk w r at below before new rest walk pending goes made_new made_here made_old =
@@ -166,17 +167,17 @@ visited_is_walk w r at below before new rest walk pending goes made_new made_her
 
 -- a valuation after the last step
 module _ (w : World) (r : Route) (at : Pending) (last : at.step ≡ length r.steps) (before new : Walk) (walk : IsWalk w r before)
-    (pending : before.pending.items ≡ new.pending.items ++ at ∷ [])
+    (pending : pending_in before.pending ≡ pending_in new.pending ++ at ∷ [])
     (through : new.through ≡ before.through ++ output_row r.normal (set_at w r (length r.steps)) at.row ∷ [])
     (fetched : fetched_in new ≡ fetched_in before) where
   abbrev output : Row
   output = output_row r.normal (set_at w r (length r.steps)) at.row
 
-  there_last : {B : Type 0} (f : Pending → List B) (b : B) → Has (flat_map f before.pending.items) b → Has (flat_map f new.pending.items) b ⊎ Has (f at) b
-  there_last f b h = last_of f new.pending.items at b (subst (λ ps. Has (flat_map f ps) b) pending h)
+  there_last : {B : Type 0} (f : Pending → List B) (b : B) → Has (flat_map f (pending_in before.pending)) b → Has (flat_map f (pending_in new.pending)) b ⊎ Has (f at) b
+  there_last f b h = last_of f (pending_in new.pending) at b (subst (λ ps. Has (flat_map f ps) b) pending h)
 
-  to_there_last : {B : Type 0} (f : Pending → List B) (b : B) → Has (flat_map f new.pending.items) b ⊎ Has (f at) b → Has (flat_map f before.pending.items) b
-  to_there_last f b h = subst (λ ps. Has (flat_map f ps) b) (sym pending) (to_last f new.pending.items at b h)
+  to_there_last : {B : Type 0} (f : Pending → List B) (b : B) → Has (flat_map f (pending_in new.pending)) b ⊎ Has (f at) b → Has (flat_map f (pending_in before.pending)) b
+  to_there_last f b h = subst (λ ps. Has (flat_map f ps) b) (sym pending) (to_last f (pending_in new.pending) at b h)
 
   pub through_is_walk : IsWalk w r new
   through_is_walk = record {
@@ -209,9 +210,9 @@ module _ (w : World) (r : Route) (at : Pending) (last : at.step ≡ length r.ste
   }
 
 pub visited_work : (w : World) (r : Route) (at : Pending) → at.step < length r.steps → (before new : Walk) (rest : List Pending) (through : List Row)
-    → before.pending.items ≡ rest ++ at ∷ []
-    → GoesOn (length r.steps) at (next_at w r at) (outputs_at w r at) rest new.pending.items through new.through
-    → sum_by (work_from w r) new.pending.items < sum_by (work_from w r) before.pending.items
+    → pending_in before.pending ≡ rest ++ at ∷ []
+    → GoesOn (length r.steps) at (next_at w r at) (outputs_at w r at) rest (pending_in new.pending) through new.through
+    → sum_by (work_from w r) (pending_in new.pending) < sum_by (work_from w r) (pending_in before.pending)
 visited_work w r at below before new rest through pending goes =
     let weight = work_from w r in
     let a = ap (sum_by weight) pending ∙ sum_by-append weight rest (at ∷ []) in
@@ -221,12 +222,3 @@ visited_work w r at below before new rest through pending goes =
       | inl x ↦ (let d = ap (sum_by weight) x.1 in omega (arith, a, b, d, e))
       | inr x ↦ (let d = ap (sum_by weight) x.1 ∙ sum_by-append weight rest (children at (next_at w r at)) in omega (arith, a, b, d, e))
     ]
-
-pub through_work : (w : World) (r : Route) (at : Pending) → at.step ≡ length r.steps → (before new : Walk)
-    → before.pending.items ≡ new.pending.items ++ at ∷ [] → sum_by (work_from w r) new.pending.items < sum_by (work_from w r) before.pending.items
-through_work w r at last before new pending =
-    let weight = work_from w r in
-    let a = ap (sum_by weight) pending ∙ sum_by-append weight new.pending.items (at ∷ []) in
-    let b = sum_by-cons weight at [] in
-    let e = work_last w r at last in
-    omega (arith, a, b, e)

@@ -14,7 +14,7 @@ use Rattle.beas_core.specs.Coverage.{class_at, with_classes}
 use Rattle.beas_core.specs.Derivations.{access_in, bound_by, bound_after, key_is_bound, member_classes, steps_are_sound}
 use Rattle.beas_core.specs.Valuations.{value_of, agrees, classes_in, as_bindings, output_row}
 use Rattle.beas_core.specs.Reads.{access_of_step}
-use Rattle.beas_core.proofs.Sets.{Contains-from_has, Has-map}
+use Rattle.beas_core.proofs.Sets.{Contains-from_has}
 use Rattle.evaluation_facts.specs.Extensions.{meets_bound}
 use Rattle.evaluation_facts.proofs.FrontBounds.{next_step}
 use Rattle.evaluation_facts.proofs.SoundDerivations.{bound-append}
@@ -27,10 +27,11 @@ use Rattle.plan_ops.proofs.BoundSets.{set_again}
 use Rattle.plan_ops.proofs.RowFacts.{after_classes, set_after}
 use Rattle.block_walk.specs.Worlds.{World, Agrees, AgreesWith}
 use Rattle.block_walk.specs.Routes.{Route, IsSoundIn, first_classes, step_at, probe_at}
-use Rattle.block_walk.specs.declared.walking.Pending.{Pending}
+use Rattle.block_walk.specs.Kept.{Pending, pending_at}
 use Rattle.block_walk.specs.declared.walking.Walk.{Walk}
 use Rattle.block_walk.specs.Descents.{reached, wanted, work}
-use Rattle.block_walk.specs.Walks.{accesses_in, no_access, classes_at, fetched_at, fetched_in, IsTidy, set_at, pending_at, children, probe_of, found_at, next_at, reached_from, outputs_from, wanted_from, work_from}
+use Rattle.block_walk.specs.Walks.{accesses_in, no_access, classes_at, fetched_at, fetched_in, IsTidy, set_at, children, probe_of, found_at, next_at, reached_from, outputs_from, wanted_from, work_from}
+use Rattle.block_walk.proofs.OrderFacts.{fetched_here}
 
 flat_map-map : {A B C : Type 0} (f : B → List C) (g : A → B) (xs : List A) → flat_map f (map g xs) ≡ flat_map (λ x. f (g x)) xs
 flat_map-map f g [] = refl
@@ -119,9 +120,6 @@ module _ (w : World) (r : Route) where
     pub wanted_last : wanted_from w r at ≡ []
     wanted_last = ap (λ ss. wanted w.rows r.normal w.accesses at.step ss (set_at w r at.step) at.row) gone
 
-    pub work_last : work_from w r at ≡ 1
-    work_last = ap (λ ss. work w.rows r.normal w.accesses ss (set_at w r at.step) at.row) gone
-
   -- what soundness gives
   module _ (sound : IsSoundIn w r) where
     pub all_sound : steps_are_sound r.normal w.accesses (first_classes r) r.steps ≡ true
@@ -154,7 +152,7 @@ module _ (w : World) (r : Route) (walk : Walk) (tidy : IsTidy r walk) (agree : A
       let e = tidy.each n l in
       let few = tidy.few in
       let f = fetched_at walk.stages.items e.0 in
-      let known = (agree f (Contains-from_has (fetched_in walk) f (Has-map (fetched_at walk.stages.items) walk.known.entries e.0 e.1))).access in
+      let known = (agree f (Contains-from_has (fetched_in walk) f (fetched_here walk e.0 e.1))).access in
       sym (get_or-map (λ (s : Stage). s.access.value) walk.stages.items n d no_access l)
       ∙ sym (subst (λ k. access_of_step w.accesses r.steps k ≡ get_or (accesses_in walk.stages.items) k no_access) e.2 known)
       ∙ step_access w r n (omega (arith, l, few))

@@ -24,7 +24,8 @@ use Rattle.beas_core.specs.Valuations.{output_row}
 use Rattle.beas_core.proofs.Sets.{Has, SameMembers}
 use Rattle.block_walk.specs.Worlds.{World, Fetched, made, Agrees, AgreesWith}
 use Rattle.block_walk.specs.Routes.{Route, IsSoundIn, all_probes, step_at}
-use Rattle.block_walk.specs.declared.walking.Pending.{Pending}
+use Rattle.block_walk.specs.Kept.{Pending}
+use Rattle.block_walk.specs.Stacks.{pending_in}
 use Rattle.block_walk.specs.declared.walking.Walk.{Walk}
 use Rattle.block_walk.specs.Walks.{HasEnded, WasMade, children, fetched_in, found_at, next_at, probe_of, set_at}
 
@@ -105,7 +106,7 @@ abbrev pub outputs_at : World → Route → Pending → List Row
 outputs_at w r at = map (output_row r.normal (set_at w r (length r.steps))) (next_at w r at)
 
 pub record Visited (w : World) (r : Route) (at : Pending) (did : Bool) (old new : Walk) : Type 0 where
-  pub goes_on : GoesOn (length r.steps) at (next_at w r at) (outputs_at w r at) old.pending.items new.pending.items old.through new.through
+  pub goes_on : GoesOn (length r.steps) at (next_at w r at) (outputs_at w r at) (pending_in old.pending) (pending_in new.pending) old.through new.through
   pub made : Has (fetched_in new) (found_at w r at)
   pub others : (f : Fetched) → Has (fetched_in new) f → (f ≡ found_at w r at) ⊎ Has (fetched_in old) f
   pub stay : (f : Fetched) → Has (fetched_in old) f → Has (fetched_in new) f

@@ -1,12 +1,12 @@
 -- A block's walk, depth first, between two probes.
---     Entry, entry_cmp              a step and a key with the tuples found, and how two of these are ordered: by step and then key
 --     fetched_in walk               what the walk has fetched, by step and then key; `fetched_at` is one entry of it
 --     WasMade fetched p             the probe was made
 --     classes_at first stages n     the classes that are bound before step n, where the steps before it were begun
 --     IsStageAt ..                  what is kept of a step that was begun is as the block says
---     IsTidy route walk             so it is of each step that was begun; it has probed some key
+--     IsTidy route walk             so it is of each step that was begun, which has probed some key; what is known and what is pending stands
+--                                   where it is said to, and no step and key was probed twice
 --     set_at w route n              the classes that are bound before step n, as a set
---     pending_at n row              a valuation before step n; `children at rows` are those before the step after that of `at`
+--     children at rows              the valuations before the step after that of `at`
 --     probe_of, found_at, next_at   the probe that a pending valuation wants, what it finds, and the valuations that it leads to
 --     reached_from, outputs_from    the valuations after the last step that it leads to, and their outputs
 --     wanted_from, work_from        the probes on the way there, and how many valuations there are on it
@@ -17,35 +17,27 @@
 --     IsTidyForAll, StandsForAll    so it is whatever the steps are
 --     HasEnded walk                 no valuation is left to go on from
 use Rattle.std.specs.Prelude.{◌≡◌, ◌+◌, ◌<◌, ◌≤◌, ◌⊎◌, ℕ, List, [], ◌∷◌, length, map, flat_map, take, drop, slice_index_or}
-use Rattle.std.specs.Ordering.{nat_cmp, ordering_then}
-use Rattle.std.specs.declared.cmp.Ordering.{Ordering}
-use Rattle.std.specs.BTreeMap.{IsOrdered}
 use Rattle.beas_core.specs.declared.schema.Access.{Access}
 use Rattle.beas_core.specs.declared.plan.DStep.{DStep}
 use Rattle.beas_core.specs.declared.plan.Normal.{Normal}
 use Rattle.beas_core.specs.Types.{Row, ClassSet, Guide}
-use Rattle.beas_core.specs.Order.{row_cmp}
 use Rattle.beas_core.specs.Derivations.{access_in, bound_after}
 use Rattle.beas_core.specs.Valuations.{answers_of, classes_in, output_row}
 use Rattle.beas_core.specs.Reads.{Probe, key_for}
+use Rattle.beas_core.specs.Sets.{IsInOrder}
 use Rattle.beas_core.proofs.Sets.{Has}
 use Rattle.evaluation_facts.specs.Extensions.{group_for}
 use Rattle.plan_ops.specs.declared.stages.Stage.{Stage}
 use Rattle.plan_ops.specs.Stages.{IsStage}
-use Rattle.block_walk.specs.Worlds.{World, Fetched, made, AgreesWith}
+use Rattle.block_walk.specs.Worlds.{World, Fetched, made, AgreesWith, in_order, probe_cmp}
 use Rattle.block_walk.specs.Routes.{Route, route, first_classes, IsSoundIn, all_probes, step_at, probe_at}
-use Rattle.block_walk.specs.declared.walking.Pending.{Pending}
+use Rattle.block_walk.specs.Kept.{Entry, Pending, pending_at}
+use Rattle.block_walk.specs.Entries.{IsKnown, entries_in}
+use Rattle.block_walk.specs.Stacks.{IsStack, pending_in}
 use Rattle.block_walk.specs.declared.walking.Walk.{Walk}
 use Rattle.block_walk.specs.Descents.{kept_from, reached, wanted, work}
 
 -- ---- what was fetched
-
--- a step and a key, and the tuples found
-abbrev pub Entry : Type 0
-Entry = (ℕ × Row) × List Row
-
-abbrev pub entry_cmp : ℕ × Row → ℕ × Row → Ordering
-entry_cmp x y = ordering_then (nat_cmp x.0 y.0) (row_cmp x.1 y.1)
 
 abbrev pub no_access : Access
 no_access = record { id = record { 0 = 0 }; name = []; table = record { 0 = 0 }; key = []; fetched = []; bound = 0 }
@@ -57,7 +49,7 @@ abbrev pub fetched_at : List Stage → Entry → Fetched
 fetched_at stages e = record { probe = probe_at e.0.0 e.0.1; access = slice_index_or (accesses_in stages) e.0.0 no_access; tuples = e.1 }
 
 abbrev pub fetched_in : Walk → List Fetched
-fetched_in walk = map (fetched_at walk.stages.items) walk.known.entries
+fetched_in walk = in_order (map (fetched_at walk.stages.items) (entries_in walk.known))
 
 abbrev pub WasMade : List Fetched → Probe → Type 0
 WasMade fetched p = Has (made fetched) p
@@ -77,20 +69,20 @@ pub record IsTidy (r : Route) (walk : Walk) : Type 0 where
   pub few : length walk.stages.items ≤ length r.steps
   pub stages : (n : ℕ) (d : Stage) → n < length walk.stages.items
       → IsStageAt r walk.first walk.stages.items n (slice_index_or walk.stages.items n d)
-  pub steps : (e : Entry) → Has walk.known.entries e → e.0.0 < length walk.stages.items
-  pub each : (n : ℕ) → n < length walk.stages.items → (e : Entry) × (Has walk.known.entries e) × (e.0.0 ≡ n)
-  pub pending : (p : Pending) → Has walk.pending.items p → p.step ≤ length walk.stages.items
-  pub wide : (p : Pending) → Has walk.pending.items p → length p.row ≡ length (classes_at walk.first walk.stages.items p.step)
-  pub ordered : IsOrdered entry_cmp walk.known
+  pub steps : (e : Entry) → Has (entries_in walk.known) e → e.0.0 < length walk.stages.items
+  pub each : (n : ℕ) → n < length walk.stages.items → (e : Entry) × (Has (entries_in walk.known) e) × (e.0.0 ≡ n)
+  pub pending : (p : Pending) → Has (pending_in walk.pending) p → p.step ≤ length walk.stages.items
+  pub wide : (p : Pending) → Has (pending_in walk.pending) p → length p.row ≡ length (classes_at walk.first walk.stages.items p.step)
+  pub known : IsKnown walk.known
+  pub stack : IsStack walk.pending
+  -- strictly, so that no step and key was probed twice
+  pub ordered : IsInOrder probe_cmp (made (fetched_in walk))
 
 -- ---- where a walk stands
 
 -- the classes that are bound before step n
 abbrev pub set_at : World → Route → ℕ → ClassSet
 set_at w r n = bound_after r.normal w.accesses (first_classes r) (take n r.steps)
-
-abbrev pub pending_at : ℕ → Row → Pending
-pending_at n row = record { step = n; row = row }
 
 abbrev pub children : Pending → List Row → List Pending
 children at rows = map (pending_at (at.step + 1)) rows
@@ -134,7 +126,7 @@ pub record StandsAt (w : World) (r : Route) (through : List Row) (pending : List
   pub probes_only : (p : Probe) → WasMade fetched p ⊎ Has (flat_map (wanted_from w r) pending) p → IsProbe w r p
 
 abbrev pub IsWalk : World → Route → Walk → Type 0
-IsWalk w r walk = StandsAt w r walk.through walk.pending.items (fetched_in walk)
+IsWalk w r walk = StandsAt w r walk.through (pending_in walk.pending) (fetched_in walk)
 
 abbrev pub Stands : Route → Walk → Type 0
 Stands r walk = (w : World) → IsSoundIn w r → AgreesWith w r.steps (fetched_in walk) → IsWalk w r walk
@@ -148,4 +140,4 @@ StandsForAll normal guide walk = (steps : List DStep) → Stands (route normal g
 
 -- no valuation is left to go on from
 abbrev pub HasEnded : Walk → Type 0
-HasEnded walk = walk.pending.items ≡ []
+HasEnded walk = pending_in walk.pending ≡ []

@@ -1,8 +1,10 @@
 //! The walk of one block through its derivation, depth first, one probe a turn.
 #![tactic(auto)]
 
+mod known;
 mod laws;
+mod stack;
 mod walking;
 
 pub use laws::law_walk;
-pub use walking::{Pending, Walk, answer, begin, turn};
+pub use walking::{Walk, answer, begin, turn};

@@ -1,10 +1,8 @@
 // The walk of a block, depth first.
-ghost use Rattle.std.specs.Prelude.{◌≡◌, ◌<◌, ◌≤◌, ◌+◌, ◌++◌, ◌∷◌, [], length, map, max, All, IfOk, IsTrue, OnErr, OnOk, is_some};
+ghost use Rattle.std.specs.Prelude.{◌≡◌, ◌<◌, ◌≤◌, ◌+◌, ◌++◌, ◌∷◌, [], length, map, All, IfOk, IsTrue, OnErr, OnOk, is_some};
 ghost use Rattle.std.specs.Option.{option_copied};
 ghost use Rattle.beas_core.specs.Coverage.{ClassesInRange, ConstantsInRange, holds_classes, key_classes, start_classes};
 ghost use Rattle.beas_core.specs.Derivations.{access_in, is_live, IsSound};
-ghost use Rattle.beas_core.specs.Groups.{group_of};
-ghost use Rattle.beas_core.specs.Reads.{probe_reads};
 ghost use Rattle.beas_core.specs.Valuations.{answers_of, classes_in, output_row};
 ghost use Rattle.beas_core.proofs.Sets.{SameMembers};
 ghost use Rattle.evaluation_facts.specs.Guides.{GuideFits};
@@ -12,30 +10,23 @@ ghost use Rattle.plan_ops.specs.Over.{set_of};
 ghost use Rattle.plan_ops.specs.Stages.{IsPair, IsStage, bound_with, joined_row, key_by, next_by, set_before, use_at};
 ghost use Rattle.block_walk.specs.Worlds.{AgreesWith, World, world};
 ghost use Rattle.block_walk.specs.Routes.{IsSoundIn, route};
-ghost use Rattle.block_walk.specs.Walks.{HasEnded, IsTidy, IsTidyForAll, Stands, StandsForAll, children, classes_at, fetched_in, pending_at};
+ghost use Rattle.block_walk.specs.Walks.{HasEnded, IsTidy, IsTidyForAll, Stands, StandsForAll, children, classes_at, fetched_in};
+ghost use Rattle.block_walk.specs.Entries.{IsKnown, entries_in, entry_of};
+ghost use Rattle.block_walk.specs.Stacks.{IsInside, IsStack, pending_in, pending_of, row_of};
+ghost use Rattle.block_walk.specs.Finding.{FindSpent, Finds};
 ghost use Rattle.block_walk.specs.Turns.{SpentOnce, GoesOn, TurnIs, VisitCosts, VisitSpent, Visited, probed};
 
+use crate::known::Known;
+use crate::stack::{Mark, Stack};
 use beas_core::{
-    AccessId, AccessPort, DStep, Duplicate, List, NoMemory, Normal, Row, Steps, Value,
-    sort_distinct,
+    AccessId, AccessPort, DStep, List, NoMemory, Normal, Row, Steps, Value, sort_distinct,
 };
 use plan_ops::{
-    Stage, Tuples, fetch, is_joined_output, joined, joined_output, key_of_row, leads, output_of,
-    stage_of, start_block,
+    Stage, is_joined_output, joined_output, key_into, leads, output_of, stage_of, start_block,
 };
 use std::alloc::Global;
-use std::collections::BTreeMap;
-use std::collections::btree_map::Entry;
 use std::mem;
 use std::sync::ledger::Ledger;
-
-/// A valuation before a step, that the walk has yet to visit.
-#[derive(Drop)]
-pub struct Pending {
-    /// The step's number.
-    pub step: usize,
-    pub row: Row,
-}
 
 /// The walk of a block between two probes.
 #[derive(Drop)]
@@ -44,26 +35,14 @@ pub struct Walk {
     pub first: List<u16>,
     /// What is worked out for the steps that were begun, which are the first ones.
     pub stages: Vec<Stage>,
-    /// By step and key, the tuples that each probe found.
-    pub known: BTreeMap<(usize, Row), Tuples>,
-    /// The valuations to visit, the next one last.
-    pub pending: Vec<Pending>,
+    /// What the probes found.
+    pub known: Known,
+    /// The valuations to visit.
+    pub pending: Stack,
+    /// Room for the key that is looked for, used again from visit to visit.
+    pub key: Vec<Value>,
     /// The outputs of the valuations after the last step that were visited; equal ones that follow one another stand once.
     pub through: List<Row>,
-}
-
-// For so many valuations more there is room from the start, so that a small query's walk seldom moves those it is to visit.
-const ROOM: usize = 24;
-
-// The valuations before the first step, to be visited.
-fn first_pending(alloc: Global, rows: List<Row>) -> Result<Vec<Pending>, NoMemory>
-    ensures { IfOk result (λ pending. pending.items ≡ map (pending_at 0) rows) }
-{
-    let mut pending = Vec::with_capacity(alloc, rows.len().saturating_add(ROOM))?;
-    for row in rows.into_vec() {
-        pending.push(Pending { step: 0, row })?;
-    }
-    Ok(pending)
 }
 
 /// A walk before its first probe, of a block that its guide's answers start where it is guided.
@@ -76,40 +55,44 @@ pub fn begin(alloc: Global, block: &Normal, guide: Option<&List<Row>>) -> Result
     ensures stands { IfOk result (StandsForAll block.now (option_copied guide.entry)) }
 {
     let from = start_block(alloc, block, guide)?;
-    let pending = first_pending(alloc, from.rows)?;
+    let pending = Stack::begin(alloc, from.rows)?;
     Ok(Walk {
         first: from.classes,
         stages: Vec::new(alloc),
-        known: BTreeMap::new(alloc),
+        known: Known::new(alloc)?,
         pending,
+        key: Vec::new(alloc),
         through: List::new(alloc),
     })
 }
 
-// Puts the valuations on top that one and some tuples make, which its key has found.
+// Puts the valuations on top that one and the tuples of an entry make, which its key has found.
 fn push_children(
     alloc: Global,
     block: &Normal,
     stage: &Stage,
-    at: &Pending,
-    tuples: &Tuples,
-    pending: &mut Vec<Pending>,
+    at: Mark,
+    known: &Known,
+    place: usize,
+    pending: &mut Stack,
 ) -> Result<(), NoMemory>
     requires stage { IsStage block.now stage.now }
-    requires pairs { All (IsPair block.now stage.now at.now.row) tuples.now }
-    requires room { at.now.step + 1 < 18446744073709551616 }
-    ensures { OnOk result (pending.new.items ≡ pending.old.items
-        ++ children at.now (next_by block.now (use_at stage.now) (set_before block.now stage.now) at.now.row tuples.now)) }
+    requires known { IsKnown known.now }
+    requires place { place < length (entries_in known.now) }
+    requires stack { IsStack pending.old }
+    requires inside { IsInside pending.old.values.items at }
+    requires pairs { All (IsPair block.now stage.now (row_of pending.old at)) (entry_of known.now place).1 }
+    requires room { at.step + 1 < 18446744073709551616 }
+    ensures stack { OnOk result (IsStack pending.new) }
+    ensures pending { OnOk result (pending_in pending.new ≡ pending_in pending.old
+        ++ children (pending_of pending.old.values.items at)
+        (next_by block.now (use_at stage.now) (set_before block.now stage.now) (row_of pending.old at)
+        (entry_of known.now place).1)) }
 {
-    let row = at.row.as_slice();
-    for i in 0..tuples.len() {
-        let tuple = tuples.get(i);
-        if leads(block, stage, row, tuple) {
-            let next = joined(alloc, stage, row, tuple)?;
-            pending.push(Pending {
-                step: at.step + 1,
-                row: next,
-            })?;
+    for i in 0..known.count(place) {
+        let tuple = known.tuple(place, i);
+        if leads(block, stage, pending.row(at), tuple) {
+            pending.push_child(alloc, block, stage, at, tuple)?;
         }
     }
     Ok(())
@@ -141,24 +124,26 @@ fn push_output_once(
     Ok(())
 }
 
-// Adds the outputs of the valuations after the last step that one before it and some tuples make.
+// Adds the outputs of the valuations after the last step that one before it and the tuples of an entry make.
 fn push_outputs(
     alloc: Global,
     block: &Normal,
     stage: &Stage,
-    at: &Pending,
-    tuples: &Tuples,
+    row: &[Value],
+    known: &Known,
+    place: usize,
     through: &mut List<Row>,
 ) -> Result<(), NoMemory>
     requires stage { IsStage block.now stage.now }
-    requires pairs { All (IsPair block.now stage.now at.now.row) tuples.now }
+    requires known { IsKnown known.now }
+    requires place { place < length (entries_in known.now) }
+    requires pairs { All (IsPair block.now stage.now row.now) (entry_of known.now place).1 }
     ensures { OnOk result (SameMembers through.new (through.old
         ++ map (output_row block.now (bound_with block.now (use_at stage.now) (set_before block.now stage.now)))
-        (next_by block.now (use_at stage.now) (set_before block.now stage.now) at.now.row tuples.now))) }
+        (next_by block.now (use_at stage.now) (set_before block.now stage.now) row.now (entry_of known.now place).1))) }
 {
-    let row = at.row.as_slice();
-    for i in 0..tuples.len() {
-        let tuple = tuples.get(i);
+    for i in 0..known.count(place) {
+        let tuple = known.tuple(place, i);
         if leads(block, stage, row, tuple) {
             push_output_once(alloc, block, stage, row, tuple, through)?;
         }
@@ -172,26 +157,33 @@ fn go_on(
     alloc: Global,
     block: &Normal,
     stage: &Stage,
-    at: &Pending,
+    at: Mark,
     count: usize,
-    tuples: &Tuples,
-    pending: &mut Vec<Pending>,
+    known: &Known,
+    place: usize,
+    pending: &mut Stack,
     through: &mut List<Row>,
 ) -> Result<(), NoMemory>
     requires stage { IsStage block.now stage.now }
-    requires pairs { All (IsPair block.now stage.now at.now.row) tuples.now }
-    requires below { at.now.step < count }
-    requires room { at.now.step + 1 < 18446744073709551616 }
-    ensures { let next = next_by block.now (use_at stage.now) (set_before block.now stage.now) at.now.row tuples.now in
-        OnOk result (GoesOn count at.now next
+    requires known { IsKnown known.now }
+    requires place { place < length (entries_in known.now) }
+    requires stack { IsStack pending.old }
+    requires inside { IsInside pending.old.values.items at }
+    requires pairs { All (IsPair block.now stage.now (row_of pending.old at)) (entry_of known.now place).1 }
+    requires below { at.step < count }
+    requires room { at.step + 1 < 18446744073709551616 }
+    ensures stack { OnOk result (IsStack pending.new) }
+    ensures goes_on { let next = next_by block.now (use_at stage.now) (set_before block.now stage.now)
+        (row_of pending.old at) (entry_of known.now place).1 in
+        OnOk result (GoesOn count (pending_of pending.old.values.items at) next
         (map (output_row block.now (bound_with block.now (use_at stage.now) (set_before block.now stage.now))) next)
-        pending.old.items pending.new.items through.old through.new) }
+        (pending_in pending.old) (pending_in pending.new) through.old through.new) }
 {
     if at.step + 1 < count {
-        push_children(alloc, block, stage, at, tuples, pending)?;
+        push_children(alloc, block, stage, at, known, place, pending)?;
         return Ok(());
     }
-    push_outputs(alloc, block, stage, at, tuples, through)?;
+    push_outputs(alloc, block, stage, pending.row(at), known, place, through)?;
     Ok(())
 }
 
@@ -232,47 +224,51 @@ fn next_stage<P: AccessPort>(
     stage_of(alloc, block, step.atom, access, classes)
 }
 
-// Makes a probe that wasn't made, and puts the valuations on top that it leads to. Gives what it found.
-fn probe<P: AccessPort, L: Ledger>(
+// Where the entry stands that the key of a valuation finds, and how many reads the probe took that was made for it: none where
+// the key was probed before.
+#[derive(Clone, Copy)]
+struct Found {
+    place: usize,
+    reads: Option<usize>,
+}
+
+// Finds the entry of the key that a valuation gives to a step. The key is probed where it wasn't yet.
+fn entry_for<P: AccessPort, L: Ledger>(
     alloc: Global,
     port: &P,
     block: &Normal,
     id: AccessId,
     stage: &Stage,
-    pending: &mut Vec<Pending>,
-    through: &mut List<Row>,
-    at: &Pending,
-    count: usize,
-    key: &[Value],
+    at: Mark,
+    pending: &Stack,
+    known: &mut Known,
+    key: &mut Vec<Value>,
     steps: &mut Steps<L>,
-) -> Result<Tuples, NoMemory>
+) -> Result<Found, NoMemory>
     requires live { IsTrue (is_live (P.accesses port.now) id) }
     requires access { stage.now.access.value ≡ access_in (P.accesses port.now) id }
     requires stage { IsStage block.now stage.now }
-    requires wide { length at.now.row ≡ length stage.now.from.value }
-    requires below { at.now.step < count }
-    requires key { key.now ≡ key_by block.now (use_at stage.now) (set_before block.now stage.now) at.now.row }
-    requires room { at.now.step + 1 < 18446744073709551616 }
-    ensures goes_on { let next = next_by block.now (use_at stage.now) (set_before block.now stage.now) at.now.row
-        (group_of (P.rows port.now stage.now.access.value.table) stage.now.access.value key.now) in
-        OnOk result (GoesOn count at.now next
-        (map (output_row block.now (bound_with block.now (use_at stage.now) (set_before block.now stage.now))) next)
-        pending.old.items pending.new.items through.old through.new) }
-    ensures tuples { IfOk result (λ tuples. tuples
-        ≡ group_of (P.rows port.now stage.now.access.value.table) stage.now.access.value key.now) }
-    ensures cost { steps.new ≡ steps.old + probe_reads (P.rows port.now) stage.now.access.value key.now }
+    requires wide { length (row_of pending.now at) ≡ length stage.now.from.value }
+    requires inside { IsInside pending.now.values.items at }
+    requires known { IsKnown known.old }
+    ensures known { OnOk result (IsKnown known.new) }
+    ensures found { IfOk result (λ found. Finds (P.rows port.now) (P.accesses port.now) id at.step
+        (key_by block.now (use_at stage.now) (set_before block.now stage.now) (row_of pending.now at))
+        found known.old known.new steps.old steps.new) }
+    ensures spent { OnErr result (FindSpent (P.rows port.now) (P.accesses port.now) id at.step
+        (key_by block.now (use_at stage.now) (set_before block.now stage.now) (row_of pending.now at))
+        known.old steps.old steps.new) }
 {
+    key_into(alloc, stage, pending.row(at), key)?;
+    if let Some(place) = known.find(at.step, key) {
+        return Ok(Found { place, reads: None });
+    }
     let columns = &stage.join.columns;
-    let tuples = fetch(alloc, port, id, columns, key, steps)?;
-    go_on(alloc, block, stage, at, count, &tuples, pending, through)?;
-    Ok(tuples)
-}
-
-// How many reads the probe took that found these tuples.
-fn reads_of(tuples: &Tuples) -> usize
-    ensures { result ≡ max 1 (length tuples.now) }
-{
-    tuples.len().max(1)
+    let place = known.fetch(alloc, port, id, columns, at.step, key, steps)?;
+    Ok(Found {
+        place,
+        reads: Some(known.count(place).max(1)),
+    })
 }
 
 // Visits a valuation before a step that was begun.
@@ -283,60 +279,47 @@ fn visit_again<P: AccessPort, L: Ledger>(
     guide: Option<&List<Row>>,
     plan: &[DStep],
     walk: &mut Walk,
-    at: &Pending,
+    at: Mark,
     steps: &mut Steps<L>,
 ) -> Result<Option<usize>, NoMemory>
     requires sound { IsSound block.now (P.accesses port.now)
         (start_classes block.now (is_some (option_copied guide))) plan.now }
     requires tidy { IsTidy (route block.now (option_copied guide) plan.now) walk.old }
     requires agrees { AgreesWith (world (P.rows port.now) (P.accesses port.now)) plan.now (fetched_in walk.old) }
-    requires begun { at.now.step < length walk.old.stages.items }
-    requires wide { length at.now.row ≡ length (classes_at walk.old.first walk.old.stages.items at.now.step) }
-    requires room { at.now.step + 1 < 18446744073709551616 }
+    requires begun { at.step < length walk.old.stages.items }
+    requires wide { length (row_of walk.old.pending at)
+        ≡ length (classes_at walk.old.first walk.old.stages.items at.step) }
+    requires inside { IsInside walk.old.pending.values.items at }
+    requires room { at.step + 1 < 18446744073709551616 }
     ensures tidy { OnOk result (IsTidy (route block.now (option_copied guide.entry) plan.now) walk.new) }
     ensures visited { IfOk result (λ reads. Visited (world (P.rows port.now) (P.accesses port.now))
-        (route block.now (option_copied guide.entry) plan.now) at.now (probed reads) walk.old walk.new) }
+        (route block.now (option_copied guide.entry) plan.now) (pending_of walk.old.pending.values.items at)
+        (probed reads) walk.old walk.new) }
     ensures cost { IfOk result (λ reads. VisitCosts (world (P.rows port.now) (P.accesses port.now))
-        (route block.now (option_copied guide.entry) plan.now) at.now reads steps.old steps.new) }
+        (route block.now (option_copied guide.entry) plan.now) (pending_of walk.old.pending.values.items at)
+        reads steps.old steps.new) }
     ensures spent { OnErr result (VisitSpent (world (P.rows port.now) (P.accesses port.now))
-        (route block.now (option_copied guide.entry) plan.now) at.now walk.old steps.old steps.new) }
+        (route block.now (option_copied guide.entry) plan.now) (pending_of walk.old.pending.values.items at)
+        walk.old steps.old steps.new) }
 {
-    let count = plan.len();
     let stage = &walk.stages[at.step];
-    let key = key_of_row(alloc, stage, at.row.as_slice())?;
-    let entry = (at.step, key);
-    let vacant = match walk.known.entry(entry)? {
-        Entry::Occupied(found) => {
-            go_on(
-                alloc,
-                block,
-                stage,
-                at,
-                count,
-                found.get(),
-                &mut walk.pending,
-                &mut walk.through,
-            )?;
-            return Ok(None);
-        }
-        Entry::Vacant(vacant) => vacant,
-    };
-    let tuples = probe(
+    let id = plan[at.step].access;
+    let (pending, known, key) = (&walk.pending, &mut walk.known, &mut walk.key);
+    let found = entry_for(
+        alloc, port, block, id, stage, at, pending, known, key, steps,
+    )?;
+    go_on(
         alloc,
-        port,
         block,
-        plan[at.step].access,
         stage,
+        at,
+        plan.len(),
+        &walk.known,
+        found.place,
         &mut walk.pending,
         &mut walk.through,
-        at,
-        count,
-        vacant.key().1.as_slice(),
-        steps,
     )?;
-    let reads = reads_of(&tuples);
-    vacant.insert_entry(tuples);
-    Ok(Some(reads))
+    Ok(found.reads)
 }
 
 // Visits a valuation before a step that wasn't begun: it is probed, since no key was.
@@ -347,7 +330,7 @@ fn visit_first<P: AccessPort, L: Ledger>(
     guide: Option<&List<Row>>,
     plan: &[DStep],
     walk: &mut Walk,
-    at: &Pending,
+    at: Mark,
     steps: &mut Steps<L>,
 ) -> Result<Option<usize>, NoMemory>
     requires ranges { ClassesInRange block.now }
@@ -355,39 +338,51 @@ fn visit_first<P: AccessPort, L: Ledger>(
         (start_classes block.now (is_some (option_copied guide))) plan.now }
     requires tidy { IsTidy (route block.now (option_copied guide) plan.now) walk.old }
     requires agrees { AgreesWith (world (P.rows port.now) (P.accesses port.now)) plan.now (fetched_in walk.old) }
-    requires next { at.now.step ≡ length walk.old.stages.items }
-    requires below { at.now.step < length plan.now }
-    requires wide { length at.now.row ≡ length (classes_at walk.old.first walk.old.stages.items at.now.step) }
-    requires room { at.now.step + 1 < 18446744073709551616 }
+    requires next { at.step ≡ length walk.old.stages.items }
+    requires below { at.step < length plan.now }
+    requires wide { length (row_of walk.old.pending at)
+        ≡ length (classes_at walk.old.first walk.old.stages.items at.step) }
+    requires inside { IsInside walk.old.pending.values.items at }
+    requires room { at.step + 1 < 18446744073709551616 }
     ensures tidy { OnOk result (IsTidy (route block.now (option_copied guide.entry) plan.now) walk.new) }
     ensures visited { IfOk result (λ reads. Visited (world (P.rows port.now) (P.accesses port.now))
-        (route block.now (option_copied guide.entry) plan.now) at.now (probed reads) walk.old walk.new) }
+        (route block.now (option_copied guide.entry) plan.now) (pending_of walk.old.pending.values.items at)
+        (probed reads) walk.old walk.new) }
     ensures cost { IfOk result (λ reads. VisitCosts (world (P.rows port.now) (P.accesses port.now))
-        (route block.now (option_copied guide.entry) plan.now) at.now reads steps.old steps.new) }
+        (route block.now (option_copied guide.entry) plan.now) (pending_of walk.old.pending.values.items at)
+        reads steps.old steps.new) }
     ensures spent { OnErr result (VisitSpent (world (P.rows port.now) (P.accesses port.now))
-        (route block.now (option_copied guide.entry) plan.now) at.now walk.old steps.old steps.new) }
+        (route block.now (option_copied guide.entry) plan.now) (pending_of walk.old.pending.values.items at)
+        walk.old steps.old steps.new) }
 {
-    let count = plan.len();
     let step = &plan[at.step];
     let stage = next_stage(alloc, port, block, step, &walk.first, &walk.stages)?;
-    let key = key_of_row(alloc, &stage, at.row.as_slice())?;
-    let tuples = probe(
+    let (pending, known, key) = (&walk.pending, &mut walk.known, &mut walk.key);
+    let found = entry_for(
         alloc,
         port,
         block,
         step.access,
         &stage,
-        &mut walk.pending,
-        &mut walk.through,
         at,
-        count,
-        key.as_slice(),
+        pending,
+        known,
+        key,
         steps,
     )?;
-    let reads = reads_of(&tuples);
-    walk.known.insert((at.step, key), tuples)?;
+    go_on(
+        alloc,
+        block,
+        &stage,
+        at,
+        plan.len(),
+        &walk.known,
+        found.place,
+        &mut walk.pending,
+        &mut walk.through,
+    )?;
     walk.stages.push(stage)?;
-    Ok(Some(reads))
+    Ok(found.reads)
 }
 
 // Visits a valuation before a step: those that it leads to go on top. Gives how many reads the probe took that it made.
@@ -398,7 +393,7 @@ fn visit<P: AccessPort, L: Ledger>(
     guide: Option<&List<Row>>,
     plan: &[DStep],
     walk: &mut Walk,
-    at: &Pending,
+    at: Mark,
     steps: &mut Steps<L>,
 ) -> Result<Option<usize>, NoMemory>
     requires ranges { ClassesInRange block.now }
@@ -406,17 +401,22 @@ fn visit<P: AccessPort, L: Ledger>(
         (start_classes block.now (is_some (option_copied guide))) plan.now }
     requires tidy { IsTidy (route block.now (option_copied guide) plan.now) walk.old }
     requires agrees { AgreesWith (world (P.rows port.now) (P.accesses port.now)) plan.now (fetched_in walk.old) }
-    requires step { at.now.step ≤ length walk.old.stages.items }
-    requires below { at.now.step < length plan.now }
-    requires wide { length at.now.row ≡ length (classes_at walk.old.first walk.old.stages.items at.now.step) }
-    requires room { at.now.step + 1 < 18446744073709551616 }
+    requires step { at.step ≤ length walk.old.stages.items }
+    requires below { at.step < length plan.now }
+    requires wide { length (row_of walk.old.pending at)
+        ≡ length (classes_at walk.old.first walk.old.stages.items at.step) }
+    requires inside { IsInside walk.old.pending.values.items at }
+    requires room { at.step + 1 < 18446744073709551616 }
     ensures tidy { OnOk result (IsTidy (route block.now (option_copied guide.entry) plan.now) walk.new) }
     ensures visited { IfOk result (λ reads. Visited (world (P.rows port.now) (P.accesses port.now))
-        (route block.now (option_copied guide.entry) plan.now) at.now (probed reads) walk.old walk.new) }
+        (route block.now (option_copied guide.entry) plan.now) (pending_of walk.old.pending.values.items at)
+        (probed reads) walk.old walk.new) }
     ensures cost { IfOk result (λ reads. VisitCosts (world (P.rows port.now) (P.accesses port.now))
-        (route block.now (option_copied guide.entry) plan.now) at.now reads steps.old steps.new) }
+        (route block.now (option_copied guide.entry) plan.now) (pending_of walk.old.pending.values.items at)
+        reads steps.old steps.new) }
     ensures spent { OnErr result (VisitSpent (world (P.rows port.now) (P.accesses port.now))
-        (route block.now (option_copied guide.entry) plan.now) at.now walk.old steps.old steps.new) }
+        (route block.now (option_copied guide.entry) plan.now) (pending_of walk.old.pending.values.items at)
+        walk.old steps.old steps.new) }
 {
     if at.step < walk.stages.len() {
         visit_again(alloc, port, block, guide, plan, walk, at, steps)
@@ -431,7 +431,7 @@ fn push_output(
     block: &Normal,
     first: &List<u16>,
     stages: &[Stage],
-    row: &Row,
+    row: &[Value],
     through: &mut List<Row>,
 ) -> Result<(), NoMemory>
     requires classes { let classes = classes_at first.now stages.now (length stages.now) in
@@ -441,7 +441,7 @@ fn push_output(
         ++ output_row block.now (set_of block.now (classes_at first.now stages.now (length stages.now))) row.now ∷ []) }
 {
     let classes = classes_so_far(first, stages);
-    let output = output_of(alloc, block, classes.as_slice(), row.as_slice())?;
+    let output = output_of(alloc, block, classes.as_slice(), row)?;
     through.push(output)?;
     Ok(())
 }
@@ -480,10 +480,10 @@ pub fn turn<P: AccessPort, L: Ledger>(
                 block,
                 &walk.first,
                 &walk.stages,
-                &at.row,
+                walk.pending.row(at),
                 &mut walk.through,
             )?;
-        } else if let Some(reads) = visit(alloc, port, block, guide, plan, walk, &at, steps)? {
+        } else if let Some(reads) = visit(alloc, port, block, guide, plan, walk, at, steps)? {
             return Ok(Some(reads));
         }
     }

@@ -1,0 +1,256 @@
+-- Entries of what probes found, by their spots, and how a key is looked for among them.
+--     Added old found key s ..        the values and spots are the old ones with those of one entry more, which the spot s stands for
+--     hash_at known place             the hash of the entry at a place
+--     Searched known hash probe at    no entry at the places that were looked at is that of the probe, and `at` is the next place to look at
+--     places_left at                  a bound on the places that are left to look at
+use Rattle.std.proofs.Common.{◌≡◌, ◌<◌, ◌≤◌, ◌+◌, ◌*◌, ◌++◌, ◌∷◌, [], ℕ, zero, suc, Bool, List, Option, Some, None, length, inl, inr, take, drop, map, get_or, slice_index_or, refl, ap, sym, subst, ◌∙◌, arith}
+use Rattle.std.specs.Ordering.{eq_by_cmp, is_eq}
+use Rattle.std.specs.Bool.{Decides}
+use Rattle.std.specs.List.{All}
+use Rattle.std.specs.Cmp.Lexicographic.{pointwise}
+use Rattle.std.proofs.lemmas.Bool.{cases_lt}
+use Rattle.std.proofs.lemmas.Cmp.{tied_itself}
+use Rattle.std.proofs.lemmas.Slice.Eq.{slice_eq-Decides}
+use Rattle.std.proofs.lemmas.List.{drop-append-le, drop-drop, drop_at, get_or-map, get_or_default, length-append, length-drop, length-map, map-append, take-append-drop, take-append-le, take_all}
+use Rattle.std.proofs.lemmas.List.Elements.{All-head, All-tail, All-weaker, All-push}
+use Rattle.beas_core.proofs.Sets.{Has, Contains-from_has}
+use Rattle.beas_core.specs.declared.value.Value.{Value}
+use Rattle.beas_core.specs.Hashing.{equal_from}
+use Rattle.beas_core.specs.Order.{value_cmp, value_cmp_total}
+use Rattle.beas_core.specs.Telling.{value_cmp_tells}
+use Rattle.beas_core.specs.Types.{Row}
+use Rattle.plan_ops.specs.Fetched.{rows_in}
+use Rattle.plan_ops.proofs.FetchedFacts.{length-rows_in, row_at, row_within}
+use Rattle.place_chains.specs.Chains.{IsLast}
+use Rattle.block_walk.specs.Hashing.{hash_of}
+use Rattle.block_walk.specs.Kept.{Entry, part}
+use Rattle.block_walk.specs.Entries.{IsKnown, IsSpot, entries_in, entry_at, entry_of, key_place}
+use Rattle.block_walk.specs.declared.known.Known.{Known}
+use Rattle.block_walk.specs.declared.known.Spot.{Spot}
+
+-- ---- an entry and its spot
+
+pub length-entries_in : (known : Known) → length (entries_in known) ≡ length known.spots.items
+length-entries_in known = length-map known.spots.items (entry_at known.values.items)
+
+-- the spot that is read at a place
+pub entry_read : (known : Known) (place : ℕ) (s : Spot) → place < length (entries_in known) → s ≡ get_or known.spots.items place s
+    → entry_of known place ≡ entry_at known.values.items s
+entry_read known place s l is =
+    let n = length-entries_in known in
+    get_or-map (entry_at known.values.items) known.spots.items place s ((0, []), []) (omega (arith, l, n))
+    ∙ ap (entry_at known.values.items) (sym is)
+
+pub count_read : (known : Known) (place : ℕ) (s : Spot) → place < length (entries_in known) → s ≡ get_or known.spots.items place s
+    → s.count ≡ length (entry_of known place).1
+count_read known place s l is =
+    sym (ap (λ (e : Entry). length e.1) (entry_read known place s l is) ∙ length-rows_in s.width s.count (drop s.from known.values.items))
+
+-- a tuple's values are there
+pub tuple_within : (known : Known) → IsKnown known → (place : ℕ) (s : Spot) → place < length (entries_in known) → s ≡ get_or known.spots.items place s
+    → (at : ℕ) → at < length (entry_of known place).1 → (s.from + at * s.width) + s.width ≤ length known.values.items
+tuple_within known stands place s l is at below =
+    let n = length-entries_in known in
+    let spot : IsSpot known.values.items s =
+    subst (IsSpot known.values.items) (sym is) (stands.spots place s (omega (arith, l, n))) in
+    let count = count_read known place s l is in
+    let row = row_within s.width s.count at (omega (arith, below, count)) in
+    omega (arith, spot, row)
+
+pub tuple_read : (known : Known) (place : ℕ) (s : Spot) → place < length (entries_in known) → s ≡ get_or known.spots.items place s
+    → (at : ℕ) → at < length (entry_of known place).1 → (n : ℕ) → n ≡ s.width
+    → part known.values.items (s.from + at * s.width) n ≡ slice_index_or (entry_of known place).1 at []
+tuple_read known place s l is at below n wide =
+    let values = known.values.items in
+    let count = count_read known place s l is in
+    ap (part values (s.from + at * s.width)) wide
+    ∙ ap (take s.width) (sym (drop-drop (at * s.width) s.from values))
+    ∙ sym (row_at s.width s.count (drop s.from values) at (omega (arith, below, count)))
+    ∙ ap (λ (e : Entry). slice_index_or e.1 at []) (sym (entry_read known place s l is))
+
+-- ---- entries stay where values are added
+
+pub rows_in-append : (width count : ℕ) (values more : List Value) → count * width ≤ length values
+    → rows_in width count (values ++ more) ≡ rows_in width count values
+rows_in-append width zero values more l = refl
+rows_in-append width (suc count) values more l =
+    let wide : width ≤ length values = omega (arith, l) in
+    let rest : count * width ≤ length (drop width values) = (let d = length-drop width values in omega (arith, d, l)) in
+    ap (λ t. t ∷ rows_in width count (drop width (values ++ more))) (take-append-le width values more wide)
+    ∙ ap (λ vs. take width values ∷ rows_in width count vs) (drop-append-le width values more wide)
+    ∙ ap (λ rs. take width values ∷ rs) (rows_in-append width count (drop width values) more rest)
+
+part-append : (values more : List Value) (from count : ℕ) → from + count ≤ length values → part (values ++ more) from count ≡ part values from count
+part-append values more from count l =
+    let d = length-drop from values in
+    ap (take count) (drop-append-le from values more (omega (arith, l))) ∙ take-append-le count (drop from values) more (omega (arith, l, d))
+
+rows_at-append : (values more : List Value) (from width count : ℕ) → from + count * width ≤ length values
+    → rows_in width count (drop from (values ++ more)) ≡ rows_in width count (drop from values)
+rows_at-append values more from width count l =
+    let d = length-drop from values in
+    ap (rows_in width count) (drop-append-le from values more (omega (arith, l)))
+    ∙ rows_in-append width count (drop from values) more (omega (arith, l, d))
+
+pub entry_at-append : (values more : List Value) (s : Spot) → IsSpot values s → entry_at (values ++ more) s ≡ entry_at values s
+entry_at-append values more s is =
+    ap (λ k. ((s.step, k), rows_in s.width s.count (drop s.from (values ++ more)))) (part-append values more (key_place s) s.key_width is)
+    ∙ ap (λ rows. ((s.step, part values (key_place s) s.key_width), rows))
+    (rows_at-append values more s.from s.width s.count (omega (arith, is)))
+
+pub entries-append : (values more : List Value) (spots : List Spot) → All (IsSpot values) spots
+    → map (entry_at (values ++ more)) spots ≡ map (entry_at values) spots
+entries-append values more [] all = refl
+entries-append values more (s ∷ spots) all =
+    ap (λ e. e ∷ map (entry_at (values ++ more)) spots) (entry_at-append values more s (All-head (IsSpot values) s spots all))
+    ∙ ap (λ es. entry_at values s ∷ es) (entries-append values more spots (All-tail (IsSpot values) s spots all))
+
+pub spots-append : (values more : List Value) (spots : List Spot) → All (IsSpot values) spots → All (IsSpot (values ++ more)) spots
+spots-append values more spots all =
+    let n = length-append values more in
+    All-weaker (IsSpot values) (IsSpot (values ++ more)) (λ s is. omega (arith, is, n)) spots all
+
+-- what stands behind the values that were there
+pub values_behind : (old fetched key values : List Value) → take (length old) fetched ≡ old → values ≡ fetched ++ key
+    → values ≡ (old ++ drop (length old) fetched) ++ key
+values_behind old fetched key values front are =
+    are ∙ ap (λ vs. vs ++ key) (sym (take-append-drop (length old) fetched) ∙ ap (λ t. t ++ drop (length old) fetched) front)
+
+-- what a probe found was added, with its key behind it
+pub record Added (old : Known) (found : List Value) (key : Row) (s : Spot) (values : List Value) (spots : List Spot) : Type 0 where
+  pub from : s.from ≡ length old.values.items
+  pub wide : length found ≡ s.count * s.width
+  pub key_wide : s.key_width ≡ length key
+  pub values_are : values ≡ (old.values.items ++ found) ++ key
+  pub spots_are : spots ≡ old.spots.items ++ s ∷ []
+
+module _ (old : Known) (is : IsKnown old) (found : List Value) (key : Row) (s : Spot) (values : List Value) (spots : List Spot)
+    (added : Added old found key s values spots) where
+  abbrev front : List Value
+  front = old.values.items ++ found
+
+  before_key : length front ≡ key_place s
+  before_key = (let n = length-append old.values.items found in omega (arith, n, added.from, added.wide))
+
+  entry_added : entry_at (front ++ key) s ≡ ((s.step, key), rows_in s.width s.count found)
+  entry_added =
+      let n = length-append old.values.items found in
+      let behind : part (front ++ key) (key_place s) s.key_width ≡ key =
+      ap (take s.key_width) (drop_at front key (key_place s) before_key) ∙ take_all s.key_width key (omega (arith, added.key_wide)) in
+      let rows : rows_in s.width s.count (drop s.from (front ++ key)) ≡ rows_in s.width s.count found =
+      rows_at-append front key s.from s.width s.count (omega (arith, n, added.from, added.wide))
+      ∙ ap (rows_in s.width s.count) (drop_at old.values.items found s.from (sym added.from)) in
+      ap (λ k. ((s.step, k), rows_in s.width s.count (drop s.from (front ++ key)))) behind ∙ ap (λ rs. ((s.step, key), rs)) rows
+
+  spot_added : IsSpot (front ++ key) s
+  spot_added =
+      let m = length-append front key in
+      omega (arith, m, before_key, added.key_wide)
+
+  spots_added : All (IsSpot (front ++ key)) (old.spots.items ++ s ∷ [])
+  spots_added =
+      All-push (IsSpot (front ++ key)) old.spots.items s
+      (spots-append front key old.spots.items (spots-append old.values.items found old.spots.items is.spots)) spot_added
+
+  pub entries_added : map (entry_at values) spots ≡ entries_in old ++ ((s.step, key), rows_in s.width s.count found) ∷ []
+  entries_added =
+      ap (λ vs. map (entry_at vs) spots) added.values_are
+      ∙ ap (map (entry_at (front ++ key))) added.spots_are
+      ∙ map-append (entry_at (front ++ key)) old.spots.items (s ∷ [])
+      ∙ ap (λ e. map (entry_at (front ++ key)) old.spots.items ++ e ∷ []) entry_added
+      ∙ ap (λ es. es ++ ((s.step, key), rows_in s.width s.count found) ∷ [])
+      (entries-append front key old.spots.items (spots-append old.values.items found old.spots.items is.spots)
+      ∙ entries-append old.values.items found old.spots.items is.spots)
+
+  pub known_added : (new : Known) → new.values.items ≡ values → new.spots.items ≡ spots → new.chains ≡ old.chains ++ hash_of s.step key ∷ [] → IsKnown new
+  known_added new v p h =
+      let hash : Entry → ℕ = λ e. hash_of e.0.0 e.0.1 in
+      let added_entry : Entry = ((s.step, key), rows_in s.width s.count found) in
+      let entries : entries_in new ≡ entries_in old ++ added_entry ∷ [] =
+      ap (λ vs. map (entry_at vs) new.spots.items) v ∙ ap (map (entry_at values)) p ∙ entries_added in
+      record {
+        spots = subst (λ vs. All (IsSpot vs) new.spots.items) (sym (v ∙ added.values_are))
+            (subst (All (IsSpot (front ++ key))) (sym (p ∙ added.spots_are)) spots_added);
+        hashes = h ∙ ap (λ hs. hs ++ hash_of s.step key ∷ []) is.hashes ∙ sym (ap (map hash) entries ∙ map-append hash (entries_in old) (added_entry ∷ []));
+      }
+
+-- ---- equal values
+
+pub values_decided : (a b : Value) → Decides (eq_by_cmp value_cmp a b) (a ≡ b)
+values_decided a b = (
+  λ t. value_cmp_tells a b (equal_from (value_cmp a b) t),
+  λ e. ap (eq_by_cmp value_cmp a) (sym e) ∙ ap is_eq (tied_itself value_cmp_total a),
+)
+
+-- the spot at a place is of the step, and its key was compared
+pub key_decided : (known : Known) (place : ℕ) (s : Spot) → place < length (entries_in known) → s ≡ get_or known.spots.items place s
+    → (step : ℕ) (key : Row) → s.step ≡ step → (n : ℕ) → n ≡ s.key_width
+    → (r : Bool) → r ≡ pointwise (eq_by_cmp value_cmp) (part known.values.items (key_place s) n) key
+    → Decides r ((entry_of known place).0 ≡ (step, key))
+key_decided known place s l is step key same n wide r told =
+    let values = known.values.items in
+    let entry : entry_of known place ≡ entry_at values s = entry_read known place s l is in
+    let found : part values (key_place s) n ≡ part values (key_place s) s.key_width = ap (part values (key_place s)) wide in
+    let d = slice_eq-Decides {E = eq_by_cmp value_cmp} values_decided (part values (key_place s) n) key r told in (
+      λ t. ap (λ (e : Entry). e.0) entry ∙ ap (λ k. (s.step, k)) (sym found ∙ d.0 t) ∙ ap (λ i. (i, key)) same,
+      λ e. d.1 (found ∙ ap (λ (p : ℕ × Row). p.1) (sym (ap (λ (e : Entry). e.0) entry) ∙ e)),
+    )
+
+-- ---- a search
+
+abbrev pub hash_at : Known → ℕ → ℕ
+hash_at known place = slice_index_or known.chains place 0
+
+hash_of_entry : (known : Known) → IsKnown known → (place : ℕ) → place < length (entries_in known)
+    → hash_at known place ≡ hash_of (entry_of known place).0.0 (entry_of known place).0.1
+hash_of_entry known is place l =
+    ap (λ hs. get_or hs place 0) is.hashes
+    ∙ get_or-map (λ (e : Entry). hash_of e.0.0 e.0.1) (entries_in known) place ((0, []), []) 0 l
+
+pub hash_of_probe : (known : Known) → IsKnown known → (place step : ℕ) (key : Row) → place < length (entries_in known)
+    → (entry_of known place).0 ≡ (step, key) → hash_at known place ≡ hash_of step key
+hash_of_probe known is place step key l e = hash_of_entry known is place l ∙ ap (λ p. hash_of p.0 p.1) e
+
+pub length-chains : (known : Known) → IsKnown known → length known.chains ≡ length (entries_in known)
+length-chains known is = ap length is.hashes ∙ length-map (entries_in known) (λ (e : Entry). hash_of e.0.0 e.0.1)
+
+pub record Searched (known : Known) (hash : ℕ) (probe : ℕ × Row) (at : Option ℕ) : Type 0 where
+  pub end : ℕ
+  pub within : end ≤ length (entries_in known)
+  pub last : IsLast hash known.chains end at
+  pub passed : (i : ℕ) → end ≤ i → i < length (entries_in known) → (entry_of known i).0 ≡ probe → ⊥
+
+abbrev pub places_left : Option ℕ → ℕ
+places_left None = 0
+places_left (Some place) = suc place
+
+module _ (known : Known) (is : IsKnown known) (step : ℕ) (key : Row) where
+  -- the entry at a place isn't the one that is looked for, and the search goes on before it
+  pub searched_more : (place : ℕ) → Searched known (hash_of step key) (step, key) (Some place) → ((entry_of known place).0 ≡ (step, key) → ⊥)
+      → (at : Option ℕ) → IsLast (hash_at known place) known.chains place at → Searched known (hash_of step key) (step, key) at
+  searched_more place s other at last = record {
+    end = place;
+    within = omega (arith, s.within, s.last.0);
+    last = subst (λ h. IsLast h known.chains place at) s.last.1 last;
+    passed = passed;
+  }
+    where
+      passed : (i : ℕ) → place ≤ i → i < length (entries_in known) → (entry_of known i).0 ≡ (step, key) → ⊥
+      passed i l m e = elim (cases_lt place i) [
+        | inl behind ↦ elim (cases_lt i s.end) [
+          | inl before ↦ s.last.2 i behind before (hash_of_probe known is i step key m e)
+          | inr past ↦ s.passed i past m e
+        ]
+        | inr same ↦ other (subst (λ j. (entry_of known j).0 ≡ (step, key)) (let t : i ≡ place = omega (arith, l, same) in t) e)
+      ]
+
+  -- no place is left
+  pub searched_all : Searched known (hash_of step key) (step, key) None → (e : Entry) → Has (entries_in known) e → e.0 ≡ (step, key) → ⊥
+  searched_all s e h same =
+      let c = Contains-from_has (entries_in known) e h in
+      let at : (entry_of known c.0).0 ≡ (step, key) =
+      ap (λ (x : Entry). x.0) (get_or_default (entries_in known) c.0 ((0, []), []) e c.1 ∙ c.2) ∙ same in
+      elim (cases_lt c.0 s.end) [
+        | inl before ↦ s.last c.0 before (hash_of_probe known is c.0 step key c.1 at)
+        | inr past ↦ s.passed c.0 past c.1 at
+      ]

@@ -1,0 +1,55 @@
+use Rattle.std.proofs.Common.{◌≡◌, ◌∙◌, ◌++◌, ◌∷◌, [], length, drop, arith, ap, refl}
+use Rattle.std.proofs.lemmas.List.{length-drop}
+use Rattle.std.proofs.lemmas.Grind.{common_steps}
+use Rattle.beas_core.specs.Derivations.{access_in}
+use Rattle.beas_core.specs.Groups.{group_of}
+use Rattle.block_walk.specs.declared.known.Spot.{Spot}
+use Rattle.block_walk.specs.Entries.{entries_in}
+use Rattle.block_walk.specs.Hashing.{hash_of}
+use Rattle.block_walk.proofs.KnownFacts.{Added, entries_added, known_added, values_behind}
+use Rattle.block_walk.proofs.known.Known.fetch.Given
+use Rattle.block_walk.proofs.known.Known.fetch.Goals as goal
+
+abbrev spot_of : (g : Given.Over) → goal.In_ok-push-2 g → Spot
+spot_of g c = record {
+  step = c.args.step;
+  from = c.len-from.result;
+  width = length c.args.columns.now;
+  count = c.in_ok-count.count;
+  key_width = c.len-key_width.result;
+}
+
+added : (g : Given.Over) (c : goal.In_ok-push-2 g)
+    → Added c.args.self.now (drop (length c.args.self.now.values.items) c.fetch.new.values.items) c.args.key.now.items (spot_of g c)
+    c.append.new.self.items c.push.new.self.items
+added g c =
+    let old = c.args.self.now.values.items in
+    let fetched = c.fetch.new.values.items in
+    let gone = length-drop (length old) fetched in
+    record {
+      from = grind (arith, common_steps);
+      wide = omega (arith, gone, c.in_ok-count.ensures.len);
+      key_wide = grind (arith, common_steps);
+      values_are = values_behind old fetched c.args.key.now.items c.append.new.self.items c.in_ok-count.ensures.front c.in_ok-append.ensures.items;
+      spots_are = c.in_ok-push.ensures.items;
+    }
+
+pub returns-clause-known : goal.returns-clause-known
+returns-clause-known g c =
+    let known = c.args.self.now in
+    let found = drop (length known.values.items) c.fetch.new.values.items in
+    let key = c.args.key.now.items in
+    let hash : c.hash_of-hash.result ≡ hash_of c.args.step key = c.hash_of-hash.ensures ∙ ap (hash_of c.args.step) c.deref.ensures.value in
+    known_added known c.requires.known found key (spot_of g c) c.append.new.self.items c.push.new.self.items (added g c)
+    (record { values = c.append.new.self; spots = c.push.new.self; chains = c.push-2.new.self }) refl refl
+    (c.in_ok-push-2.ensures.ok ∙ ap (λ h. known.chains ++ h ∷ []) hash)
+
+pub returns-clause-entries : goal.returns-clause-entries
+returns-clause-entries g c =
+    let known = c.args.self.now in
+    let found = drop (length known.values.items) c.fetch.new.values.items in
+    let key = c.args.key.now.items in
+    let access = access_in (g.P.AccessPort.accesses c.args.port.now) c.args.id in
+    let tuples = c.in_ok-count.ensures.tuples ∙ ap (group_of (g.P.AccessPort.rows c.args.port.now access.table) access) c.deref-2.ensures.value in
+    entries_added known c.requires.known found key (spot_of g c) c.append.new.self.items c.push.new.self.items (added g c)
+    ∙ ap (λ rows. entries_in known ++ ((c.args.step, key), rows) ∷ []) tuples

@@ -1,0 +1,189 @@
+// What the probes of a walk found.
+ghost use Rattle.std.specs.Prelude.{◌≡◌, ◌+◌, ◌<◌, ◌++◌, ◌∷◌, ◌↔◌, [], length, IfOk, IfSome, IfNone, IsTrue, OnOk, slice_index_or};
+ghost use Rattle.std.specs.Hash.FoldHasher.{folded_multiply};
+ghost use Rattle.beas_core.specs.Derivations.{access_in, is_live};
+ghost use Rattle.beas_core.specs.Groups.{group_of, member_columns};
+ghost use Rattle.beas_core.specs.Reads.{probe_reads};
+ghost use Rattle.beas_core.proofs.Sets.{Has};
+ghost use Rattle.block_walk.specs.Kept.{Entry};
+ghost use Rattle.block_walk.specs.Entries.{IsKnown, entries_in, entry_of};
+ghost use Rattle.block_walk.specs.Hashing.{hash_of, mixed, word_of};
+
+use beas_core::{AccessId, AccessPort, ColumnId, NoMemory, Steps, Value};
+use place_chains::PlaceChains;
+use plan_ops::fetch;
+use std::alloc::Global;
+use std::hash::{FoldHasher, Hash, Hasher};
+use std::sync::ledger::Ledger;
+
+/// Where the values of an entry stand: its tuples one after another from a place on, and its key behind them.
+#[derive(Clone, Copy)]
+pub struct Spot {
+    pub step: usize,
+    pub from: usize,
+    pub width: usize,
+    pub count: usize,
+    pub key_width: usize,
+}
+
+/// What the probes of a walk found, each with its step and key, in the order in which they were made. A step and a key are found
+/// again by their hash; a map would keep each key as a piece of memory of its own.
+#[derive(Drop)]
+pub struct Known {
+    /// All values of keys and tuples.
+    pub values: Vec<Value>,
+    pub spots: Vec<Spot>,
+    /// The hash of each entry's step and key.
+    pub chains: PlaceChains,
+}
+
+// For so many values and entries there is room from the start, so that a small query's walk seldom moves them.
+const ROOM: usize = 24;
+
+// 2^64 over the golden ratio, rounded to an odd number, as multiplicative hashing often takes it. `word_index` mixes words so too.
+const MULTIPLIER: u64 = 0x9e37_79b9_7f4a_7c15;
+
+// Both halves of the product of two words, joined.
+fn folded_product(a: u64, b: u64) -> u64
+    ensures { result ≡ folded_multiply a b }
+{
+    let product = a as u128 * b as u128;
+    (product & 0xFFFF_FFFF_FFFF_FFFF) as u64 ^ (product >> 64) as u64
+}
+
+// A word mixed into a state.
+fn mix(state: u64, word: u64) -> u64
+    ensures { result ≡ mixed state word }
+{
+    folded_product(state ^ word, MULTIPLIER)
+}
+
+// The word that stands for a value.
+fn word_of(value: &Value) -> u64
+    ensures { result ≡ word_of value.now }
+{
+    match value {
+        Value::Int(number) => number.cast_unsigned(),
+        Value::Str(text) => {
+            let mut hasher = FoldHasher::default();
+            text.hash(&mut hasher);
+            hasher.finish()
+        }
+    }
+}
+
+// The hash of a step and a key.
+fn hash_of(step: usize, key: &[Value]) -> u64
+    ensures { result ≡ hash_of step key.now }
+{
+    // The step is mixed in first, so that equal numbers of different steps have hashes of their own.
+    let mut hash = mix(step as u64, 0);
+    for value in key {
+        hash = mix(hash, word_of(value));
+    }
+    hash
+}
+
+impl Known {
+    /// Nothing was probed yet.
+    pub fn new(alloc: Global) -> Result<Known, NoMemory>
+        ensures known { IfOk result IsKnown }
+        ensures empty { IfOk result (λ known. entries_in known ≡ []) }
+    {
+        Ok(Known {
+            values: Vec::with_capacity(alloc, ROOM)?,
+            spots: Vec::with_capacity(alloc, ROOM)?,
+            chains: PlaceChains::new(alloc),
+        })
+    }
+
+    // Whether the entry at a place is that of a step and a key.
+    fn is_at(&self, place: usize, step: usize, key: &[Value]) -> bool
+        requires known { IsKnown self.now }
+        requires place { place < length (entries_in self.now) }
+        ensures { IsTrue result ↔ ((entry_of self.now place).0 ≡ (step, key.now)) }
+    {
+        let spot = self.spots[place];
+        let from = spot.from + spot.count * spot.width;
+        spot.step == step && &self.values[from..from + spot.key_width] == key
+    }
+
+    /// The entry of a step and a key.
+    pub fn find(&self, step: usize, key: &[Value]) -> Option<usize>
+        requires { IsKnown self.now }
+        ensures there { IfSome result (λ place. place < length (entries_in self.now)) }
+        ensures key { IfSome result (λ place. (entry_of self.now place).0 ≡ (step, key.now)) }
+        ensures none { IfNone result ((e : Entry) → Has (entries_in self.now) e → e.0 ≡ (step, key.now) → ⊥) }
+    {
+        let mut at = self.chains.latest(hash_of(step, key));
+        'places: while let Some(place) = at {
+            if self.is_at(place, step, key) {
+                return Some(place);
+            }
+            at = self.chains.earlier(place);
+        }
+        None
+    }
+
+    /// How many tuples an entry has.
+    pub fn count(&self, place: usize) -> usize
+        requires { place < length (entries_in self.now) }
+        ensures { result ≡ length (entry_of self.now place).1 }
+    {
+        self.spots[place].count
+    }
+
+    /// A tuple of an entry.
+    pub fn tuple(&self, place: usize, at: usize) -> &[Value]
+        requires known { IsKnown self.now }
+        requires place { place < length (entries_in self.now) }
+        requires at { at < length (entry_of self.now place).1 }
+        ensures { result.now ≡ slice_index_or (entry_of self.now place).1 at [] }
+    {
+        let spot = self.spots[place];
+        let from = spot.from + at * spot.width;
+        &self.values[from..from + spot.width]
+    }
+
+    /// Probes a key and keeps what it finds, as the last entry. The key's values go there, and none is left in `key`. It counts the
+    /// greater of 1 and the number of the tuples, out of memory too. Where a piece of memory is full all that was kept may move.
+    pub fn fetch<P: AccessPort, L: Ledger>(
+        &mut self,
+        alloc: Global,
+        port: &P,
+        id: AccessId,
+        columns: &[ColumnId],
+        step: usize,
+        key: &mut Vec<Value>,
+        steps: &mut Steps<L>,
+    ) -> Result<usize, NoMemory>
+        requires known { IsKnown self.old }
+        requires live { IsTrue (is_live (P.accesses port.now) id) }
+        requires columns { columns.now ≡ member_columns (access_in (P.accesses port.now) id) }
+        requires width { length key.old.items ≡ length (access_in (P.accesses port.now) id).key }
+        ensures known { OnOk result (IsKnown self.new) }
+        ensures place { IfOk result (λ place. place ≡ length (entries_in self.old)) }
+        ensures key { OnOk result (key.new.items ≡ []) }
+        ensures entries { let access = access_in (P.accesses port.now) id in
+            OnOk result (entries_in self.new ≡ entries_in self.old
+            ++ ((step, key.old.items), group_of (P.rows port.now access.table) access key.old.items) ∷ []) }
+        ensures cost { steps.new
+            ≡ steps.old + probe_reads (P.rows port.now) (access_in (P.accesses port.now) id) key.old.items }
+    {
+        let from = self.values.len();
+        let hash = hash_of(step, key);
+        let count = fetch(alloc, port, id, columns, key, &mut self.values, steps)?;
+        let key_width = key.len();
+        self.values.append(key)?;
+        let place = self.spots.len();
+        self.spots.push(Spot {
+            step,
+            from,
+            width: columns.len(),
+            count,
+            key_width,
+        })?;
+        self.chains.push(alloc, hash)?;
+        Ok(place)
+    }
+}
