@@ -15,7 +15,7 @@ use Rattle.block_walk.specs.declared.walking.Walk.{Walk}
 use Rattle.block_walk.specs.Worlds.{World, Fetched, AgreesWith}
 use Rattle.block_walk.specs.Routes.{Route, route, IsSoundIn}
 use Rattle.block_walk.specs.Turns.{SpentOnce}
-use Rattle.block_walk.specs.Walks.{IsTidy, Stands, HasEnded, fetched_in}
+use Rattle.block_walk.specs.Walks.{IsTidy, Stands, fetched_in}
 use Rattle.block_walk.specs.Turns as walk
 use Rattle.cursor_executor.specs.declared.courses.Course.{Course}
 use Rattle.cursor_executor.specs.declared.operations.Operation.TheVariants.{Block}
@@ -133,9 +133,6 @@ module _ (w : World) (prepared : Prepared) (world : IsWorld w prepared) (old : C
         module _ (none_made : is_some reads ≡ false) where
           done : walk.IsDone (route_at prepared number guide) (walk_fetched old.walk) found spent now
           done = is_done w (route_at prepared number guide) reads (walk_fetched old.walk) found spent now none_made turned
-
-          pub step_ended : HasEnded found
-          step_ended = done.ended
 
           module _ (emptied : Walk) (stays : fetched_in emptied ≡ fetched_in found) (rows : List Row) (answered : (v : World) → IsSoundIn v own_route → AgreesWith v steps (fetched_in found)
               → rows ≡ answers_of v.rows normal v.accesses own steps) (new : Course) (operations : new.operations ≡ old.operations)

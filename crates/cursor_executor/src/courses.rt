@@ -1,5 +1,5 @@
 // How far the operations of a query have run.
-ghost use Rattle.std.specs.Prelude.{◌≡◌, ◌+◌, ◌<◌, ◌++◌, ◌∷◌, [], Some, length, slice_get, is_some, IfOk, OnErr, OnOk};
+ghost use Rattle.std.specs.Prelude.{◌≡◌, ◌+◌, ◌<◌, ◌++◌, ◌∷◌, [], None, Some, length, slice_get, is_some, IfOk, IsTrue, OnErr, OnOk};
 ghost use Rattle.std.specs.Option.{option_copied};
 ghost use Rattle.beas_core.specs.Coverage.{ClassesInRange, ConstantsInRange, start_classes};
 ghost use Rattle.beas_core.specs.Derivations.{IsSound};
@@ -82,6 +82,35 @@ fn guide_in(stack: &[List<Row>], place: Option<usize>) -> Option<&List<Row>>
     }
 }
 
+// The first turn of a block's walk. It stands by itself, so that later turns make no room for a walk.
+#[inline(never)]
+fn first_turn<P: AccessPort, L: Ledger>(
+    alloc: Global,
+    port: &P,
+    block: &Normal,
+    guide: Option<&List<Row>>,
+    plan: &[DStep],
+    walk: &mut Option<Walk>,
+    steps: &mut Steps<L>,
+) -> Result<Option<usize>, NoMemory>
+    requires classes { ClassesInRange block.now }
+    requires constants { ConstantsInRange block.now }
+    requires fits { GuideFits block.now (option_copied guide) }
+    requires sound { IsSound block.now (P.accesses port.now)
+        (start_classes block.now (is_some (option_copied guide))) plan.now }
+    requires none { walk.old ≡ None }
+
+    ensures turned { IfOk result (λ reads. HasTurned (world (P.rows port.now) (P.accesses port.now))
+        (route block.now (option_copied guide.entry) plan.now) reads walk.old walk.new steps.old steps.new) }
+    ensures spent { OnErr result (SpentOnce (world (P.rows port.now) (P.accesses port.now))
+        (route block.now (option_copied guide.entry) plan.now) (walk_fetched walk.old) steps.old steps.new) }
+{
+    let mut begun = begin(alloc, block, guide)?;
+    let reads = turn(alloc, port, block, guide, plan, &mut begun, steps)?;
+    *walk = Some(begun);
+    Ok(reads)
+}
+
 // One turn of a block's walk, which is begun where it isn't yet. Says how many reads its probe took. A walk that is begun
 // stays where it is, since moving it takes longer than much of a turn.
 fn block_turn<P: AccessPort, L: Ledger>(
@@ -108,12 +137,7 @@ fn block_turn<P: AccessPort, L: Ledger>(
 {
     match walk {
         Some(walk) => turn(alloc, port, block, guide, plan, walk, steps),
-        None => {
-            let mut begun = begin(alloc, block, guide)?;
-            let reads = turn(alloc, port, block, guide, plan, &mut begun, steps)?;
-            *walk = Some(begun);
-            Ok(reads)
-        }
+        None => first_turn(alloc, port, block, guide, plan, walk, steps),
     }
 }
 
@@ -131,15 +155,20 @@ fn go_on(course: &mut Course)
     course.place += 1;
 }
 
-// Puts a finished block's answers on the stack, and its walk to the others.
-fn finish_block(course: &mut Course, walk: Walk, rows: List<Row>) -> Result<(), NoMemory>
-    requires { course.old.place < length course.old.operations }
+// Puts a finished block's answers on the stack, and its walk to the others. It stands by itself, so that turns make no room
+// for a walk.
+#[inline(never)]
+fn finish_block(course: &mut Course, rows: List<Row>) -> Result<(), NoMemory>
+    requires place { course.old.place < length course.old.operations }
+    requires walk { IsTrue (is_some course.old.walk) }
     ensures operations { course.new.operations ≡ course.old.operations }
     ensures place { OnOk result (course.new.place ≡ course.old.place + 1) }
     ensures stack { OnOk result (course.new.stack.items ≡ course.old.stack.items ++ rows ∷ []) }
-    ensures finished { OnOk result (course.new.finished ≡ course.old.finished ++ walk ∷ []) }
-    ensures walk { course.new.walk ≡ course.old.walk }
+    ensures finished { OnOk result ((walk : Walk) → course.old.walk ≡ Some walk
+        → course.new.finished ≡ course.old.finished ++ walk ∷ []) }
+    ensures walk { course.new.walk ≡ None }
 {
+    let walk = course.walk.take().unwrap();
     course.stack.push(rows)?;
     course.finished.push(walk)?;
     go_on(course);
@@ -174,9 +203,10 @@ fn step_block<P: AccessPort, L: Ledger>(
     if reads.is_some() {
         return Ok(reads);
     }
-    let mut walk = course.walk.take().unwrap();
-    let rows = answer(alloc, block, guide, plan, &mut walk);
-    finish_block(course, walk, rows)?;
+    if let Some(walk) = &mut course.walk {
+        let rows = answer(alloc, block, guide, plan, walk);
+        finish_block(course, rows)?;
+    }
     Ok(None)
 }
 

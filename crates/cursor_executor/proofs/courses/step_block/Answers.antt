@@ -8,7 +8,7 @@ use Rattle.block_walk.proofs.LoopFacts.{on_err}
 use Rattle.cursor_executor.specs.Courses.{walk_fetched}
 use Rattle.cursor_executor.specs.Fetching.{steps_of}
 use Rattle.cursor_executor.specs.Operations.{guide_at, normal_at}
-use Rattle.cursor_executor.proofs.StepFacts.{block_fits, place_inside, step_agrees, step_classes, step_constants, step_course, step_ended, step_finished, step_guide, step_ran, step_sound, step_spent, step_stands, step_stepped, taken_is}
+use Rattle.cursor_executor.proofs.StepFacts.{block_fits, place_inside, step_agrees, step_classes, step_constants, step_course, step_finished, step_guide, step_ran, step_sound, step_spent, step_stands, step_stepped, taken_is}
 use Rattle.cursor_executor.proofs.courses.step_block.Goals as goal
 
 pub block_at-block-requires : goal.block_at-block-requires
@@ -149,39 +149,16 @@ returns-then-is_some-clause-stepped g c =
     (record { operations = old.operations; place = old.place; stack = old.stack; finished = old.finished; walk = c.block_turn.new.walk })
     refl refl refl refl turned.is (sym c.is_some.ensures ∙ c.if-is_some.true)
 
-pub answer-rows-requires-clause-ended : goal.answer-rows-requires-clause-ended
-answer-rows-requires-clause-ended g c =
-    let w = world (g.P.AccessPort.rows c.args.port.now) (g.P.AccessPort.accesses c.args.port.now) in
-    let prepared = c.args.prepared.now in
-    let old = c.args.course.now in
-    let req = c.requires in
-    let normal_is = c.block_at-block.ensures ∙ ap (normal_at prepared) c.len-at.ensures in
-    let own_is = c.guide_in-guide.ensures ∙ ap (λ s. guide_at s c.args.place) c.as_slice-stack.ensures.value in
-    let steps_is = c.plan_at-plan.ensures ∙ ap (steps_of prepared) c.len-at.ensures in
-    let taken = c.unwrap-walk.result in
-    let r = route c.block_at-block.result.now (option_copied c.guide_in-guide.result) c.plan_at-plan.result.now in
-    let did_turn = c.in_ok-reads.ensures.turned in
-    let same = taken_is w r c.in_ok-reads.reads old.walk c.block_turn.new.walk c.args.steps.now c.block_turn.new.steps did_turn
-    taken (sym c.take.ensures.value ∙ c.unwrap-walk.ensures) in
-    let tidy = subst (IsTidy r) same did_turn.tidy in
-    let stands = subst (Stands r) same did_turn.stands in
-    let turned = subst (λ found. TurnIs w r c.in_ok-reads.reads (walk_fetched old.walk) found c.args.steps.now c.block_turn.new.steps) same did_turn.turn in
-    step_ended w prepared req.fits old req.course c.args.place req.at req.agrees
-    c.block_at-block.result.now (option_copied c.guide_in-guide.result) c.plan_at-plan.result.now normal_is own_is steps_is
-    old.walk refl
-    taken tidy stands c.in_ok-reads.reads c.args.steps.now c.block_turn.new.steps turned
-    (sym c.is_some.ensures ∙ c.if-is_some.false)
-
-pub finish_block-requires : goal.finish_block-requires
-finish_block-requires g c =
+pub finish_block-requires-clause-place : goal.finish_block-requires-clause-place
+finish_block-requires-clause-place g c =
     let w = world (g.P.AccessPort.rows c.args.port.now) (g.P.AccessPort.accesses c.args.port.now) in
     let prepared = c.args.prepared.now in
     let old = c.args.course.now in
     let req = c.requires in
     place_inside w prepared req.fits old req.course c.args.place req.at req.agrees
 
-pub returns-clause-course : goal.returns-clause-course
-returns-clause-course g c =
+pub returns-in_ok-finish_block-clause-course : goal.returns-in_ok-finish_block-clause-course
+returns-in_ok-finish_block-clause-course g c =
     let w = world (g.P.AccessPort.rows c.args.port.now) (g.P.AccessPort.accesses c.args.port.now) in
     let prepared = c.args.prepared.now in
     let old = c.args.course.now in
@@ -190,11 +167,11 @@ returns-clause-course g c =
     let own_is = c.guide_in-guide.ensures ∙ ap (λ s. guide_at s c.args.place) c.as_slice-stack.ensures.value in
     let steps_is = c.plan_at-plan.ensures ∙ ap (steps_of prepared) c.len-at.ensures in
     let did = c.in_ok-finish_block.ensures in
-    let taken = c.unwrap-walk.result in
+    let taken = c.in-Some.walk in
     let r = route c.block_at-block.result.now (option_copied c.guide_in-guide.result) c.plan_at-plan.result.now in
     let did_turn = c.in_ok-reads.ensures.turned in
     let same = taken_is w r c.in_ok-reads.reads old.walk c.block_turn.new.walk c.args.steps.now c.block_turn.new.steps did_turn
-    taken (sym c.take.ensures.value ∙ c.unwrap-walk.ensures) in
+    taken c.in-Some.is in
     let tidy = subst (IsTidy r) same did_turn.tidy in
     let stands = subst (Stands r) same did_turn.stands in
     let turned = subst (λ found. TurnIs w r c.in_ok-reads.reads (walk_fetched old.walk) found c.args.steps.now c.block_turn.new.steps) same did_turn.turn in
@@ -203,10 +180,10 @@ returns-clause-course g c =
     old.walk refl
     taken tidy stands c.in_ok-reads.reads c.args.steps.now c.block_turn.new.steps turned
     (sym c.is_some.ensures ∙ c.if-is_some.false)
-    c.answer-rows.new.walk c.answer-rows.ensures.fetched c.answer-rows.result c.answer-rows.ensures.rows c.finish_block.new.course did.operations did.place did.stack did.finished (did.walk ∙ c.take.ensures.after)
+    c.answer-rows.new.walk c.answer-rows.ensures.fetched c.answer-rows.result c.answer-rows.ensures.rows c.finish_block.new.course did.operations did.place did.stack (did.finished c.answer-rows.new.walk refl) did.walk
 
-pub returns-clause-stepped : goal.returns-clause-stepped
-returns-clause-stepped g c =
+pub returns-in_ok-finish_block-clause-stepped : goal.returns-in_ok-finish_block-clause-stepped
+returns-in_ok-finish_block-clause-stepped g c =
     let w = world (g.P.AccessPort.rows c.args.port.now) (g.P.AccessPort.accesses c.args.port.now) in
     let prepared = c.args.prepared.now in
     let old = c.args.course.now in
@@ -215,11 +192,11 @@ returns-clause-stepped g c =
     let own_is = c.guide_in-guide.ensures ∙ ap (λ s. guide_at s c.args.place) c.as_slice-stack.ensures.value in
     let steps_is = c.plan_at-plan.ensures ∙ ap (steps_of prepared) c.len-at.ensures in
     let did = c.in_ok-finish_block.ensures in
-    let taken = c.unwrap-walk.result in
+    let taken = c.in-Some.walk in
     let r = route c.block_at-block.result.now (option_copied c.guide_in-guide.result) c.plan_at-plan.result.now in
     let did_turn = c.in_ok-reads.ensures.turned in
     let same = taken_is w r c.in_ok-reads.reads old.walk c.block_turn.new.walk c.args.steps.now c.block_turn.new.steps did_turn
-    taken (sym c.take.ensures.value ∙ c.unwrap-walk.ensures) in
+    taken c.in-Some.is in
     let tidy = subst (IsTidy r) same did_turn.tidy in
     let stands = subst (Stands r) same did_turn.stands in
     let turned = subst (λ found. TurnIs w r c.in_ok-reads.reads (walk_fetched old.walk) found c.args.steps.now c.block_turn.new.steps) same did_turn.turn in
@@ -228,7 +205,7 @@ returns-clause-stepped g c =
     old.walk refl
     taken tidy stands c.in_ok-reads.reads c.args.steps.now c.block_turn.new.steps turned
     (sym c.is_some.ensures ∙ c.if-is_some.false)
-    c.answer-rows.new.walk c.answer-rows.ensures.fetched c.answer-rows.result c.answer-rows.ensures.rows c.finish_block.new.course did.operations did.place did.stack did.finished (did.walk ∙ c.take.ensures.after)
+    c.answer-rows.new.walk c.answer-rows.ensures.fetched c.answer-rows.result c.answer-rows.ensures.rows c.finish_block.new.course did.operations did.place did.stack (did.finished c.answer-rows.new.walk refl) did.walk
 
 pub answer-rows-requires-clause-stands : goal.answer-rows-requires-clause-stands
 answer-rows-requires-clause-stands g c =
@@ -236,4 +213,4 @@ answer-rows-requires-clause-stands g c =
     let r = route c.block_at-block.result.now (option_copied c.guide_in-guide.result) c.plan_at-plan.result.now in
     let did_turn = c.in_ok-reads.ensures.turned in
     subst (Stands r) (taken_is w r c.in_ok-reads.reads c.args.course.now.walk c.block_turn.new.walk c.args.steps.now c.block_turn.new.steps did_turn
-    c.unwrap-walk.result (sym c.take.ensures.value ∙ c.unwrap-walk.ensures)) did_turn.stands
+    c.in-Some.walk c.in-Some.is) did_turn.stands
