@@ -19,6 +19,7 @@ pub mod Refusals
 pub mod Results
 pub mod Sets
 pub mod Shapes
+pub mod Shown
 pub mod Spelling
 pub mod Telling
 pub mod Texts

@@ -17,6 +17,7 @@ mod steps;
 mod text;
 mod tuples;
 mod value;
+mod value_ref;
 
 pub use duplicate::Duplicate;
 pub use errors::{Fail, NoMemory};
@@ -34,3 +35,4 @@ pub use steps::Steps;
 pub use text::{Bytes, Text};
 pub use tuples::{compare_projected, project_row, sort_distinct, tuple_of};
 pub use value::Value;
+pub use value_ref::ValueRef;

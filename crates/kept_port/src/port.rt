@@ -3,7 +3,7 @@ ghost use Rattle.beas_core.specs.Shapes.{EachIdOnce};
 ghost use Rattle.kept_port.specs.Kept.{AreApart};
 
 use crate::parts::{Part, part_with};
-use beas_core::{Access, AccessId, AccessPort, ColumnId, Hits, Steps, Value};
+use beas_core::{Access, AccessId, AccessPort, ColumnId, Hits, Steps, Value, ValueRef};
 use std::sync::ledger::Ledger;
 
 /// The rows and the constraints of each table from its part, where it has one, and else from the guard. No table has
@@ -44,7 +44,7 @@ impl<G: AccessPort, P: Part> AccessPort for KeptPort<'_, G, P> {
         }
     }
 
-    fn value(&self, hits: &Hits, i: u32, column: ColumnId) -> &Value {
+    fn value(&self, hits: &Hits, i: u32, column: ColumnId) -> ValueRef<'_> {
         match part_with(self.parts, hits.access()) {
             Some(place) => self.parts[place].value(hits, i, column),
             None => self.guard.value(hits, i, column),

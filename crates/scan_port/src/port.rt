@@ -4,7 +4,7 @@ ghost use Rattle.std.specs.Option.{option_copied};
 ghost use Rattle.scan_port.specs.Scans.{IndexesStand, index_with};
 
 use access_index::AccessIndex;
-use beas_core::{Access, AccessId, AccessPort, ColumnId, Hits, Steps, Value};
+use beas_core::{Access, AccessId, AccessPort, ColumnId, Hits, Steps, Value, ValueRef};
 use std::sync::ledger::Ledger;
 
 /// A port, and indexes of scans over its rows whose ids aren't those of its own constraints.
@@ -47,7 +47,7 @@ impl<P: AccessPort> AccessPort for ScanPort<'_, P> {
         }
     }
 
-    fn value(&self, hits: &Hits, i: u32, column: ColumnId) -> &Value {
+    fn value(&self, hits: &Hits, i: u32, column: ColumnId) -> ValueRef<'_> {
         match index_with(self.indexes, hits.access()) {
             Some(index) => index.value(hits, i, column),
             None => self.port.value(hits, i, column),

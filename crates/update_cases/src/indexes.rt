@@ -3,7 +3,7 @@ ghost use Rattle.std.specs.Prelude.{◌≡◌, ◌<◌, IsTrue};
 ghost use Rattle.beas_core.specs.Groups.{has_column, member_columns};
 ghost use Rattle.beas_core.specs.Derivations.{is_live};
 
-use beas_core::{Access, AccessPort, ColumnId, Hits, Name, NoMemory, Steps};
+use beas_core::{Access, AccessPort, ColumnId, Hits, Name, NoMemory, Steps, ValueRef};
 use catalogue::Catalogue;
 use drawn_scenes::{Fact, Plain, Rule, value};
 use std::alloc::Global;
@@ -47,7 +47,7 @@ fn is_tuple<P: AccessPort>(
     for (column, number) in columns.iter().zip(numbers) {
         let id = ColumnId(u16::from(*column));
         let wanted = value(alloc, *column, *number)?;
-        if !is_member(access, id) || *port.value(hits, i, id) != wanted {
+        if !is_member(access, id) || port.value(hits, i, id) != ValueRef::of(&wanted) {
             return Ok(false);
         }
     }

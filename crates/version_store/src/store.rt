@@ -1,7 +1,9 @@
 // The store as open queries see it: a port whose tables can be kept as they are.
 ghost use Rattle.catalogue.specs.Schema.{SchemaIsSound};
 
-use beas_core::{Access, AccessId, AccessPort, ColumnId, Hits, NoMemory, Steps, TableId, Value};
+use beas_core::{
+    Access, AccessId, AccessPort, ColumnId, Hits, NoMemory, Steps, TableId, Value, ValueRef,
+};
 use kept_port::Part;
 use open_queries::Freezes;
 use std::alloc::Global;
@@ -41,7 +43,7 @@ impl AccessPort for KeptTable {
         self.frozen.probe(id, key, steps)
     }
 
-    fn value(&self, hits: &Hits, i: u32, column: ColumnId) -> &Value {
+    fn value(&self, hits: &Hits, i: u32, column: ColumnId) -> ValueRef<'_> {
         self.frozen.value(hits, i, column)
     }
 }
@@ -82,7 +84,7 @@ impl AccessPort for CurrentStore<'_> {
         self.store.probe(id, key, steps)
     }
 
-    fn value(&self, hits: &Hits, i: u32, column: ColumnId) -> &Value {
+    fn value(&self, hits: &Hits, i: u32, column: ColumnId) -> ValueRef<'_> {
         self.store.value(hits, i, column)
     }
 }

@@ -1,6 +1,6 @@
 // Plans read a frozen table through the indexes of its constraints.
 use crate::frozen::Frozen;
-use beas_core::{Access, AccessId, AccessPort, ColumnId, Hits, Steps, Value};
+use beas_core::{Access, AccessId, AccessPort, ColumnId, Hits, Steps, Value, ValueRef};
 use std::sync::ledger::Ledger;
 
 impl AccessPort for Frozen {
@@ -25,7 +25,7 @@ impl AccessPort for Frozen {
         self.indexes.probe(place, key, steps)
     }
 
-    fn value(&self, hits: &Hits, i: u32, column: ColumnId) -> &Value {
+    fn value(&self, hits: &Hits, i: u32, column: ColumnId) -> ValueRef<'_> {
         let place = self.place(hits.access());
         self.indexes.value(place, hits, i, column)
     }

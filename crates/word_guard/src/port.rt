@@ -5,7 +5,7 @@ ghost use Rattle.beas_core.specs.declared.schema.Access.{Access as Constraint};
 ghost use Rattle.catalogue.specs.Schema.{access_with_id, SchemaIsSound};
 
 use crate::guarded::WordGuarded;
-use beas_core::{Access, AccessId, AccessPort, ColumnId, Hits, Steps, Value};
+use beas_core::{Access, AccessId, AccessPort, ColumnId, Hits, Steps, Value, ValueRef};
 use catalogue::Catalogue;
 use std::sync::ledger::Ledger;
 
@@ -49,7 +49,7 @@ impl AccessPort for WordGuarded {
         self.indexes.probe(place, key, steps)
     }
 
-    fn value(&self, hits: &Hits, i: u32, column: ColumnId) -> &Value {
+    fn value(&self, hits: &Hits, i: u32, column: ColumnId) -> ValueRef<'_> {
         let place = place_in(&self.catalogue, hits.access());
         self.indexes.value(place, hits, i, column)
     }

@@ -1,23 +1,31 @@
 -- What an interner that grows leaves: each code its value, so each index its meaning.
-use Rattle.std.proofs.Common.{◌≡◌, ◌<◌, ℕ, Bool, true, false, cond, List, [], ◌∷◌, ◌++◌, length, refl, ap, sym, subst, arith}
-use Rattle.std.specs.Prelude.{pos}
+use Rattle.std.proofs.Common.{◌≡◌, ℕ, Bool, true, false, cond, List, [], ◌∷◌, ◌++◌, length, get_or, refl, ap, sym, subst, arith}
+use Rattle.std.specs.Prelude.{pos, ◌||◌, ◌-◌, nat_lt, is_some}
 use Rattle.std.specs.List.{AllByRecursion, list_any}
 use Rattle.std.specs.Map.{values_of}
+use borrow.Author.Tests.{ltb-true}
 use Rattle.std.proofs.lemmas.List.{get_or_append_left, length-append}
 use Rattle.beas_core.specs.declared.value.Value.{Value}
 use Rattle.beas_core.specs.declared.value.Value.TheVariants.{Int}
 use Rattle.beas_core.specs.Groups.{member_columns}
 use Rattle.marked_list.specs.declared.coded.Coded.{Coded}
-use Rattle.word_index.specs.Codes.{same_value, extended, value_of, AreDistinct}
+use Rattle.word_index.specs.Codes.{same_value, own_code, extended, value_of, IsCode, AreDistinct}
 use Rattle.word_index.specs.Reading.{IsStored, KeepsCodes, read, read_group, read_entries, AllKnown, AllWordsKnown}
 
 module _ (codes tail : List Value) where
-  value_stays : (w : ℕ) → w < length codes → value_of (codes ++ tail) w ≡ value_of codes w
-  value_stays w l = get_or_append_left codes tail (Int (pos 0)) w l
+  value_stays : (w : ℕ) → IsCode codes w → value_of (codes ++ tail) w ≡ value_of codes w
+  value_stays w k = by (nat_lt w 9223372036854775808) refl
+    where
+      own : Value
+      own = Int (pos (w - 9223372036854775808))
+
+      by : (b : Bool) → nat_lt w 9223372036854775808 ≡ b → cond b (get_or (codes ++ tail) w (Int (pos 0))) own ≡ cond b (get_or codes w (Int (pos 0))) own
+      by true e = get_or_append_left codes tail (Int (pos 0)) w (k (ltb-true w 9223372036854775808 e))
+      by false e = refl
 
   known_stays : (ws : List ℕ) → AllKnown codes ws → AllKnown (codes ++ tail) ws
   known_stays [] k = tt
-  known_stays (w ∷ ws) k = (omega (arith, k.0, length-append codes tail), known_stays ws k.1)
+  known_stays (w ∷ ws) k = (λ small. omega (arith, k.0 small, length-append codes tail), known_stays ws k.1)
 
   read_stays : (ws : List ℕ) → AllKnown codes ws → read (codes ++ tail) ws ≡ read codes ws
   read_stays [] k = refl
@@ -68,7 +76,7 @@ kept_codes codes = record { words = λ ws k. (k, refl); in_order = λ index o. o
 
 -- after a value is interned
 pub kept_extended : (codes : List Value) (value : Value) → AreDistinct (extended codes value) → KeepsCodes codes (extended codes value)
-kept_extended codes value = by (list_any (same_value value) codes)
+kept_extended codes value = by (is_some (own_code value) || list_any (same_value value) codes)
   where
     by : (b : Bool) → AreDistinct (cond b codes (codes ++ value ∷ [])) → KeepsCodes codes (cond b codes (codes ++ value ∷ []))
     by true d = kept_codes codes

@@ -18,6 +18,7 @@ use Rattle.word_index.proofs.Storing.{found_bucket, bucket_within}
 use Rattle.access_index.specs.Index.{IsIndexOf}
 use Rattle.marked_list.specs.declared.coded.Coded.{Coded}
 use Rattle.word_index.specs.Codes.{value_of, AreDistinct}
+use Rattle.word_index.proofs.CodeFacts.{none_distinct}
 use Rattle.word_index.specs.Reading.{WordIndex, IsInOrderFor, IsOrdered, IsGroup, Spells, read, read_tally, read_index, read_group, read_entries, word_at, pick, AllKnown, AllWordsKnown}
 use Rattle.word_index.proofs.Changing.{IsAdded, index_added, index_removed, added_to, added_new, removed_from, removed_whole}
 use Rattle.word_index.proofs.ReadFacts.{lookup_read, set_read, swap_read, distinct_read}
@@ -219,4 +220,4 @@ none_in_order codes distinct access = record {
 }
 
 pub ordered_none : (access : Access) → IsOrdered (record { access = access; total = 0; groups = [] })
-ordered_none access = record { codes = []; in_order = none_in_order [] (λ i j d l m e. absurd (omega (arith, l))) access }
+ordered_none access = record { codes = []; in_order = none_in_order [] none_distinct access }

@@ -1,6 +1,6 @@
 -- What is known of words by their values.
 use Rattle.std.proofs.Common.{◌≡◌, ℕ, suc, Bool, true, false, cond, List, [], ◌∷◌, length, refl, ap, sym, ◌∙◌, arith}
-use Rattle.std.specs.Prelude.{nat_eq, nat_lt, not, ◌+◌, pos, position, Option, Some, None}
+use Rattle.std.specs.Prelude.{nat_eq, nat_lt, not, ◌+◌, position, Option, Some, None}
 use Rattle.std.specs.Option.{option_map, option_map_or}
 use Rattle.std.specs.List.{AllByRecursion, IsDistinct, position_or_len, swap_remove}
 use Rattle.std.specs.Map.{keys_of, lookup, set_value}
@@ -8,7 +8,6 @@ use Rattle.std.specs.Cmp.Lexicographic.{pointwise, bytes_decides}
 use Rattle.indexmap.specs.IndexMap.{swap_remove_entry}
 use Rattle.indexmap.proofs.SetLemmas.{map-swap_remove}
 use Rattle.beas_core.specs.declared.value.Value.{Value}
-use Rattle.beas_core.specs.declared.value.Value.TheVariants.{Int}
 use Rattle.std.specs.declared.cmp.Ordering.{Ordering}
 use Rattle.std.specs.declared.cmp.Ordering.TheVariants.{Less, Equal, Greater}
 use Rattle.beas_core.specs.Order.{value_cmp, value_cmp_total}
@@ -26,7 +25,7 @@ read_tells codes d (x ∷ xs) [] k l e = cc
 read_tells codes d (x ∷ xs) (y ∷ ys) k l e =
     let first : value_of codes x ≡ value_of codes y = cc in
     let rest : read codes xs ≡ read codes ys = cc in
-    let a = d x y (Int (pos 0)) k.0 l.0 first in
+    let a = d x y k.0 l.0 first in
     let b = read_tells codes d xs ys k.1 l.1 rest in cc
 
 module _ (codes : List Value) (distinct : AreDistinct codes) where

@@ -1,33 +1,23 @@
 -- The codes of a row's values, one column after another.
-use Rattle.std.proofs.Common.{◌≡◌, ◌≢◌, ◌∙◌, ◌<◌, ◌≤◌, ◌+◌, ◌==◌, ◌||◌, ℕ, zero, suc, Bool, true, false, cond, List, [], ◌∷◌, map, take, length, get_or, set, ap, refl, sym, subst, arith, inl, inr, ◌⊎◌, true≢false, Some, None}
-use Rattle.std.specs.Prelude.{pos, All, eqb}
+use Rattle.std.proofs.Common.{◌≡◌, ◌≢◌, ◌∙◌, ◌<◌, ◌≤◌, ◌+◌, ◌-◌, ◌==◌, ◌||◌, ℕ, zero, suc, Bool, true, false, cond, List, [], ◌∷◌, map, take, length, get_or, set, ap, refl, sym, subst, arith, inl, inr, ◌⊎◌, true≢false, Some, None}
+use Rattle.std.specs.Prelude.{pos, All, eqb, Option}
 use Rattle.std.specs.List.{list_any, position_from}
-use Rattle.std.proofs.lemmas.Bool.{eqb-true, ne_eqb, cases_eq}
+use Rattle.std.proofs.lemmas.Bool.{eqb-true, ne_eqb, cases_eq, cases_lt}
 use Rattle.std.proofs.lemmas.List.{get_or_default, get_or-set_same, get_or-set_other, get_or-map, length-map}
 use Rattle.std.proofs.lemmas.List.Elements.{All-append}
-use Rattle.std.proofs.lemmas.List.Quantifiers.{position-Some}
 use Rattle.std.proofs.lemmas.Iterator.Adapters.{position_from-zero}
 use Rattle.std.proofs.lemmas.Map.Keys.{IsDistinct-from_apart}
 use Rattle.std.proofs.lemmas.Map.Steps.{length-le_from_distinct_below}
 use Rattle.beas_core.specs.declared.value.Value.{Value}
 use Rattle.beas_core.specs.declared.value.Value.TheVariants.{Int}
 use Rattle.beas_core.specs.declared.schema.ColumnId.{ColumnId}
-use Rattle.beas_core.specs.Hashing.{equal_from}
-use Rattle.beas_core.specs.Order.{value_cmp}
-use Rattle.beas_core.specs.Telling.{value_cmp_tells}
 use Rattle.beas_core.specs.declared.schema.Access.{Access}
 use Rattle.beas_core.specs.Groups.{value_at, member_columns}
 use Rattle.beas_core.specs.Shapes.{AccessIsWellFormed, EachOnce}
-use Rattle.word_index.specs.Codes.{same_value, code_of, value_of}
+use Rattle.word_index.specs.Codes.{same_value, own_code, code_of}
 use Rattle.word_index.specs.Reading.{read, AllKnown, Spells, KeepsCodes}
 use Rattle.word_index.specs.Spelling.{IsCodeOf, HasCode, AllHaveCodes, IsCodeIn, AreCodesOf}
-use Rattle.word_index.proofs.CodeFacts.{same_laws}
-
--- what a look-up tells
-pub found_code : (codes : List Value) (value : Value) (code : ℕ) → code_of codes value ≡ Some code → IsCodeOf codes code value
-found_code codes value code e =
-    let p = position-Some (same_value value) codes code (Int (pos 0)) e in
-    record { known = p.0; same = sym (value_cmp_tells value (value_of codes code) (equal_from (value_cmp value (value_of codes code)) p.1)) }
+use Rattle.word_index.proofs.CodeFacts.{same_laws, own_of, listed_of, value_listed, value_own}
 
 none_passes : {X : Type 0} (p : X → Bool) (i : ℕ) (xs : List X) → position_from p i xs ≡ None → All (λ x. p x ≡ false) xs
 none_passes p i [] e = λ k d l. absurd (omega (arith, l))
@@ -43,9 +33,16 @@ none_passes {X} p i (x ∷ xs) e = by (p x) refl e (none_passes p (i + 1) xs)
         at h (suc k) d l = h k d (omega arith)
 
 pub no_code : (codes : List Value) (value : Value) → code_of codes value ≡ None → HasCode codes value → ⊥
-no_code codes value e h =
-    let apart = none_passes (same_value value) 0 codes (sym (position_from-zero (same_value value) codes) ∙ e) h.code (Int (pos 0)) h.is.known in
-    true≢false (sym (same_laws.refl value) ∙ ap (same_value value) (sym h.is.same) ∙ apart)
+no_code codes value e h = by (own_code value) refl (cases_lt h.code 9223372036854775808)
+  where
+    by : (o : Option ℕ) → own_code value ≡ o → (h.code < 9223372036854775808) ⊎ (9223372036854775808 ≤ h.code) → ⊥
+    by (Some own) f c = let none : Some own ≡ None = sym (own_of codes value own f) ∙ e in cc
+    by None f (inl small) =
+        let lacks = none_passes (same_value value) 0 codes (sym (position_from-zero (same_value value) codes) ∙ sym (listed_of codes value f) ∙ e)
+        h.code (Int (pos 0)) (h.is.known small) in
+        true≢false (sym (same_laws.refl value) ∙ ap (same_value value) (sym h.is.same ∙ value_listed codes h.code small) ∙ lacks)
+    by None f (inr large) =
+        let own : Some (9223372036854775808 + (h.code - 9223372036854775808)) ≡ None = ap own_code (sym (value_own codes h.code large) ∙ h.is.same) ∙ f in cc
 
 pub all_coded_at : (codes values : List Value) (i : ℕ) (d : Value) → AllHaveCodes codes values → i < length values → HasCode codes (get_or values i d)
 all_coded_at codes [] i d a l = absurd (omega (arith, l))

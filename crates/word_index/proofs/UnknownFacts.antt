@@ -1,4 +1,4 @@
--- A value that was never interned is in no tuple of an index.
+-- A value that has no code is in no tuple of an index.
 use Rattle.std.proofs.Common.{◌≡◌, ◌∙◌, ℕ, zero, suc, Bool, true, false, cond, List, [], ◌∷◌, ◌++◌, map, take, length, ap, refl, sym, subst, inl, inr}
 use Rattle.std.specs.Prelude.{filter, flat_map}
 use Rattle.std.specs.List.{AllByRecursion}

@@ -2,11 +2,11 @@
 --     read codes words              the values of words, by the list of an interner's values
 --     word_at words column          the word of a row in a column, 0 where it has none
 --     pick columns words            the words of a row in some columns
---     AllKnown codes words          each word is a code that the interner gave
+--     AllKnown codes words          each word is a code
 --     Spells codes columns words row      the row's values in these columns are those of the words
 --     read_tally codes coded, read_group codes group, read_entry codes entry, read_entries codes entries
 --                                   a tuple of words with its count, a group, a group under its key and a list of these, as values
---     AllWordsKnown codes group     the words of each tuple are codes that the interner gave
+--     AllWordsKnown codes group     the words of each tuple are codes
 --     WordIndex                     what contracts see of an index of words
 --     read_index codes index        the index of values that an index of words stands for
 --     is_keyed key_width key tuple  a tuple has a key
@@ -26,7 +26,7 @@ use Rattle.beas_core.specs.declared.schema.Access.{Access}
 use Rattle.beas_core.specs.Order.{row_cmp}
 use Rattle.beas_core.specs.Sets.{IsInOrder}
 use Rattle.beas_core.specs.Groups.{project, same_row, member_columns}
-use Rattle.word_index.specs.Codes.{value_of, AreDistinct}
+use Rattle.word_index.specs.Codes.{value_of, IsCode, AreDistinct}
 use Rattle.access_index.specs.declared.tally.Tally.{Tally}
 use Rattle.access_index.specs.Buckets.{tuples_in, counts_in, AllCounted, AllTuplesPass, is_wide}
 use Rattle.access_index.specs.Index.{Index}
@@ -42,7 +42,7 @@ abbrev pub pick : List ColumnId → List ℕ → List ℕ
 pick columns words = map (word_at words) columns
 
 abbrev pub AllKnown : List Value → List ℕ → Type 0
-AllKnown codes words = AllByRecursion (λ w. w < length codes) words
+AllKnown codes words = AllByRecursion (IsCode codes) words
 
 pub record Spells (codes : List Value) (columns : List ColumnId) (words : List ℕ) (row : List Value) : Type 0 where
   pub known : AllKnown codes (pick columns words)

@@ -1,19 +1,19 @@
 -- The codes of values.
---     IsCodeOf codes code value      the value was interned, with this code
---     HasCode codes value            the value was interned
---     AllHaveCodes codes values      each of them was
+--     IsCodeOf codes code value      the value has this code
+--     HasCode codes value            the value has one
+--     AllHaveCodes codes values      each of them has
 --     AreCodesOf codes words values  the words are the codes of these values
 --     IsCodeIn codes words row column      a row's word in a column is the code of its value there
-use Rattle.std.specs.Prelude.{◌≡◌, ◌<◌, ℕ, List, length}
+use Rattle.std.specs.Prelude.{◌≡◌, ℕ, List}
 use Rattle.std.specs.List.{AllByRecursion}
 use Rattle.beas_core.specs.declared.value.Value.{Value}
 use Rattle.beas_core.specs.declared.schema.ColumnId.{ColumnId}
 use Rattle.beas_core.specs.Groups.{value_at}
-use Rattle.word_index.specs.Codes.{value_of}
+use Rattle.word_index.specs.Codes.{value_of, IsCode}
 use Rattle.word_index.specs.Reading.{read, word_at, AllKnown}
 
 pub record IsCodeOf (codes : List Value) (code : ℕ) (value : Value) : Type 0 where
-  pub known : code < length codes
+  pub known : IsCode codes code
   pub same : value_of codes code ≡ value
 
 pub record HasCode (codes : List Value) (value : Value) : Type 0 where

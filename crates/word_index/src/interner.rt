@@ -1,37 +1,47 @@
-// Values in the order in which they were first interned.
-ghost use Rattle.std.specs.Prelude.{◌≡◌, ◌↔◌, ◌<◌, [], length, slice_index_or, Some, IsSome, IfSome, IfOk, OnOk, OnErr};
-ghost use Rattle.std.specs.Option.{option_copied};
-ghost use Rattle.beas_core.specs.declared.value.Value.TheVariants.{Int};
-ghost use Rattle.access_index.specs.Hashing.{or_zero};
-ghost use Rattle.word_index.specs.Codes.{code_of, extended, value_of, AreDistinct};
+// Values and their codes: integers from 0 on by themselves, all others in the order in which they were first interned.
+ghost use Rattle.std.specs.Prelude.{◌≡◌, ◌<◌, ◌^◌, [], Some, IfSome, IfOk, OnOk, OnErr, length, position};
+ghost use Rattle.word_index.specs.Codes.{same_value, own_code, code_of, extended, value_of, AreDistinct};
 ghost use Rattle.word_index.specs.Reading.{KeepsCodes};
+ghost use Rattle.word_index.specs.Spelling.{IsCodeOf};
 
 use crate::hasher::WordHashing;
-use crate::hints::{Hints, integer_in};
-use beas_core::{Duplicate, NoMemory, Value};
+use beas_core::{Duplicate, NoMemory, Value, ValueRef};
 use indexmap::IndexSet;
 use std::alloc::Global;
 use std::marker::Model;
 
-/// Values, each with a code: its place in the order in which they were first interned. A code that was given stays. Its
-/// values are those of rows, which are handed out after a probe alone, so it isn't `Debug`.
+/// The code of the integer 0. A lesser one is a place in the list of those that were interned.
+pub const OWN: u64 = 0x8000_0000_0000_0000;
+
+/// The code that an integer from 0 on has by itself.
+fn own_code(value: &Value) -> Option<u64>
+    ensures { result ≡ own_code value.now }
+{
+    match value {
+        Value::Int(number) if *number >= 0 => Some(OWN + *number as u64),
+        _ => None,
+    }
+}
+
+/// Values, each with a code. An integer from 0 on has its code by itself, and isn't kept. Any other value has its place in
+/// the order in which they were first interned. A code that was given stays. The values are those of rows, which are
+/// handed out after a probe alone, so it isn't `Debug`.
 #[derive(Drop)]
 pub struct Interner {
     values: IndexSet<Value, WordHashing>,
-    hints: Hints,
 }
 
 impl Model for Interner {
     ghost use Rattle.std.specs.Prelude.{List};
     ghost use Rattle.std.specs.List.{IsDistinct};
     ghost use Rattle.beas_core.specs.declared.value.Value.{Value as Cell};
-    ghost use Rattle.word_index.specs.Codes.{same_value};
+    ghost use Rattle.word_index.specs.Codes.{same_value, NoneOwn};
 
     ghost Value = { List Cell };
 
     ghost view = { λ s. s.values.keys };
 
-    ghost invariant = { λ s. IsDistinct same_value s.values.keys };
+    ghost invariant = { λ s. IsDistinct same_value s.values.keys × NoneOwn s.values.keys };
 }
 
 impl Interner {
@@ -41,66 +51,66 @@ impl Interner {
     {
         Interner {
             values: IndexSet::with_hasher(alloc, WordHashing::new()),
-            hints: Hints::new(alloc),
         }
     }
 
-    /// The code of an integer that stands where the hint says. It takes no memory.
-    fn hinted(&self, integer: i64) -> Option<u64>
-        ensures { IfSome result (λ code. code_of self.now (Int integer) ≡ Some code) }
+    // The place of a value among those that were interned. It stands by itself so that `code` stays short where it is put
+    // in: most values are integers, whose codes take less than a call does.
+    #[inline(never)]
+    fn place(&self, value: &Value) -> Option<u64>
+        ensures place { result ≡ position (same_value value.now) self.now }
+        ensures few { length self.now < 2 ^ 63 }
     {
-        let place = self.hints.place(integer)?;
-        match self.values.get_index(place)? {
-            Value::Int(there) if *there == integer => Some(place as u64),
-            _ => None,
-        }
-    }
-
-    /// The code of a value, or none where it was never interned. It takes no memory.
-    pub fn code(&self, value: &Value) -> Option<u64>
-        ensures { result ≡ code_of self.now value.now }
-    {
-        if let Value::Int(integer) = value {
-            if let Some(code) = self.hinted(*integer) {
-                return Some(code);
-            }
-        }
+        // Read for what its type tells: there are fewer than 2^63 values.
+        let _in_range = self.values.len();
         match self.values.get_index_of(value) {
             Some(index) => Some(index as u64),
             None => None,
         }
     }
 
-    /// The code of a value, which is interned where it wasn't yet. All other values keep their codes. After an error
+    /// The code of a value, or none where it has none by itself and was never interned. It takes no memory.
+    #[inline(always)]
+    pub fn code(&self, value: &Value) -> Option<u64>
+        ensures code { result ≡ code_of self.now value.now }
+        ensures is { IfSome result (λ code. IsCodeOf self.now code value.now) }
+    {
+        match own_code(value) {
+            Some(own) => Some(own),
+            None => self.place(value),
+        }
+    }
+
+    /// The code of a value, which is interned where it had none yet. All other values keep their codes. After an error
     /// the interner is as it was.
     pub fn intern(&mut self, value: Value) -> Result<u64, NoMemory>
         ensures grows { OnOk result (self.new ≡ extended self.old value) }
         ensures code { IfOk result (λ code. code_of self.new value ≡ Some code) }
+        ensures is { IfOk result (λ code. IsCodeOf self.new code value) }
         ensures distinct { AreDistinct self.new }
         ensures kept { KeepsCodes self.old self.new }
         ensures err { OnErr result (self.new ≡ self.old) }
     {
-        self.hints.make_room(self.values.as_slice())?;
-        let integer = integer_in(&value);
+        // Read for what its type tells: there are fewer than 2^63 values.
+        let _in_range = self.values.len();
+        if let Some(own) = own_code(&value) {
+            return Ok(own);
+        }
         let (index, _) = self.values.insert_full(value)?;
-        self.hints.note(integer, index);
         Ok(index as u64)
     }
 
-    /// The value of a code. It takes no memory.
-    pub fn value(&self, code: u64) -> &Value
-        requires { code < length self.now }
-        ensures { result.now ≡ slice_index_or self.now code result.now }
+    /// The value of a code. A number that is no code counts as that of the integer 0. It takes no memory.
+    pub fn value(&self, code: u64) -> ValueRef<'_>
+        ensures { result ≡ value_of self.now code }
     {
-        &self.values[code as usize]
-    }
-
-    /// The value of a code, or none for a number that is no code. It takes no memory.
-    pub fn get(&self, code: u64) -> Option<&Value>
-        ensures value { or_zero (option_copied result) ≡ value_of self.now code }
-        ensures found { IsSome result ↔ (code < length self.now) }
-    {
-        self.values.get_index(code as usize)
+        if code >= OWN {
+            return ValueRef::of_int((code - OWN) as i64);
+        }
+        match self.values.get_index(code as usize) {
+            Some(value) => ValueRef::of(value),
+            None => ValueRef::of_int(0),
+        }
     }
 
     /// An equal interner: each value has the same code there.
@@ -115,7 +125,6 @@ impl Interner {
         for i in 0..self.values.len() {
             values.insert(self.values[i].copy(alloc)?)?;
         }
-        let hints = self.hints.copy(alloc)?;
-        Ok(Interner { values, hints })
+        Ok(Interner { values })
     }
 }

@@ -65,7 +65,7 @@ impl KeyWords {
     }
 }
 
-/// The codes of a key's values, at the front of `N` words, or none where one of them was never interned.
+/// The codes of a key's values, at the front of `N` words, or none where one of them has none.
 pub fn known_codes<const N: usize>(codes: &Interner, key: &[Value]) -> Option<[u64; N]>
     requires { length key.now ≤ N }
     ensures { MatchOption result (AllHaveCodes codes.now key.now → ⊥)

@@ -8,7 +8,6 @@ mod fixed;
 mod form;
 mod group;
 mod hasher;
-mod hints;
 mod interner;
 mod key;
 mod long;

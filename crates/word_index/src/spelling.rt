@@ -1,20 +1,21 @@
 // The codes of a row's values.
-ghost use Rattle.std.specs.Prelude.{◌≡◌, ◌≤◌, ◌<◌, Some, List, length, IfOk, MatchOption};
+ghost use Rattle.std.specs.Prelude.{◌≡◌, ◌≤◌, ◌<◌, List, length, IfSome, IfOk, MatchOption};
 ghost use Rattle.beas_core.specs.Groups.{value_at, project, member_columns};
 ghost use Rattle.beas_core.specs.Shapes.{AccessIsWellFormed};
 ghost use Rattle.word_index.specs.Codes.{code_of};
 ghost use Rattle.word_index.specs.Reading.{KeepsCodes, Spells};
-ghost use Rattle.word_index.specs.Spelling.{AllHaveCodes};
+ghost use Rattle.word_index.specs.Spelling.{IsCodeOf, AllHaveCodes};
 
 use crate::interner::Interner;
 use crate::words::column_at;
 use beas_core::{Access, ColumnId, Duplicate, NoMemory, Value};
 use std::alloc::Global;
 
-/// The code of a row's value in a column, or none where it was never interned. A column that the row doesn't have stands
+/// The code of a row's value in a column, or none where it has none. A column that the row doesn't have stands
 /// for the integer 0.
 pub fn code_in(codes: &Interner, row: &[Value], column: ColumnId) -> Option<u64>
-    ensures { result ≡ code_of codes.now (value_at row.now column) }
+    ensures code { result ≡ code_of codes.now (value_at row.now column) }
+    ensures is { IfSome result (λ code. IsCodeOf codes.now code (value_at row.now column)) }
 {
     match row.get(column.0 as usize) {
         Some(value) => codes.code(value),
@@ -40,7 +41,7 @@ fn interned_in(
     column: ColumnId,
 ) -> Result<u64, NoMemory>
     ensures kept { KeepsCodes codes.old codes.new }
-    ensures code { IfOk result (λ code. code_of codes.new (value_at row.now column) ≡ Some code) }
+    ensures code { IfOk result (λ code. IsCodeOf codes.new code (value_at row.now column)) }
 {
     match code_in(codes, row, column) {
         Some(code) => Ok(code),
@@ -49,7 +50,7 @@ fn interned_in(
 }
 
 /// The codes of a row's values in the columns of a constraint's tuples, each at the place of its column, or none where
-/// one of the values was never interned. It takes no memory.
+/// one of the values has none. It takes no memory.
 #[tactic(auto, using(crate::proofs::Members::members_long))]
 pub fn known_words(codes: &Interner, access: &Access, row: &[Value]) -> Option<[u64; 64]>
     requires { AccessIsWellFormed 64 access.now }

@@ -5,8 +5,8 @@ ghost use Rattle.beas_core.specs.Groups.{has_column, member_columns};
 ghost use Rattle.word_index.specs.Codes.{value_of};
 ghost use Rattle.word_index.specs.Reading.{read, word_at, word_in, pick};
 
-use crate::interner::Interner;
-use beas_core::{Access, ColumnId, NoMemory, Value, compare};
+use crate::interner::{Interner, OWN};
+use beas_core::{Access, ColumnId, NoMemory};
 use marked_list::TupleWords;
 use std::alloc::Global;
 use std::cmp::Ordering;
@@ -44,24 +44,17 @@ pub fn word_at(words: &[u64], column: ColumnId) -> u64
     }
 }
 
-/// The order of the values of two codes.
+/// The order of the values of two codes. Integers from 0 on stand in the order of theirs, so that no value is looked up.
 fn compare_codes(codes: &Interner, left: u64, right: u64) -> Ordering
     ensures { result ≡ value_cmp (value_of codes.now left) (value_of codes.now right) }
 {
+    if left >= OWN && right >= OWN {
+        return left.cmp(&right);
+    }
     if left == right {
         return Ordering::Equal;
     }
-    let zero = Value::Int(0);
-    match codes.get(left) {
-        Some(value) => match codes.get(right) {
-            Some(other) => compare(value, other),
-            None => compare(value, &zero),
-        },
-        None => match codes.get(right) {
-            Some(other) => compare(&zero, other),
-            None => Ordering::Equal,
-        },
-    }
+    codes.value(left).compare(&codes.value(right))
 }
 
 /// The order of a tuple's values and those of a row's tuple.

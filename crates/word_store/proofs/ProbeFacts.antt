@@ -1,5 +1,5 @@
 -- What lies in an index over codes where a probe points.
-use Rattle.std.proofs.Common.{◌≡◌, ◌∙◌, ◌<◌, ◌≤◌, ◌+◌, ◌*◌, ◌%◌, ◌/◌, ◌==◌, ◌||◌, ℕ, zero, suc, Bool, true, false, cond, ◌⊎◌, inl, inr, List, [], ◌∷◌, map, drop, length, get_or, ap, refl, sym, subst, arith}
+use Rattle.std.proofs.Common.{◌≡◌, ◌∙◌, ◌<◌, ◌≤◌, ◌+◌, ◌*◌, ◌%◌, ◌/◌, ◌==◌, ◌||◌, ℕ, zero, suc, Bool, true, false, cond, ◌⊎◌, inl, inr, List, [], ◌∷◌, map, drop, length, get_or, ap, refl, arith}
 use Rattle.std.specs.Prelude.{Some, slice_get}
 use Rattle.std.specs.List.{AllByRecursion}
 use Rattle.std.specs.Map.{values_of}
@@ -18,7 +18,7 @@ use Rattle.access_index.proofs.Counting.{tuples_within}
 use Rattle.access_index.proofs.Holding.{members_are, members_len, members_stand}
 use Rattle.marked_list.specs.declared.coded.Coded.{Coded}
 use Rattle.word_index.specs.Codes.{value_of}
-use Rattle.word_index.specs.Reading.{WordIndex, IsInOrderFor, IsGroup, AllKnown, AllWordsKnown, read, read_group, read_entry, read_entries, read_index, words_in, words_at, word_in}
+use Rattle.word_index.specs.Reading.{WordIndex, IsInOrderFor, IsGroup, read, read_group, read_entry, read_entries, read_index, words_in, words_at, word_in}
 use Rattle.word_index.proofs.GroupFacts.{length_group}
 use Rattle.word_index.proofs.Storing.{few_buckets, entries_sum}
 use Rattle.word_index.proofs.Steps.{width_at}
@@ -52,39 +52,24 @@ group_few codes n w (e ∷ es) (suc k) a =
       sum_by-cons (λ (d : List Value × List Tally). counts_in d.1) (read_entry codes e) (read_entries codes es),
     )
 
-group_known : (codes : List Value) (es : List Entry) (k : ℕ) → AllByRecursion (λ e. AllWordsKnown codes e.1) es → AllWordsKnown codes (get_or (values_of es) k [])
-group_known codes [] k a = tt
-group_known codes (e ∷ es) zero a = a.0
-group_known codes (e ∷ es) (suc k) a = group_known codes es k a.1
-
 group_wide : (codes : List Value) (n w : ℕ) (es : List Entry) (k : ℕ) → AllByRecursion (λ e. IsGroup n w e.0 e.1) (read_entries codes es)
     → AllTuplesPass (is_wide n) (read_group codes (get_or (values_of es) k []))
 group_wide codes n w [] k a = tt
 group_wide codes n w (e ∷ es) zero a = (a.0).wide
 group_wide codes n w (e ∷ es) (suc k) a = group_wide codes n w es k a.1
 
-member_known : (codes : List Value) (g : List Coded) (i : ℕ) (d : Coded) → AllWordsKnown codes g → i < length g → AllKnown codes (get_or g i d).words
-member_known codes [] i d a l = absurd (omega (arith, l))
-member_known codes (c ∷ g) zero d a l = a.0
-member_known codes (c ∷ g) (suc i) d a l = member_known codes g i d a.1 (omega arith)
-
--- a column's word is a code, of the column's value
-pub record IsWordOf (codes : List Value) (columns : List ColumnId) (tuple : List ℕ) (column : ColumnId) : Type 0 where
-  pub known : word_in columns tuple column < length codes
-  pub same : value_of codes (word_in columns tuple column) ≡ value_in columns (read codes tuple) column
-
-word_known : (codes : List Value) (columns : List ColumnId) (tuple : List ℕ) (column : ColumnId) → AllKnown codes tuple → length tuple ≡ length columns
-    → has_column columns column ≡ true → IsWordOf codes columns tuple column
-word_known codes [] tuple column k w h = cc
-word_known codes (c ∷ columns) [] column k w h = absurd (omega (arith, w))
-word_known codes (c ∷ columns) (x ∷ tuple) column k w h =
-    let p = by (c.0 == column.0) h (λ there. word_known codes columns tuple column k.1 (omega arith) there) in record { known = p.0; same = p.1 }
+-- a column's word is the code of the column's value
+word_same : (codes : List Value) (columns : List ColumnId) (tuple : List ℕ) (column : ColumnId) → length tuple ≡ length columns
+    → has_column columns column ≡ true → value_of codes (word_in columns tuple column) ≡ value_in columns (read codes tuple) column
+word_same codes [] tuple column w h = cc
+word_same codes (c ∷ columns) [] column w h = absurd (omega (arith, w))
+word_same codes (c ∷ columns) (x ∷ tuple) column w h = by (c.0 == column.0) h (word_same codes columns tuple column (omega arith))
   where
-    by : (b : Bool) → (b || has_column columns column) ≡ true → (has_column columns column ≡ true → IsWordOf codes columns tuple column)
-        → (cond b x (word_in columns tuple column) < length codes)
-        × (value_of codes (cond b x (word_in columns tuple column)) ≡ cond b (value_of codes x) (value_in columns (read codes tuple) column))
-    by true e rest = (k.0, refl)
-    by false e rest = let r = rest e in (r.known, r.same)
+    by : (b : Bool) → (b || has_column columns column) ≡ true
+        → (has_column columns column ≡ true → value_of codes (word_in columns tuple column) ≡ value_in columns (read codes tuple) column)
+        → value_of codes (cond b x (word_in columns tuple column)) ≡ cond b (value_of codes x) (value_in columns (read codes tuple) column)
+    by true e rest = refl
+    by false e rest = rest e
 
 module _ (codes : List Value) (index : WordIndex) (order : IsInOrderFor codes index) (few : index.total < 4294967296) where
   abbrev es : List Entry
@@ -191,7 +176,8 @@ module _ (codes : List Value) (index : WordIndex) (order : IsInOrderFor codes in
         ∙ ap (λ ts. get_or ts at []) (tuples_at group)
         ∙ get_or-map (read codes) (words_at index group) at [] [] member_within
 
-    pub member_word : (column : ColumnId) → has_column (member_columns index.access) column ≡ true → IsWordOf codes (member_columns index.access) tuple column
+    pub member_word : (column : ColumnId) → has_column (member_columns index.access) column ≡ true
+        → value_of codes (word_in (member_columns index.access) tuple column) ≡ value_in (member_columns index.access) (read codes tuple) column
     member_word column there =
         let g = get_or (values_of es) group [] in
         let d : Coded = record { words = []; count = 0 } in
@@ -199,6 +185,4 @@ module _ (codes : List Value) (index : WordIndex) (order : IsInOrderFor codes in
         let own : tuple ≡ (get_or g at d).words = get_or-map (λ (c : Coded). c.words) g at d [] within in
         let wide = width_at codes (length (member_columns index.access)) g at d
         (group_wide codes (length (member_columns index.access)) (length index.access.key) es group order.stored.buckets) within in
-        word_known codes (member_columns index.access) tuple column
-        (subst (AllKnown codes) (sym own) (member_known codes g at d (group_known codes es group order.known) within))
-        (ap length own ∙ wide) there
+        word_same codes (member_columns index.access) tuple column (ap length own ∙ wide) there

@@ -7,7 +7,7 @@ ghost use Rattle.update_guard.specs.Seen.{index_at};
 
 use crate::copying::copy_places;
 use crate::probing::{probe_in, value_in_hits};
-use beas_core::{Access, ColumnId, Hits, NoMemory, Row, Steps, Value};
+use beas_core::{Access, ColumnId, Hits, NoMemory, Row, Steps, Value, ValueRef};
 use row_store::Rows;
 use std::alloc::Global;
 use std::marker::Model;
@@ -64,12 +64,12 @@ impl WordIndexes {
 
     /// A column of a tuple that a probe of the index at a place found and counted, while the indexes are as they were. It
     /// takes no memory.
-    pub fn value(&self, place: usize, hits: &Hits, i: u32, column: ColumnId) -> &Value
+    pub fn value(&self, place: usize, hits: &Hits, i: u32, column: ColumnId) -> ValueRef<'_>
         requires within { place < length self.now }
         requires stands { stands_at (index_at self.now place) hits.now }
         requires member { i < hits.now.len }
         requires column { IsTrue (has_column (member_columns (index_at self.now place).access) column) }
-        ensures { result.now ≡ value_in (member_columns (index_at self.now place).access)
+        ensures { result ≡ value_in (member_columns (index_at self.now place).access)
             (slice_index_or (members_at (index_at self.now place) hits.now) i []) column }
     {
         value_in_hits(&self.codes, &self.indexes[place], hits, i, column)

@@ -6,7 +6,7 @@ ghost use Rattle.access_index.specs.Index.{IsIndexOf, members_at, stands_at};
 ghost use Rattle.word_index.specs.Widths.{index_in};
 ghost use Rattle.word_store.specs.Kept.{meaning, IsKept};
 
-use beas_core::{ColumnId, Hits, Steps, Value};
+use beas_core::{ColumnId, Hits, Steps, Value, ValueRef};
 use std::sync::ledger::Ledger;
 use word_index::{AnyIndex, Interner, find_group};
 
@@ -40,12 +40,12 @@ pub fn value_in_hits<'a>(
     hits: &Hits,
     i: u32,
     column: ColumnId,
-) -> &'a Value
+) -> ValueRef<'a>
     requires kept { IsKept codes.now index.now }
     requires stands { stands_at (meaning codes.now index.now) hits.now }
     requires member { i < hits.now.len }
     requires column { IsTrue (has_column (member_columns (index_in index.now).access) column) }
-    ensures { result.now ≡ value_in (member_columns (index_in index.now).access)
+    ensures { result ≡ value_in (member_columns (index_in index.now).access)
         (slice_index_or (members_at (meaning codes.now index.now) hits.now) i []) column }
 {
     let group = hits.place() / 0x1_0000_0000;

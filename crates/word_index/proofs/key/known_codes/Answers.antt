@@ -3,7 +3,7 @@ use Rattle.std.specs.Prelude.{pos}
 use Rattle.std.proofs.lemmas.List.{get_or_default, length-replicate}
 use Rattle.beas_core.specs.declared.value.Value.TheVariants.{Int}
 use Rattle.word_index.specs.Spelling.{HasCode, IsCodeOf}
-use Rattle.word_index.proofs.SpellingFacts.{found_code, no_code, all_coded_at, coded, coded_next}
+use Rattle.word_index.proofs.SpellingFacts.{no_code, all_coded_at, coded, coded_next}
 use Rattle.word_index.proofs.key.known_codes.Goals as goal
 
 pub loop-i-init : goal.loop-i-init
@@ -12,7 +12,7 @@ loop-i-init g c = record { len = length-replicate g.row.N 0; right = λ j l. abs
 pub returns-in-None : goal.returns-in-None
 returns-in-None g c all =
     let value = c.index-key-i.result in
-    no_code c.args.codes.now value (sym c.code.ensures ∙ c.in-None.is)
+    no_code c.args.codes.now value (sym c.code.ensures.code ∙ c.in-None.is)
     (subst (HasCode c.args.codes.now) (sym c.index-key-i.is) (all_coded_at c.args.codes.now c.args.key.now c.loop-i.i value all c.loop-i-test.true))
 
 pub loop-i-preserved : goal.loop-i-preserved
@@ -24,7 +24,7 @@ loop-i-preserved g c =
     record {
       len = length-set c.loop-i.words c.loop-i.i c.in-Some.code ∙ c.loop-i.invariant.len;
       right = coded_next codes key c.loop-i.words c.loop-i.i c.in-Some.code (omega (arith, c.loop-i-test.true, c.requires, c.loop-i.invariant.len))
-          (subst (IsCodeOf codes c.in-Some.code) here (found_code codes value c.in-Some.code (sym c.code.ensures ∙ c.in-Some.is))) c.loop-i.invariant.right;
+          (subst (IsCodeOf codes c.in-Some.code) here c.in-Some.ensures.is) c.loop-i.invariant.right;
     }
 
 pub returns : goal.returns

@@ -4,7 +4,7 @@ use Rattle.beas_core.specs.Groups.{value_at, member_columns}
 use Rattle.word_index.specs.Reading.{word_at}
 use Rattle.word_index.proofs.Growth.{kept_codes}
 use Rattle.word_index.proofs.Members.{members_long}
-use Rattle.word_index.proofs.SpellingFacts.{found_code, spelled, few_columns, written_next, narrow, code_stays, kept_twice}
+use Rattle.word_index.proofs.SpellingFacts.{spelled, few_columns, written_next, narrow, code_stays, kept_twice}
 use Rattle.word_index.proofs.spelling.interned_words.Goals as goal
 
 pub overflow_add-i-end : goal.overflow_add-i-end
@@ -34,7 +34,7 @@ loop-i-preserved c =
       kept = kept_twice c.args.codes.now c.loop-i.codes more c.loop-i.invariant.kept c.interned_in.ensures.kept;
       right = written_next more c.loop-i.words c.args.row.now members c.loop-i.i column c.in_ok-words.field-0 within c.column_at-column.ensures
           (omega (arith, small, c.loop-i.invariant.len))
-          (found_code more (value_at c.args.row.now column) c.in_ok-words.field-0 c.in_ok-words.ensures.code)
+          c.in_ok-words.ensures.code
           (λ j d l. code_stays c.loop-i.codes more c.interned_in.ensures.kept (word_at c.loop-i.words (get_or members j d))
           (value_at c.args.row.now (get_or members j d)) (c.loop-i.invariant.right j d l));
     }

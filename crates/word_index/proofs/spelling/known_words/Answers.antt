@@ -6,7 +6,7 @@ use Rattle.beas_core.specs.declared.schema.ColumnId.{ColumnId}
 use Rattle.beas_core.specs.Groups.{value_at, project, member_columns}
 use Rattle.word_index.specs.Spelling.{HasCode}
 use Rattle.word_index.proofs.Members.{members_long}
-use Rattle.word_index.proofs.SpellingFacts.{found_code, no_code, all_coded_at, spelled, few_columns, written_next, narrow}
+use Rattle.word_index.proofs.SpellingFacts.{no_code, all_coded_at, spelled, few_columns, written_next, narrow}
 use Rattle.word_index.proofs.spelling.known_words.Goals as goal
 
 pub overflow_add-i-end : goal.overflow_add-i-end
@@ -31,7 +31,7 @@ returns-in-None c all =
     let here : get_or (project members row) i (Int (pos 0)) ≡ value_at row column =
     get_or-map (value_at row) members i column (Int (pos 0)) within ∙ ap (value_at row) (sym c.column_at-column.ensures) in
     let coded = all_coded_at codes (project members row) i (Int (pos 0)) all (omega (arith, within, length-map members (value_at row))) in
-    no_code codes (value_at row column) (sym c.code_in.ensures ∙ c.in-None.is) (subst (HasCode codes) here coded)
+    no_code codes (value_at row column) (sym c.code_in.ensures.code ∙ c.in-None.is) (subst (HasCode codes) here coded)
 
 pub loop-i-preserved : goal.loop-i-preserved
 loop-i-preserved c =
@@ -44,7 +44,7 @@ loop-i-preserved c =
       len = length-set c.loop-i.words column.0 c.in-Some.code ∙ c.loop-i.invariant.len;
       right = written_next c.args.codes.now c.loop-i.words c.args.row.now members c.loop-i.i column c.in-Some.code within c.column_at-column.ensures
           (omega (arith, small, c.loop-i.invariant.len))
-          (found_code c.args.codes.now (value_at c.args.row.now column) c.in-Some.code (sym c.code_in.ensures ∙ c.in-Some.is)) c.loop-i.invariant.right;
+          c.in-Some.ensures.is c.loop-i.invariant.right;
     }
 
 pub returns : goal.returns

@@ -55,7 +55,7 @@ returns-in-Some g c =
     let other = g.G.AccessPort.rows c.args.self.now.guard.now in
     let found = subst (λ i. position (has_id accesses i) parts ≡ Some c.in-Some.place) c.access.ensures (sym c.part_with.ensures ∙ c.in-Some.is) in
     let h = at_part table rows accesses on_table parts own other c.args.hits.now.access c.in-Some.place c.index-self-place.result c.args.self.now.apart found in
-    value-at table rows accesses on_table parts own other c.args.hits.now.access _ c.value.result.now c.args.i c.args.column _ _ h (chosen_at table rows accesses on_table (λ p. g.P.AccessPort.members p c.args.hits.now) parts (g.G.AccessPort.members c.args.self.now.guard.now c.args.hits.now) c.args.hits.now.access c.in-Some.place c.index-self-place.result found) c.value.ensures
+    value-at table rows accesses on_table parts own other c.args.hits.now.access _ c.value.result c.args.i c.args.column _ _ h (chosen_at table rows accesses on_table (λ p. g.P.AccessPort.members p c.args.hits.now) parts (g.G.AccessPort.members c.args.self.now.guard.now c.args.hits.now) c.args.hits.now.access c.in-Some.place c.index-self-place.result found) c.value.ensures
 
 pub value-requires-in-None-clause-live : goal.value-requires-in-None-clause-live
 value-requires-in-None-clause-live g c =
@@ -107,4 +107,4 @@ returns-in-None g c =
     let other = g.G.AccessPort.rows c.args.self.now.guard.now in
     let found = subst (λ i. position (has_id accesses i) parts ≡ None) c.access.ensures (sym c.part_with.ensures ∙ c.in-None.is) in
     let h = at_store table rows accesses on_table parts own other c.args.hits.now.access c.args.self.now.once c.requires.live found in
-    value-in_store table rows accesses on_table parts own other c.args.hits.now.access c.value-in-None.result.now c.args.i c.args.column _ _ h (chosen_none table rows accesses on_table (λ p. g.P.AccessPort.members p c.args.hits.now) parts (g.G.AccessPort.members c.args.self.now.guard.now c.args.hits.now) c.args.hits.now.access found) c.value-in-None.ensures
+    value-in_store table rows accesses on_table parts own other c.args.hits.now.access c.value-in-None.result c.args.i c.args.column _ _ h (chosen_none table rows accesses on_table (λ p. g.P.AccessPort.members p c.args.hits.now) parts (g.G.AccessPort.members c.args.self.now.guard.now c.args.hits.now) c.args.hits.now.access found) c.value-in-None.ensures

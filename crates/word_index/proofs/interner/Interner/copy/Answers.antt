@@ -6,7 +6,7 @@ use Rattle.std.proofs.lemmas.List.{take_all}
 use Rattle.std.proofs.lemmas.Option.{get_or_from_slice_get, slice_get_within}
 use Rattle.indexmap.specs.IndexSet.{insert_all, insert_key}
 use Rattle.indexmap.proofs.SetLemmas.{set_all_distinct, set_all_push}
-use Rattle.word_index.specs.Codes.{same_value}
+use Rattle.word_index.specs.Codes.{same_value, NoneOwn}
 use Rattle.word_index.proofs.CodeFacts.{same_laws}
 use Rattle.word_index.proofs.interner.Interner.copy.Goals as goal
 
@@ -30,7 +30,7 @@ returns c =
     let long = ap length c.self.view_is in
     c.loop-i.invariant
     ∙ ap (insert_all same_value []) (take_all c.loop-i.i keys (omega (arith, c.loop-i-test.false, c.len-i-end.ensures.len, long)))
-    ∙ set_all_distinct same_laws [] keys (subst (IsDistinct same_value) c.self.view_is c.self.invariant)
+    ∙ set_all_distinct same_laws [] keys (subst (IsDistinct same_value) c.self.view_is c.self.invariant.0)
 
 pub invariant_of-result : goal.invariant_of-result
 invariant_of-result c =
@@ -38,5 +38,5 @@ invariant_of-result c =
     let long = ap length c.self.view_is in
     let whole = c.loop-i.invariant
     ∙ ap (insert_all same_value []) (take_all c.loop-i.i keys (omega (arith, c.loop-i-test.false, c.len-i-end.ensures.len, long)))
-    ∙ set_all_distinct same_laws [] keys (subst (IsDistinct same_value) c.self.view_is c.self.invariant) in
-    subst (IsDistinct same_value) (c.self.view_is ∙ sym whole) c.self.invariant
+    ∙ set_all_distinct same_laws [] keys (subst (IsDistinct same_value) c.self.view_is c.self.invariant.0) in
+    (subst (IsDistinct same_value) (c.self.view_is ∙ sym whole) c.self.invariant.0, subst NoneOwn (c.self.view_is ∙ sym whole) c.self.invariant.1)
