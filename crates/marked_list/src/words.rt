@@ -1,9 +1,10 @@
 // The words of a tuple as a key of a map.
-ghost use Rattle.std.specs.Prelude.{◌≡◌, nat_eq, IfOk};
+ghost use Rattle.std.specs.Prelude.{◌≡◌, ◌≤◌, length, nat_eq, IfOk};
 ghost use Rattle.std.specs.Cmp.{partial_equiv_from_equiv};
 ghost use Rattle.std.specs.Cmp.Lexicographic.{pointwise, nat_list_eq_equiv};
 ghost use Rattle.std.specs.Hash as fed;
 ghost use Rattle.marked_list.specs.Hashing.{words_alike};
+ghost use Rattle.marked_list.specs.Kept.{kept_words, IsKept};
 
 use beas_core::{Duplicate, NoMemory};
 use indexmap::Equivalent;
@@ -11,18 +12,47 @@ use std::alloc::Global;
 use std::hash::{Hash, Hasher};
 use std::marker::Model;
 
-/// The words of a tuple, seen as their list.
+/// As many words stand in place at most: such tuples have a key of three columns and one that is fetched, say.
+const FEW: usize = 4;
+
+/// Where the words of a tuple lie. A few stand in place, so that they cost no block of memory and are read where the tuple
+/// is found, without a jump. Their number takes no room of its own, as it lies beside the tag.
+#[derive(Drop)]
+enum Kept {
+    Short { len: u8, words: [u64; FEW] },
+    Long(Vec<u64>),
+}
+
+/// A few words, in place.
+fn in_place(words: &[u64]) -> Kept
+    requires { length words.now ≤ 4 }
+    ensures kept { IsKept result }
+    ensures words { kept_words result ≡ words.now }
+{
+    let len = words.len();
+    let mut short = [0; FEW];
+    short[..len].copy_from_slice(words);
+    Kept::Short {
+        len: len as u8,
+        words: short,
+    }
+}
+
+/// The words of a tuple, seen as their list. Up to four of them stand in place.
 #[derive(Drop)]
 pub struct TupleWords {
-    words: Vec<u64>,
+    kept: Kept,
 }
 
 impl Model for TupleWords {
     ghost use Rattle.std.specs.Prelude.{List, ℕ};
+    ghost use Rattle.marked_list.specs.Kept.{kept_words, IsKept};
 
     ghost Value = { List ℕ };
 
-    ghost view = { λ s. s.words.items };
+    ghost view = { λ s. kept_words s.kept };
+
+    ghost invariant = { λ s. IsKept s.kept };
 }
 
 impl TupleWords {
@@ -30,29 +60,40 @@ impl TupleWords {
     pub fn from_vec(words: Vec<u64>) -> TupleWords
         ensures { result ≡ words.items }
     {
-        TupleWords { words }
+        let kept = if words.len() > FEW {
+            Kept::Long(words)
+        } else {
+            in_place(&words)
+        };
+        TupleWords { kept }
     }
 
-    /// The same words, on the heap.
+    /// The same words. It takes no memory for up to four.
     pub fn of(alloc: Global, words: &[u64]) -> Result<TupleWords, NoMemory>
         ensures { IfOk result (λ key. key ≡ words.now) }
     {
-        Ok(TupleWords {
-            words: words.to_vec(alloc)?,
-        })
+        let kept = if words.len() > FEW {
+            Kept::Long(words.to_vec(alloc)?)
+        } else {
+            in_place(words)
+        };
+        Ok(TupleWords { kept })
     }
 
     /// The words. It takes no memory.
     pub fn as_slice(&self) -> &[u64]
         ensures { result.now ≡ self.now }
     {
-        self.words.as_slice()
+        match &self.kept {
+            Kept::Short { len, words } => &words[..*len as usize],
+            Kept::Long(words) => words.as_slice(),
+        }
     }
 }
 
 impl Duplicate for TupleWords {
     fn copy(&self, alloc: Global) -> Result<TupleWords, NoMemory> {
-        TupleWords::of(alloc, self.words.as_slice())
+        TupleWords::of(alloc, self.as_slice())
     }
 }
 
@@ -62,7 +103,7 @@ impl PartialEq for TupleWords {
     ghost laws = { partial_equiv_from_equiv nat_list_eq_equiv };
 
     fn eq(&self, other: &TupleWords) -> bool {
-        self.words.as_slice() == other.words.as_slice()
+        self.as_slice() == other.as_slice()
     }
 }
 
@@ -76,7 +117,7 @@ impl Hash for TupleWords {
     ghost respects_eq = { words_alike };
 
     fn hash<H: Hasher>(&self, state: &mut H) {
-        self.words.as_slice().hash(state);
+        self.as_slice().hash(state);
     }
 }
 
@@ -89,6 +130,6 @@ impl Equivalent<TupleWords> for &[u64] {
     ghost respects_eq = { λ q x y. nat_list_eq_equiv.congr q.now x y };
 
     fn equivalent(&self, key: &TupleWords) -> bool {
-        *self == key.words.as_slice()
+        *self == key.as_slice()
     }
 }
