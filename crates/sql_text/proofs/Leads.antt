@@ -5,7 +5,7 @@ use Rattle.std.specs.List.{starts_with, prefix_len}
 use Rattle.std.specs.Char.{is_ascii_whitespace, is_ascii_digit, to_ascii_lowercase}
 use Rattle.std.proofs.Math.ListN.{get_or-map}
 use Rattle.std.proofs.lemmas.List.{get_or-drop, get_or-take, get_or_past, length-take-le, drop-drop, take_rest}
-use Rattle.std.proofs.lemmas.Bool.{cases_Bool, cases_lt, lt-ltb, le-ltb, ne_eqb}
+use Rattle.std.proofs.lemmas.Bool.{cases_lt, lt-ltb, le-ltb, ne_eqb}
 use Rattle.std.proofs.lemmas.Bool.Decides.{nat_tests}
 use Rattle.std.proofs.lemmas.Str.{IsCharBoundary-after_ascii, IsCharBoundary-end}
 use Rattle.std.proofs.lemmas.Str.Ascii.{lowercase_ascii}
@@ -16,7 +16,8 @@ use Rattle.sql_text.specs.declared.token.TokenKind.TheVariants.{Word, Number, Qu
 use Rattle.beas_core.specs.Spelling.{begins_word, continues_word}
 use Rattle.sql_text.specs.Tokens.{lead, plain, word, quoted_or_bad, in_quotes, with_quotes_doubled, quoted_text, mark_or_bad, marks, is_in_line, continues_char, quote, longest_word}
 use Rattle.sql_text.specs.Tokens.Lead.{Gap, Lexeme}
-use Rattle.sql_text.specs.Cuts.{BeginsToken, StandsAt, is_small_in_word}
+use Rattle.sql_text.specs.Cuts.{BeginsToken, StandsAt, byte_kind}
+use Rattle.sql_text.proofs.ByteKinds.{by_kind, is_lone, lone-found, lone-low}
 
 pub lead-blank : (bs : List ℕ) → 0 < length bs → is_ascii_whitespace (get_or bs 0 0) ≡ true → lead bs ≡ Gap 1
 unfolding lead
@@ -158,60 +159,12 @@ pub word-cut :
     to ≡ at + prefix_len continues_word (drop at s) → IsCharBoundary s to
 word-cut s at to u b h r = run-cut continues_word word-ascii s at to u b.within (word_from_begins (get_or s at 0) h) r
 
--- the small letters of a word stand first in it
-prefix_len-twice :
-    (p q : ℕ → Bool) → ((b : ℕ) → q b ≡ true → p b ≡ true) → (bs : List ℕ) →
-    prefix_len p bs ≡ prefix_len q bs + prefix_len p (drop (prefix_len q bs) bs)
-prefix_len-twice p q within [] = refl
-prefix_len-twice p q within (b ∷ bs) =
-    elim (cases_Bool (q b)) [
-      | inl e ↦
-          (let n = prefix_len q bs in
-          let more : prefix_len p (b ∷ bs) ≡ 1 + prefix_len p bs = rw (within b e) refl in
-          let size : suc n ≡ prefix_len q (b ∷ bs) = rw e (omega arith) in
-          let next = prefix_len-twice p q within bs in
-          subst (λ (k : ℕ). prefix_len p (b ∷ bs) ≡ k + prefix_len p (drop k (b ∷ bs))) size (omega (arith, more, next)))
-      | inr e ↦
-          (let size : 0 ≡ prefix_len q (b ∷ bs) = rw e refl in
-          subst (λ (k : ℕ). prefix_len p (b ∷ bs) ≡ k + prefix_len p (drop k (b ∷ bs))) size (omega arith))
-    ]
-
-small-continues : (b : ℕ) → is_small_in_word b ≡ true → continues_word b ≡ true
-small-continues b h = grind (arith, nat_tests)
-
-small-is_small : (b : ℕ) → is_small_in_word b ≡ true → to_ascii_lowercase b ≡ b
-small-is_small b h = grind (arith, nat_tests)
-
+-- a word goes on after its first byte
 pub word-run :
-    (s : List ℕ) (at small to : ℕ) → small ≡ at + prefix_len is_small_in_word (drop at s) →
-    to ≡ small + prefix_len continues_word (drop small s) → to ≡ at + prefix_len continues_word (drop at s)
-word-run s at small to r t =
-    let n = prefix_len is_small_in_word (drop at s) in
-    let twice = prefix_len-twice continues_word is_small_in_word small-continues (drop at s) in
-    let rest : prefix_len continues_word (drop n (drop at s)) ≡ prefix_len continues_word (drop small s) =
-    ap (prefix_len continues_word) (drop-drop n at s) ∙ ap (λ (k : ℕ). prefix_len continues_word (drop k s)) (sym r) in
-    omega (arith, r, t, twice, rest)
-
-all_small : (bs : List ℕ) → map to_ascii_lowercase (take_while is_small_in_word bs) ≡ take_while is_small_in_word bs
-all_small [] = refl
-all_small (b ∷ bs) =
-    let P : ℕ → Type 0 = λ k. map to_ascii_lowercase (take k (b ∷ bs)) ≡ take k (b ∷ bs) in
-    elim (cases_Bool (is_small_in_word b)) [
-      | inl e ↦
-          (let n = prefix_len is_small_in_word bs in
-          let size : suc n ≡ prefix_len is_small_in_word (b ∷ bs) = rw e (omega arith) in
-          subst P size
-          (ap (λ (x : ℕ). x ∷ map to_ascii_lowercase (take n bs)) (small-is_small b e) ∙ ap (λ (xs : List ℕ). b ∷ xs) (all_small bs)))
-      | inr e ↦ (let size : 0 ≡ prefix_len is_small_in_word (b ∷ bs) = rw e refl in subst P size refl)
-    ]
-
--- a run without a capital is its own text
-pub small-text :
-    (s : List ℕ) (at to : ℕ) → to ≡ at + prefix_len is_small_in_word (drop at s) →
-    slice_range s at to ≡ map to_ascii_lowercase (slice_range s at to)
-small-text s at to r =
-    let same = run-spelling is_small_in_word s at to r in
-    sym same ∙ sym (all_small (drop at s)) ∙ ap (map to_ascii_lowercase) same
+    (s : List ℕ) (at to : ℕ) → at < length s → begins_word (get_or s at 0) ≡ true →
+    to ≡ at + 1 + prefix_len continues_word (drop (at + 1) s) → to ≡ at + prefix_len continues_word (drop at s)
+word-run s at to l h r =
+    omega (arith, r, prefix_len-drop_yes continues_word s at 0 l (word_from_begins (get_or s at 0) h))
 
 -- a word is ASCII, and so is it in small letters
 pub word-is_ascii : (s : List ℕ) (at to : ℕ) → to ≤ length s → to ≡ at + prefix_len continues_word (drop at s) → IsAscii (slice_range s at to)
@@ -230,20 +183,6 @@ word-is_ascii s at to within r = λ i.
 pub small-ascii : (bs : List ℕ) → IsAscii bs → IsAscii (map to_ascii_lowercase bs)
 small-ascii bs h = λ i.
     subst (λ (b : ℕ). b < 128) (sym (get_or-map to_ascii_lowercase bs i 0)) (lowercase_ascii (get_or bs i 0) (h i))
-
--- where a run without a capital ends, no small letter stands
-pub small-ended :
-    (s : List ℕ) (at small : ℕ) → small ≡ at + prefix_len is_small_in_word (drop at s) → is_small_in_word (get_or s small 0) ≡ false
-small-ended s at small r =
-    let n = prefix_len is_small_in_word (drop at s) in
-    elim (cases_lt small (length s)) [
-      | inl l ↦
-          (let stops : is_small_in_word (get_or (drop at s) n 0) ≡ false =
-          prefix_len_stops is_small_in_word (drop at s) 0 (omega (arith, r, l, length-drop at s)) in
-          let here : get_or (drop at s) n 0 ≡ get_or s small 0 = get_or-drop at s n 0 ∙ ap (λ (k : ℕ). get_or s k 0) (sym r) in
-          sym (ap is_small_in_word here) ∙ stops)
-      | inr l ↦ ap is_small_in_word (get_or_past s small 0 l)
-    ]
 
 pub stands-long_word :
     (s : List ℕ) (at to : ℕ) (t : Token) → IsUtf8 s → BeginsToken s at → begins_word (get_or s at 0) ≡ true →
@@ -324,6 +263,22 @@ stands-mark s at to t b h d q some within cut known e =
     (lead-mark_at s at b h d q
     ∙ ap (mark_or_bad (get_or (drop at s) 0 0 ∷ take_while continues_char (drop 1 (drop at s)))) known)
     e some within cut
+
+-- a mark of one byte with which no longer one begins
+pub lone-cut : (s : List ℕ) (at : ℕ) → IsUtf8 s → at < length s → is_lone (get_or s at 0) ≡ true → IsCharBoundary s (at + 1)
+lone-cut s at u l m = IsCharBoundary-after_ascii s at u l (lone-low (get_or s at 0) m).0
+
+pub stands-lone :
+    (s : List ℕ) (at : ℕ) (t : Token) → IsUtf8 s → BeginsToken s at → byte_kind (get_or s at 0) ≡ 1 →
+    t ≡ record { kind = Mark; from = at; to = at + 1; text = slice_range s at (at + 1) } → StandsAt s at t
+stands-lone s at t u b k e =
+    let is = (by_kind (get_or s at 0)).lone k in
+    let m : is_lone (get_or s at 0) ≡ true = is.2 in
+    let one : 1 ≡ at + 1 - at = omega arith in
+    let found : find (starts_with eqb (drop at s)) marks ≡ Some (take 1 (drop at s)) =
+    lone-found (drop at s) (omega (arith, length-drop at s, b.within)) (ap is_lone (first_at s at) ∙ m) in
+    stands-mark s at (at + 1) t b is.0 is.1 (lone-low (get_or s at 0) m).1 (omega arith) (omega (arith, b.within))
+    (lone-cut s at u b.within m) (found ∙ ap (λ (k : ℕ). Some (take k (drop at s))) one) e
 
 no_continuation : (b : ℕ) → continues_char b ≡ false → 128 ≤ b → 192 ≤ b
 no_continuation b h l = grind (arith, nat_tests)

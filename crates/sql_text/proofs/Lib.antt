@@ -1,3 +1,4 @@
+pub mod ByteKinds
 pub mod Doubling
 pub mod FirstPiece
 pub mod Leads

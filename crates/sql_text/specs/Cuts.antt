@@ -2,11 +2,12 @@
 --     BeginsToken source at        a token begins at the place
 --     IsAtToken source at          so it is, or the place is the end
 --     StandsAt source at token     the bytes from `at` on begin with this token
---     is_small_in_word byte        the byte goes on with a word, and is no capital
-use Rattle.std.specs.Prelude.{◌≡◌, ◌<◌, ◌≤◌, ◌-◌, ◌==◌, ◌||◌, ℕ, Bool, if◌then◌else◌, eqb, false, List, length, drop, take, slice_index, codes, IsCharBoundary, Option, Some, None}
-use Rattle.std.specs.Char.{is_ascii_digit, is_ascii_lowercase, is_ascii_whitespace}
-use Rattle.std.specs.List.{starts_with}
+--     byte_kind byte               3 for a byte that begins a word, 2 for a digit, 1 for a mark with which no longer one begins, else 0
+use Rattle.std.specs.Prelude.{◌≡◌, ◌<◌, ◌≤◌, ◌-◌, ◌==◌, ℕ, if◌then◌else◌, eqb, false, List, length, drop, take, slice_index, codes, IsCharBoundary, Option, Some, None}
+use Rattle.std.specs.Char.{is_ascii_digit, is_ascii_whitespace}
+use Rattle.std.specs.List.{list_any, starts_with}
 use Rattle.sql_text.specs.declared.token.Token.{Token}
+use Rattle.beas_core.specs.Spelling.{begins_word}
 use Rattle.sql_text.specs.Tokens.{lead}
 use Rattle.sql_text.specs.Tokens.Lead.{Lexeme}
 
@@ -33,5 +34,11 @@ pub record StandsAt (source : List ℕ) (at : ℕ) (token : Token) : Type 0 wher
 abbrev pub mark_of : ℕ → List ℕ → Option (List ℕ)
 mark_of len bytes = if len == 0 then None else Some (take len bytes)
 
-abbrev pub is_small_in_word : ℕ → Bool
-is_small_in_word byte = is_ascii_lowercase byte || (byte == 95) || is_ascii_digit byte
+abbrev pub lone_marks : List ℕ
+lone_marks = codes "(),;.*+-=@"
+
+abbrev pub byte_kind : ℕ → ℕ
+byte_kind byte =
+    if begins_word byte then 3
+    else (if is_ascii_digit byte then 2
+    else (if list_any (λ mark. byte == mark) lone_marks then 1 else 0))

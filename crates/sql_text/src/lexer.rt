@@ -1,15 +1,15 @@
 // Cutting a script into tokens.
-ghost use Rattle.sql_text.specs.Cuts.{BeginsToken, IsAtToken, StandsAt, is_small_in_word, mark_of};
+ghost use Rattle.sql_text.specs.Cuts.{BeginsToken, IsAtToken, StandsAt, byte_kind, mark_of};
 ghost use Rattle.sql_text.specs.Spans.{AreInOrder, IsSpelled};
-ghost use Rattle.beas_core.specs.Spelling.{begins_word, continues_word};
+ghost use Rattle.beas_core.specs.Spelling.{begins_word};
 ghost use Rattle.sql_text.specs.Tokens.{tokens_from, tokens_of, with_quotes_doubled, quote, quoted_text, marks};
 ghost use Rattle.std.specs.Char.{is_ascii_digit, to_ascii_lowercase};
-ghost use Rattle.std.specs.List.{prefix_len, starts_with};
-ghost use Rattle.std.specs.Prelude.{◌≡◌, ◌≢◌, ◌==◌, ◌<◌, ◌≤◌, ◌+◌, ◌-◌, [], ◌∷◌, false, length, drop, codes, eqb, find, map, option_map, slice_index, slice_range, All, IfOk, IfSome, IsAscii, IsCharBoundary, IsTrue};
+ghost use Rattle.std.specs.List.{starts_with};
+ghost use Rattle.std.specs.Prelude.{◌≡◌, ◌≢◌, ◌⊎◌, ◌==◌, ◌<◌, ◌≤◌, ◌+◌, ◌-◌, [], ◌∷◌, length, drop, codes, eqb, find, map, option_map, slice_index, slice_range, All, IfOk, IfSome, IsAscii, IsCharBoundary, IsTrue};
 
-use crate::runs::{Blank, InChar, InLine, InNumber, InSmallWord, InWord, Unquoted, run_end};
+use crate::runs::{Blank, InChar, InLine, InNumber, InWord, Unquoted, kind_of, run_end};
 use crate::token::{Token, TokenKind};
-use beas_core::{List, NoMemory, Text, begins_word};
+use beas_core::{List, NoMemory, Text};
 use std::alloc::Global;
 use std::str;
 
@@ -18,9 +18,6 @@ pub const LONGEST_SCRIPT: usize = 16_777_216;
 
 /// The most bytes of a word.
 const LONGEST_WORD: usize = 64;
-
-/// The most bytes of a word whose small letters are made in an array.
-const SHORT_WORD: usize = 16;
 
 /// The content of a quoted text, and where its last quote ends.
 #[derive(Drop)]
@@ -48,8 +45,39 @@ pub fn lex(alloc: Global, source: &str) -> Result<List<Token>, NoMemory>
     Ok(tokens)
 }
 
-/// Where the white space and the comments end that stand from a place on: where the next token begins, or at the end.
+/// Where the white space and the comments end that stand from a place on: where the next token begins, or at the end. After
+/// most tokens one space stands or none, and then a byte that begins neither white space nor a comment.
 pub fn past_gaps(source: &str, at: usize) -> usize
+    requires within { at ≤ length source.now }
+    requires cut { IsCharBoundary source.now at }
+    ensures tokens { tokens_from at 0 (drop at source.now) ≡ tokens_from result 0 (drop result source.now) }
+    ensures order { at ≤ result }
+    ensures at_token { IsAtToken source.now result }
+{
+    let bytes = source.as_bytes();
+    let next = past_space(bytes, at);
+    if next < bytes.len() && bytes[next] > b'-' {
+        return next;
+    }
+    past_long_gaps(source, at)
+}
+
+// Past the space that stands at a place, if one does.
+fn past_space(bytes: &[u8], at: usize) -> usize
+    requires within { at ≤ length bytes.now }
+    ensures cases { (result ≡ at) ⊎ ((result ≡ at + 1) × (slice_index bytes.now at ≡ 32)) }
+    ensures within { result ≤ length bytes.now }
+{
+    if at < bytes.len() && bytes[at] == b' ' {
+        at + 1
+    } else {
+        at
+    }
+}
+
+// The same over any white space and comments. It stands apart, so that what is inlined after each token stays small.
+#[inline(never)]
+fn past_long_gaps(source: &str, at: usize) -> usize
     requires within { at ≤ length source.now }
     requires cut { IsCharBoundary source.now at }
     ensures tokens { tokens_from at 0 (drop at source.now) ≡ tokens_from result 0 (drop result source.now) }
@@ -71,80 +99,75 @@ pub fn lexeme(alloc: Global, source: &str, at: usize) -> Result<Token, NoMemory>
     requires begins { BeginsToken source.now at }
     ensures { IfOk result (StandsAt source.now at) }
 {
-    let byte = source.as_bytes()[at];
-    if begins_word(byte) {
-        return word(alloc, source, at);
+    match kind_of(source.as_bytes()[at]) {
+        3 => word(alloc, source, at),
+        2 => number(alloc, source, at),
+        1 => plain(alloc, source, TokenKind::Mark, at, at + 1),
+        _ => other(alloc, source, at),
     }
-    if byte.is_ascii_digit() {
-        return number(alloc, source, at);
-    }
-    if byte == b'\'' {
+}
+
+// The token at a place where neither a word nor a number nor a mark of one byte begins that no longer one begins with.
+fn other(alloc: Global, source: &str, at: usize) -> Result<Token, NoMemory>
+    requires size { length source.now ≤ LONGEST_SCRIPT }
+    requires begins { BeginsToken source.now at }
+    requires other { byte_kind (slice_index source.now at) ≡ 0 }
+    ensures { IfOk result (StandsAt source.now at) }
+{
+    if source.as_bytes()[at] == b'\'' {
         return quoted_token(alloc, source, at);
     }
     mark(alloc, source, at)
 }
 
-// The word, or the bad token, of the letters and digits from a place on. A word without a capital is its own text.
+// The word, or the bad token, of the letters and digits from a place on.
 fn word(alloc: Global, source: &str, at: usize) -> Result<Token, NoMemory>
     requires size { length source.now ≤ LONGEST_SCRIPT }
     requires begins { BeginsToken source.now at }
     requires class { IsTrue (begins_word (slice_index source.now at)) }
     ensures { IfOk result (StandsAt source.now at) }
 {
-    let bytes = source.as_bytes();
-    let small = small_end(bytes, at);
-    let to = word_end(bytes, small);
+    let to = run_end::<InWord>(source.as_bytes(), at + 1);
     if to - at > LONGEST_WORD {
         return plain(alloc, source, TokenKind::Bad, at, to);
-    }
-    if small == to {
-        return plain(alloc, source, TokenKind::Word, at, to);
     }
     let text = in_small_letters(alloc, &source[at..to])?;
     Ok(token(TokenKind::Word, at, to, text))
 }
 
-// Where the small letters, digits and `_` end that a word begins with.
-fn small_end(bytes: &[u8], at: usize) -> usize
-    requires within { at < length bytes.now }
-    requires begins { IsTrue (begins_word (slice_index bytes.now at)) }
-    ensures len { result ≡ at + prefix_len is_small_in_word (drop at bytes.now) }
-    ensures within { result ≤ length bytes.now }
-{
-    if bytes[at].is_ascii_uppercase() {
-        return at;
-    }
-    run_end::<InSmallWord>(bytes, at + 1)
-}
-
-// Where a word ends that goes on up to a place, and past it if a capital stands there.
-fn word_end(bytes: &[u8], small: usize) -> usize
-    requires within { small ≤ length bytes.now }
-    requires no_small { is_small_in_word (slice_index bytes.now small) ≡ false }
-    ensures len { result ≡ small + prefix_len continues_word (drop small bytes.now) }
-    ensures within { result ≤ length bytes.now }
-{
-    if small < bytes.len() && bytes[small].is_ascii_uppercase() {
-        return run_end::<InWord>(bytes, small + 1);
-    }
-    small
-}
-
-// A word in small letters. Those of a short one are made in an array, since a text of a few letters then takes no memory,
-// and all of the array is made small, since its length is known to the compiler and that of the word is not.
+// A word in small letters. Most words are short, and where the length is known to the compiler it makes neither a call nor a loop.
 fn in_small_letters(alloc: Global, word: &str) -> Result<Text, NoMemory>
     requires { IsAscii word.now }
     ensures { IfOk result (λ text. text ≡ map to_ascii_lowercase word.now) }
 {
-    if word.len() <= SHORT_WORD {
-        let mut kept = [0; SHORT_WORD];
-        kept[..word.len()].copy_from_slice(word.as_bytes());
-        kept.make_ascii_lowercase();
-        // The letters are ASCII as those of the word are, and so they are UTF-8.
-        let small = unsafe { str::from_utf8_unchecked(&kept[..word.len()]) };
-        return Text::from_str(alloc, small);
+    match word.len() {
+        1 => letters::<1>(alloc, word),
+        2 => letters::<2>(alloc, word),
+        3 => letters::<3>(alloc, word),
+        4 => letters::<4>(alloc, word),
+        5 => letters::<5>(alloc, word),
+        6 => letters::<6>(alloc, word),
+        7 => letters::<7>(alloc, word),
+        8 => letters::<8>(alloc, word),
+        9..=16 => letters::<16>(alloc, word),
+        _ => Ok(Text::from_string(word.to_ascii_lowercase(alloc)?)),
     }
-    Ok(Text::from_string(word.to_ascii_lowercase(alloc)?))
+}
+
+// The small letters of a short word. They are made in an array, since a text of a few letters then takes no memory, and all
+// of the array is made small, since its length is known to the compiler.
+fn letters<const ROOM: usize>(alloc: Global, word: &str) -> Result<Text, NoMemory>
+    requires ascii { IsAscii word.now }
+    requires fits { length word.now ≤ ROOM }
+    requires room { ROOM ≤ 16 }
+    ensures { IfOk result (λ text. text ≡ map to_ascii_lowercase word.now) }
+{
+    let mut kept = [0; ROOM];
+    kept[..word.len()].copy_from_slice(word.as_bytes());
+    kept.make_ascii_lowercase();
+    // The letters are ASCII as those of the word are, and so they are UTF-8.
+    let small = unsafe { str::from_utf8_unchecked(&kept[..word.len()]) };
+    Text::from_str(alloc, small)
 }
 
 fn number(alloc: Global, source: &str, at: usize) -> Result<Token, NoMemory>
@@ -206,12 +229,11 @@ fn has_quote(bytes: &[u8], at: usize) -> bool
     at < bytes.len() && bytes[at] == b'\''
 }
 
-// The mark at a place where nothing else begins, or else the character as a bad token.
+// The mark at a place where nothing else begins and no mark of one byte alone stands, or else the character as a bad token.
 fn mark(alloc: Global, source: &str, at: usize) -> Result<Token, NoMemory>
     requires size { length source.now ≤ LONGEST_SCRIPT }
     requires begins { BeginsToken source.now at }
-    requires no_word { begins_word (slice_index source.now at) ≡ false }
-    requires no_number { is_ascii_digit (slice_index source.now at) ≡ false }
+    requires other { byte_kind (slice_index source.now at) ≡ 0 }
     requires no_quote { slice_index source.now at ≢ quote }
     ensures { IfOk result (StandsAt source.now at) }
 {
@@ -231,7 +253,8 @@ fn mark(alloc: Global, source: &str, at: usize) -> Result<Token, NoMemory>
 
 // How many bytes the longest mark at a place takes, 0 where none stands there.
 fn mark_len(bytes: &[u8], at: usize) -> usize
-    requires { at < length bytes.now }
+    requires within { at < length bytes.now }
+    requires other { byte_kind (slice_index bytes.now at) ≡ 0 }
     ensures mark { find (starts_with eqb (drop at bytes.now)) marks ≡ mark_of result (drop at bytes.now) }
     ensures within { at + result ≤ length bytes.now }
     ensures ascii { 0 < result → slice_index bytes.now (at + result - 1) < 128 }
@@ -242,15 +265,14 @@ fn mark_len(bytes: &[u8], at: usize) -> usize
         0
     };
     match bytes[at] {
-        b'<' if next == b'>' || next == b'=' => 2,
-        b'>' | b'!' if next == b'=' => 2,
-        b'(' | b')' | b',' | b';' | b'.' | b'*' | b'+' | b'-' | b'=' | b'<' | b'>' | b'@' => 1,
+        b'<' if next == b'>' => 2,
+        b'<' | b'>' | b'!' if next == b'=' => 2,
+        b'<' | b'>' => 1,
         _ => 0,
     }
 }
 
-// A token whose text is its spelling. About half of a query's tokens take one byte, and a copy of a known length is cheap: the
-// compiler makes it without a call.
+// A token whose text is its spelling.
 fn plain(
     alloc: Global,
     source: &str,
@@ -270,12 +292,29 @@ fn plain(
       text = slice_range source.now from to;
     }) }
 {
-    if to == from + 1 {
-        let text = Text::from_str(alloc, &source[from..from + 1])?;
-        return Ok(token(kind, from, to, text));
-    }
-    let text = Text::from_str(alloc, &source[from..to])?;
+    let text = copied(alloc, &source[from..to])?;
     Ok(token(kind, from, to, text))
+}
+
+// A copy of a spelling. Most are short.
+fn copied(alloc: Global, spelling: &str) -> Result<Text, NoMemory>
+    ensures { IfOk result (λ text. text ≡ spelling.now) }
+{
+    match spelling.len() {
+        1 => copied_whole::<1>(alloc, spelling),
+        2 => copied_whole::<2>(alloc, spelling),
+        3 => copied_whole::<3>(alloc, spelling),
+        4 => copied_whole::<4>(alloc, spelling),
+        _ => Text::from_str(alloc, spelling),
+    }
+}
+
+// A copy of a spelling of so many bytes, which the compiler makes without a call, since it knows their number.
+fn copied_whole<const LEN: usize>(alloc: Global, spelling: &str) -> Result<Text, NoMemory>
+    requires { length spelling.now ≡ LEN }
+    ensures { IfOk result (λ text. text ≡ spelling.now) }
+{
+    Text::from_str(alloc, &spelling[..LEN])
 }
 
 fn token(kind: TokenKind, from: usize, to: usize, text: Text) -> Token

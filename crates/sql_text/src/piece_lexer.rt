@@ -36,8 +36,9 @@ pub fn lex_piece(
     let mut place = past_gaps(source, at);
     'tokens: while goes_on(bytes, place) {
         let token = lexeme(alloc, source, place)?;
-        place = past_gaps(source, token.to as usize);
+        let to = token.to as usize;
         tokens.push(token)?;
+        place = past_gaps(source, to);
     }
     Ok(past_semicolon(bytes, place))
 }

@@ -1,12 +1,30 @@
 // Runs of bytes of one class.
 ghost use Rattle.beas_core.specs.Spelling.{continues_word};
-ghost use Rattle.sql_text.specs.Cuts.{is_small_in_word};
+ghost use Rattle.sql_text.specs.Cuts.{byte_kind};
 ghost use Rattle.sql_text.specs.Tokens.{is_in_line, continues_char, quote};
 ghost use Rattle.std.specs.Char.{is_ascii_digit, is_ascii_whitespace};
 ghost use Rattle.std.specs.List.{prefix_len};
 ghost use Rattle.std.specs.Prelude.{◌≡◌, ◌≤◌, ◌+◌, ◌==◌, not, length, drop, Bool, ℕ};
 
-use beas_core::continues_word;
+/// What each byte is: 3 where it begins a word, 2 where it is a digit, 1 where it is a mark and no longer one begins with it,
+/// and 0 for all others.
+static KINDS: [u8; 256] = [
+    0, 0, 0, 0, 0, 0, 0, 0, 0, 0, 0, 0, 0, 0, 0, 0, 0, 0, 0, 0, 0, 0, 0, 0, 0, 0, 0, 0, 0, 0, 0, 0,
+    0, 0, 0, 0, 0, 0, 0, 0, 1, 1, 1, 1, 1, 1, 1, 0, 2, 2, 2, 2, 2, 2, 2, 2, 2, 2, 0, 1, 0, 1, 0, 0,
+    1, 3, 3, 3, 3, 3, 3, 3, 3, 3, 3, 3, 3, 3, 3, 3, 3, 3, 3, 3, 3, 3, 3, 3, 3, 3, 3, 0, 0, 0, 0, 3,
+    0, 3, 3, 3, 3, 3, 3, 3, 3, 3, 3, 3, 3, 3, 3, 3, 3, 3, 3, 3, 3, 3, 3, 3, 3, 3, 3, 0, 0, 0, 0, 0,
+    0, 0, 0, 0, 0, 0, 0, 0, 0, 0, 0, 0, 0, 0, 0, 0, 0, 0, 0, 0, 0, 0, 0, 0, 0, 0, 0, 0, 0, 0, 0, 0,
+    0, 0, 0, 0, 0, 0, 0, 0, 0, 0, 0, 0, 0, 0, 0, 0, 0, 0, 0, 0, 0, 0, 0, 0, 0, 0, 0, 0, 0, 0, 0, 0,
+    0, 0, 0, 0, 0, 0, 0, 0, 0, 0, 0, 0, 0, 0, 0, 0, 0, 0, 0, 0, 0, 0, 0, 0, 0, 0, 0, 0, 0, 0, 0, 0,
+    0, 0, 0, 0, 0, 0, 0, 0, 0, 0, 0, 0, 0, 0, 0, 0, 0, 0, 0, 0, 0, 0, 0, 0, 0, 0, 0, 0, 0, 0, 0, 0,
+];
+
+/// What a byte is, as `KINDS` says.
+pub fn kind_of(byte: u8) -> u8
+    ensures { result ≡ byte_kind byte }
+{
+    KINDS[byte as usize]
+}
 
 /// A class of bytes.
 pub trait Class {
@@ -21,9 +39,6 @@ pub struct Blank;
 
 /// The bytes of a word.
 pub struct InWord;
-
-/// The bytes of a word but its capitals.
-pub struct InSmallWord;
 
 /// The digits.
 pub struct InNumber;
@@ -45,19 +60,11 @@ impl Class for Blank {
     }
 }
 
-impl Class for InSmallWord {
-    ghost test = { is_small_in_word };
-
-    fn has(byte: u8) -> bool {
-        matches!(byte, b'a'..=b'z' | b'_' | b'0'..=b'9')
-    }
-}
-
 impl Class for InWord {
     ghost test = { continues_word };
 
     fn has(byte: u8) -> bool {
-        continues_word(byte)
+        kind_of(byte) >= 2
     }
 }
 

@@ -6,6 +6,7 @@ use Rattle.std.proofs.lemmas.Result.{IfOk-weaker}
 use Rattle.std.proofs.lemmas.Str.{IsCharBoundary-after_ascii}
 use Rattle.sql_text.specs.Cuts.{StandsAt, mark_of}
 use Rattle.sql_text.specs.Tokens.{continues_char, marks}
+use Rattle.sql_text.proofs.ByteKinds.{by_kind}
 use Rattle.sql_text.proofs.Leads.{stands-mark, stands-bad_char, char-cut}
 use Rattle.sql_text.proofs.lexer.mark.Goals as goal
 
@@ -35,11 +36,12 @@ plain-requires-clause-last c =
 pub returns-then-len-gt0 : goal.returns-then-len-gt0
 returns-then-len-gt0 c =
     let s = c.args.source.now in
+    let other = (by_kind (get_or s c.args.at 0)).other c.requires.other in
     let known : find (starts_with eqb (drop c.args.at s)) marks ≡ mark_of c.mark_len-len.result (drop c.args.at s) = cc in
     let low : get_or s (c.args.at + c.mark_len-len.result - 1) 0 < 128 =
     rw c.as_bytes-bytes.ensures.value at (c.mark_len-len.ensures.ascii (omega arith)) in
     IfOk-weaker c.plain.result _ (StandsAt s c.args.at)
-    (λ t e. stands-mark s c.args.at _ t c.requires.begins c.requires.no_word c.requires.no_number c.requires.no_quote (omega arith) (omega arith)
+    (λ t e. stands-mark s c.args.at _ t c.requires.begins other.0 other.1 c.requires.no_quote (omega arith) (omega arith)
     (mark-cut s c.args.at c.mark_len-len.result c.utf8.source (omega arith) (omega arith) low)
     (known ∙ mark-some c.args.at c.mark_len-len.result s (omega arith)) e) c.plain.ensures
 
@@ -53,7 +55,8 @@ pub returns : goal.returns
 returns c =
     let s = c.args.source.now in
     let run : c.run_end.result ≡ c.args.at + 1 + prefix_len continues_char (drop (c.args.at + 1) s) = cc in
+    let other = (by_kind (get_or s c.args.at 0)).other c.requires.other in
     let known : find (starts_with eqb (drop c.args.at s)) marks ≡ mark_of c.mark_len-len.result (drop c.args.at s) = cc in
     IfOk-weaker c.plain-2.result _ (StandsAt s c.args.at)
-    (λ t e. stands-bad_char s c.args.at _ t c.requires.begins c.requires.no_word c.requires.no_number c.requires.no_quote run
+    (λ t e. stands-bad_char s c.args.at _ t c.requires.begins other.0 other.1 c.requires.no_quote run
     (known ∙ mark-none c.args.at c.mark_len-len.result s (omega arith)) e) c.plain-2.ensures
