@@ -1,16 +1,17 @@
 -- A block that is bound at once: nothing in it is to be refused, and it is the one with its names looked up.
---     AddsSound limit before after conditions          a block with these conditions more, which have no flaw and don't mix types
---     IsSoundOver limits names atoms tree block        the block of these atoms that a tree is bound to, where nothing in it is refused
 use Rattle.std.proofs.Common.{◌≡◌, ℕ, ◌+◌, ◌<◌, ◌≤◌, ◌||◌, ◌==◌, List, [], ◌∷◌, ◌++◌, length, take, get_or, map, All, ap, sym, ◌∙◌, subst, refl, arith, cond, Bool, true, false, not, Option, Some, None, ltb}
+use Rattle.std.specs.Prelude.{MatchOption}
 use Rattle.std.proofs.Math.Path.{fun_ext}
-use Rattle.std.specs.List.{flat_map, list_any, enumerate_from}
+use Rattle.std.specs.List.{filter_map, flat_map, list_any, enumerate_from}
 use Rattle.std.specs.Option.{option_map_or, option_to_list, is_none}
 use Rattle.std.proofs.lemmas.Bool.{le-ltb}
-use Rattle.std.proofs.lemmas.List.{append-nil, map_more, length-map}
+use Rattle.std.proofs.lemmas.List.{append-nil, map-append, map_more, length-map}
 use Rattle.std.proofs.lemmas.List.Concat.{flat_map-append}
+use Rattle.std.proofs.lemmas.List.Elements.{filter_map-append}
 use Rattle.beas_core.specs.declared.limits.Limits.{Limits}
 use Rattle.beas_core.specs.declared.query.Atom.{Atom}
 use Rattle.beas_core.specs.declared.query.Block.{Block}
+use Rattle.beas_core.specs.declared.query.Place.{Place}
 use Rattle.beas_core.specs.declared.query.Sign.{Sign}
 use Rattle.beas_core.specs.declared.query.Sign.TheVariants.{AtMost, AtLeast}
 use Rattle.beas_core.specs.declared.refusal.Counted.TheVariants as counted
@@ -28,7 +29,6 @@ use Rattle.catalogue.specs.Schema.{Schema, SchemaIsSound, table_named, columns_a
 use Rattle.sql_tree.specs.declared.tree.BlockTree.{BlockTree}
 use Rattle.sql_tree.specs.declared.tree.ColumnRef.{ColumnRef}
 use Rattle.sql_tree.specs.declared.tree.Cond.{Cond}
-use Rattle.sql_tree.specs.declared.tree.Cond.TheVariants as written
 use Rattle.sql_tree.specs.declared.tree.FromItem.{FromItem}
 use Rattle.sql_tree.specs.declared.tree.Literal.{Literal}
 use Rattle.sql_tree.specs.declared.tree.Literal.TheVariants.{Number, Words}
@@ -37,13 +37,16 @@ use Rattle.sql_tree.specs.declared.tree.Side.TheVariants as side
 use Rattle.sql_tree.specs.Trees as tree
 use Rattle.binder.specs.declared.kinds.Kind.{Kind}
 use Rattle.binder.specs.declared.kinds.Kind.TheVariants.{Types, Shapes, Blocks, Atoms, Outputs}
+use Rattle.binder.specs.declared.meaning.BoundColumn.{BoundColumn}
 use Rattle.binder.specs.declared.meaning.Condition.{Condition}
 use Rattle.binder.specs.declared.meaning.Condition.TheVariants.{Compare, Between}
 use Rattle.binder.specs.declared.meaning.LookedUp.{LookedUp}
 use Rattle.binder.specs.declared.meaning.Meaning.{Meaning}
+use Rattle.binder.specs.declared.meaning.Meaning.TheVariants.{At}
+use Rattle.binder.specs.AtOnce.{AddsSound, ArePlacesOf, IsSoundOutput, IsSoundOver, found_over}
 use Rattle.binder.specs.Binding.{blocks_of, places_in_all, shape_of, looked_refusals, refusals, bound_query}
 use Rattle.binder.specs.Literals.{number_value}
-use Rattle.binder.specs.LookedUp.{Adds, IsSmall, atom_of, looked_up, bound_block, outputs, part_of, parts}
+use Rattle.binder.specs.LookedUp.{Adds, IsSmall, all_places, atom_of, column_of, looked_up, bound_block, outputs, part_of, parts, place_of}
 use Rattle.binder.specs.Meanings.{sources, columns_named, meaning, condition, side_meaning, literal_meaning, or_out_of_range}
 use Rattle.binder.specs.Refusing.{first, refusals_if, table_refusals, unknown_tables, repeated_among, repeated_aliases, has_flaw, condition_has_flaw, block_has_flaw, kind_of, kinds_differ, is_mixed, same_kinds, places}
 use Rattle.binder.proofs.BindFacts.{small, none_left, none_right}
@@ -55,10 +58,6 @@ use Rattle.binder.proofs.WellFormed.{query_fits}
 use Rattle.binder.proofs.OverTables.{query_over}
 
 -- ---- conditions
-
-abbrev pub AddsSound : ℕ → Block → Block → List Condition → Type 0
-AddsSound limit before after conditions = (list_any (condition_has_flaw limit) conditions ≡ false) × (list_any is_mixed conditions ≡ false)
-    × Adds before after (flat_map parts conditions)
 
 pub none_sound : (limit : ℕ) (block : Block) → AddsSound limit block block []
 none_sound limit block = (refl, refl, adds_none block)
@@ -116,6 +115,35 @@ sound_to limit before middle after f conds i c below is one two =
     subst (AddsSound limit before after) (ap (λ d. map f (take i conds) ++ f d ∷ []) is ∙ sym (map_more f conds i c below))
     (sound_more limit before middle after (map f (take i conds)) (f c) one two)
 
+-- ---- outputs
+
+pub places_sound_to : (told : ColumnRef → Meaning) (refs : List ColumnRef) (i : ℕ) (ref : ColumnRef) (column : BoundColumn) (places more : List Place)
+    → i < length refs → ref ≡ get_or refs i ref → told ref ≡ At column → ArePlacesOf places (map told (take i refs)) → more ≡ places ++ place_of column ∷ []
+    → ArePlacesOf more (map told (take (i + 1) refs))
+places_sound_to told refs i ref column places more below is told_is so_far added =
+    let before : List Meaning = map told (take i refs) in
+    subst (ArePlacesOf more)
+    (ap (λ m. before ++ m ∷ []) (sym told_is) ∙ ap (λ r. before ++ told r ∷ []) is ∙ sym (map_more told refs i ref below)) (
+      λ limit. none_more (has_flaw limit) before (At column) (so_far.0 limit) refl,
+      added ∙ ap (λ ps. ps ++ place_of column ∷ []) so_far.1
+          ∙ sym (ap (map place_of) (filter_map-append column_of before (At column ∷ [])) ∙ map-append place_of (filter_map column_of before) (column ∷ [])),
+    )
+
+pub output_plain : (limits : Limits) (told : ColumnRef → Meaning) (atoms : List Atom) (t : BlockTree) (refs : List ColumnRef) (made : Option (List Place))
+    → t.star ≡ false → refs ≡ t.items → length refs ≤ limits.outputs → MatchOption made (Unit {0}) (λ places. ArePlacesOf places (map told refs))
+    → MatchOption made (Unit {0}) (IsSoundOutput limits told atoms t)
+output_plain limits told atoms t refs None plain same few so = tt
+output_plain limits told atoms t refs (Some places) plain same few so =
+    let count : length (map told refs) ≡ length refs = length-map refs told in (
+      subst (λ (rs : List ColumnRef). list_any (has_flaw limits.text) (map told rs) ≡ false) same (so.0 limits.text),
+      subst (λ (rs : List ColumnRef). length (map told rs) ≤ limits.outputs) same (omega (arith, count, few)),
+      so.1 ∙ ap (λ (rs : List ColumnRef). map place_of (filter_map column_of (map told rs))) same
+          ∙ sym (ap (λ b. cond b (all_places atoms) (map place_of (filter_map column_of (map told t.items)))) plain),
+    )
+
+pub of_some : {X : Type 0} (P : X → Type 0) (o : Option X) (x : X) → o ≡ Some x → MatchOption o (Unit {0}) P → P x
+of_some P o x is so = subst (λ p. MatchOption p (Unit {0}) P) is so
+
 -- ---- numbers of 16 bits
 
 number_small : (negative : Bool) (digits : List ℕ) (o : Option Value) → IsSmall (or_out_of_range negative digits o)
@@ -138,18 +166,6 @@ ref_small schema items sound few ref =
     (ref_fits schema items ref)
 
 -- ---- a block
-
-abbrev pub found_over : (ColumnRef → Meaning) → List Atom → BlockTree → LookedUp
-found_over names atoms tree =
-    record { atoms = atoms; star = tree.star; items = map names tree.items; kinds = []; conditions = map (condition names) tree.conditions }
-
-abbrev pub IsSoundOver : Limits → (ColumnRef → Meaning) → List Atom → BlockTree → Block → Type 0
-IsSoundOver limits names atoms tree block =
-    (list_any (has_flaw limits.text) (map names tree.items) ≡ false)
-    × (length (map names tree.items) ≤ limits.outputs)
-    × (list_any (condition_has_flaw limits.text) (map (condition names) tree.conditions) ≡ false)
-    × (list_any is_mixed (map (condition names) tree.conditions) ≡ false)
-    × (block ≡ bound_block (found_over names atoms tree))
 
 pub bound_sound : (limits : Limits) (schema : Schema) (t : BlockTree) (names : ColumnRef → Meaning) (atoms : List Atom) (block : Block)
     → ((ref : ColumnRef) → names ref ≡ meaning (sources schema t.from_items) ref) → atoms ≡ map (atom_of schema) t.from_items
@@ -253,24 +269,6 @@ none_refused limits schema t names atoms block same atoms_are sound once wide fe
 pub query_made : (schema : Schema) (t : tree.Tree) (b : BlockTree) (made : Block) (q : query.QueryTree) → t ≡ tree.Block b
     → made ≡ bound_block (looked_up schema b) → Some (query.Single made) ≡ Some q → q ≡ bound_query schema t
 query_made schema t b made q is so same = sym (the_same (query.Single made) q same) ∙ ap (λ m. query.Single m) so ∙ ap (bound_query schema) (sym is)
-
--- ---- from what is written
-
-pub compare_sound : (limit : ℕ) (before after : Block) (names : ColumnRef → Meaning) (c : Cond) (left : Side) (sign : Sign) (right : Side) (l r : Meaning)
-    → c ≡ written.Compare left sign right → l ≡ side_meaning names left → r ≡ side_meaning names right
-    → AddsSound limit before after (Compare l sign r ∷ []) → AddsSound limit before after (condition names c ∷ [])
-compare_sound limit before after names c left sign right l r is left_is right_is sound =
-    subst (λ (d : Condition). AddsSound limit before after (d ∷ []))
-    (ap (λ m. Compare m sign r) left_is ∙ ap (λ m. Compare (side_meaning names left) sign m) right_is ∙ sym (ap (condition names) is)) sound
-
-pub range_sound : (limit : ℕ) (before middle after : Block) (names : ColumnRef → Meaning) (c : Cond) (value : ColumnRef) (low high : Side) (v l h : Meaning)
-    → c ≡ written.Between value low high → v ≡ names value → l ≡ side_meaning names low → h ≡ side_meaning names high
-    → AddsSound limit before middle (Compare v AtLeast l ∷ []) → AddsSound limit middle after (Compare v AtMost h ∷ [])
-    → AddsSound limit before after (condition names c ∷ [])
-range_sound limit before middle after names c value low high v l h is value_is low_is high_is one two =
-    subst (λ (d : Condition). AddsSound limit before after (d ∷ []))
-    (ap (λ m. Between m l h) value_is ∙ ap (λ m. Between (names value) m h) low_is ∙ ap (λ m. Between (names value) (side_meaning names low) m) high_is
-    ∙ sym (ap (condition names) is)) (between_sound limit before middle after v l h one two)
 
 pub sound_over : (limits : Limits) (names : ColumnRef → Meaning) (atoms : List Atom) (t : BlockTree) (empty made block : Block)
     → list_any (has_flaw limits.text) (map names t.items) ≡ false → length (map names t.items) ≤ limits.outputs

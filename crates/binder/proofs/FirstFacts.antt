@@ -1,5 +1,6 @@
 -- The first of joined lists of refusals.
 use Rattle.std.proofs.Common.{◌≡◌, ℕ, ◌+◌, ◌<◌, ◌≤◌, List, [], ◌∷◌, ◌++◌, length, drop, get_or, refl, ap, arith, sym, ◌∙◌, Option, Some, None, Result, Ok, Err}
+use Rattle.std.specs.Prelude.{IfOk}
 use Rattle.std.specs.List.{flat_map, enumerate_from}
 use Rattle.std.proofs.lemmas.List.Concat.{flat_map-append}
 use Rattle.std.proofs.lemmas.List.FromFn.{length-enumerate_from, get_or-enumerate_from}
@@ -84,3 +85,9 @@ numbered_below xs i below = rw (length-enumerate_from 1 xs) below
 
 pub numbered_end : {X : Type 0} (xs : List X) (i : ℕ) → length xs ≤ i → length (enumerate_from 1 xs) ≤ i
 numbered_end xs i all = rw (length-enumerate_from 1 xs) all
+
+-- what holds of an answer and where nothing is refused holds of each answer
+pub if_answered : {X : Type 0} (P Q : X → Type 0) (r : Result X Fail) (why : Option Refusal) → IsRefusedAs r why → IfOk r P
+    → ((x : X) → P x → why ≡ None → Q x) → IfOk r Q
+if_answered P Q (Ok x) why refused so step = step x so refused
+if_answered P Q (Err e) why refused so step = tt

@@ -1,3 +1,4 @@
+pub mod AtOnce
 pub mod Binding
 pub mod Literals
 pub mod LookedUp

@@ -1,101 +1,206 @@
 // Binds a query of one block at once where nothing in it is to be refused, as in most queries. Where something may be,
 // it answers nothing, and `binding` finds out what.
-ghost use Rattle.std.specs.Prelude.{◌≡◌, ◌≤◌, ◌<◌, ◌==◌, ◌∷◌, true, false, Some, None, [], IfOk, map, length};
-ghost use Rattle.std.specs.List.{flat_map, list_any};
+ghost use Rattle.std.specs.Prelude.{◌≡◌, ◌<◌, ◌==◌, ◌∷◌, true, false, Some, None, [], IfOk, MatchOption, map, length};
+ghost use Rattle.std.specs.List.{list_any};
 ghost use Rattle.beas_core.specs.declared.query.Block.{Block as MadeBlock};
+ghost use Rattle.beas_core.specs.declared.value.Value.TheVariants.{Int, Str};
 ghost use Rattle.beas_core.specs.Trees.{QueryTree};
-ghost use Rattle.sql_tree.specs.declared.tree.ColumnRef.{ColumnRef};
 ghost use Rattle.sql_tree.specs.Trees as written;
 ghost use Rattle.catalogue.specs.Schema.{SchemaIsSound};
+ghost use Rattle.binder.specs.AtOnce.{AddsSound, ArePlacesOf, IsSoundOutput, IsSoundOver, PairAdds, meaning_of, told_among};
 ghost use Rattle.binder.specs.Binding.{refusals, bound_query};
-ghost use Rattle.binder.specs.declared.meaning.Condition.TheVariants.{Compare};
-ghost use Rattle.binder.specs.LookedUp.{looked_up, bound_block, parts, Adds, IsSmall};
-ghost use Rattle.binder.specs.Meanings.{condition};
-ghost use Rattle.binder.specs.Refusing.{first, has_flaw, condition_has_flaw, is_mixed};
-ghost use Rattle.binder.specs.Scopes.{told_by};
+ghost use Rattle.binder.specs.declared.meaning.Condition.TheVariants.{Between, Compare};
+ghost use Rattle.binder.specs.declared.meaning.Meaning.TheVariants.{At, Fixed};
+ghost use Rattle.binder.specs.LookedUp.{looked_up, bound_block, IsSmall};
+ghost use Rattle.binder.specs.Meanings.{condition, side_meaning};
+ghost use Rattle.binder.specs.Refusing.{first};
 
-use crate::building::{add_comparison, outputs_of};
+use crate::building::{add_part, all_places, mirrored_sign, place_of, with_column, with_value};
 use crate::found::NamedAtom;
-use crate::looking_up::meanings_of;
-use crate::meaning::Meaning;
-use crate::names::{FEW, Names, atoms_in_order};
-use crate::refusing::{any_item_has_flaw, has_flaw, kinds_differ};
-use beas_core::{Atom, Block, Fail, Limits, List, NoMemory, Query, QueryNode, Sign};
+use crate::meaning::BoundColumn;
+use crate::names::{FEW, atoms_in_order};
+use crate::refusing::same_kind;
+use crate::sound::{Sound, column_among, sound_side};
+use beas_core::{
+    Atom, Block, ColType, Fail, Limits, List, NoMemory, Place, Query, QueryNode, Sign, Text, Value,
+};
 use catalogue::Catalogue;
-use sql_tree::{BlockTree, Cond, SelectNode, SelectTree};
+use sql_tree::{BlockTree, ColumnRef, Cond, SelectNode, SelectTree, Side};
 use std::alloc::Global;
 
-/// Adds what a comparison adds, where its sides have no flaw and agree in type. Whether they do.
-fn add_pair_if_sound(
-    alloc: Global,
-    limit: u32,
+/// Adds what a comparison of two columns adds, where they agree in type. Whether they do.
+fn add_columns(
     block: &mut Block,
-    left: &Meaning,
+    left: BoundColumn,
     sign: Sign,
-    right: &Meaning,
+    right: BoundColumn,
 ) -> Result<bool, NoMemory>
-    requires left { IsSmall left.now }
-    requires right { IsSmall right.now }
-    ensures { IfOk result (λ sound. sound ≡ true
-        → (list_any (condition_has_flaw limit) (Compare left.now sign right.now ∷ []) ≡ false)
-        × (list_any is_mixed (Compare left.now sign right.now ∷ []) ≡ false)
-        × Adds block.old block.new (flat_map parts (Compare left.now sign right.now ∷ []))) }
+    requires left { IsSmall (At left) }
+    requires right { IsSmall (At right) }
+    ensures { IfOk result (λ sound. sound ≡ true → PairAdds block.old block.new (At left) sign (At right)) }
 {
-    if has_flaw(limit, left) || has_flaw(limit, right) || kinds_differ(left, right) {
+    if !same_kind(left.kind, right.kind) {
         return Ok(false);
     }
-    add_comparison(alloc, block, left, sign, right)?;
+    add_part(block, with_column(left, sign, right))?;
     Ok(true)
 }
 
-/// Adds what a condition adds, where its sides have no flaw and agree in type. Whether they do.
+/// Adds what a comparison of a column with a number adds, where they agree in type. Whether they do.
+fn add_number(
+    block: &mut Block,
+    left: BoundColumn,
+    sign: Sign,
+    number: i64,
+) -> Result<bool, NoMemory>
+    requires { IsSmall (At left) }
+    ensures { IfOk result (λ sound. sound ≡ true → PairAdds block.old block.new (At left) sign (Fixed (Int number))) }
+{
+    if !same_kind(left.kind, ColType::Integer) {
+        return Ok(false);
+    }
+    add_part(block, with_value(left, sign, Value::Int(number)))?;
+    Ok(true)
+}
+
+/// Adds what a comparison of a column with a text adds, where they agree in type. Whether they do.
+fn add_words(
+    alloc: Global,
+    block: &mut Block,
+    left: BoundColumn,
+    sign: Sign,
+    words: &str,
+) -> Result<bool, NoMemory>
+    requires { IsSmall (At left) }
+    ensures { IfOk result (λ sound. sound ≡ true → PairAdds block.old block.new (At left) sign (Fixed (Str words.now))) }
+{
+    if !same_kind(left.kind, ColType::Words) {
+        return Ok(false);
+    }
+    let text = Text::from_str(alloc, words)?;
+    add_part(block, with_value(left, sign, Value::Str(text)))?;
+    Ok(true)
+}
+
+/// Adds what a comparison adds, where a side is a column and both agree in type. Whether it is so.
+fn add_pair_if_sound(
+    alloc: Global,
+    block: &mut Block,
+    left: &Sound,
+    sign: Sign,
+    right: &Sound,
+) -> Result<bool, NoMemory>
+    requires left { IsSmall (meaning_of left.now) }
+    requires right { IsSmall (meaning_of right.now) }
+    ensures { IfOk result (λ sound. sound ≡ true
+        → PairAdds block.old block.new (meaning_of left.now) sign (meaning_of right.now)) }
+{
+    match (left, right) {
+        (Sound::At(left), Sound::At(right)) => add_columns(block, *left, sign, *right),
+        (Sound::At(left), Sound::Number(number)) => add_number(block, *left, sign, *number),
+        (Sound::At(left), Sound::Words(words)) => add_words(alloc, block, *left, sign, words),
+        (Sound::Number(number), Sound::At(right)) => {
+            add_number(block, *right, mirrored_sign(sign), *number)
+        }
+        (Sound::Words(words), Sound::At(right)) => {
+            add_words(alloc, block, *right, mirrored_sign(sign), words)
+        }
+        _ => Ok(false),
+    }
+}
+
+/// Adds what a comparison of two sides adds, where they have no flaw and agree in type. Whether it is so.
+fn add_sides_if_sound(
+    alloc: Global,
+    atoms: &[NamedAtom],
+    limit: u32,
+    block: &mut Block,
+    left: &Side,
+    sign: Sign,
+    right: &Side,
+) -> Result<bool, NoMemory>
+    requires { (ref : ColumnRef) → IsSmall (told_among atoms.now ref) }
+    ensures { IfOk result (λ sound. sound ≡ true
+        → AddsSound limit block.old block.new (Compare (side_meaning (told_among atoms.now) left.now) sign
+        (side_meaning (told_among atoms.now) right.now) ∷ [])) }
+{
+    let Some(left) = sound_side(atoms, limit, left) else {
+        return Ok(false);
+    };
+    let Some(right) = sound_side(atoms, limit, right) else {
+        return Ok(false);
+    };
+    add_pair_if_sound(alloc, block, &left, sign, &right)
+}
+
+/// Adds what BETWEEN adds, where its sides have no flaw and agree in type. Whether it is so.
+#[inline(never)]
+fn add_range_if_sound(
+    alloc: Global,
+    atoms: &[NamedAtom],
+    limit: u32,
+    block: &mut Block,
+    value: &ColumnRef,
+    low: &Side,
+    high: &Side,
+) -> Result<bool, NoMemory>
+    requires { (ref : ColumnRef) → IsSmall (told_among atoms.now ref) }
+    ensures { IfOk result (λ sound. sound ≡ true
+        → AddsSound limit block.old block.new (Between (told_among atoms.now value.now)
+        (side_meaning (told_among atoms.now) low.now) (side_meaning (told_among atoms.now) high.now) ∷ [])) }
+{
+    let Some(column) = column_among(atoms, value) else {
+        return Ok(false);
+    };
+    let Some(low) = sound_side(atoms, limit, low) else {
+        return Ok(false);
+    };
+    let Some(high) = sound_side(atoms, limit, high) else {
+        return Ok(false);
+    };
+    let value = Sound::At(column);
+    if !add_pair_if_sound(alloc, block, &value, Sign::AtLeast, &low)? {
+        return Ok(false);
+    }
+    add_pair_if_sound(alloc, block, &value, Sign::AtMost, &high)
+}
+
+/// Adds what a condition adds, where its sides have no flaw and agree in type. Whether it is so.
 fn add_if_sound(
     alloc: Global,
-    names: &Names,
+    atoms: &[NamedAtom],
     limit: u32,
     block: &mut Block,
     cond: &Cond,
 ) -> Result<bool, NoMemory>
-    requires { (ref : ColumnRef) → IsSmall (told_by names.now ref) }
+    requires { (ref : ColumnRef) → IsSmall (told_among atoms.now ref) }
     ensures { IfOk result (λ sound. sound ≡ true
-        → (list_any (condition_has_flaw limit) (condition (told_by names.now) cond.now ∷ []) ≡ false)
-        × (list_any is_mixed (condition (told_by names.now) cond.now ∷ []) ≡ false)
-        × Adds block.old block.new (flat_map parts (condition (told_by names.now) cond.now ∷ []))) }
+        → AddsSound limit block.old block.new (condition (told_among atoms.now) cond.now ∷ [])) }
 {
     match cond {
         Cond::Compare { left, sign, right } => {
-            let left = names.side(alloc, left)?;
-            let right = names.side(alloc, right)?;
-            add_pair_if_sound(alloc, limit, block, &left, *sign, &right)
+            add_sides_if_sound(alloc, atoms, limit, block, left, *sign, right)
         }
         Cond::Between { value, low, high } => {
-            let value = names.meaning(alloc, value)?;
-            let low = names.side(alloc, low)?;
-            let high = names.side(alloc, high)?;
-            if !add_pair_if_sound(alloc, limit, block, &value, Sign::AtLeast, &low)? {
-                return Ok(false);
-            }
-            add_pair_if_sound(alloc, limit, block, &value, Sign::AtMost, &high)
+            add_range_if_sound(alloc, atoms, limit, block, value, low, high)
         }
     }
 }
 
-/// Adds what conditions add, where the sides of each have no flaw and agree in type. Whether they do.
+/// Adds what conditions add, where the sides of each have no flaw and agree in type. Whether it is so.
 fn add_all_if_sound(
     alloc: Global,
-    names: &Names,
+    atoms: &[NamedAtom],
     limit: u32,
     block: &mut Block,
     conditions: &[Cond],
 ) -> Result<bool, NoMemory>
-    requires { (ref : ColumnRef) → IsSmall (told_by names.now ref) }
+    requires { (ref : ColumnRef) → IsSmall (told_among atoms.now ref) }
     ensures { IfOk result (λ sound. sound ≡ true
-        → (list_any (condition_has_flaw limit) (map (condition (told_by names.now)) conditions.now) ≡ false)
-        × (list_any is_mixed (map (condition (told_by names.now)) conditions.now) ≡ false)
-        × Adds block.old block.new (flat_map parts (map (condition (told_by names.now)) conditions.now))) }
+        → AddsSound limit block.old block.new (map (condition (told_among atoms.now)) conditions.now)) }
 {
     for cond in conditions {
-        if !add_if_sound(alloc, names, limit, block, cond)? {
+        if !add_if_sound(alloc, atoms, limit, block, cond)? {
             return Ok(false);
         }
     }
@@ -125,37 +230,69 @@ fn any_is_empty(atoms: &[Atom]) -> bool
     false
 }
 
+/// The places of the columns that refs stand for, where each stands for one.
+fn places_if_sound(
+    alloc: Global,
+    atoms: &[NamedAtom],
+    references: &[ColumnRef],
+) -> Result<Option<List<Place>>, NoMemory>
+    requires { (ref : ColumnRef) → IsSmall (told_among atoms.now ref) }
+    ensures { IfOk result (λ made. MatchOption made (Unit {0})
+        (λ places. ArePlacesOf places (map (told_among atoms.now) references.now))) }
+{
+    let mut places = List::from_vec(Vec::with_capacity(alloc, references.len())?);
+    for reference in references {
+        let Some(column) = column_among(atoms, reference) else {
+            return Ok(None);
+        };
+        places.push(place_of(column))?;
+    }
+    Ok(Some(places))
+}
+
+/// The outputs of a block of these atoms, where they have no flaw and aren't too many.
+fn output_if_sound(
+    alloc: Global,
+    limits: &Limits,
+    named: &[NamedAtom],
+    atoms: &[Atom],
+    tree: &BlockTree,
+) -> Result<Option<List<Place>>, NoMemory>
+    requires few { length atoms.now < 65536 }
+    requires small { (ref : ColumnRef) → IsSmall (told_among named.now ref) }
+    ensures { IfOk result (λ made. MatchOption made (Unit {0})
+        (λ places. IsSoundOutput limits.now (told_among named.now) atoms.now tree.now places)) }
+{
+    let references = tree.items.as_slice();
+    if references.len() > usize::from(limits.outputs) {
+        return Ok(None);
+    }
+    if !tree.star {
+        return places_if_sound(alloc, named, references);
+    }
+    // A star stands alone.
+    if !references.is_empty() {
+        return Ok(None);
+    }
+    Ok(Some(all_places(alloc, atoms)?))
+}
+
 /// The block of these atoms with the outputs and the conditions of a tree, where they have no flaw.
 fn bound_over(
     alloc: Global,
     limits: &Limits,
-    names: &Names,
+    named: &[NamedAtom],
     atoms: List<Atom>,
     tree: &BlockTree,
 ) -> Result<Option<Block>, NoMemory>
     requires few { length atoms < 65536 }
-    requires small { (ref : ColumnRef) → IsSmall (told_by names.now ref) }
+    requires small { (ref : ColumnRef) → IsSmall (told_among named.now ref) }
     ensures { IfOk result (λ bound. (block : MadeBlock) → bound ≡ Some block
-        → (list_any (has_flaw limits.now.text) (map (told_by names.now) tree.now.items) ≡ false)
-        × (length (map (told_by names.now) tree.now.items) ≤ limits.now.outputs)
-        × (list_any (condition_has_flaw limits.now.text)
-        (map (condition (told_by names.now)) tree.now.conditions) ≡ false)
-        × (list_any is_mixed (map (condition (told_by names.now)) tree.now.conditions) ≡ false)
-        × (block ≡ bound_block (record {
-          atoms = atoms;
-          star = tree.now.star;
-          items = map (told_by names.now) tree.now.items;
-          kinds = [];
-          conditions = map (condition (told_by names.now)) tree.now.conditions;
-        }))) }
+        → IsSoundOver limits.now (told_among named.now) atoms tree.now block) }
 {
-    let items = meanings_of(alloc, names, tree.items.as_slice())?;
-    if items.len() > usize::from(limits.outputs)
-        || any_item_has_flaw(limits.text, items.as_slice())
-    {
+    let Some(output) = output_if_sound(alloc, limits, named, atoms.as_slice(), tree)? else {
         return Ok(None);
-    }
-    let output = outputs_of(alloc, tree.star, atoms.as_slice(), items.as_slice())?;
+    };
     let mut block = Block {
         atoms,
         equalities: List::new(alloc),
@@ -164,7 +301,7 @@ fn bound_over(
         output,
     };
     let conditions = tree.conditions.as_slice();
-    if add_all_if_sound(alloc, names, limits.text, &mut block, conditions)? {
+    if add_all_if_sound(alloc, named, limits.text, &mut block, conditions)? {
         return Ok(Some(block));
     }
     Ok(None)
@@ -196,7 +333,7 @@ fn block_at_once(
     if any_is_empty(atoms.as_slice()) {
         return Ok(None);
     }
-    bound_over(alloc, limits, &Names::Few(named), atoms, block)
+    bound_over(alloc, limits, &named, atoms, block)
 }
 
 /// The bound query, where it is one block of few atoms, and nothing in it is to be refused.

@@ -230,6 +230,26 @@ pub fn recall_soundness(catalogue: &Catalogue)
     let _accesses = catalogue.accesses();
 }
 
+/// Binds a query kind by kind of refusal, as one has to be bound in which something may be refused.
+#[inline(never)]
+fn bound_by_kinds(
+    alloc: Global,
+    catalogue: &Catalogue,
+    limits: &Limits,
+    tree: &SelectTree,
+) -> Result<Query, Fail>
+    requires schema { SchemaIsSound catalogue.now }
+    requires blocks { length (blocks_of tree.now) < 2 ^ 32 }
+    requires conditions { All (λ b. length b.conditions < 2 ^ 32) (blocks_of tree.now) }
+    ensures refused { IsRefusedAs result (first (refusals limits.now catalogue.now tree.now)) }
+    ensures query { IfOk result (λ query. query ≡ bound_query catalogue.now tree.now) }
+{
+    let blocks = looked_up_blocks(alloc, catalogue, tree)?;
+    refuse_all(alloc, limits, &blocks)?;
+    let mut bound = bound_blocks(alloc, &blocks)?;
+    Ok(join_blocks(alloc, tree, &mut bound)?)
+}
+
 /// Binds a query: each name becomes the one place that it stands for.
 pub fn bind(
     alloc: Global,
@@ -250,8 +270,5 @@ pub fn bind(
     if let Some(query) = bound_at_once(alloc, catalogue, limits, tree)? {
         return Ok(query);
     }
-    let blocks = looked_up_blocks(alloc, catalogue, tree)?;
-    refuse_all(alloc, limits, &blocks)?;
-    let mut bound = bound_blocks(alloc, &blocks)?;
-    Ok(join_blocks(alloc, tree, &mut bound)?)
+    bound_by_kinds(alloc, catalogue, limits, tree)
 }

@@ -11,7 +11,8 @@ use beas_core::{
 };
 use std::alloc::Global;
 
-fn place_of(column: BoundColumn) -> Place
+/// The place of a column.
+pub fn place_of(column: BoundColumn) -> Place
     requires atom { column.atom < 65536 }
     requires column { column.column < 65536 }
     ensures { result ≡ place_of column }
@@ -23,7 +24,7 @@ fn place_of(column: BoundColumn) -> Place
 }
 
 /// The sign of a comparison with its sides exchanged.
-fn mirrored_sign(sign: Sign) -> Sign
+pub fn mirrored_sign(sign: Sign) -> Sign
     ensures { result ≡ mirrored_sign sign }
 {
     match sign {
@@ -36,7 +37,8 @@ fn mirrored_sign(sign: Sign) -> Sign
     }
 }
 
-fn with_column(left: BoundColumn, sign: Sign, right: BoundColumn) -> Part
+/// What a comparison of two columns adds.
+pub fn with_column(left: BoundColumn, sign: Sign, right: BoundColumn) -> Part
     requires left_atom { left.atom < 65536 }
     requires left_column { left.column < 65536 }
     requires right_atom { right.atom < 65536 }
@@ -55,7 +57,8 @@ fn with_column(left: BoundColumn, sign: Sign, right: BoundColumn) -> Part
     }
 }
 
-fn with_value(left: BoundColumn, sign: Sign, value: Value) -> Part
+/// What a comparison of a column with a value adds.
+pub fn with_value(left: BoundColumn, sign: Sign, value: Value) -> Part
     requires atom { left.atom < 65536 }
     requires column { left.column < 65536 }
     ensures { result ≡ with_value left sign value }
@@ -94,7 +97,8 @@ fn part_of(
     }
 }
 
-fn add_part(block: &mut Block, part: Part) -> Result<(), NoMemory>
+/// Adds a part to a block.
+pub fn add_part(block: &mut Block, part: Part) -> Result<(), NoMemory>
     ensures { OnOk result (Adds block.old block.new (part ∷ [])) }
 {
     match part {
@@ -105,7 +109,7 @@ fn add_part(block: &mut Block, part: Part) -> Result<(), NoMemory>
 }
 
 /// Adds what a comparison adds.
-pub fn add_comparison(
+fn add_comparison(
     alloc: Global,
     block: &mut Block,
     left: &Meaning,
@@ -164,7 +168,8 @@ fn add_places(places: &mut List<Place>, atom: u16, width: u16) -> Result<(), NoM
     Ok(())
 }
 
-fn all_places(alloc: Global, atoms: &[Atom]) -> Result<List<Place>, NoMemory>
+/// The places of all columns of all atoms, in order.
+pub fn all_places(alloc: Global, atoms: &[Atom]) -> Result<List<Place>, NoMemory>
     requires { length atoms.now < 65536 }
     ensures { IfOk result (λ places. places ≡ all_places atoms.now) }
 {
@@ -189,7 +194,7 @@ fn item_places(alloc: Global, items: &[Meaning]) -> Result<List<Place>, NoMemory
 }
 
 /// All columns of the atoms where there is a star, and else those that the items stand for.
-pub fn outputs_of(
+fn outputs_of(
     alloc: Global,
     star: bool,
     atoms: &[Atom],

@@ -22,6 +22,7 @@ mod names;
 mod refusing;
 mod rows;
 mod scope;
+mod sound;
 mod texts;
 
 pub use binding::bind;

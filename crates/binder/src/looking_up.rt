@@ -71,7 +71,7 @@ pub fn atoms_of(
 }
 
 /// What refs stand for, in order.
-pub fn meanings_of(
+fn meanings_of(
     alloc: Global,
     names: &Names,
     references: &[ColumnRef],

@@ -1,9 +1,9 @@
 // What the names of a block stand for. A block of few atoms is walked for each name, since that takes less time than to make maps.
 ghost use Rattle.std.specs.List.{list_any};
-ghost use Rattle.std.specs.Prelude.{◌≡◌, IfOk, bytes_eq, map};
+ghost use Rattle.std.specs.Prelude.{◌≡◌, Some, None, IfOk, bytes_eq, map};
 ghost use Rattle.sql_tree.specs.declared.tree.ColumnRef.{ColumnRef};
 ghost use Rattle.binder.specs.LookedUp.{atom_of};
-ghost use Rattle.binder.specs.Meanings.{side_meaning, columns_named, condition, meaning, may_name, named_by, sources};
+ghost use Rattle.binder.specs.Meanings.{side_meaning, columns_named, condition, meaning, named_by, sources};
 ghost use Rattle.beas_core.specs.Results.{IsRefusedAs};
 ghost use Rattle.binder.specs.Refusing.{first, repeated_among};
 ghost use Rattle.binder.specs.Scopes.{found_in, found_or_more, source_of, found_of, told_by};
@@ -90,16 +90,6 @@ pub fn atoms_in_order<'a>(
     Ok(atoms)
 }
 
-/// Whether a ref may stand for a column of this atom.
-fn may_name(reference: &ColumnRef, atom: &NamedAtom) -> bool
-    ensures { result ≡ may_name reference.now (source_of atom.now) }
-{
-    match &reference.table {
-        Some(alias) => is_same(atom.alias, alias.as_str()),
-        None => true,
-    }
-}
-
 /// What is found in both together.
 fn found_or_more(before: Option<Found>, more: Option<Found>) -> Option<Found>
     ensures { result ≡ found_or_more before more }
@@ -111,18 +101,39 @@ fn found_or_more(before: Option<Found>, more: Option<Found>) -> Option<Found>
     }
 }
 
-/// The columns of these atoms that a ref may stand for.
-fn find_among(atoms: &[NamedAtom], reference: &ColumnRef) -> Option<Found>
-    ensures { result ≡ found_in (named_by (map source_of atoms.now) reference.now) }
+/// The columns with this name of the atoms with this alias.
+fn find_with_alias(atoms: &[NamedAtom], alias: &str, name: &str) -> Option<Found>
+    ensures { result ≡ found_in (named_by (map source_of atoms.now) (record { table = Some alias.now; column = name.now })) }
 {
     let mut found = None;
     for (number, atom) in atoms.iter().enumerate() {
-        if may_name(reference, atom) {
-            let more = find_in(number, atom.columns, reference.column.as_str());
-            found = found_or_more(found, more);
+        if is_same(atom.alias, alias) {
+            found = found_or_more(found, find_in(number, atom.columns, name));
         }
     }
     found
+}
+
+/// The columns with this name of all these atoms.
+fn find_in_any(atoms: &[NamedAtom], name: &str) -> Option<Found>
+    ensures { result ≡ found_in (named_by (map source_of atoms.now) (record { table = None; column = name.now })) }
+{
+    let mut found = None;
+    for (number, atom) in atoms.iter().enumerate() {
+        found = found_or_more(found, find_in(number, atom.columns, name));
+    }
+    found
+}
+
+/// The columns of these atoms that a ref may stand for.
+pub fn find_among(atoms: &[NamedAtom], reference: &ColumnRef) -> Option<Found>
+    ensures { result ≡ found_in (named_by (map source_of atoms.now) reference.now) }
+{
+    let name = reference.column.as_str();
+    match &reference.table {
+        Some(alias) => find_with_alias(atoms, alias.as_str(), name),
+        None => find_in_any(atoms, name),
+    }
 }
 
 /// The names of a block. It is refused where an alias stands twice.

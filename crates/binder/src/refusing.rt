@@ -126,7 +126,7 @@ fn refuse_conditions(
 }
 
 /// Whether what a ref or a literal stands for has a flaw of any kind.
-pub fn has_flaw(limit: u32, meaning: &Meaning) -> bool
+fn has_flaw(limit: u32, meaning: &Meaning) -> bool
     ensures { result ≡ has_flaw limit meaning.now }
 {
     match meaning {
@@ -149,7 +149,7 @@ fn condition_has_flaw(limit: u32, condition: &Condition) -> bool
 }
 
 /// Whether any of these has a flaw.
-pub fn any_item_has_flaw(limit: u32, items: &[Meaning]) -> bool
+fn any_item_has_flaw(limit: u32, items: &[Meaning]) -> bool
     ensures { result ≡ list_any (has_flaw limit) items.now }
 {
     for item in items {
@@ -201,7 +201,8 @@ fn kind_of(meaning: &Meaning) -> Option<ColType>
     }
 }
 
-fn same_kind(left: ColType, right: ColType) -> bool
+/// Whether two types are the same.
+pub fn same_kind(left: ColType, right: ColType) -> bool
     ensures { result ≡ same_kind left right }
 {
     match (left, right) {
@@ -213,7 +214,7 @@ fn same_kind(left: ColType, right: ColType) -> bool
 }
 
 /// Whether two sides differ in type.
-pub fn kinds_differ(left: &Meaning, right: &Meaning) -> bool
+fn kinds_differ(left: &Meaning, right: &Meaning) -> bool
     ensures { result ≡ kinds_differ (kind_of left.now) (kind_of right.now) }
 {
     match (kind_of(left), kind_of(right)) {

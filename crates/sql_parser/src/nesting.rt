@@ -98,7 +98,7 @@ fn look_at(look: Look, token: &Token) -> Look
     match token.kind {
         TokenKind::Word => look_at_word(look, token.text.as_str()),
         TokenKind::Mark => look_at_mark(look, token.text.as_str()),
-        TokenKind::Number | TokenKind::Quoted | TokenKind::Bad => look,
+        _ => look,
     }
 }
 

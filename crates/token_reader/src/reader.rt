@@ -219,6 +219,7 @@ impl<'a> Reader<'a> {
 
     /// Reads an identifier where one is next, and else gives none.
     #[tactic(auto, unfolding(crate::specs::Reading::starts_id, crate::specs::Reading::read_id))]
+    #[inline(always)]
     pub fn maybe_name(&mut self, alloc: Global) -> Result<Option<Name>, NoMemory>
         ensures name { IfOk result (λ found. MatchOption found ((starts_id self.old ≡ false) × (self.new ≡ self.old))
             (λ name. (starts_id self.old ≡ true) × (read_id self.old ≡ Some (name, self.new)))) }

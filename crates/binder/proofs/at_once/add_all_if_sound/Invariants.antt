@@ -1,8 +1,7 @@
 use Rattle.std.proofs.Common.{take, map}
 use Rattle.binder.specs.Meanings.{condition}
-use Rattle.binder.specs.Scopes.{told_by}
-use Rattle.binder.proofs.AtOnceFacts.{AddsSound}
+use Rattle.binder.specs.AtOnce.{AddsSound, told_among}
 use Rattle.binder.proofs.at_once.add_all_if_sound.Given as goal
 
 abbrev pub invariant-loop-cond : goal.invariant-loop-cond
-invariant-loop-cond l = AddsSound l.limit l.initial.block l.block (map (condition (told_by l.names)) (take l.cond-index l.conditions))
+invariant-loop-cond l = AddsSound l.limit l.initial.block l.block (map (condition (told_among l.atoms)) (take l.cond-index l.conditions))

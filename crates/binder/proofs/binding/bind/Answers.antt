@@ -1,17 +1,12 @@
-use Rattle.std.proofs.Common.{[], ◌++◌, length, sym, ◌∙◌, ap, subst}
-use Rattle.std.specs.List.{flat_map}
-use Rattle.std.proofs.lemmas.Result.{err_from_is_err_and}
-use Rattle.binder.specs.Binding.{blocks_of, refusals, looked_refusals}
-use Rattle.binder.specs.LookedUp.{looked_up, bound_block}
-use Rattle.binder.specs.Refusing.{first, unknown_tables, repeated_aliases}
-use Rattle.binder.proofs.BindFacts.{blocks_small, conditions_few, blocks_are, none_left}
-use Rattle.binder.proofs.WellFormed.{query_fits}
-use Rattle.binder.proofs.OverTables.{query_over, as_many_blocks}
+use Rattle.std.proofs.Common.{◌≡◌, length, sym, ◌∙◌, ap, subst}
+use Rattle.std.proofs.lemmas.Result.{IfOk-weaker}
+use Rattle.binder.specs.Binding.{bound_query}
+use Rattle.binder.proofs.FirstFacts.{if_answered}
+use Rattle.binder.proofs.OverTables.{as_many_blocks}
 use Rattle.beas_core.specs.Shapes.{QueryIsWellFormed}
 use Rattle.beas_core.specs.Trees as query
 use Rattle.catalogue.specs.Queries.{QueryIsOver}
 use Rattle.binder.proofs.AtOnceFacts.{unrefused_fits, unrefused_over}
-use Rattle.binder.proofs.FirstFacts.{err_first, err_second, first_none}
 use Rattle.binder.proofs.binding.bind.Goals as goal
 
 pub returns-in-Some-clause-refused : goal.returns-in-Some-clause-refused
@@ -36,75 +31,22 @@ returns-in-Some-clause-count c =
     ap (λ q. length (query.blocks_of q)) (c.in_ok-query.ensures.query c.in-Some.query c.in-Some.is)
     ∙ as_many_blocks c.args.catalogue.now c.args.tree.now
 
-pub returns-in_err-blocks-clause-refused : goal.returns-in_err-blocks-clause-refused
-unfolding refusals
-returns-in_err-blocks-clause-refused c = let p = err_from_is_err_and c.from_residual-in_err-blocks.result c.from_residual-in_err-blocks.ensures.1 in rw (p.1, p.2)
-    (err_first (Unit {0}) (Unit {0}) _ (flat_map (unknown_tables c.args.catalogue.now) (blocks_of c.args.tree.now) ++ flat_map repeated_aliases
-    (blocks_of c.args.tree.now)) _ c.in_err-blocks.ensures.refused)
-
-pub refuse_all-requires-clause-conditions : goal.refuse_all-requires-clause-conditions
-refuse_all-requires-clause-conditions c =
-    conditions_few c.args.catalogue.now (blocks_of c.args.tree.now) c.deref.result.now (c.deref.ensures.value
-    ∙ c.in_ok-blocks.ensures.blocks) c.requires.conditions
-
-pub returns-in_err-refuse_all-clause-refused : goal.returns-in_err-refuse_all-clause-refused
-unfolding refusals
-returns-in_err-refuse_all-clause-refused c =
-    let p = err_from_is_err_and c.from_residual-in_err-refuse_all.result c.from_residual-in_err-refuse_all.ensures.1 in
-    let is = c.deref.ensures.value ∙ c.in_ok-blocks.ensures.blocks in
-    rw (p.1, p.2) (err_second (Unit {0}) (Unit {0}) _ (flat_map (unknown_tables c.args.catalogue.now) (blocks_of c.args.tree.now)
-    ++ flat_map repeated_aliases (blocks_of c.args.tree.now)) _
-    c.in_ok-blocks.ensures.refused (rw is at c.in_err-refuse_all.ensures))
-
-pub bound_blocks-requires : goal.bound_blocks-requires
-bound_blocks-requires c =
-    blocks_small c.args.limits.now c.args.catalogue.now (blocks_of c.args.tree.now) c.deref-2.result.now (c.deref-2.ensures.value
-    ∙ c.in_ok-blocks.ensures.blocks)
-    c.args.limits.now.atoms_in_range.1 c.recall_soundness.ensures
-    (ap (λ blocks. first (looked_refusals c.args.limits.now blocks)) (c.deref-2.ensures.value ∙ sym c.deref.ensures.value) ∙ c.in_ok-refuse_all.ensures)
-
-pub returns-clause-refused : goal.returns-clause-refused
-unfolding refusals
-returns-clause-refused c =
-    first_none (flat_map (unknown_tables c.args.catalogue.now) (blocks_of c.args.tree.now) ++ flat_map repeated_aliases
-    (blocks_of c.args.tree.now)) _ c.in_ok-blocks.ensures.refused
-    ∙ ap (λ blocks. first (looked_refusals c.args.limits.now blocks)) (sym (c.deref.ensures.value ∙ c.in_ok-blocks.ensures.blocks))
-    ∙ c.in_ok-refuse_all.ensures
-
-pub returns-clause-query : goal.returns-clause-query
-returns-clause-query c =
-    (c.in_ok-join_blocks.ensures.query [] (λ b. bound_block (looked_up c.args.catalogue.now b))
-    (blocks_are c.args.catalogue.now (blocks_of c.args.tree.now) c.in_ok-blocks.blocks.items c.deref-2.result.now c.in_ok-bound.bound.items
-    c.in_ok-blocks.ensures.blocks c.deref-2.ensures.value c.in_ok-bound.ensures)).1
-
 pub returns-clause-well_formed : goal.returns-clause-well_formed
-unfolding refusals
-returns-clause-well_formed c = λ some.
-    subst QueryIsWellFormed
-    (sym (c.in_ok-join_blocks.ensures.query [] (λ b. bound_block (looked_up c.args.catalogue.now b))
-    (blocks_are c.args.catalogue.now (blocks_of c.args.tree.now) c.in_ok-blocks.blocks.items c.deref-2.result.now c.in_ok-bound.bound.items
-    c.in_ok-blocks.ensures.blocks c.deref-2.ensures.value c.in_ok-bound.ensures)).1)
-    (query_fits c.args.limits.now c.args.catalogue.now c.args.tree.now c.recall_soundness.ensures c.args.limits.now.atoms_in_range.1 some
-    (none_left (flat_map (unknown_tables c.args.catalogue.now) (blocks_of c.args.tree.now)) (flat_map repeated_aliases
-    (blocks_of c.args.tree.now)) c.in_ok-blocks.ensures.refused)
-    (ap (λ blocks. first (looked_refusals c.args.limits.now blocks)) (sym (c.deref.ensures.value ∙ c.in_ok-blocks.ensures.blocks))
-    ∙ c.in_ok-refuse_all.ensures))
+returns-clause-well_formed c =
+    let schema = c.args.catalogue.now in
+    let tree = c.args.tree.now in
+    if_answered (λ q. q ≡ bound_query schema tree) _ c.bound_by_kinds.result _ c.bound_by_kinds.ensures.refused c.bound_by_kinds.ensures.query
+    (λ q is none some.
+    subst QueryIsWellFormed (sym is) (unrefused_fits c.args.limits.now schema tree c.recall_soundness.ensures c.args.limits.now.atoms_in_range.1 some none))
 
 pub returns-clause-over : goal.returns-clause-over
-unfolding refusals
 returns-clause-over c =
-    subst (QueryIsOver c.args.catalogue.now)
-    (sym (c.in_ok-join_blocks.ensures.query [] (λ b. bound_block (looked_up c.args.catalogue.now b))
-    (blocks_are c.args.catalogue.now (blocks_of c.args.tree.now) c.in_ok-blocks.blocks.items c.deref-2.result.now c.in_ok-bound.bound.items
-    c.in_ok-blocks.ensures.blocks c.deref-2.ensures.value c.in_ok-bound.ensures)).1)
-    (query_over c.args.catalogue.now c.args.tree.now
-    (none_left (flat_map (unknown_tables c.args.catalogue.now) (blocks_of c.args.tree.now)) (flat_map repeated_aliases
-    (blocks_of c.args.tree.now)) c.in_ok-blocks.ensures.refused))
+    let schema = c.args.catalogue.now in
+    let tree = c.args.tree.now in
+    if_answered (λ q. q ≡ bound_query schema tree) _ c.bound_by_kinds.result _ c.bound_by_kinds.ensures.refused c.bound_by_kinds.ensures.query
+    (λ q is none. subst (QueryIsOver schema) (sym is) (unrefused_over c.args.limits.now schema tree none))
 
 pub returns-clause-count : goal.returns-clause-count
 returns-clause-count c =
-    ap (λ q. length (query.blocks_of q))
-    (c.in_ok-join_blocks.ensures.query [] (λ b. bound_block (looked_up c.args.catalogue.now b))
-    (blocks_are c.args.catalogue.now (blocks_of c.args.tree.now) c.in_ok-blocks.blocks.items c.deref-2.result.now c.in_ok-bound.bound.items
-    c.in_ok-blocks.ensures.blocks c.deref-2.ensures.value c.in_ok-bound.ensures)).1
-    ∙ as_many_blocks c.args.catalogue.now c.args.tree.now
+    IfOk-weaker c.bound_by_kinds.result _ _ (λ q is.
+    ap (λ some. length (query.blocks_of some)) is ∙ as_many_blocks c.args.catalogue.now c.args.tree.now) c.bound_by_kinds.ensures.query
