@@ -1,20 +1,19 @@
 -- The closure, use by use, and that it is the covered set.
-use Rattle.std.proofs.Common.{◌≡◌, ◌≢◌, ◌==◌, ◌&&◌, ◌||◌, ◌<◌, ◌≤◌, ◌+◌, ℕ, zero, suc, Bool, true, false, not, cond, List, [], ◌∷◌, ◌++◌, length, map, take, get_or, ◌⊎◌, inl, inr, refl, ap, sym, ◌∙◌, subst, arith}
-use Rattle.std.specs.List.{list_all, Contains, All}
+use Rattle.std.proofs.Common.{◌≡◌, ◌==◌, ◌&&◌, ◌||◌, ◌<◌, ◌≤◌, ◌+◌, ℕ, zero, suc, Bool, true, false, not, List, [], ◌∷◌, length, map, inl, inr, refl, ap, sym, ◌∙◌, subst, arith}
+use Rattle.std.specs.List.{Contains}
 use Rattle.std.proofs.lemmas.Bool.{eqb-true, eqb-false, eq-eqb}
 use Rattle.std.proofs.lemmas.List.{get_or-take}
 use Rattle.beas_core.specs.declared.schema.Access.{Access}
 use Rattle.beas_core.specs.declared.schema.ColumnId.{ColumnId}
 use Rattle.beas_core.specs.declared.plan.Normal.{Normal}
 use Rattle.beas_core.specs.Types.{ClassSet, Use}
-use Rattle.beas_core.specs.Coverage.{has, with_classes, key_classes, fetched_classes, holds_classes, class_at, uses, covered_set, Within, IsClosed, IsLeastClosed, ClassesInRange}
-use Rattle.beas_core.proofs.Sets.{Has, Has-map, Has-from_map, Has-from_contains, Contains-from_has}
-use Rattle.evaluation_facts.proofs.MemberTests.{all_has, all_by, any_has}
-use Rattle.evaluation_facts.proofs.ClassSetFacts.{has_below, has-with_kept, has-with_new, has-with_cases, holds-within}
+use Rattle.beas_core.specs.Coverage.{has, with_classes, key_classes, fetched_classes, holds_classes, class_at, uses, covered_set, Within, IsClosed, ClassesInRange}
+use Rattle.beas_core.proofs.Sets.{Has, Has-from_map, Has-from_contains, Contains-from_has}
+use Rattle.evaluation_facts.proofs.MemberTests.{all_has, all_by}
+use Rattle.evaluation_facts.proofs.ClassSetFacts.{has-with_kept, has-with_new, has-with_cases, holds-within}
 use Rattle.evaluation_facts.proofs.CoveredSetFacts.{covered_set_least, length-covered}
-use Rattle.attribute_closure.specs.Uses.{use_at, no_use}
+use Rattle.attribute_closure.specs.Uses.{use_at}
 use Rattle.attribute_closure.specs.Keys.{bit, number_at, among, lacking, AreCounted, GoesOn, Closing}
-use Rattle.attribute_closure.proofs.Counting.{goes_on_length}
 
 none_lacking : (set : ClassSet) (ks : List ℕ) → lacking set ks ≡ 0 → holds_classes set ks ≡ true
 none_lacking set [] h = refl

@@ -1,17 +1,16 @@
 -- Counts of the classes that uses lack.
-use Rattle.std.proofs.Common.{◌≡◌, ◌≢◌, ◌==◌, ◌&&◌, ◌||◌, ◌<◌, ◌≤◌, ◌+◌, ◌-◌, ℕ, zero, suc, Bool, true, false, not, cond, List, [], ◌∷◌, ◌++◌, length, map, take, drop, get_or, set, replicate, refl, ap, sym, ◌∙◌, subst, arith, add-zero, add-one, drop-cons, length-append, length-set, get_or-set_same, get_or-set_other}
-use Rattle.std.specs.List.{list_any, slice_set, All}
+use Rattle.std.proofs.Common.{◌≡◌, ◌≢◌, ◌==◌, ◌&&◌, ◌||◌, ◌<◌, ◌≤◌, ◌+◌, ◌-◌, ℕ, zero, suc, Bool, true, false, not, List, [], ◌∷◌, ◌++◌, length, take, drop, set, refl, ap, sym, ◌∙◌, subst, arith, add-zero, add-one, drop-cons, length-append, length-set, get_or-set_same, get_or-set_other}
+use Rattle.std.specs.List.{slice_set, All}
 use Rattle.std.proofs.Math.Seq.{take-suc, take-length}
 use Rattle.std.proofs.lemmas.Bool.{eqb-true, eqb-false, eq-eqb}
-use Rattle.std.proofs.lemmas.Bool.Decides.{nat_tests}
 use Rattle.std.proofs.lemmas.List.{take-append-le, take-append-drop}
 use Rattle.std.proofs.lemmas.List.Folds.{list_any-append}
 use Rattle.std.proofs.lemmas.List.Elements.{All-push}
 use Rattle.beas_core.specs.declared.plan.Normal.{Normal}
 use Rattle.beas_core.specs.Types.{ClassSet, Use}
-use Rattle.beas_core.specs.Coverage.{has, key_classes, holds_classes}
-use Rattle.attribute_closure.specs.Uses.{use_at, no_use}
-use Rattle.attribute_closure.specs.Keys.{bit, count, times, among, number_at, list_at, lacking, some_left, AreCounted, CountedDown, GoesOn, WaitsFor}
+use Rattle.beas_core.specs.Coverage.{has, key_classes}
+use Rattle.attribute_closure.specs.Uses.{use_at}
+use Rattle.attribute_closure.specs.Keys.{bit, count, times, among, number_at, list_at, lacking, some_left, AreCounted, CountedDown, GoesOn}
 
 not_same : (a b : ℕ) → a ≢ b → (a == b) ≡ false
 not_same a b h = by (a == b) refl

@@ -1,8 +1,8 @@
 -- Searches through lists, element by element.
-use Rattle.std.proofs.Common.{◌≡◌, ◌==◌, ◌&&◌, ◌||◌, ◌<◌, ◌≤◌, ◌+◌, ◌-◌, ℕ, zero, suc, Bool, true, false, not, cond, List, [], ◌∷◌, ◌++◌, length, map, take, drop, get_or, Option, Some, None, refl, ap, sym, ◌∙◌, subst, arith, add-one, zero-add, append_assoc, drop-cons}
+use Rattle.std.proofs.Common.{◌≡◌, ◌==◌, ◌&&◌, ◌||◌, ◌<◌, ◌≤◌, ◌+◌, ◌-◌, ℕ, zero, suc, Bool, true, false, cond, List, [], ◌∷◌, ◌++◌, length, map, take, drop, get_or, Some, None, refl, ap, sym, ◌∙◌, subst, arith, add-one, zero-add, append_assoc, drop-cons}
 use Rattle.std.specs.List.{list_any, list_all, find, filter, flat_map, enumerate_from, range_with_len}
 use Rattle.std.specs.Option.{option_or}
-use Rattle.std.proofs.Math.Seq.{take-suc, take-length}
+use Rattle.std.proofs.Math.Seq.{take-suc}
 use Rattle.std.proofs.lemmas.List.{map-append, append-nil, take-append-drop, take_all}
 use Rattle.std.proofs.lemmas.Bool.{eq-eqb}
 use Rattle.std.proofs.lemmas.Bool.Decides.{nat_tests}
@@ -15,7 +15,7 @@ use Rattle.beas_core.specs.declared.query.Place.{Place}
 use Rattle.beas_core.specs.declared.plan.Normal.{Normal}
 use Rattle.beas_core.specs.Types.{ClassSet, Use}
 use Rattle.beas_core.specs.Groups.{has_column}
-use Rattle.beas_core.specs.Coverage.{is_open, is_served, serves, needed_places, uses, atoms_of}
+use Rattle.beas_core.specs.Coverage.{is_open, is_served, serves, needed_places}
 use Rattle.attribute_closure.proofs.Listed.{numbered, use_of_access, uses_on}
 
 -- any, all and the first of the elements so far

@@ -1,11 +1,11 @@
 -- Sets of classes, as code builds them.
-use Rattle.std.proofs.Common.{◌≡◌, ◌&&◌, ◌<◌, ◌≤◌, ◌+◌, ◌-◌, ℕ, zero, suc, Bool, true, false, List, [], ◌∷◌, ◌++◌, length, map, take, drop, get_or, set, replicate, refl, ap, sym, ◌∙◌, subst, arith, add-one}
-use Rattle.std.specs.List.{list_all, slice_set}
+use Rattle.std.proofs.Common.{◌≡◌, ◌&&◌, ◌<◌, ◌≤◌, ◌+◌, ◌-◌, ℕ, zero, suc, Bool, true, false, List, [], ◌∷◌, ◌++◌, length, map, take, get_or, set, replicate, refl, ap, sym, ◌∙◌, arith, add-one}
+use Rattle.std.specs.List.{slice_set}
 use Rattle.std.proofs.Math.Seq.{take-suc, take-length}
 use Rattle.std.proofs.lemmas.List.{map-append}
 use Rattle.beas_core.specs.declared.value.Value.{Value}
 use Rattle.beas_core.specs.Types.{ClassSet}
-use Rattle.beas_core.specs.Coverage.{has, with_classes, holds_classes, Within}
+use Rattle.beas_core.specs.Coverage.{has, with_classes, holds_classes}
 
 pub holds_broken : {A : Type 0} (set : ClassSet) (f : A → ℕ) (xs : List A) (i : ℕ) (d : A) → i < length xs → has set (f (get_or xs i d)) ≡ false
     → holds_classes set (map f xs) ≡ false

@@ -1,5 +1,5 @@
 -- A use of a constraint, as code holds it and as definitions speak of it.
-use Rattle.std.specs.Prelude.{ℕ, List, [], map, slice_index_or}
+use Rattle.std.specs.Prelude.{ℕ, List, [], slice_index_or}
 use Rattle.beas_core.specs.Types.{Use}
 use Rattle.attribute_closure.specs.declared.uses.UseAt.{UseAt}
 

@@ -42,17 +42,9 @@ pub fn holds_columns(block: &Normal, set: &[bool], atom: u16, columns: &[ColumnI
     true
 }
 
-/// The classes that are equated with a constant.
-pub fn constant_classes(alloc: Global, block: &Normal) -> Result<List<bool>, NoMemory>
-    ensures { IfOk result (λ set. set ≡ classes_of_constants block.now) }
-{
-    let mut set = vec![in alloc; false; usize::from(block.count)]?;
-    add_constants(block.constants.as_slice(), &mut set);
-    Ok(List::from_vec(set))
-}
-
+/// Adds the classes of constants to a set. A class past its end is left out.
 #[tactic(auto, using(crate::proofs::Sets::constants_more, crate::proofs::Sets::constants_past))]
-fn add_constants(constants: &[(u16, Value)], set: &mut [bool])
+pub fn add_constants(constants: &[(u16, Value)], set: &mut [bool])
     ensures { set.new ≡ with_classes set.old (map (λ c. c.0) constants.now) }
 {
     for constant in constants {
@@ -61,4 +53,13 @@ fn add_constants(constants: &[(u16, Value)], set: &mut [bool])
             set[class] = true;
         }
     }
+}
+
+/// The classes that are equated with a constant.
+pub fn constant_classes(alloc: Global, block: &Normal) -> Result<List<bool>, NoMemory>
+    ensures { IfOk result (λ set. set ≡ classes_of_constants block.now) }
+{
+    let mut set = vec![in alloc; false; usize::from(block.count)]?;
+    add_constants(block.constants.as_slice(), &mut set);
+    Ok(List::from_vec(set))
 }

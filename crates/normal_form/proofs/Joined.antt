@@ -1,46 +1,50 @@
 -- Labels under one more equality, and the classes that they give.
-use Rattle.std.proofs.Common.{◌≡◌, ◌≢◌, ◌==◌, ◌&&◌, ◌||◌, ◌<◌, ◌≤◌, ◌+◌, ℕ, zero, suc, Bool, true, false, not, cond, nat_lt, List, [], ◌∷◌, ◌++◌, length, map, take, drop, reverse, Bor, get_or, min, max, ◌⊎◌, inl, inr, refl, ap, sym, ◌∙◌, subst, arith, zero-add}
+use Rattle.std.proofs.Common.{◌≡◌, ◌≢◌, ◌==◌, ◌&&◌, ◌||◌, ◌<◌, ◌≤◌, ◌+◌, ℕ, suc, Bool, true, false, not, cond, nat_lt, List, [], ◌∷◌, ◌++◌, length, map, reverse, set, Bor, get_or, min, max, ◌⊎◌, inl, inr, refl, ap, sym, ◌∙◌, subst, arith}
 use Rattle.std.specs.List.{filter, position_or_len, range_with_len}
-use Rattle.std.proofs.lemmas.Bool.{eqb-true, eqb-false, eq-eqb, ltb-true, ltb-false}
+use Rattle.std.proofs.lemmas.Bool.{eqb-true, eqb-false, ltb-true, ltb-false}
 use Rattle.std.proofs.lemmas.Bool.Decides.{nat_tests}
-use Rattle.std.proofs.lemmas.List.{get_or-map, map-append, reverse-append, take-append-le}
-use Rattle.std.proofs.Math.Seq.{take-length}
-use Rattle.std.proofs.lemmas.List.FromFn.{length-range_with_len, get_or-range_with_len, fill_by_all}
+use Rattle.std.proofs.lemmas.Grind.{get_or-set_at}
+use Rattle.std.proofs.lemmas.List.{get_or-map, get_or-set_other, map-append, reverse-append}
+use Rattle.std.proofs.lemmas.List.FromFn.{fill_by_all}
 use Rattle.beas_core.specs.declared.query.Atom.{Atom}
 use Rattle.beas_core.specs.declared.query.Place.{Place}
 use Rattle.beas_core.specs.declared.query.Block.{Block}
 use Rattle.beas_core.specs.Shapes.{IsPlace}
-use Rattle.beas_core.specs.Classes.{same_place, is_joined, places_of, firsts, leaders, class_of}
+use Rattle.beas_core.specs.Classes.{is_joined, places_of, firsts, leaders, class_of}
 use Rattle.beas_core.proofs.Sets.{Has, Has-from_filter}
 use Rattle.normal_form.specs.Places.{offset, place_number}
-use Rattle.normal_form.specs.Labels.{AreFirst, AreLabels, label_at, label_of, replace, heads, rank}
+use Rattle.normal_form.specs.Labels.{AreLabels, label_at, label_of, replace, heads, rank}
 use Rattle.normal_form.proofs.Offsets.{number_below, number_same, numbers_of_places, places_are}
 
 length_mapped : {A B : Type 0} (f : A → B) (xs : List A) → length (map f xs) ≡ length xs
 length_mapped f [] = refl
 length_mapped f (x ∷ xs) = ap suc (length_mapped f xs)
 
-pub own_labels_are : (atoms : List Atom) → AreLabels atoms [] (range_with_len 0 (offset atoms (length atoms)))
-own_labels_are atoms = record {
-  count = length-range_with_len 0 (offset atoms (length atoms));
+-- one more place with its own number, at a step of a loop
+pub own_written : (labels : List ℕ) (i : ℕ) → i < length labels → ((k : ℕ) → k < i → label_at labels k ≡ k) → (k : ℕ) → k < i + 1
+    → label_at (set labels i i) k ≡ k
+own_written labels i l own k b = by (k == i) refl
+  where
+    by : (t : Bool) → (k == i) ≡ t → label_at (set labels i i) k ≡ k
+    by true s = let same = eqb-true k i s in get_or-set_at labels i k i 0 same l ∙ sym same
+    by false s = let other = eqb-false k i s in get_or-set_other labels i k i 0 other ∙ own k (omega arith)
+
+pub own_labels_are : (atoms : List Atom) (labels : List ℕ) → length labels ≡ offset atoms (length atoms)
+    → ((k : ℕ) → k < length labels → label_at labels k ≡ k) → AreLabels atoms [] labels
+own_labels_are atoms labels count at = record {
+  count = count;
   firsts = record {
     least = λ k l. let e = at k l in omega arith;
-    own = λ k l. let e = at k l in ap (label_at all) e;
+    own = λ k l. let e = at k l in ap (label_at labels) e;
   };
   joins = λ p q hp hq.
       let a = at (place_number atoms p) (inside p hp) in
       let b = at (place_number atoms q) (inside q hq) in
-      ap (λ n. n == label_of atoms all q) a ∙ ap (λ n. place_number atoms p == n) b ∙ number_same atoms p q hp hq;
+      ap (λ n. n == label_of atoms labels q) a ∙ ap (λ n. place_number atoms p == n) b ∙ number_same atoms p q hp hq;
 }
   where
-    all : List ℕ
-    all = range_with_len 0 (offset atoms (length atoms))
-
-    at : (k : ℕ) → k < length all → label_at all k ≡ k
-    at k l = get_or-range_with_len 0 (offset atoms (length atoms)) k 0 (omega (arith, length-range_with_len 0 (offset atoms (length atoms)))) ∙ zero-add k
-
-    inside : (p : Place) → IsPlace atoms p → place_number atoms p < length all
-    inside p h = let g = number_below atoms p h in omega (arith, length-range_with_len 0 (offset atoms (length atoms)))
+    inside : (p : Place) → IsPlace atoms p → place_number atoms p < length labels
+    inside p h = let g = number_below atoms p h in omega (arith, count)
 
 abbrev bridged : ℕ → ℕ → ℕ → ℕ → Bool
 bridged a b x y = (x == y) || ((x == a) && (b == y)) || ((x == b) && (a == y))
@@ -183,18 +187,11 @@ pub walked_more : (walked : List (Bor (Place × Place))) (next : Bor (Place × P
     → reverse (map (λ e. e.now) (walked ++ next ∷ [])) ≡ next.now ∷ reverse (map (λ e. e.now) walked)
 walked_more walked next = ap reverse (map-append (λ e. e.now) walked (next ∷ [])) ∙ reverse-append (map (λ e. e.now) walked) (next.now ∷ [])
 
--- what a slice that was written through leaves in its vector
-pub written : {A : Type 0} (new old : List A) (n : ℕ) → length new ≡ n → take n (new ++ drop (length new) old) ≡ new
-written new old n e = take-append-le n new (drop (length new) old) (omega arith) ∙ ap (λ k. take k new) (sym e) ∙ take-length new
-
-pub labels_walked : (atoms : List Atom) (walked : List (Bor (Place × Place))) (next : Bor (Place × Place)) (old before new : List ℕ) (n : ℕ)
-    → ((es : List (Place × Place)) → AreLabels atoms es before → AreLabels atoms (next.now ∷ es) new) → AreLabels atoms (reverse (map (λ e. e.now) walked)) old
-    → before ≡ old → length new ≡ n
-    → AreLabels atoms (reverse (map (λ e. e.now) (walked ++ next ∷ []))) (take n (new ++ drop (length new) old))
-labels_walked atoms walked next old before new n step are same len =
-    subst (λ es. AreLabels atoms es (take n (new ++ drop (length new) old))) (sym (walked_more walked next))
-    (subst (AreLabels atoms (next.now ∷ reverse (map (λ e. e.now) walked))) (sym (written new old n len))
-    (step (reverse (map (λ e. e.now) walked)) (subst (AreLabels atoms (reverse (map (λ e. e.now) walked))) (sym same) are)))
+pub labels_walked : (atoms : List Atom) (walked : List (Bor (Place × Place))) (next : Bor (Place × Place)) (before new : List ℕ)
+    → ((es : List (Place × Place)) → AreLabels atoms es before → AreLabels atoms (next.now ∷ es) new) → AreLabels atoms (reverse (map (λ e. e.now) walked)) before
+    → AreLabels atoms (reverse (map (λ e. e.now) (walked ++ next ∷ []))) new
+labels_walked atoms walked next before new step are =
+    subst (λ es. AreLabels atoms es new) (sym (walked_more walked next)) (step (reverse (map (λ e. e.now) walked)) are)
 
 -- the first places of classes, by labels
 module _ (same : Place → Place → Bool) (f : Place → ℕ) where

@@ -334,16 +334,14 @@ module _ (block : Block) (shape : BlockIsWellFormed block) where
 
 -- the same, as the calls hand it on
 pub normal_from : (block : Block) → BlockIsWellFormed block → (atoms : List Atom) → atoms ≡ block.atoms → (equalities : List (Place × Place))
-    → equalities ≡ block.equalities
-    → (labels slice numbers numbers2 numbers3 : List ℕ) → AreLabels atoms equalities labels → slice ≡ labels → numbers ≡ map (rank slice) slice
-    → numbers2 ≡ numbers → numbers3 ≡ numbers
-    → (n : ℕ) → n ≡ offset atoms (length atoms) → (used used2 : List Bool) → used ≡ mark block.atoms (replicate n false) (used_places block) → used2 ≡ used
+    → equalities ≡ block.equalities → (labels numbers : List ℕ) → AreLabels atoms equalities labels → numbers ≡ map (rank labels) labels
+    → (n : ℕ) → n ≡ offset atoms (length atoms) → (unused used : List Bool) → unused ≡ replicate n false → used ≡ mark block.atoms unused (used_places block)
     → (given : List (Place × Value)) → given ≡ block.constants
     → (atoms2 : List Atom) (classes : List (List ℕ)) (count : ℕ) (constants : List (ℕ × Value)) (needed : List (List ColumnId)) (comparisons : List Comparison)
     (output : List Place)
-    → atoms2 ≡ block.atoms → classes ≡ class_lists atoms numbers2 → count ≡ length (heads slice)
-    → constants ≡ map (λ c. pair (get_or numbers3 (place_number atoms c.0) 0) c.1) given
-    → needed ≡ used_lists atoms used2 → comparisons ≡ block.comparisons → output ≡ block.output
+    → atoms2 ≡ block.atoms → classes ≡ class_lists atoms numbers → count ≡ length (heads labels)
+    → constants ≡ map (λ c. pair (get_or numbers (place_number atoms c.0) 0) c.1) given
+    → needed ≡ used_lists atoms used → comparisons ≡ block.comparisons → output ≡ block.output
     → ◌≡◌ {A = Normal} (record {
       atoms = atoms2;
       classes = classes;
@@ -353,15 +351,15 @@ pub normal_from : (block : Block) → BlockIsWellFormed block → (atoms : List 
       comparisons = comparisons;
       output = output;
     }) (normal_of block)
-normal_from block shape atoms ea equalities ee labels slice numbers numbers2 numbers3 are es en e2 e3 n full used used2 eu e4 given eg atoms2 classes count
-    constants needed comparisons output a b c d e f g =
+normal_from block shape atoms ea equalities ee labels numbers are en n full unused used e0 eu given eg atoms2 classes count constants needed comparisons
+    output a b c d e f g =
     let full2 : n ≡ offset block.atoms (length block.atoms) = full ∙ ap (λ given_atoms. offset given_atoms (length given_atoms)) ea in
     let are2 = subst (λ given_atoms. AreLabels given_atoms block.equalities labels) ea (subst (λ ps. AreLabels atoms ps labels) ee are) in
-    let ranked = en ∙ ap (λ ls. map (rank ls) ls) es in
     normal_is block shape labels are2 n full2 atoms2 classes count constants needed comparisons output a
-    (b ∙ ap (λ given_atoms. class_lists given_atoms numbers2) ea ∙ ap (class_lists block.atoms) (e2 ∙ ranked))
-    (c ∙ ap (λ ls. length (heads ls)) es)
-    (d ∙ ap (map (λ c. pair (get_or numbers3 (place_number atoms c.0) 0) c.1)) eg
-    ∙ ap (λ given_atoms. map (λ c. pair (get_or numbers3 (place_number given_atoms c.0) 0) c.1) block.constants) ea
-    ∙ ap (λ ns. map (λ c. pair (get_or ns (place_number block.atoms c.0) 0) c.1) block.constants) (e3 ∙ ranked))
-    (e ∙ ap (λ given_atoms. used_lists given_atoms used2) ea ∙ ap (used_lists block.atoms) (e4 ∙ eu)) f g
+    (b ∙ ap (λ given_atoms. class_lists given_atoms numbers) ea ∙ ap (class_lists block.atoms) en)
+    c
+    (d ∙ ap (map (λ c. pair (get_or numbers (place_number atoms c.0) 0) c.1)) eg
+    ∙ ap (λ given_atoms. map (λ c. pair (get_or numbers (place_number given_atoms c.0) 0) c.1) block.constants) ea
+    ∙ ap (λ ns. map (λ c. pair (get_or ns (place_number block.atoms c.0) 0) c.1) block.constants) en)
+    (e ∙ ap (λ given_atoms. used_lists given_atoms used) ea
+    ∙ ap (used_lists block.atoms) (eu ∙ ap (λ none. mark block.atoms none (used_places block)) e0)) f g

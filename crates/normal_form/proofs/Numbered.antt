@@ -198,14 +198,10 @@ module _ (labels : List ℕ) (i : ℕ) (first : AreFirst labels) (l : i < length
   heads_le = let g = heads_few (take i labels) in omega (arith, length-take i labels)
 
   pub old_number : (numbers : List ℕ) (k r : ℕ) → numbers ≡ map (rank (take i labels)) (take i labels) → k ≡ label_at labels i → label_at labels i ≢ i
-      → r ≡ get_or numbers k r
+      → r ≡ get_or numbers k 0
       → r ≡ get_or (map (rank (take i labels)) (take i labels)) (label_at labels i) 0
   old_number numbers k r en ek e h =
-      let b = first_before e in
-      let inside : label_at labels i < length (take i labels) = omega (arith, length-take i labels) in
-      h ∙ ap (λ ns. get_or ns k r) en ∙ ap (λ j. get_or (map (rank (take i labels)) (take i labels)) j r) ek
-      ∙ get_or-map (rank (take i labels)) (take i labels) (label_at labels i) 0 r inside
-      ∙ sym (get_or-map (rank (take i labels)) (take i labels) (label_at labels i) 0 0 inside)
+      h ∙ ap (λ ns. get_or ns k 0) en ∙ ap (λ j. get_or (map (rank (take i labels)) (take i labels)) j 0) ek
 
 -- the numbers of the first labels, and the labels that are left
 abbrev pub part_way : List ℕ → ℕ → List ℕ
@@ -230,10 +226,10 @@ module _ (labels : List ℕ) (i : ℕ) (first : AreFirst labels) (l : i < length
   pub put_new : (n : ℕ) → n ≡ length (heads (take i labels)) → label_at labels i ≡ i → set xs i n ≡ part_way labels (i + 1)
   put_new n en h = put n ∙ ap (λ ls. ls ++ drop (i + 1) labels) (ap (λ m. front ++ m ∷ []) en ∙ sym (numbers_new labels i first l h))
 
-  pub put_old : (k r : ℕ) → k ≡ label_at labels i → label_at labels i ≢ i → r ≡ get_or xs k r → set xs i r ≡ part_way labels (i + 1)
+  pub put_old : (k r : ℕ) → k ≡ label_at labels i → label_at labels i ≢ i → r ≡ get_or xs k 0 → set xs i r ≡ part_way labels (i + 1)
   put_old k r ek h is =
       let b = first_before labels i first l h in
       let inside : k < length front = omega (arith, long) in
-      let read : r ≡ get_or front k r = is ∙ ap (λ ls. get_or ls k r) e ∙ get_or_append_left front (drop i labels) r k inside in
+      let read : r ≡ get_or front k 0 = is ∙ ap (λ ls. get_or ls k 0) e ∙ get_or_append_left front (drop i labels) 0 k inside in
       put r ∙ ap (λ ls. ls ++ drop (i + 1) labels)
       (ap (λ m. front ++ m ∷ []) (old_number labels i first l front k r refl ek h read) ∙ sym (numbers_old labels i first l h))

@@ -2,7 +2,7 @@
 --     AreLabels atoms equalities labels     for each place the number of the first place that it is joined with
 --     heads labels                          the different labels, in order of their first place
 --     rank labels label                     how many of these stand before a label
-use Rattle.std.specs.Prelude.{◌≡◌, ◌==◌, ◌<◌, ◌≤◌, Bool, not, if◌then◌else◌, ℕ, List, [], ◌∷◌, length, filter, slice_index_or}
+use Rattle.std.specs.Prelude.{◌≡◌, ◌==◌, ◌<◌, ◌≤◌, not, if◌then◌else◌, ℕ, List, [], ◌∷◌, length, filter, slice_index_or}
 use Rattle.std.specs.List.{position_or_len}
 use Rattle.beas_core.specs.declared.query.Atom.{Atom}
 use Rattle.beas_core.specs.declared.query.Place.{Place}

@@ -1,30 +1,22 @@
-// Labels of places: a vector that is relabelled for each equality between two classes.
-ghost use Rattle.std.specs.Prelude.{◌≡◌, ◌<◌, ◌∷◌, All, IfOk, List as Items, length, map};
-ghost use Rattle.std.specs.List.{range_with_len};
+// Labels of places, which are relabelled for each equality between two classes. They lie where the caller has room.
+ghost use Rattle.std.specs.Prelude.{◌≡◌, ◌<◌, ◌∷◌, ℕ, All, List as Items, length, map};
 ghost use Rattle.beas_core.specs.declared.query.Place.{Place as Position};
 ghost use Rattle.beas_core.specs.Shapes.{IsPlace};
-ghost use Rattle.normal_form.specs.Labels.{AreFirst, AreLabels, replace, heads, rank};
+ghost use Rattle.normal_form.specs.Labels.{AreFirst, AreLabels, heads, label_at, rank, replace};
 
 use crate::places::Places;
-use beas_core::{NoMemory, Place};
-use std::alloc::Global;
+use beas_core::Place;
 
-/// The classes of places: for each place the number of its class, and how many classes there are.
-#[derive(Drop)]
-pub struct Classes {
-    pub numbers: Vec<u16>,
-    pub count: u16,
-}
-
-#[tactic(auto, using(crate::proofs::Marked::range_more))]
-fn own_labels(alloc: Global, count: u16) -> Result<Vec<u16>, NoMemory>
-    ensures { IfOk result (λ labels. labels.items ≡ range_with_len 0 count) }
+// Gives each place a label of its own.
+#[tactic(auto, using(crate::proofs::Joined::own_written))]
+fn label_each(count: u16, labels: &mut [u16])
+    requires full { length labels.old ≡ count }
+    ensures len { length labels.new ≡ count }
+    ensures own { (k : ℕ) → k < count → label_at labels.new k ≡ k }
 {
-    let mut labels = Vec::with_capacity(alloc, usize::from(count))?;
     for place in 0..count {
-        labels.push_reserved(place);
+        labels[usize::from(place)] = place;
     }
-    Ok(labels)
 }
 
 fn relabel(labels: &mut [u16], from: u16, to: u16)
@@ -53,42 +45,37 @@ fn join(places: &Places<'_>, equality: &(Place, Place), labels: &mut [u16])
     }
 }
 
-/// The labels that some equalities give to places.
-#[tactic(auto, using(crate::proofs::Joined::walked_more, crate::proofs::Joined::written, crate::proofs::Joined::own_labels_are))]
-pub fn labels_of(
-    alloc: Global,
-    places: &Places<'_>,
-    equalities: &[(Place, Place)],
-) -> Result<Vec<u16>, NoMemory>
-    requires { All (λ e. IsPlace places.now.atoms.now e.0 × IsPlace places.now.atoms.now e.1) equalities.now }
-    ensures { IfOk result (λ labels. AreLabels places.now.atoms.now equalities.now labels.items) }
+/// Writes the labels that some equalities give to places, whatever stood there.
+#[tactic(auto, using(crate::proofs::Joined::own_labels_are))]
+pub fn write_labels(places: &Places<'_>, equalities: &[(Place, Place)], labels: &mut [u16])
+    requires equalities { All
+        (λ e. IsPlace places.now.atoms.now e.0 × IsPlace places.now.atoms.now e.1) equalities.now }
+    requires full { length labels.old ≡ places.now.count }
+    ensures { AreLabels places.now.atoms.now equalities.now labels.new }
 {
-    let mut labels = own_labels(alloc, places.count)?;
+    label_each(places.count, labels);
     for equality in equalities.iter().rev() {
-        join(places, equality, &mut labels);
+        join(places, equality, labels);
     }
-    Ok(labels)
 }
 
-/// Classes numbered in order of their first place. They take the room of the labels.
+/// Writes over labels the classes of their places, numbered in order of their first place, and says how many there are.
 #[tactic(auto, using(crate::proofs::Numbered::heads_le))]
-pub fn classes_of(labels: Vec<u16>) -> Classes
-    requires first { AreFirst labels.items }
-    requires few { length labels.items < 65536 }
-    ensures numbers { result.numbers.items ≡ map (rank labels.items) labels.items }
-    ensures len { length result.numbers.items ≡ length labels.items }
-    ensures count { result.count ≡ length (heads labels.items) }
+pub fn number_classes(places: &Places<'_>, labels: &mut [u16]) -> u16
+    requires full { length labels.old ≡ places.now.count }
+    requires first { AreFirst labels.old }
+    ensures numbers { labels.new ≡ map (rank labels.old) labels.old }
+    ensures count { result ≡ length (heads labels.old) }
 {
-    let mut numbers = labels;
     let mut count: u16 = 0;
-    for place in 0..numbers.len() {
-        let first = usize::from(numbers[place]);
+    for place in 0..usize::from(places.count) {
+        let first = usize::from(labels[place]);
         if first == place {
-            numbers[place] = count;
+            labels[place] = count;
             count += 1;
         } else {
-            numbers[place] = numbers[first];
+            labels[place] = labels[first];
         }
     }
-    Classes { numbers, count }
+    count
 }

@@ -1,13 +1,12 @@
 // Which places stand in a condition or in the output.
-ghost use Rattle.std.specs.Prelude.{◌≡◌, ◌<◌, ◌∷◌, [], All, IfOk, length, map, replicate, false};
+ghost use Rattle.std.specs.Prelude.{◌≡◌, ◌<◌, ◌∷◌, [], All, length, map};
 ghost use Rattle.std.specs.List.{flat_map};
 ghost use Rattle.beas_core.specs.Classes.{operand_places, used_places};
 ghost use Rattle.beas_core.specs.Shapes.{BlockIsWellFormed, ComparisonIsWellFormed, IsPlace};
 ghost use Rattle.normal_form.specs.Places.{mark};
 
 use crate::places::Places;
-use beas_core::{Block, Comparison, NoMemory, Operand, Place, Value};
-use std::alloc::Global;
+use beas_core::{Block, Comparison, Operand, Place, Value};
 
 #[tactic(auto, using(crate::proofs::Marked::marked_one))]
 fn mark(places: &Places<'_>, place: Place, used: &mut [bool])
@@ -78,8 +77,9 @@ fn mark_comparisons(places: &Places<'_>, comparisons: &[Comparison], used: &mut 
     }
 }
 
+/// Marks the places of a block that stand in a condition or in the output.
 #[tactic(auto, using(crate::proofs::Marked::marked_append))]
-fn mark_block(places: &Places<'_>, block: &Block, used: &mut [bool])
+pub fn mark_block(places: &Places<'_>, block: &Block, used: &mut [bool])
     requires block { BlockIsWellFormed block.now }
     requires atoms { places.now.atoms.now ≡ block.now.atoms }
     requires full { length used.old ≡ places.now.count }
@@ -89,18 +89,4 @@ fn mark_block(places: &Places<'_>, block: &Block, used: &mut [bool])
     mark_constants(places, block.constants.as_slice(), used);
     mark_comparisons(places, block.comparisons.as_slice(), used);
     mark_output(places, block.output.as_slice(), used);
-}
-
-/// For each place of a block whether it stands in a condition or in the output.
-#[tactic(auto, using(crate::proofs::Joined::written, crate::proofs::Marked::length_marked))]
-pub fn marks_of(alloc: Global, places: &Places<'_>, block: &Block) -> Result<Vec<bool>, NoMemory>
-    requires block { BlockIsWellFormed block.now }
-    requires atoms { places.now.atoms.now ≡ block.now.atoms }
-    ensures used { IfOk result (λ used. used.items ≡ mark block.now.atoms (replicate places.now.count false)
-        (used_places block.now)) }
-    ensures len { IfOk result (λ used. length used.items ≡ places.now.count) }
-{
-    let mut used = vec![in alloc; false; usize::from(places.count)]?;
-    mark_block(places, block, &mut used);
-    Ok(used)
 }

@@ -1,5 +1,5 @@
 // The blocks of a query as they are lent for planning, and the constraints that each may use.
-ghost use Rattle.std.specs.Prelude.{◌≡◌, ◌<◌, ◌++◌, ◌^◌, [], IfOk, OnOk, length, map, slice_index_or};
+ghost use Rattle.std.specs.Prelude.{◌≡◌, ◌<◌, ◌++◌, ◌^◌, [], IfOk, OnOk, false, length, map, slice_index_or};
 ghost use Rattle.std.specs.List.{flat_map};
 ghost use Rattle.beas_core.specs.declared.schema.Access.{Access};
 ghost use Rattle.beas_core.specs.Guiding.{tasks_from};
@@ -24,6 +24,19 @@ fn extra_of<'a>(extra: &'a [List<Access>], number: usize) -> &'a [Access]
     match extra.get(number) {
         Some(more) => more.as_slice(),
         None => &[],
+    }
+}
+
+/// Lends the only block of a query, which has no guide.
+pub fn lend<'a>(block: &'a Block, extra: &'a [List<Access>]) -> BlockAt<'a>
+    ensures block { result.block.now ≡ block.now }
+    ensures extra { result.extra.now ≡ slice_index_or extra.now 0 [] }
+    ensures has_guide { result.has_guide ≡ false }
+{
+    BlockAt {
+        block,
+        extra: extra_of(extra, 0),
+        has_guide: false,
     }
 }
 

@@ -14,7 +14,7 @@ use crate::candidates::Candidates;
 use crate::choices::{best_adding, best_serving};
 use crate::pruning::needed_steps;
 use crate::sets::{add_use, adds};
-use attribute_closure::{UseAt, close_from, constant_classes, holds_needed, uses_of, why_not};
+use attribute_closure::{UseAt, close_from, constant_classes, holds_needed, uses_within, why_not};
 use beas_core::{Access, DStep, Derivation, List, NoMemory, Normal, NotCovered};
 use bound_calculator::access_with;
 use std::alloc::Global;
@@ -23,12 +23,8 @@ use std::alloc::Global;
 /// than a queue where there are many.
 const FEW_USES: usize = 16;
 
-/// The steps so far, and the classes that are bound after them.
-#[derive(Drop)]
-pub struct Plan {
-    pub steps: List<DStep>,
-    pub set: Vec<bool>,
-}
+/// The most classes a set of which lies in a call's own frame. A set of more takes a block of memory.
+pub const FEW_CLASSES: usize = 64;
 
 // Adds a use as the next step. The set has the classes that are bound before it.
 fn push_step(
@@ -47,14 +43,18 @@ fn push_step(
     })
 }
 
-/// Takes a use as the next step.
-pub fn take_step(plan: &mut Plan, block: &Normal, found: UseAt<'_>) -> Result<(), NoMemory>
-    ensures steps { OnOk result (plan.new.steps
-        ≡ plan.old.steps ++ step_of block.now plan.old.set.items (as_use found.entry) ∷ []) }
-    ensures set { OnOk result (plan.new.set.items ≡ with_use block.now plan.old.set.items (as_use found.entry)) }
+/// Takes a use as the next step, after which the set has its classes too.
+pub fn take_step(
+    steps: &mut List<DStep>,
+    set: &mut [bool],
+    block: &Normal,
+    found: UseAt<'_>,
+) -> Result<(), NoMemory>
+    ensures steps { OnOk result (steps.new ≡ steps.old ++ step_of block.now set.old (as_use found.entry) ∷ []) }
+    ensures set { OnOk result (set.new ≡ with_use block.now set.old (as_use found.entry)) }
 {
-    push_step(&mut plan.steps, block, &plan.set, found)?;
-    add_use(block, &found, &mut plan.set);
+    push_step(steps, block, set, found)?;
+    add_use(block, &found, set);
     Ok(())
 }
 
@@ -104,7 +104,8 @@ fn covers(block: &Normal, accesses: &[Access], set: &[bool]) -> bool
 
 // Adds steps until the set covers the block, going over all uses for each. False where none is left that adds a class.
 fn add_best(
-    plan: &mut Plan,
+    steps: &mut List<DStep>,
+    set: &mut [bool],
     block: &Normal,
     accesses: &[Access],
     uses: &[UseAt<'_>],
@@ -113,22 +114,22 @@ fn add_best(
     requires needed { length block.now.needed ≤ 65536 }
     requires ids { EachIdOnce accesses.now }
     requires uses { map as_use uses.now ≡ uses_in block.now accesses.now }
-    requires steps { plan.old.steps ≡ [] }
+    requires steps { steps.old ≡ [] }
     ensures { IfOk result (λ whole. MatchBool whole
-        (HasCome block.now accesses.now plan.old.set.items plan.new.set.items plan.new.steps
-        × (adding_steps block.now.count block.now accesses.now plan.old.set.items ≡ Some plan.new.steps))
-        (adding_steps block.now.count block.now accesses.now plan.old.set.items ≡ None)) }
+        (HasCome block.now accesses.now set.old set.new steps.new
+        × (adding_steps block.now.count block.now accesses.now set.old ≡ Some steps.new))
+        (adding_steps block.now.count block.now accesses.now set.old ≡ None)) }
 {
     for _turn in 0..block.count {
-        if covers(block, accesses, &plan.set) {
+        if covers(block, accesses, set) {
             return Ok(true);
         }
-        match best_adding(block, uses, &plan.set) {
+        match best_adding(block, uses, set) {
             None => return Ok(false),
-            Some(found) => take_step(plan, block, found)?,
+            Some(found) => take_step(steps, set, block, found)?,
         }
     }
-    Ok(covers(block, accesses, &plan.set))
+    Ok(covers(block, accesses, set))
 }
 
 /// Whether one of some uses is on an atom and has its needed columns in key or fetched.
@@ -181,7 +182,8 @@ fn is_served_by(block: &Normal, accesses: &[Access], steps: &[DStep], atom: u16)
 
 // Adds for each atom in order that none of the steps serves the best use that serves it.
 fn serve_atoms(
-    plan: &mut Plan,
+    steps: &mut List<DStep>,
+    set: &mut [bool],
     block: &Normal,
     accesses: &[Access],
     uses: &[UseAt<'_>],
@@ -189,16 +191,15 @@ fn serve_atoms(
     requires atoms { length block.now.atoms < 65536 }
     requires ids { EachIdOnce accesses.now }
     requires uses { map as_use uses.now ≡ uses_in block.now accesses.now }
-    requires live { All (λ s. IsTrue (is_live accesses.now s.access)) plan.old.steps }
-    ensures { OnOk result (plan.new.steps
-        ≡ plan.old.steps
-        ++ serving_steps block.now accesses.now plan.old.steps plan.old.set.items (atoms_of block.now)) }
+    requires live { All (λ s. IsTrue (is_live accesses.now s.access)) steps.old }
+    ensures { OnOk result (steps.new
+        ≡ steps.old ++ serving_steps block.now accesses.now steps.old set.old (atoms_of block.now)) }
 {
-    let first = plan.steps.len();
+    let first = steps.len();
     for atom in 0..block.atoms.len() as u16 {
-        if !is_served_by(block, accesses, &plan.steps.as_slice()[..first], atom) {
-            if let Some(found) = best_serving(block, uses, &plan.set, atom) {
-                take_step(plan, block, found)?;
+        if !is_served_by(block, accesses, &steps.as_slice()[..first], atom) {
+            if let Some(found) = best_serving(block, uses, set, atom) {
+                take_step(steps, set, block, found)?;
             }
         }
     }
@@ -226,12 +227,62 @@ fn greedy_by_queue(
     }
     let keys = candidates.keys;
     let uses = keys.uses;
-    let mut plan = Plan {
-        steps,
-        set: keys.set,
-    };
-    serve_atoms(&mut plan, block, accesses.as_slice(), uses.as_slice())?;
-    Ok(Some(plan.steps))
+    let mut set = keys.set;
+    serve_atoms(
+        &mut steps,
+        &mut set,
+        block,
+        accesses.as_slice(),
+        uses.as_slice(),
+    )?;
+    Ok(Some(steps))
+}
+
+// The steps of `greedy` by going over all uses for each. The set has the start's classes, and takes those of the steps.
+fn greedy_over(
+    alloc: Global,
+    accesses: &[Access],
+    block: &Normal,
+    uses: &[UseAt<'_>],
+    set: &mut [bool],
+) -> Result<Option<List<DStep>>, NoMemory>
+    requires atoms { length block.now.atoms < 65536 }
+    requires needed { length block.now.needed ≤ 65536 }
+    requires ids { EachIdOnce accesses.now }
+    requires uses { map as_use uses.now ≡ uses_in block.now accesses.now }
+    ensures { IfOk result (λ steps. steps ≡ greedy_steps block.now accesses.now set.old) }
+{
+    let mut steps = List::from_vec(Vec::with_capacity(alloc, block.atoms.len())?);
+    if !add_best(&mut steps, set, block, accesses, uses)? {
+        return Ok(None);
+    }
+    serve_atoms(&mut steps, set, block, accesses, uses)?;
+    Ok(Some(steps))
+}
+
+// The steps of `greedy` from few uses. A copy of a start of few classes takes no block of memory.
+fn greedy_among(
+    alloc: Global,
+    accesses: &[Access],
+    block: &Normal,
+    uses: &[UseAt<'_>],
+    start: &[bool],
+) -> Result<Option<List<DStep>>, NoMemory>
+    requires atoms { length block.now.atoms < 65536 }
+    requires needed { length block.now.needed ≤ 65536 }
+    requires ids { EachIdOnce accesses.now }
+    requires uses { map as_use uses.now ≡ uses_in block.now accesses.now }
+    ensures { IfOk result (λ steps. steps ≡ greedy_steps block.now accesses.now start.now) }
+{
+    let count = start.len();
+    if count <= FEW_CLASSES {
+        let mut room = [false; FEW_CLASSES];
+        let set = &mut room[..count];
+        set.copy_from_slice(start);
+        return greedy_over(alloc, accesses, block, uses, set);
+    }
+    let mut set = Vec::from_slice(alloc, start)?;
+    greedy_over(alloc, accesses, block, uses, &mut set)
 }
 
 /// The steps of a derivation from a start set of classes: those that add classes, and then those that serve atoms.
@@ -249,19 +300,15 @@ pub fn greedy(
     requires ids { EachIdOnce accesses.now }
     ensures { IfOk result (λ steps. steps ≡ greedy_steps block.now accesses.now start.now) }
 {
-    let uses = uses_of(alloc, block, accesses.as_slice())?;
-    if uses.len() > FEW_USES {
+    let live = accesses.as_slice();
+    let Some(access) = live.first() else {
         return greedy_by_queue(alloc, accesses, block, start);
-    }
-    let mut plan = Plan {
-        steps: List::from_vec(Vec::with_capacity(alloc, block.atoms.len())?),
-        set: Vec::from_slice(alloc, start)?,
     };
-    if !add_best(&mut plan, block, accesses.as_slice(), uses.as_slice())? {
-        return Ok(None);
+    let mut room = [UseAt { atom: 0, access }; FEW_USES];
+    match uses_within(block, live, &mut room) {
+        Some(count) => greedy_among(alloc, live, block, &room[..count], start),
+        None => greedy_by_queue(alloc, accesses, block, start),
     }
-    serve_atoms(&mut plan, block, accesses.as_slice(), uses.as_slice())?;
-    Ok(Some(plan.steps))
 }
 
 /// The derivation of a block from a start set of classes. Nothing where the constraints don't cover it from there.

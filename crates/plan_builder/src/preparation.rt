@@ -1,10 +1,11 @@
 // What is announced of a query: for each block its normal form and derivation, and the greatest number of reads.
 ghost use Rattle.std.specs.Prelude.{◌≡◌, ◌<◌, ◌≤◌, ◌+◌, ◌++◌, ◌^◌, All, Err, IfErr, IfOk, MatchResult, None, Ok, Some, length, map, option_map};
 ghost use Rattle.beas_core.specs.declared.refusal.Refusal.TheVariants.{TooLarge};
+ghost use Rattle.beas_core.specs.declared.schema.Access.{Access};
 ghost use Rattle.beas_core.specs.Classes.{normal_of};
-ghost use Rattle.beas_core.specs.Coverage.{ClassesInRange};
+ghost use Rattle.beas_core.specs.Coverage.{ClassesInRange, constant_classes as classes_of_constants};
 ghost use Rattle.beas_core.specs.Fits.{Fits, PlanFits};
-ghost use Rattle.beas_core.specs.Guiding.{after, first_uncovered, is_guided_task, task_reason, task_steps};
+ghost use Rattle.beas_core.specs.Guiding.{after, block_tasks, first_uncovered, is_guided_task, task_reason, task_steps};
 ghost use Rattle.beas_core.specs.Queries.{announced_in, query_bound, size_of};
 ghost use Rattle.beas_core.specs.Results.{Gives, IsRefusedAs};
 ghost use Rattle.beas_core.specs.Shapes.{BlockIsWellFormed, EachIdOnce, IsPlace, QueryIsWellFormed};
@@ -12,12 +13,12 @@ ghost use Rattle.beas_core.specs.Trees.{blocks_of};
 ghost use Rattle.beas_core.specs.Types.{TableRows};
 ghost use Rattle.catalogue.specs.Queries.{BlockIsOver, QueryIsOver, RowsAreWide};
 ghost use Rattle.plan_builder.specs.Parts.{Grows, block_reads, block_size, blocks_at, normal_task, task_at, unless_too_large, whole};
-ghost use Rattle.plan_builder.specs.Preparation.{IsWellFormedIn, block_header, header_of, not_covered, place_name, preparation, preparation_over, refusal_of, with_lists};
+ghost use Rattle.plan_builder.specs.Preparation.{IsWellFormedIn, block_header, constraints_with, header_of, not_covered, place_name, preparation, preparation_over, refusal_of, with_lists};
 
-use crate::blocks::{BlockAt, count_blocks, joined, joined_all, push_blocks};
-use crate::derivations::{derive_from, steps_if_covered, why_none};
+use crate::blocks::{BlockAt, count_blocks, joined, joined_all, lend, push_blocks};
+use crate::derivations::{FEW_CLASSES, derive_from, steps_if_covered, why_none};
 use crate::sets::guided_start;
-use attribute_closure::constant_classes;
+use attribute_closure::{add_constants, constant_classes};
 use beas_core::{
     Access, Block, Derivation, Duplicate, Fail, List, Name, NoMemory, Normal, NotCovered, Place,
     Prepared, Query, QueryNode, Refusal,
@@ -131,7 +132,47 @@ fn not_covered(
     }
 }
 
-// The derivation of a block, from the classes of its output too where it has a guide and isn't covered by itself.
+// The derivation of a block from the classes of its constants; where it isn't covered from there and has a guide, from
+// the classes of its output too.
+fn plan_from(
+    alloc: Global,
+    accesses: &List<Access>,
+    normal: &Normal,
+    has_guide: bool,
+    start: &[bool],
+) -> Result<Result<TaskPlan, NotCovered>, NoMemory>
+    requires ranges { ClassesInRange normal.now }
+    requires atoms { length normal.now.atoms < 65536 }
+    requires needed { length normal.now.needed ≤ 65536 }
+    requires ids { EachIdOnce accesses.now }
+    requires start { start.now ≡ classes_of_constants normal.now }
+    ensures { IfOk result (λ found. MatchResult found
+        (λ plan. (plan.guided ≡ is_guided_task (normal_task normal.now accesses.now has_guide))
+        × (task_steps (normal_task normal.now accesses.now has_guide) ≡ Some plan.derivation.steps)
+        × (task_reason (normal_task normal.now accesses.now has_guide) ≡ None))
+        (λ why. task_reason (normal_task normal.now accesses.now has_guide) ≡ Some why)) }
+{
+    if let Some(steps) = steps_if_covered(alloc, accesses, normal, start)? {
+        return Ok(Ok(TaskPlan {
+            derivation: Derivation { steps },
+            guided: false,
+        }));
+    }
+    if !has_guide {
+        return Ok(Err(why_none(alloc, accesses, normal, start)?));
+    }
+    let more = guided_start(alloc, normal)?;
+    match derive_from(alloc, accesses, normal, more.as_slice())? {
+        Ok(derivation) => Ok(Ok(TaskPlan {
+            derivation,
+            guided: true,
+        })),
+        Err(why) => Ok(Err(why)),
+    }
+}
+
+// The derivation of a block, from the classes of its output too where it has a guide and isn't covered by itself. A set
+// of few classes takes no block of memory.
 fn plan_normal(
     alloc: Global,
     accesses: &List<Access>,
@@ -148,24 +189,15 @@ fn plan_normal(
         × (task_reason (normal_task normal.now accesses.now has_guide) ≡ None))
         (λ why. task_reason (normal_task normal.now accesses.now has_guide) ≡ Some why)) }
 {
+    let count = usize::from(normal.count);
+    if count <= FEW_CLASSES {
+        let mut room = [false; FEW_CLASSES];
+        let start = &mut room[..count];
+        add_constants(normal.constants.as_slice(), start);
+        return plan_from(alloc, accesses, normal, has_guide, start);
+    }
     let start = constant_classes(alloc, normal)?;
-    if let Some(steps) = steps_if_covered(alloc, accesses, normal, start.as_slice())? {
-        return Ok(Ok(TaskPlan {
-            derivation: Derivation { steps },
-            guided: false,
-        }));
-    }
-    if !has_guide {
-        return Ok(Err(why_none(alloc, accesses, normal, start.as_slice())?));
-    }
-    let start = guided_start(alloc, normal)?;
-    match derive_from(alloc, accesses, normal, start.as_slice())? {
-        Ok(derivation) => Ok(Ok(TaskPlan {
-            derivation,
-            guided: true,
-        })),
-        Err(why) => Ok(Err(why)),
-    }
+    plan_from(alloc, accesses, normal, has_guide, start.as_slice())
 }
 
 // The derivation of a block over the live constraints followed by its own.
@@ -387,6 +419,38 @@ fn announce_over(
     Ok(announce(query, plans, &all, 0, 1)?.reads)
 }
 
+// What is announced of a query whose blocks are lent.
+fn parts_with(
+    alloc: Global,
+    catalogue: &Catalogue,
+    extra: &[List<Access>],
+    query: &Query,
+    lent: &[BlockAt<'_>],
+) -> Result<Parts, Fail>
+    requires well_formed { QueryIsWellFormed query.now }
+    requires over { QueryIsOver catalogue.now query.now }
+    requires few { length (blocks_of query.now) < 2 ^ 32 }
+    requires blocks { blocks_at lent.now ≡ blocks_of query.now }
+    requires tasks { (accesses : List Access) → map (task_at accesses) lent.now
+        ≡ block_tasks (constraints_with accesses extra.now) query.now }
+    requires ids { EachIdOnce (with_lists catalogue.now.accesses extra.now) }
+    requires extra { All (All (IsWellFormedIn catalogue.now)) extra.now }
+    ensures refused { IfErr result (λ why. Gives (Err why) (preparation_over catalogue.now extra.now query.now)) }
+    ensures prepared { IfOk result (λ parts.
+        Gives (Ok (whole query.now parts)) (preparation_over catalogue.now extra.now query.now)) }
+    ensures plan { IfOk result (λ parts. PlanFits (with_lists catalogue.now.accesses extra.now) (whole query.now parts)) }
+{
+    let plans = plan_blocks(alloc, catalogue, lent)?;
+    let bound = announce_over(alloc, catalogue.accesses(), extra, query, &plans)?;
+    let header = header_of(alloc, catalogue, lent)?;
+    Ok(Parts {
+        header,
+        plans,
+        bound,
+    })
+}
+
+// What is announced of a query. The list of the blocks of one that is a single block takes no block of memory.
 fn parts_of(
     alloc: Global,
     catalogue: &Catalogue,
@@ -403,16 +467,13 @@ fn parts_of(
         Gives (Ok (whole query.now parts)) (preparation_over catalogue.now extra.now query.now)) }
     ensures plan { IfOk result (λ parts. PlanFits (with_lists catalogue.now.accesses extra.now) (whole query.now parts)) }
 {
+    if let QueryNode::Block(block) = &query.node {
+        let lent = [lend(block, extra)];
+        return parts_with(alloc, catalogue, extra, query, &lent);
+    }
     let mut found = List::from_vec(Vec::with_capacity(alloc, count_blocks(query))?);
     push_blocks(query, extra, false, &mut found)?;
-    let plans = plan_blocks(alloc, catalogue, found.as_slice())?;
-    let bound = announce_over(alloc, catalogue.accesses(), extra, query, &plans)?;
-    let header = header_of(alloc, catalogue, found.as_slice())?;
-    Ok(Parts {
-        header,
-        plans,
-        bound,
-    })
+    parts_with(alloc, catalogue, extra, query, found.as_slice())
 }
 
 /// A query with all that is announced of it where its blocks may use more constraints than the live ones: block i those

@@ -9,7 +9,7 @@ ghost use Rattle.attribute_closure.specs.Uses.{as_use};
 ghost use Rattle.plan_builder.specs.Fronts.{IsFront, IsKept, reads_or_cap};
 ghost use Rattle.plan_builder.specs.Trials.{all_are_served, are_sound, steps_from, uses_pruned, uses_pruned_at, uses_without};
 
-use crate::derivations::{Plan, is_served_among, take_step};
+use crate::derivations::{is_served_among, take_step};
 use crate::fronts::{Front, take_uses};
 use attribute_closure::{UseAt, open_place};
 use beas_core::{Access, DStep, List, NoMemory, Normal, Sizes};
@@ -157,23 +157,21 @@ fn prune<'a>(
     Ok(kept.uses)
 }
 
+// The steps of uses from a set of classes, which takes theirs.
 #[tactic(auto, using(crate::proofs::DropTurns::steps_go_on, crate::proofs::DropTurns::steps_end))]
 fn steps_of(
     alloc: Global,
     block: &Normal,
-    start: &[bool],
+    set: &mut [bool],
     uses: &[UseAt<'_>],
 ) -> Result<List<DStep>, NoMemory>
-    ensures { IfOk result (λ steps. steps ≡ steps_from block.now start.now (map as_use uses.now)) }
+    ensures { IfOk result (λ steps. steps ≡ steps_from block.now set.old (map as_use uses.now)) }
 {
-    let mut plan = Plan {
-        steps: List::from_vec(Vec::with_capacity(alloc, uses.len())?),
-        set: Vec::from_slice(alloc, start)?,
-    };
+    let mut steps = List::from_vec(Vec::with_capacity(alloc, uses.len())?);
     for found in uses {
-        take_step(&mut plan, block, *found)?;
+        take_step(&mut steps, set, block, *found)?;
     }
-    Ok(plan.steps)
+    Ok(steps)
 }
 
 /// The steps of a derivation that are left after each, from the last to the first, has gone where it may. It takes no
@@ -195,5 +193,6 @@ pub fn needed_steps(
     }
     let uses = uses_of_steps(alloc, accesses, steps.as_slice())?;
     let left = prune(alloc, block, start, uses)?;
-    steps_of(alloc, block, start, left.as_slice())
+    let mut set = Vec::from_slice(alloc, start)?;
+    steps_of(alloc, block, &mut set, left.as_slice())
 }

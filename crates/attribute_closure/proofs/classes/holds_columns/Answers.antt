@@ -1,4 +1,4 @@
-use Rattle.std.proofs.Common.{◌≡◌, ◌∙◌, ap, sym}
+use Rattle.std.proofs.Common.{◌∙◌, ap, sym}
 use Rattle.beas_core.specs.Coverage.{class_at, has}
 use Rattle.attribute_closure.proofs.Sets.{holds_broken}
 use Rattle.attribute_closure.proofs.classes.holds_columns.Goals as goal

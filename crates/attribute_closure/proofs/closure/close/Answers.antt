@@ -1,4 +1,4 @@
-use Rattle.std.proofs.Common.{◌≡◌, false, ◌∙◌, ap, length}
+use Rattle.std.proofs.Common.{false, ◌∙◌, ap, length}
 use Rattle.evaluation_facts.proofs.StartFacts.{start_counted}
 use Rattle.attribute_closure.proofs.closure.close.Goals as goal
 

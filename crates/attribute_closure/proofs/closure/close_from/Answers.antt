@@ -1,4 +1,4 @@
-use Rattle.std.proofs.Common.{◌≡◌, ◌<◌, ◌≤◌, length, map, ap, sym, ◌∙◌, subst, arith}
+use Rattle.std.proofs.Common.{◌<◌, ◌≤◌, length, map, ap, ◌∙◌, subst, arith}
 use Rattle.beas_core.specs.Coverage.{uses}
 use Rattle.attribute_closure.specs.Uses.{as_use}
 use Rattle.attribute_closure.proofs.Waiting.{found_at}

@@ -1,4 +1,4 @@
-use Rattle.std.proofs.Common.{◌≡◌, ◌∙◌, sym, subst, take}
+use Rattle.std.proofs.Common.{sym, subst}
 use Rattle.attribute_closure.specs.Keys.{CountedDown}
 use Rattle.attribute_closure.proofs.Counting.{some_there, down_ready, down_on}
 use Rattle.attribute_closure.proofs.keys.count_down.Goals as goal

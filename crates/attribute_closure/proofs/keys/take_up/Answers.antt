@@ -1,4 +1,4 @@
-use Rattle.std.proofs.Common.{◌≡◌, ◌<◌, length, map, ap, sym, subst, ◌∙◌, refl, arith}
+use Rattle.std.proofs.Common.{◌<◌, length, map, sym, subst, arith}
 use Rattle.attribute_closure.specs.Uses.{as_use}
 use Rattle.attribute_closure.specs.Keys.{AreCounted}
 use Rattle.attribute_closure.proofs.Waiting.{none_given, taken_up_ready, taken_up_on, seen_at, length_seen}

@@ -1,4 +1,4 @@
-use Rattle.std.proofs.Common.{◌≡◌, ◌<◌, ◌∙◌, ap, sym, subst}
+use Rattle.std.proofs.Common.{◌<◌, ◌∙◌, sym, subst}
 use Rattle.beas_core.specs.Coverage.{class_at}
 use Rattle.attribute_closure.proofs.Waiting.{waits_on}
 use Rattle.attribute_closure.proofs.keys.wait.Goals as goal

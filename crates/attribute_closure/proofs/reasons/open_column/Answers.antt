@@ -1,4 +1,4 @@
-use Rattle.std.proofs.Common.{◌≡◌, ◌∙◌, sym}
+use Rattle.std.proofs.Common.{◌∙◌, sym}
 use Rattle.beas_core.specs.Coverage.{is_open}
 use Rattle.attribute_closure.proofs.Searches.{place_of, find_map_more, find_map_there}
 use Rattle.attribute_closure.proofs.reasons.open_column.Goals as goal

@@ -1,7 +1,5 @@
-use Rattle.std.proofs.Common.{◌≡◌, ℕ, ◌∙◌, ap, sym, length, take, None, arith}
-use Rattle.std.specs.List.{find, flat_map, enumerate_from}
-use Rattle.beas_core.specs.Coverage.{is_open}
-use Rattle.attribute_closure.proofs.Searches.{place_of, places_on, needed_there, needed_more, needed_end}
+use Rattle.std.proofs.Common.{sym}
+use Rattle.attribute_closure.proofs.Searches.{needed_there, needed_more, needed_end}
 use Rattle.attribute_closure.proofs.reasons.open_place.Goals as goal
 
 pub returns-in-Some : goal.returns-in-Some

@@ -1,4 +1,4 @@
-use Rattle.std.proofs.Common.{◌≡◌, ◌==◌, false, take}
+use Rattle.std.proofs.Common.{◌≡◌, false, take}
 use Rattle.beas_core.specs.Groups.{has_column}
 use Rattle.attribute_closure.proofs.reasons.stands_in.Given as goal
 

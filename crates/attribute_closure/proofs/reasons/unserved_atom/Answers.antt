@@ -1,4 +1,4 @@
-use Rattle.std.proofs.Common.{◌≡◌, ◌<◌, ◌∙◌, ap, sym, not, length, subst}
+use Rattle.std.proofs.Common.{◌<◌, ◌∙◌, ap, sym, not, length, subst}
 use Rattle.beas_core.specs.Coverage.{is_served}
 use Rattle.attribute_closure.proofs.Searches.{find_range_there, find_range_more}
 use Rattle.attribute_closure.proofs.reasons.unserved_atom.Goals as goal

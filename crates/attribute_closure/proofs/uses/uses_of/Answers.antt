@@ -1,4 +1,4 @@
-use Rattle.std.proofs.Common.{◌≡◌, ◌++◌, ℕ, ◌∙◌, ap, sym, take, length, refl, arith}
+use Rattle.std.proofs.Common.{◌≡◌, ℕ, ◌∙◌, ap, take, length, refl, arith}
 use Rattle.std.specs.List.{flat_map, enumerate_from}
 use Rattle.attribute_closure.proofs.Listed.{uses_on, uses_step, uses_of_all}
 use Rattle.attribute_closure.proofs.uses.uses_of.Goals as goal

@@ -1,5 +1,5 @@
 use Rattle.std.proofs.Common.{ap, rules}
-use Rattle.normal_form.specs.Labels.{AreLabels, label_at}
+use Rattle.normal_form.specs.Labels.{label_at}
 use Rattle.normal_form.proofs.Joined.{labels_apart}
 use Rattle.normal_form.proofs.labels.join.Goals as goal
 

@@ -1,5 +1,3 @@
-use Rattle.std.proofs.Common.{◌≡◌, ◌∷◌, [], ◌∙◌, ap}
-use Rattle.normal_form.specs.Places.{mark}
 use Rattle.normal_form.proofs.Marked.{marked_firsts}
 use Rattle.normal_form.proofs.needed.mark_constants.Goals as goal
 

@@ -1,4 +1,3 @@
-use Rattle.std.proofs.Common.{◌≡◌}
 use Rattle.normal_form.proofs.Marked.{marked_pairs}
 use Rattle.normal_form.proofs.needed.mark_equalities.Goals as goal
 

@@ -1,4 +1,4 @@
-use Rattle.std.proofs.Common.{◌≡◌, [], ◌∷◌, ap, sym, ◌∙◌}
+use Rattle.std.proofs.Common.{[], ◌∷◌, ap, sym, ◌∙◌}
 use Rattle.beas_core.specs.Classes.{operand_places}
 use Rattle.normal_form.specs.Places.{mark}
 use Rattle.normal_form.proofs.Marked.{marked_append}

@@ -6,7 +6,7 @@ use Rattle.plan_builder.proofs.derivations.add_best.Given as goal
 
 abbrev pub invariant-loop-turn : goal.invariant-loop-turn
 invariant-loop-turn l = record {
-  come : HasCome l.block l.accesses l.initial.plan.set.items l.plan.set.items l.plan.steps;
-  left : adding_steps l.block.count l.block l.accesses l.initial.plan.set.items
-      ≡ option_map (λ more. l.plan.steps ++ more) (adding_steps (l.block.count - l._turn) l.block l.accesses l.plan.set.items);
+  come : HasCome l.block l.accesses l.initial.set l.set l.steps;
+  left : adding_steps l.block.count l.block l.accesses l.initial.set
+      ≡ option_map (λ more. l.steps ++ more) (adding_steps (l.block.count - l._turn) l.block l.accesses l.set);
 }

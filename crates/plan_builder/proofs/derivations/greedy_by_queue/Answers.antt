@@ -29,5 +29,5 @@ returns c =
     let same = c.in_ok-candidates.ensures.uses ∙ ap (uses c.args.block.now) c.as_slice.ensures in
     let added = from_true _ _ c.in_ok-add_steps.field-0 (c.in_ok-add_steps.ensures.come c.args.accesses.now c.requires.ids same) c.if-not-branch.false in
     greedy_whole c.args.block.now c.args.accesses.now c.args.accesses.now c.as_slice-2.result.now c.args.start.now c.in_ok-candidates.candidates.keys.set.items
-    c.add_steps.new.candidates.keys.set.items c.add_steps.new.steps
-    c.serve_atoms.new.plan.steps refl c.as_slice-2.ensures c.in_ok-candidates.ensures.set added.0.bound added.1 c.in_ok-serve_atoms.ensures
+    c.deref_mut.result.now c.add_steps.new.steps
+    c.serve_atoms.new.steps refl c.as_slice-2.ensures c.in_ok-candidates.ensures.set (c.deref_mut.ensures.value ∙ added.0.bound) added.1 c.in_ok-serve_atoms.ensures

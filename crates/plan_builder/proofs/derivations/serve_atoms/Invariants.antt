@@ -5,8 +5,8 @@ use Rattle.plan_builder.proofs.derivations.serve_atoms.Given as goal
 
 abbrev pub invariant-loop-atom : goal.invariant-loop-atom
 invariant-loop-atom l = record {
-  left : l.initial.plan.steps ++ serving_steps l.block l.accesses l.initial.plan.steps l.initial.plan.set.items (atoms_of l.block)
-      ≡ l.plan.steps ++ serving_steps l.block l.accesses l.initial.plan.steps l.plan.set.items (drop l.atom (atoms_of l.block));
-  there : l.first ≤ length l.plan.steps;
-  first : take l.first l.plan.steps ≡ l.initial.plan.steps;
+  left : l.initial.steps ++ serving_steps l.block l.accesses l.initial.steps l.initial.set (atoms_of l.block)
+      ≡ l.steps ++ serving_steps l.block l.accesses l.initial.steps l.set (drop l.atom (atoms_of l.block));
+  there : l.first ≤ length l.steps;
+  first : take l.first l.steps ≡ l.initial.steps;
 }

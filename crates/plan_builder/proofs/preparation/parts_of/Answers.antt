@@ -1,131 +1,37 @@
-use Rattle.std.proofs.Common.{◌≡◌, ◌++◌, ◌∙◌, List, false, length, map, ap, refl, subst, sym, arith}
-use Rattle.std.specs.List.{All}
-use Rattle.std.proofs.lemmas.Result.{err_from_is_err_and}
-use Rattle.std.specs.Prelude.{Ok}
-use Rattle.beas_core.specs.declared.schema.Access.{Access}
+use Rattle.std.proofs.Common.{◌≡◌, [], ◌∷◌, ◌++◌, ◌∙◌, ap, false, get_or, length, map, sym}
 use Rattle.beas_core.specs.Classes.{normal_of}
-use Rattle.beas_core.specs.Guiding.{block_tasks, is_guided_task, tasks_from}
-use Rattle.beas_core.specs.Queries.{query_bound}
-use Rattle.beas_core.specs.Trees.{blocks_of}
-use Rattle.plan_builder.specs.declared.preparation.Parts.{Parts}
-use Rattle.plan_builder.specs.Parts.{Grows, blocks_at, task_at, whole}
-use Rattle.plan_builder.specs.Preparation.{constraints_with, flags_of, header_of, task_plan, with_lists}
-use Rattle.plan_builder.proofs.Extras.{gives_over}
-use Rattle.plan_builder.proofs.PreparationFacts.{all_covered, all_grow, each_once, gives_parts, over_err, over_refused, plan_fits, same_plans, told_number}
+use Rattle.beas_core.specs.Guiding.{block_tasks, tasks_from}
+use Rattle.beas_core.specs.Nodes.{query_tree}
+use Rattle.beas_core.specs.Trees.{Single, blocks_of}
+use Rattle.plan_builder.specs.Parts.{blocks_at, normal_task, task_at}
+use Rattle.plan_builder.specs.Preparation.{constraints_with}
 use Rattle.plan_builder.proofs.preparation.parts_of.Goals as goal
 
-pub plan_blocks-requires-clause-ids : goal.plan_blocks-requires-clause-ids
-plan_blocks-requires-clause-ids c =
-    let schema = c.args.catalogue.now in
-    let live = schema.accesses in
-    let extra = c.args.extra.now in
-    let query = c.args.query.now in
-    let lent = c.as_slice.result.now in
-    let given = block_tasks (constraints_with live extra) query in
-    let made : (a : List Access) → map (task_at a) lent ≡ block_tasks (constraints_with a extra) query = λ a.
-    ap (map (task_at a)) c.as_slice.ensures ∙ c.in_ok-push_blocks.ensures.tasks a
-    ∙ ap (λ xs. map (task_at a) xs ++ tasks_from (constraints_with a extra) (length xs) false query) (c.from_vec-found.ensures ∙ c.in_ok-with_capacity.ensures.items) in
-    each_once live extra c.requires.ids query lent made
+pub parts_with-requires-clause-blocks : goal.parts_with-requires-clause-blocks
+parts_with-requires-clause-blocks c =
+    let whole : c.args.query.now ≡ Single c.in-Block.block = sym c.query.view_is ∙ ap query_tree c.in-Block.is in
+    ap (λ b. b ∷ []) c.lend.ensures.block ∙ ap blocks_of (sym whole)
 
-pub returns-in_err-plans-clause-refused : goal.returns-in_err-plans-clause-refused
-returns-in_err-plans-clause-refused c =
-    let schema = c.args.catalogue.now in
-    let live = schema.accesses in
+pub parts_with-requires-clause-tasks : goal.parts_with-requires-clause-tasks
+parts_with-requires-clause-tasks c = λ a.
     let extra = c.args.extra.now in
-    let query = c.args.query.now in
-    let lent = c.as_slice.result.now in
-    let given = block_tasks (constraints_with live extra) query in
-    let same : blocks_at lent ≡ blocks_of query =
-    ap blocks_at c.as_slice.ensures ∙ c.in_ok-push_blocks.ensures.blocks ∙ ap (λ xs. blocks_at xs ++ blocks_of query) (c.from_vec-found.ensures ∙ c.in_ok-with_capacity.ensures.items) in
-    let made : (a : List Access) → map (task_at a) lent ≡ block_tasks (constraints_with a extra) query = λ a.
-    ap (map (task_at a)) c.as_slice.ensures ∙ c.in_ok-push_blocks.ensures.tasks a
-    ∙ ap (λ xs. map (task_at a) xs ++ tasks_from (constraints_with a extra) (length xs) false query) (c.from_vec-found.ensures ∙ c.in_ok-with_capacity.ensures.items) in
-    let p = err_from_is_err_and c.from_residual-in_err-plans.result c.from_residual-in_err-plans.ensures.1 in
-    rw (p.1, p.2) (over_err schema extra query (Unit {0}) _ (blocks_at lent) (map (task_at live) lent) same (made live)
-    c.in_err-plans.ensures.refused)
+    let normal = normal_of c.in-Block.block in
+    let whole : c.args.query.now ≡ Single c.in-Block.block = sym c.query.view_is ∙ ap query_tree c.in-Block.is in
+    ap (λ b. normal_task (normal_of b) (a ++ c.lend.result.extra.now) c.lend.result.has_guide ∷ []) c.lend.ensures.block
+    ∙ ap (λ more. normal_task normal (a ++ more) c.lend.result.has_guide ∷ []) c.lend.ensures.extra
+    ∙ ap (λ has. normal_task normal (a ++ get_or extra 0 []) has ∷ []) c.lend.ensures.has_guide
+    ∙ ap (block_tasks (constraints_with a extra)) (sym whole)
 
-pub announce_over-requires-clause-grow : goal.announce_over-requires-clause-grow
-announce_over-requires-clause-grow c =
-    let schema = c.args.catalogue.now in
-    let live = schema.accesses in
-    let extra = c.args.extra.now in
-    let query = c.args.query.now in
-    let lent = c.as_slice.result.now in
-    let given = block_tasks (constraints_with live extra) query in
-    let same : blocks_at lent ≡ blocks_of query =
-    ap blocks_at c.as_slice.ensures ∙ c.in_ok-push_blocks.ensures.blocks ∙ ap (λ xs. blocks_at xs ++ blocks_of query) (c.from_vec-found.ensures ∙ c.in_ok-with_capacity.ensures.items) in
-    let made : (a : List Access) → map (task_at a) lent ≡ block_tasks (constraints_with a extra) query = λ a.
-    ap (map (task_at a)) c.as_slice.ensures ∙ c.in_ok-push_blocks.ensures.tasks a
-    ∙ ap (λ xs. map (task_at a) xs ++ tasks_from (constraints_with a extra) (length xs) false query) (c.from_vec-found.ensures ∙ c.in_ok-with_capacity.ensures.items) in
-    subst (λ (a : List Access). All (Grows (with_lists a extra)) c.in_ok-plans.plans.derivations) (sym c.accesses.ensures.accesses)
-    (all_grow schema c.accesses.ensures.sound extra c.requires.ids c.requires.extra query c.requires.well_formed c.requires.over lent same made
-    c.in_ok-plans.plans.derivations c.in_ok-plans.ensures.derivations)
-
-pub returns-in_err-bound-clause-refused : goal.returns-in_err-bound-clause-refused
-returns-in_err-bound-clause-refused c =
-    let schema = c.args.catalogue.now in
-    let live = schema.accesses in
-    let extra = c.args.extra.now in
-    let query = c.args.query.now in
-    let lent = c.as_slice.result.now in
-    let given = block_tasks (constraints_with live extra) query in
-    let same : blocks_at lent ≡ blocks_of query =
-    ap blocks_at c.as_slice.ensures ∙ c.in_ok-push_blocks.ensures.blocks ∙ ap (λ xs. blocks_at xs ++ blocks_of query) (c.from_vec-found.ensures ∙ c.in_ok-with_capacity.ensures.items) in
-    let made : (a : List Access) → map (task_at a) lent ≡ block_tasks (constraints_with a extra) query = λ a.
-    ap (map (task_at a)) c.as_slice.ensures ∙ c.in_ok-push_blocks.ensures.tasks a
-    ∙ ap (λ xs. map (task_at a) xs ++ tasks_from (constraints_with a extra) (length xs) false query) (c.from_vec-found.ensures ∙ c.in_ok-with_capacity.ensures.items) in
-    let plans = c.in_ok-plans.plans in
-    let derived = same_plans (map (task_at live) lent) plans.derivations c.in_ok-plans.ensures.derivations ∙ ap (map task_plan) (made live) in
-    let flags = c.in_ok-plans.ensures.guided ∙ ap (map is_guided_task) (made live) in
-    let none = all_covered schema (with_lists live extra) given query (blocks_at lent) (map (task_at live) lent) (made live) c.in_ok-plans.ensures.refused in
-    let p = err_from_is_err_and c.from_residual-in_err-bound.result c.from_residual-in_err-bound.ensures.1 in
-    let number = ap (λ a. query_bound (with_lists a extra) plans.guided plans.derivations query) c.accesses.ensures.accesses
-    ∙ ap (λ gs. query_bound (with_lists live extra) gs plans.derivations query) flags
-    ∙ ap (λ ds. query_bound (with_lists live extra) (flags_of given) ds query) derived in
-    rw (p.1, p.2) (over_refused schema extra query none _ _ number c.in_err-bound.ensures)
-
-pub returns-clause-prepared : goal.returns-clause-prepared
-returns-clause-prepared c =
-    let schema = c.args.catalogue.now in
-    let live = schema.accesses in
-    let extra = c.args.extra.now in
-    let query = c.args.query.now in
-    let lent = c.as_slice.result.now in
-    let given = block_tasks (constraints_with live extra) query in
-    let same : blocks_at lent ≡ blocks_of query =
-    ap blocks_at c.as_slice.ensures ∙ c.in_ok-push_blocks.ensures.blocks ∙ ap (λ xs. blocks_at xs ++ blocks_of query) (c.from_vec-found.ensures ∙ c.in_ok-with_capacity.ensures.items) in
-    let made : (a : List Access) → map (task_at a) lent ≡ block_tasks (constraints_with a extra) query = λ a.
-    ap (map (task_at a)) c.as_slice.ensures ∙ c.in_ok-push_blocks.ensures.tasks a
-    ∙ ap (λ xs. map (task_at a) xs ++ tasks_from (constraints_with a extra) (length xs) false query) (c.from_vec-found.ensures ∙ c.in_ok-with_capacity.ensures.items) in
-    let plans = c.in_ok-plans.plans in
-    let derived = same_plans (map (task_at live) lent) plans.derivations c.in_ok-plans.ensures.derivations ∙ ap (map task_plan) (made live) in
-    let flags = c.in_ok-plans.ensures.guided ∙ ap (map is_guided_task) (made live) in
-    let none = all_covered schema (with_lists live extra) given query (blocks_at lent) (map (task_at live) lent) (made live) c.in_ok-plans.ensures.refused in
-    let parts : Parts = record { header = c.in_ok-header.header; plans = plans; bound = c.in_ok-bound.bound } in
-    gives_over schema extra query (Ok (whole query parts)) (gives_parts schema (with_lists live extra) given query none (whole query parts) refl
-    (c.in_ok-header.ensures ∙ ap (header_of schema) (ap blocks_at (c.as_slice-2.ensures ∙ sym c.as_slice.ensures) ∙ same))
-    (c.in_ok-plans.ensures.normals ∙ ap (map normal_of) same) derived flags
-    (told_number _ c.in_ok-bound.bound c.in_ok-bound.ensures
-    ∙ ap (λ a. query_bound (with_lists a extra) plans.guided plans.derivations query) c.accesses.ensures.accesses)
-    (omega arith))
-
-pub returns-clause-plan : goal.returns-clause-plan
-returns-clause-plan c =
-    let schema = c.args.catalogue.now in
-    let live = schema.accesses in
-    let extra = c.args.extra.now in
-    let query = c.args.query.now in
-    let lent = c.as_slice.result.now in
-    let given = block_tasks (constraints_with live extra) query in
-    let same : blocks_at lent ≡ blocks_of query =
-    ap blocks_at c.as_slice.ensures ∙ c.in_ok-push_blocks.ensures.blocks ∙ ap (λ xs. blocks_at xs ++ blocks_of query) (c.from_vec-found.ensures ∙ c.in_ok-with_capacity.ensures.items) in
-    let made : (a : List Access) → map (task_at a) lent ≡ block_tasks (constraints_with a extra) query = λ a.
-    ap (map (task_at a)) c.as_slice.ensures ∙ c.in_ok-push_blocks.ensures.tasks a
-    ∙ ap (λ xs. map (task_at a) xs ++ tasks_from (constraints_with a extra) (length xs) false query) (c.from_vec-found.ensures ∙ c.in_ok-with_capacity.ensures.items) in
-    let plans = c.in_ok-plans.plans in
-    plan_fits schema c.accesses.ensures.sound extra c.requires.ids c.requires.extra query c.requires.well_formed c.requires.over lent same made
-    plans.derivations c.in_ok-plans.ensures.derivations
-    (whole query (record { header = c.in_ok-header.header; plans = plans; bound = c.in_ok-bound.bound })) refl
-    (c.in_ok-plans.ensures.normals ∙ ap (map normal_of) same) refl c.in_ok-plans.ensures.guided
-    (told_number _ c.in_ok-bound.bound c.in_ok-bound.ensures
-    ∙ ap (λ a. query_bound (with_lists a extra) plans.guided plans.derivations query) c.accesses.ensures.accesses)
+pub parts_with-requires-2 : goal.parts_with-requires-2
+parts_with-requires-2 c =
+    let none = c.from_vec-found.ensures ∙ c.in_ok-with_capacity.ensures.items in
+    record {
+      well_formed = c.requires.well_formed;
+      over = c.requires.over;
+      few = c.requires.few;
+      blocks = ap blocks_at c.as_slice.ensures ∙ c.in_ok-push_blocks.ensures.blocks ∙ ap (λ xs. blocks_at xs ++ blocks_of c.args.query.now) none;
+      tasks = λ a. ap (map (task_at a)) c.as_slice.ensures ∙ c.in_ok-push_blocks.ensures.tasks a
+          ∙ ap (λ xs. map (task_at a) xs ++ tasks_from (constraints_with a c.args.extra.now) (length xs) false c.args.query.now) none;
+      ids = c.requires.ids;
+      extra = c.requires.extra;
+    }

@@ -25,6 +25,7 @@ returns c =
     let normal = c.args.block.now in
     let start = c.args.start.now in
     subst (λ (ss : List DStep). IfOk c.steps_of.result (λ left. left ≡ ss))
-    (ap (steps_from normal start) (ap (map as_use) c.as_slice-2.ensures ∙ c.in_ok-left.ensures
+    (ap (λ set. steps_from normal set (map as_use c.as_slice-2.result.now)) (c.deref_mut.ensures.value ∙ c.in_ok-set.ensures.items)
+    ∙ ap (steps_from normal start) (ap (map as_use) c.as_slice-2.ensures ∙ c.in_ok-left.ensures
     ∙ ap (uses_pruned normal start) (c.in_ok-uses.ensures ∙ ap (map (use_of c.args.accesses.now)) c.as_slice.ensures))
     ∙ left_by_uses normal c.args.accesses.now start c.args.steps c.requires.sound) c.steps_of.ensures

@@ -5,4 +5,4 @@ use Rattle.plan_builder.proofs.DropTurns.{uses_left}
 use Rattle.plan_builder.proofs.pruning.steps_of.Given as goal
 
 abbrev pub invariant-loop-found : goal.invariant-loop-found
-invariant-loop-found l = steps_from l.block l.start (map as_use l.uses) ≡ l.plan.steps ++ steps_from l.block l.plan.set.items (uses_left l.found-index l.uses)
+invariant-loop-found l = steps_from l.block l.initial.set (map as_use l.uses) ≡ l.steps ++ steps_from l.block l.set (uses_left l.found-index l.uses)

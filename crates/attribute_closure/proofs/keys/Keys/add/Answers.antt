@@ -1,6 +1,5 @@
-use Rattle.std.proofs.Common.{◌≡◌, ◌<◌, ℕ, map, subst, ap, sym, ◌∙◌, rules, arith}
+use Rattle.std.proofs.Common.{map, rules, arith}
 use Rattle.attribute_closure.specs.Uses.{as_use}
-use Rattle.attribute_closure.specs.Keys.{AreCounted}
 use Rattle.attribute_closure.proofs.Waiting.{add_inside, add_enough, add_counted}
 use Rattle.attribute_closure.proofs.keys.Keys.add.Goals as goal
 

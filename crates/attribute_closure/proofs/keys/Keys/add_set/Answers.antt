@@ -1,4 +1,4 @@
-use Rattle.std.proofs.Common.{◌≡◌, ◌∙◌, ap, sym, subst, true, set, add-one, arith}
+use Rattle.std.proofs.Common.{◌∙◌, ap, sym, subst, true, set, add-one, arith}
 use Rattle.beas_core.specs.Coverage.{has}
 use Rattle.attribute_closure.specs.Keys.{KeysAreCounted}
 use Rattle.attribute_closure.proofs.Sets.{front_of, front_held, front_not_held}
