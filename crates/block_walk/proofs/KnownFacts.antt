@@ -11,7 +11,7 @@ use Rattle.std.specs.Cmp.Lexicographic.{pointwise}
 use Rattle.std.proofs.lemmas.Bool.{cases_lt}
 use Rattle.std.proofs.lemmas.Cmp.{tied_itself}
 use Rattle.std.proofs.lemmas.Slice.Eq.{slice_eq-Decides}
-use Rattle.std.proofs.lemmas.List.{drop-append-le, drop-drop, drop_at, get_or-map, get_or_default, length-append, length-drop, length-map, map-append, take-append-drop, take-append-le, take_all}
+use Rattle.std.proofs.lemmas.List.{append_assoc, drop-append-le, drop-drop, drop_at, get_or-map, get_or_default, length-append, length-drop, length-map, map-append, take-append-drop, take-append-le, take-take, take_all}
 use Rattle.std.proofs.lemmas.List.Elements.{All-head, All-tail, All-weaker, All-push}
 use Rattle.beas_core.proofs.Sets.{Has, Contains-from_has}
 use Rattle.beas_core.specs.declared.value.Value.{Value}
@@ -24,7 +24,7 @@ use Rattle.plan_ops.proofs.FetchedFacts.{length-rows_in, row_at, row_within}
 use Rattle.place_chains.specs.Chains.{IsLast}
 use Rattle.block_walk.specs.Hashing.{hash_of}
 use Rattle.block_walk.specs.Kept.{Entry, part}
-use Rattle.block_walk.specs.Entries.{IsKnown, IsSpot, entries_in, entry_at, entry_of, key_place}
+use Rattle.block_walk.specs.Entries.{IsKnown, IsSpot, entries_in, entry_at, entry_of, key_alone}
 use Rattle.block_walk.specs.declared.known.Known.{Known}
 use Rattle.block_walk.specs.declared.known.Spot.{Spot}
 
@@ -55,7 +55,7 @@ tuple_within known stands place s l is at below =
     subst (IsSpot known.values.items) (sym is) (stands.spots place s (omega (arith, l, n))) in
     let count = count_read known place s l is in
     let row = row_within s.width s.count at (omega (arith, below, count)) in
-    omega (arith, spot, row)
+    omega (arith, spot.tuples, row)
 
 pub tuple_read : (known : Known) (place : ℕ) (s : Spot) → place < length (entries_in known) → s ≡ get_or known.spots.items place s
     → (at : ℕ) → at < length (entry_of known place).1 → (n : ℕ) → n ≡ s.width
@@ -94,9 +94,9 @@ rows_at-append values more from width count l =
 
 pub entry_at-append : (values more : List Value) (s : Spot) → IsSpot values s → entry_at (values ++ more) s ≡ entry_at values s
 entry_at-append values more s is =
-    ap (λ k. ((s.step, k), rows_in s.width s.count (drop s.from (values ++ more)))) (part-append values more (key_place s) s.key_width is)
-    ∙ ap (λ rows. ((s.step, part values (key_place s) s.key_width), rows))
-    (rows_at-append values more s.from s.width s.count (omega (arith, is)))
+    ap (λ k. ((s.step, k), rows_in s.width s.count (drop s.from (values ++ more)))) (part-append values more s.from s.key_width is.key)
+    ∙ ap (λ rows. ((s.step, part values s.from s.key_width), rows))
+    (rows_at-append values more s.from s.width s.count is.tuples)
 
 pub entries-append : (values more : List Value) (spots : List Spot) → All (IsSpot values) spots
     → map (entry_at (values ++ more)) spots ≡ map (entry_at values) spots
@@ -108,7 +108,8 @@ entries-append values more (s ∷ spots) all =
 pub spots-append : (values more : List Value) (spots : List Spot) → All (IsSpot values) spots → All (IsSpot (values ++ more)) spots
 spots-append values more spots all =
     let n = length-append values more in
-    All-weaker (IsSpot values) (IsSpot (values ++ more)) (λ s is. omega (arith, is, n)) spots all
+    All-weaker (IsSpot values) (IsSpot (values ++ more))
+    (λ s is. record { key = omega (arith, is.key, n); tuples = omega (arith, is.tuples, n) }) spots all
 
 -- what stands behind the values that were there
 pub values_behind : (old fetched key values : List Value) → take (length old) fetched ≡ old → values ≡ fetched ++ key
@@ -116,12 +117,31 @@ pub values_behind : (old fetched key values : List Value) → take (length old) 
 values_behind old fetched key values front are =
     are ∙ ap (λ vs. vs ++ key) (sym (take-append-drop (length old) fetched) ∙ ap (λ t. t ++ drop (length old) fetched) front)
 
--- what a probe found was added, with its key behind it
+-- a key stands where the tuples that begin with it do, and by itself where there is none
+pub key_kept : (key found : List Value) (width count : ℕ) → length found ≡ count * width → length key ≤ width
+    → All (λ tuple. take (length key) tuple ≡ key) (rows_in width count found)
+    → take (length key) (found ++ key_alone count key) ≡ key
+key_kept key [] width zero wide narrow begin = take_all (length key) key (omega arith)
+key_kept key (v ∷ found) width zero wide narrow begin = absurd (omega (arith, wide))
+key_kept key found width (suc count) wide narrow begin =
+    take-append-le (length key) found [] (omega (arith, wide, narrow))
+    ∙ sym (take-take (length key) width found narrow)
+    ∙ All-head (λ tuple. take (length key) tuple ≡ key) (take width found) (rows_in width count (drop width found)) begin
+
+-- so that there is room for it
+key_fits : (key found : List Value) (width count : ℕ) → length found ≡ count * width → length key ≤ width
+    → length key ≤ length found + length (key_alone count key)
+key_fits key found width zero wide narrow = omega arith
+key_fits key found width (suc count) wide narrow = omega (arith, wide, narrow)
+
+-- what a probe found was added, and its key
 pub record Added (old : Known) (found : List Value) (key : Row) (s : Spot) (values : List Value) (spots : List Spot) : Type 0 where
   pub from : s.from ≡ length old.values.items
   pub wide : length found ≡ s.count * s.width
   pub key_wide : s.key_width ≡ length key
-  pub values_are : values ≡ (old.values.items ++ found) ++ key
+  pub narrow : length key ≤ s.width
+  pub begin : All (λ tuple. take (length key) tuple ≡ key) (rows_in s.width s.count found)
+  pub values_are : values ≡ (old.values.items ++ found) ++ key_alone s.count key
   pub spots_are : spots ≡ old.spots.items ++ s ∷ []
 
 module _ (old : Known) (is : IsKnown old) (found : List Value) (key : Row) (s : Spot) (values : List Value) (spots : List Spot)
@@ -129,37 +149,46 @@ module _ (old : Known) (is : IsKnown old) (found : List Value) (key : Row) (s : 
   abbrev front : List Value
   front = old.values.items ++ found
 
-  before_key : length front ≡ key_place s
-  before_key = (let n = length-append old.values.items found in omega (arith, n, added.from, added.wide))
+  abbrev alone : List Value
+  alone = key_alone s.count key
 
-  entry_added : entry_at (front ++ key) s ≡ ((s.step, key), rows_in s.width s.count found)
+  behind_old : drop s.from (front ++ alone) ≡ found ++ alone
+  behind_old = ap (drop s.from) (append_assoc old.values.items found alone) ∙ drop_at old.values.items (found ++ alone) s.from (sym added.from)
+
+  entry_added : entry_at (front ++ alone) s ≡ ((s.step, key), rows_in s.width s.count found)
   entry_added =
       let n = length-append old.values.items found in
-      let behind : part (front ++ key) (key_place s) s.key_width ≡ key =
-      ap (take s.key_width) (drop_at front key (key_place s) before_key) ∙ take_all s.key_width key (omega (arith, added.key_wide)) in
-      let rows : rows_in s.width s.count (drop s.from (front ++ key)) ≡ rows_in s.width s.count found =
-      rows_at-append front key s.from s.width s.count (omega (arith, n, added.from, added.wide))
+      let kept : part (front ++ alone) s.from s.key_width ≡ key =
+      ap (λ k. part (front ++ alone) s.from k) added.key_wide ∙ ap (take (length key)) behind_old
+      ∙ key_kept key found s.width s.count added.wide added.narrow added.begin in
+      let rows : rows_in s.width s.count (drop s.from (front ++ alone)) ≡ rows_in s.width s.count found =
+      rows_at-append front alone s.from s.width s.count (omega (arith, n, added.from, added.wide))
       ∙ ap (rows_in s.width s.count) (drop_at old.values.items found s.from (sym added.from)) in
-      ap (λ k. ((s.step, k), rows_in s.width s.count (drop s.from (front ++ key)))) behind ∙ ap (λ rs. ((s.step, key), rs)) rows
+      ap (λ k. ((s.step, k), rows_in s.width s.count (drop s.from (front ++ alone)))) kept ∙ ap (λ rs. ((s.step, key), rs)) rows
 
-  spot_added : IsSpot (front ++ key) s
+  spot_added : IsSpot (front ++ alone) s
   spot_added =
-      let m = length-append front key in
-      omega (arith, m, before_key, added.key_wide)
+      let n = length-append old.values.items found in
+      let m = length-append front alone in
+      let fits = key_fits key found s.width s.count added.wide added.narrow in
+      record {
+        key = omega (arith, n, m, fits, added.from, added.key_wide);
+        tuples = omega (arith, n, m, added.from, added.wide);
+      }
 
-  spots_added : All (IsSpot (front ++ key)) (old.spots.items ++ s ∷ [])
+  spots_added : All (IsSpot (front ++ alone)) (old.spots.items ++ s ∷ [])
   spots_added =
-      All-push (IsSpot (front ++ key)) old.spots.items s
-      (spots-append front key old.spots.items (spots-append old.values.items found old.spots.items is.spots)) spot_added
+      All-push (IsSpot (front ++ alone)) old.spots.items s
+      (spots-append front alone old.spots.items (spots-append old.values.items found old.spots.items is.spots)) spot_added
 
   pub entries_added : map (entry_at values) spots ≡ entries_in old ++ ((s.step, key), rows_in s.width s.count found) ∷ []
   entries_added =
       ap (λ vs. map (entry_at vs) spots) added.values_are
-      ∙ ap (map (entry_at (front ++ key))) added.spots_are
-      ∙ map-append (entry_at (front ++ key)) old.spots.items (s ∷ [])
-      ∙ ap (λ e. map (entry_at (front ++ key)) old.spots.items ++ e ∷ []) entry_added
+      ∙ ap (map (entry_at (front ++ alone))) added.spots_are
+      ∙ map-append (entry_at (front ++ alone)) old.spots.items (s ∷ [])
+      ∙ ap (λ e. map (entry_at (front ++ alone)) old.spots.items ++ e ∷ []) entry_added
       ∙ ap (λ es. es ++ ((s.step, key), rows_in s.width s.count found) ∷ [])
-      (entries-append front key old.spots.items (spots-append old.values.items found old.spots.items is.spots)
+      (entries-append front alone old.spots.items (spots-append old.values.items found old.spots.items is.spots)
       ∙ entries-append old.values.items found old.spots.items is.spots)
 
   pub known_added : (new : Known) → new.values.items ≡ values → new.spots.items ≡ spots → new.chains ≡ old.chains ++ hash_of s.step key ∷ [] → IsKnown new
@@ -170,7 +199,7 @@ module _ (old : Known) (is : IsKnown old) (found : List Value) (key : Row) (s : 
       ap (λ vs. map (entry_at vs) new.spots.items) v ∙ ap (map (entry_at values)) p ∙ entries_added in
       record {
         spots = subst (λ vs. All (IsSpot vs) new.spots.items) (sym (v ∙ added.values_are))
-            (subst (All (IsSpot (front ++ key))) (sym (p ∙ added.spots_are)) spots_added);
+            (subst (All (IsSpot (front ++ alone))) (sym (p ∙ added.spots_are)) spots_added);
         hashes = h ∙ ap (λ hs. hs ++ hash_of s.step key ∷ []) is.hashes ∙ sym (ap (map hash) entries ∙ map-append hash (entries_in old) (added_entry ∷ []));
       }
 
@@ -185,13 +214,13 @@ values_decided a b = (
 -- the spot at a place is of the step, and its key was compared
 pub key_decided : (known : Known) (place : ℕ) (s : Spot) → place < length (entries_in known) → s ≡ get_or known.spots.items place s
     → (step : ℕ) (key : Row) → s.step ≡ step → (n : ℕ) → n ≡ s.key_width
-    → (r : Bool) → r ≡ pointwise (eq_by_cmp value_cmp) (part known.values.items (key_place s) n) key
+    → (r : Bool) → r ≡ pointwise (eq_by_cmp value_cmp) (part known.values.items s.from n) key
     → Decides r ((entry_of known place).0 ≡ (step, key))
 key_decided known place s l is step key same n wide r told =
     let values = known.values.items in
     let entry : entry_of known place ≡ entry_at values s = entry_read known place s l is in
-    let found : part values (key_place s) n ≡ part values (key_place s) s.key_width = ap (part values (key_place s)) wide in
-    let d = slice_eq-Decides {E = eq_by_cmp value_cmp} values_decided (part values (key_place s) n) key r told in (
+    let found : part values s.from n ≡ part values s.from s.key_width = ap (part values s.from) wide in
+    let d = slice_eq-Decides {E = eq_by_cmp value_cmp} values_decided (part values s.from n) key r told in (
       λ t. ap (λ (e : Entry). e.0) entry ∙ ap (λ k. (s.step, k)) (sym found ∙ d.0 t) ∙ ap (λ i. (i, key)) same,
       λ e. d.1 (found ∙ ap (λ (p : ℕ × Row). p.1) (sym (ap (λ (e : Entry). e.0) entry) ∙ e)),
     )

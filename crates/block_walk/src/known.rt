@@ -6,7 +6,7 @@ ghost use Rattle.beas_core.specs.Groups.{group_of, member_columns};
 ghost use Rattle.beas_core.specs.Reads.{probe_reads};
 ghost use Rattle.beas_core.proofs.Sets.{Has};
 ghost use Rattle.block_walk.specs.Kept.{Entry};
-ghost use Rattle.block_walk.specs.Entries.{IsKnown, entries_in, entry_of};
+ghost use Rattle.block_walk.specs.Entries.{IsKnown, entries_in, entry_of, key_alone};
 ghost use Rattle.block_walk.specs.Hashing.{hash_of, mixed, word_of};
 
 use beas_core::{AccessId, AccessPort, ColumnId, NoMemory, Steps, Value};
@@ -16,7 +16,8 @@ use std::alloc::Global;
 use std::hash::{FoldHasher, Hash, Hasher};
 use std::sync::ledger::Ledger;
 
-/// Where the values of an entry stand: its tuples one after another from a place on, and its key behind them.
+/// Where the values of an entry stand: its tuples one after another from a place on. Each begins with the key; where there is
+/// none, the key stands there by itself.
 #[derive(Clone, Copy)]
 pub struct Spot {
     pub step: usize,
@@ -38,7 +39,9 @@ pub struct Known {
 }
 
 // For so many values and entries there is room from the start, so that a small query's walk seldom moves them.
-const ROOM: usize = 24;
+const VALUES: usize = 96;
+
+const ENTRIES: usize = 24;
 
 // 2^64 over the golden ratio, rounded to an odd number, as multiplicative hashing often takes it. `word_index` mixes words so too.
 const MULTIPLIER: u64 = 0x9e37_79b9_7f4a_7c15;
@@ -72,8 +75,8 @@ fn word_of(value: &Value) -> u64
     }
 }
 
-// The hash of a step and a key.
-fn hash_of(step: usize, key: &[Value]) -> u64
+/// The hash of a step and a key.
+pub fn hash_of(step: usize, key: &[Value]) -> u64
     ensures { result ≡ hash_of step key.now }
 {
     // The step is mixed in first, so that equal numbers of different steps have hashes of their own.
@@ -84,6 +87,20 @@ fn hash_of(step: usize, key: &[Value]) -> u64
     hash
 }
 
+// Empties a key. Its values are kept where it found nothing, behind those that were kept; tuples that it found begin with them.
+#[inline(always)]
+fn keep_key(count: usize, key: &mut Vec<Value>, values: &mut Vec<Value>) -> Result<(), NoMemory>
+    ensures key { OnOk result (key.new.items ≡ []) }
+    ensures values { OnOk result (values.new.items ≡ values.old.items ++ key_alone count key.old.items) }
+{
+    if count == 0 {
+        values.append(key)?;
+    } else {
+        key.clear();
+    }
+    Ok(())
+}
+
 impl Known {
     /// Nothing was probed yet.
     pub fn new(alloc: Global) -> Result<Known, NoMemory>
@@ -91,8 +108,8 @@ impl Known {
         ensures empty { IfOk result (λ known. entries_in known ≡ []) }
     {
         Ok(Known {
-            values: Vec::with_capacity(alloc, ROOM)?,
-            spots: Vec::with_capacity(alloc, ROOM)?,
+            values: Vec::with_capacity(alloc, VALUES)?,
+            spots: Vec::with_capacity(alloc, ENTRIES)?,
             chains: PlaceChains::new(alloc),
         })
     }
@@ -104,18 +121,19 @@ impl Known {
         ensures { IsTrue result ↔ ((entry_of self.now place).0 ≡ (step, key.now)) }
     {
         let spot = self.spots[place];
-        let from = spot.from + spot.count * spot.width;
-        spot.step == step && &self.values[from..from + spot.key_width] == key
+        spot.step == step && &self.values[spot.from..spot.from + spot.key_width] == key
     }
 
-    /// The entry of a step and a key.
-    pub fn find(&self, step: usize, key: &[Value]) -> Option<usize>
-        requires { IsKnown self.now }
+    /// The entry of a step and a key, whose hash is given.
+    #[inline(always)]
+    pub fn find(&self, step: usize, key: &[Value], hash: u64) -> Option<usize>
+        requires known { IsKnown self.now }
+        requires hash { hash ≡ hash_of step key.now }
         ensures there { IfSome result (λ place. place < length (entries_in self.now)) }
         ensures key { IfSome result (λ place. (entry_of self.now place).0 ≡ (step, key.now)) }
         ensures none { IfNone result ((e : Entry) → Has (entries_in self.now) e → e.0 ≡ (step, key.now) → ⊥) }
     {
-        let mut at = self.chains.latest(hash_of(step, key));
+        let mut at = self.chains.latest(hash);
         'places: while let Some(place) = at {
             if self.is_at(place, step, key) {
                 return Some(place);
@@ -145,8 +163,9 @@ impl Known {
         &self.values[from..from + spot.width]
     }
 
-    /// Probes a key and keeps what it finds, as the last entry. The key's values go there, and none is left in `key`. It counts the
-    /// greater of 1 and the number of the tuples, out of memory too. Where a piece of memory is full all that was kept may move.
+    /// Probes a key, whose hash with the step is given, and keeps what it finds, as the last entry. No value is left in `key`. It
+    /// counts the greater of 1 and the number of the tuples, out of memory too. Where a piece of memory is full all that was kept
+    /// may move.
     pub fn fetch<P: AccessPort, L: Ledger>(
         &mut self,
         alloc: Global,
@@ -155,12 +174,14 @@ impl Known {
         columns: &[ColumnId],
         step: usize,
         key: &mut Vec<Value>,
+        hash: u64,
         steps: &mut Steps<L>,
     ) -> Result<usize, NoMemory>
         requires known { IsKnown self.old }
         requires live { IsTrue (is_live (P.accesses port.now) id) }
         requires columns { columns.now ≡ member_columns (access_in (P.accesses port.now) id) }
         requires width { length key.old.items ≡ length (access_in (P.accesses port.now) id).key }
+        requires hash { hash ≡ hash_of step key.old.items }
         ensures known { OnOk result (IsKnown self.new) }
         ensures place { IfOk result (λ place. place ≡ length (entries_in self.old)) }
         ensures key { OnOk result (key.new.items ≡ []) }
@@ -171,10 +192,9 @@ impl Known {
             ≡ steps.old + probe_reads (P.rows port.now) (access_in (P.accesses port.now) id) key.old.items }
     {
         let from = self.values.len();
-        let hash = hash_of(step, key);
         let count = fetch(alloc, port, id, columns, key, &mut self.values, steps)?;
         let key_width = key.len();
-        self.values.append(key)?;
+        keep_key(count, key, &mut self.values)?;
         let place = self.spots.len();
         self.spots.push(Spot {
             step,

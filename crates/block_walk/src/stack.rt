@@ -25,7 +25,9 @@ pub struct Stack {
 }
 
 // For so many values, and for so many valuations more, there is room from the start, so that a small query's walk seldom moves them.
-const ROOM: usize = 24;
+const VALUES: usize = 48;
+
+const MORE: usize = 24;
 
 impl Stack {
     /// Valuations before the first step.
@@ -34,8 +36,8 @@ impl Stack {
         ensures pending { IfOk result (λ stack. pending_in stack ≡ map (pending_at 0) rows) }
     {
         let mut stack = Stack {
-            values: Vec::with_capacity(alloc, ROOM)?,
-            marks: Vec::with_capacity(alloc, rows.len().saturating_add(ROOM))?,
+            values: Vec::with_capacity(alloc, VALUES)?,
+            marks: Vec::with_capacity(alloc, rows.len().saturating_add(MORE))?,
         };
         for row in rows.into_vec() {
             stack.push_first(&mut row.into_vec())?;

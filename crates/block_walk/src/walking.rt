@@ -16,7 +16,7 @@ ghost use Rattle.block_walk.specs.Stacks.{IsInside, IsStack, pending_in, pending
 ghost use Rattle.block_walk.specs.Finding.{FindSpent, Finds};
 ghost use Rattle.block_walk.specs.Turns.{SpentOnce, GoesOn, TurnIs, VisitCosts, VisitSpent, Visited, probed};
 
-use crate::known::Known;
+use crate::known::{Known, hash_of};
 use crate::stack::{Mark, Stack};
 use beas_core::{
     AccessId, AccessPort, DStep, List, NoMemory, Normal, Row, Steps, Value, sort_distinct,
@@ -153,6 +153,7 @@ fn push_outputs(
 
 // Goes on with the tuples that the key of a valuation finds, in a derivation of so many steps: the last step makes
 // outputs alone.
+#[inline(always)]
 fn go_on(
     alloc: Global,
     block: &Normal,
@@ -233,6 +234,7 @@ struct Found {
 }
 
 // Finds the entry of the key that a valuation gives to a step. The key is probed where it wasn't yet.
+#[inline(always)]
 fn entry_for<P: AccessPort, L: Ledger>(
     alloc: Global,
     port: &P,
@@ -260,11 +262,12 @@ fn entry_for<P: AccessPort, L: Ledger>(
         known.old steps.old steps.new) }
 {
     key_into(alloc, stage, pending.row(at), key)?;
-    if let Some(place) = known.find(at.step, key) {
+    let hash = hash_of(at.step, key);
+    if let Some(place) = known.find(at.step, key, hash) {
         return Ok(Found { place, reads: None });
     }
     let columns = &stage.join.columns;
-    let place = known.fetch(alloc, port, id, columns, at.step, key, steps)?;
+    let place = known.fetch(alloc, port, id, columns, at.step, key, hash, steps)?;
     Ok(Found {
         place,
         reads: Some(known.count(place).max(1)),

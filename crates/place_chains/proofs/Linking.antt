@@ -1,5 +1,5 @@
 -- One place more is linked.
-use Rattle.std.proofs.Common.{◌≡◌, ◌≢◌, ◌<◌, ◌≤◌, ◌+◌, ◌%◌, ℕ, List, [], ◌∷◌, ◌++◌, ◌⊎◌, Option, None, Some, length, get_or, ap, sym, ◌∙◌, subst, inl, inr, arith}
+use Rattle.std.proofs.Common.{◌≡◌, ◌≢◌, ◌<◌, ◌≤◌, ◌+◌, ℕ, List, [], ◌∷◌, ◌++◌, ◌⊎◌, Option, None, Some, length, get_or, ap, sym, ◌∙◌, subst, inl, inr, arith}
 use Rattle.std.proofs.Math.ListN.{set}
 use Rattle.std.proofs.Math.Nat.{eq-or-lt_of_le}
 use Rattle.std.proofs.lemmas.Bool.{cases_lt}
@@ -7,8 +7,8 @@ use Rattle.std.proofs.Math.Seq.{get_or-append_seam}
 use Rattle.std.proofs.lemmas.List.{get_or_append_left, get_or-set_same, get_or-set_other, length-append, length-set}
 use Rattle.place_chains.specs.declared.links.Link.{Link}
 use Rattle.place_chains.specs.Chains.{IsLast}
-use Rattle.place_chains.specs.Buckets.{AreHeads, AreLinked, IsChained, buckets_of}
-use Rattle.place_chains.proofs.Search.{bucket_at, no_link}
+use Rattle.place_chains.specs.Buckets.{AreHeads, AreLinked, IsChained, bucket, buckets_of}
+use Rattle.place_chains.proofs.Search.{bucket_at, bucket_below, no_link}
 
 -- the last place before an end depends on the places before it alone
 pub last_in_other : (h : ℕ) (xs ys : List ℕ) (end : ℕ) (f : Option ℕ) → ((i : ℕ) → i < end → get_or ys i 0 ≡ get_or xs i 0)
@@ -44,37 +44,37 @@ same_or_other k b =
 
 -- the place at the end joins its bucket
 module _ (heads new_heads : List (Option ℕ)) (links more : List Link) (end hash : ℕ) (earlier : Option ℕ) (some : 0 < length heads)
-    (replaced : new_heads ≡ set heads (hash % length heads) (Some end)) (was : earlier ≡ get_or heads (hash % length heads) None)
+    (replaced : new_heads ≡ set heads (bucket hash (length heads)) (Some end)) (was : earlier ≡ get_or heads (bucket hash (length heads)) None)
     (old : end ≤ length links) (within : end < length more) (front : (i : ℕ) (d : Link) → i < end → get_or more i d ≡ get_or links i d)
     (here : (d : Link) → get_or more end d ≡ record { hash = hash; earlier = earlier })
     (heads_are : AreHeads (length heads) heads links end) where
   same_count : length new_heads ≡ length heads
-  same_count = ap length replaced ∙ length-set heads (hash % length heads) (Some end)
+  same_count = ap length replaced ∙ length-set heads (bucket hash (length heads)) (Some end)
 
-  bucket_within : hash % length heads < length heads
-  bucket_within = omega arith
+  bucket_within : bucket hash (length heads) < length heads
+  bucket_within = bucket_below hash (length heads) some
 
   same_buckets : (i : ℕ) → i < end → get_or (buckets_of (length heads) more) i 0 ≡ get_or (buckets_of (length heads) links) i 0
   same_buckets i l =
-      bucket_at (length heads) more i no_link (omega arith) ∙ ap (λ k. k.hash % length heads) (front i no_link l)
+      bucket_at (length heads) more i no_link (omega arith) ∙ ap (λ k. bucket k.hash (length heads)) (front i no_link l)
       ∙ sym (bucket_at (length heads) links i no_link (omega arith))
 
-  bucket_here : get_or (buckets_of (length heads) more) end 0 ≡ hash % length heads
-  bucket_here = bucket_at (length heads) more end no_link within ∙ ap (λ k. k.hash % length heads) (here no_link)
+  bucket_here : get_or (buckets_of (length heads) more) end 0 ≡ bucket hash (length heads)
+  bucket_here = bucket_at (length heads) more end no_link within ∙ ap (λ k. bucket k.hash (length heads)) (here no_link)
 
   last_known : (b : ℕ) → b < length heads → IsLast b (buckets_of (length heads) more) end (get_or heads b None)
   last_known b l =
       last_in_other b (buckets_of (length heads) links) (buckets_of (length heads) more) end (get_or heads b None) same_buckets (heads_are.last b l)
 
   head_after : (b : ℕ) → b < length heads
-      → IsLast b (buckets_of (length heads) more) (end + 1) (get_or (set heads (hash % length heads) (Some end)) b None)
+      → IsLast b (buckets_of (length heads) more) (end + 1) (get_or (set heads (bucket hash (length heads)) (Some end)) b None)
   head_after b l =
-      elim (same_or_other b (hash % length heads)) [
+      elim (same_or_other b (bucket hash (length heads))) [
         | inl s ↦ subst (IsLast b (buckets_of (length heads) more) (end + 1))
-            (sym (ap (λ k. get_or (set heads (hash % length heads) (Some end)) k None) s
-            ∙ get_or-set_same heads (hash % length heads) (Some end) None bucket_within))
+            (sym (ap (λ k. get_or (set heads (bucket hash (length heads)) (Some end)) k None) s
+            ∙ get_or-set_same heads (bucket hash (length heads)) (Some end) None bucket_within))
             (last_here b (buckets_of (length heads) more) end (bucket_here ∙ sym s))
-        | inr s ↦ subst (IsLast b (buckets_of (length heads) more) (end + 1)) (sym (get_or-set_other heads (hash % length heads) b (Some end) None s))
+        | inr s ↦ subst (IsLast b (buckets_of (length heads) more) (end + 1)) (sym (get_or-set_other heads (bucket hash (length heads)) b (Some end) None s))
             (last_before b (buckets_of (length heads) more) end (get_or heads b None) (λ e. s (sym e ∙ bucket_here)) (last_known b l))
       ]
 
@@ -84,7 +84,7 @@ module _ (heads new_heads : List (Option ℕ)) (links more : List Link) (end has
       (subst (λ hs. AreHeads (length heads) hs more (end + 1)) (sym replaced) (record { last = head_after }))
 
   abbrev IsRight : ℕ → Link → Type 0
-  IsRight i k = IsLast (k.hash % length heads) (buckets_of (length heads) more) i k.earlier
+  IsRight i k = IsLast (bucket k.hash (length heads)) (buckets_of (length heads) more) i k.earlier
 
   pub linked_next : AreLinked (length heads) links end → AreLinked (length new_heads) more (end + 1)
   linked_next linked =
@@ -95,24 +95,24 @@ module _ (heads new_heads : List (Option ℕ)) (links more : List Link) (end has
       link_before : (i : ℕ) (d : Link) → i < end → IsRight i (get_or more i d)
       link_before i d l =
           subst (IsRight i) (sym (front i d l))
-          (last_in_other ((get_or links i d).hash % length heads) (buckets_of (length heads) links) (buckets_of (length heads) more) i
+          (last_in_other (bucket (get_or links i d).hash (length heads)) (buckets_of (length heads) links) (buckets_of (length heads) more) i
           (get_or links i d).earlier (λ j w. same_buckets j (omega arith)) (linked.last i d l))
 
       link_at : (i : ℕ) (d : Link) → i ≡ end → IsRight i (get_or more i d)
       link_at i d e =
           subst (λ j. IsRight j (get_or more j d)) (sym e)
-          (subst (IsRight end) (sym (here d)) (subst (IsLast (hash % length heads) (buckets_of (length heads) more) end) (sym was)
-          (last_known (hash % length heads) bucket_within)))
+          (subst (IsRight end) (sym (here d)) (subst (IsLast (bucket hash (length heads)) (buckets_of (length heads) more) end) (sym was)
+          (last_known (bucket hash (length heads)) bucket_within)))
 
 -- a new place goes into its bucket
 pub chained_next : (heads new_heads : List (Option ℕ)) (links : List Link) (hash : ℕ) (earlier : Option ℕ) → IsChained heads links
-    → length links < length heads → new_heads ≡ set heads (hash % length heads) (Some (length links))
-    → earlier ≡ get_or heads (hash % length heads) None → IsChained new_heads (links ++ record { hash = hash; earlier = earlier } ∷ [])
+    → length links < length heads → new_heads ≡ set heads (bucket hash (length heads)) (Some (length links))
+    → earlier ≡ get_or heads (bucket hash (length heads)) None → IsChained new_heads (links ++ record { hash = hash; earlier = earlier } ∷ [])
 chained_next heads new_heads links hash earlier chained few replaced was =
     let link : Link = record { hash = hash; earlier = earlier } in
     let more : List Link = links ++ link ∷ [] in
     let long : length more ≡ length links + 1 = length-append links (link ∷ []) in
-    let same : length new_heads ≡ length heads = ap length replaced ∙ length-set heads (hash % length heads) (Some (length links)) in
+    let same : length new_heads ≡ length heads = ap length replaced ∙ length-set heads (bucket hash (length heads)) (Some (length links)) in
     let some : 0 < length heads = omega arith in
     let wide : length links < length more = omega arith in
     let front : (i : ℕ) (d : Link) → i < length links → get_or more i d ≡ get_or links i d = λ i d l. get_or_append_left links (link ∷ []) d i l in

@@ -1,7 +1,7 @@
 // The places of a bucket, each of which leads to the one before it.
-ghost use Rattle.std.specs.Prelude.{◌≡◌, ◌<◌, ◌≤◌, ◌%◌, ℕ, None, Some, IfSome, OnErr, OnOk, IfOk, length, slice_index_or, slice_set, vec_capacity, vec_len};
+ghost use Rattle.std.specs.Prelude.{◌≡◌, ◌<◌, ◌≤◌, ℕ, None, Some, IfSome, OnErr, OnOk, IfOk, length, slice_index_or, slice_set, vec_capacity, vec_len};
 ghost use Rattle.place_chains.specs.Chains.{IsLast};
-ghost use Rattle.place_chains.specs.Buckets.{AllLeadBack, AreLinked, IsChained, buckets_of, hashes_of};
+ghost use Rattle.place_chains.specs.Buckets.{AllLeadBack, AreLinked, IsChained, bucket, buckets_of, hashes_of};
 
 use std::alloc::{AllocError, Global};
 
@@ -15,12 +15,13 @@ pub struct Link {
     pub earlier: Option<usize>,
 }
 
-/// The bucket of a hash among so many.
+/// The bucket of a hash among so many. It multiplies, since a division takes several times as long.
 pub fn bucket_of(hash: u64, count: usize) -> usize
     requires { 0 < count }
-    ensures { result ≡ hash % count }
+    ensures is { result ≡ bucket hash count }
+    ensures below { result < count }
 {
-    (hash % count as u64) as usize
+    (hash as u128 * count as u128 >> 64) as usize
 }
 
 /// The first place with a hash on the way back from a place, or from none.
@@ -28,7 +29,7 @@ pub fn same_from(links: &[Link], hash: u64, from: Option<usize>) -> Option<usize
     requires back { AllLeadBack links.now }
     requires from { IfSome from (λ place. place < length links.now) }
     ensures { (count end : ℕ) → AreLinked count links.now (length links.now) → end ≤ length links.now
-        → IsLast (hash % count) (buckets_of count links.now) end from → IsLast hash (hashes_of links.now) end result }
+        → IsLast (bucket hash count) (buckets_of count links.now) end from → IsLast hash (hashes_of links.now) end result }
 {
     let mut at = from;
     'places: while let Some(place) = at {
@@ -44,8 +45,8 @@ pub fn same_from(links: &[Link], hash: u64, from: Option<usize>) -> Option<usize
 /// Makes a place the last one of its bucket, and gives the one that was the last.
 pub fn replace_head(heads: &mut [Option<usize>], hash: u64, place: usize) -> Option<usize>
     requires { 0 < length heads.old }
-    ensures earlier { result ≡ slice_index_or heads.old (hash % length heads.old) None }
-    ensures heads { heads.new ≡ slice_set heads.old (hash % length heads.old) (Some place) }
+    ensures earlier { result ≡ slice_index_or heads.old (bucket hash (length heads.old)) None }
+    ensures heads { heads.new ≡ slice_set heads.old (bucket hash (length heads.old)) (Some place) }
 {
     let bucket = bucket_of(hash, heads.len());
     let earlier = heads[bucket];

@@ -140,7 +140,7 @@ module _ (normal : Normal) (stage : Stage) (is : IsStage normal stage) where
   pub sources_counted : length stage.join.sources.items ≡ length stage.join.classes
   sources_counted = ap length is.join_is.sources_are ∙ length-map stage.join.classes (place_of (joined_classes normal u stage.from.value))
 
-  pub key_made : (v : Row) → length v ≡ length stage.from.value → project stage.key.items v ≡ key_by normal u set v
+  pub key_made : (v : Row) → length v ≡ length stage.from.value → project stage.picked.0 v ≡ key_by normal u set v
   key_made v wide = ap (λ k. project k v) is.key_is
       ∙ picked_values set stage.from.value (class_at normal stage.atom) stage.access.value.key v is.from_are wide
 
@@ -167,7 +167,7 @@ module _ (normal : Normal) (stage : Stage) (is : IsStage normal stage) where
         → meets_bound normal (set_of normal stage.join.classes) (joined_by stage.join.sources.items v t) ≡ leads_to normal u set v t
     led e = pair_met ∙ ap (λ b. b && meets_bound normal after (joined_row normal u set v t)) (sym e ∙ pair_joined.0)
 
-    pub output_made : project stage.output.items (joined_by stage.join.sources.items v t) ≡ output_row normal after (joined_row normal u set v t)
+    pub output_made : project stage.picked.1 (joined_by stage.join.sources.items v t) ≡ output_row normal after (joined_row normal u set v t)
     output_made =
         let r = joined_by stage.join.sources.items v t in
         ap (λ cs. project cs r) is.output_is

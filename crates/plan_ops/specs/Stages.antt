@@ -53,9 +53,9 @@ set_before normal stage = set_of normal stage.from.value
 pub record IsStage (normal : Normal) (stage : Stage) : Type 0 where
   pub from_are : stage.from.value ≡ classes_in (set_before normal stage)
   pub key_held : IsTrue (holds_classes (set_before normal stage) (key_classes normal (use_at stage)))
-  pub key_is : stage.key.items ≡ map (λ c. column_of stage.from.value (class_at normal stage.atom c)) stage.access.value.key
+  pub key_is : stage.picked.0 ≡ map (λ c. column_of stage.from.value (class_at normal stage.atom c)) stage.access.value.key
   pub join_is : IsJoin normal (use_at stage) stage.from.value stage.join
-  pub output_is : stage.output.items ≡ map (λ p. column_of stage.join.classes (place_class normal p)) normal.output
+  pub output_is : stage.picked.1 ≡ map (λ p. column_of stage.join.classes (place_class normal p)) normal.output
 
 -- a valuation before the step, and a tuple that its key finds
 pub record IsPair (normal : Normal) (stage : Stage) (v tuple : Row) : Type 0 where

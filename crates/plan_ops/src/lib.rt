@@ -12,6 +12,7 @@ mod joining;
 mod keeping;
 mod matching;
 mod pairs;
+mod picked;
 mod picking;
 mod places;
 mod probing;

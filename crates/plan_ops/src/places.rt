@@ -1,5 +1,5 @@
 // Where classes stand in valuations.
-ghost use Rattle.std.specs.Prelude.{◌≡◌, map, slice_index_or, IfOk};
+ghost use Rattle.std.specs.Prelude.{◌≡◌, ◌+◌, ◌++◌, ◌≤◌, length, map, slice_index_or, vec_capacity, vec_len, IfOk};
 ghost use Rattle.std.specs.Ordering.{nat_cmp};
 ghost use Rattle.beas_core.specs.Coverage.{class_at as class_of_column, place_class};
 ghost use Rattle.beas_core.specs.Sets.{IsInOrder};
@@ -42,6 +42,26 @@ fn column_in(block: &Normal, classes: &[u16], class: u16) -> ColumnId
     ColumnId(place_in(classes, class) as u16)
 }
 
+/// Adds the columns that the classes of some columns of an atom have in valuations, where there is room for them.
+pub fn push_columns_in(
+    block: &Normal,
+    classes: &[u16],
+    atom: u16,
+    columns: &[ColumnId],
+    found: &mut Vec<ColumnId>,
+)
+    requires classes { classes.now ≡ classes_in (set_of block.now classes.now) }
+    requires room { vec_len found.old + length columns.now ≤ vec_capacity found.old }
+    ensures items { found.new.items ≡ found.old.items
+        ++ map (λ c. column_of classes.now (class_of_column block.now atom c)) columns.now }
+    ensures len { vec_len found.new ≡ vec_len found.old + length columns.now }
+    ensures room { vec_capacity found.new ≡ vec_capacity found.old }
+{
+    for column in columns {
+        found.push_reserved(column_in(block, classes, class_at(block, atom, *column)));
+    }
+}
+
 /// The columns that the classes of some columns of an atom have in valuations.
 pub fn columns_in(
     alloc: Global,
@@ -55,10 +75,22 @@ pub fn columns_in(
         ≡ map (λ c. column_of classes.now (class_of_column block.now atom c)) columns.now) }
 {
     let mut found = Vec::with_capacity(alloc, columns.len())?;
-    for column in columns {
-        found.push_reserved(column_in(block, classes, class_at(block, atom, *column)));
-    }
+    push_columns_in(block, classes, atom, columns, &mut found);
     Ok(found)
+}
+
+/// Adds the columns that the classes of some places have in valuations, where there is room for them.
+pub fn push_columns_at(block: &Normal, classes: &[u16], places: &[Place], found: &mut Vec<ColumnId>)
+    requires classes { classes.now ≡ classes_in (set_of block.now classes.now) }
+    requires room { vec_len found.old + length places.now ≤ vec_capacity found.old }
+    ensures items { found.new.items ≡ found.old.items
+        ++ map (λ p. column_of classes.now (place_class block.now p)) places.now }
+    ensures len { vec_len found.new ≡ vec_len found.old + length places.now }
+    ensures room { vec_capacity found.new ≡ vec_capacity found.old }
+{
+    for place in places {
+        found.push_reserved(column_in(block, classes, class_at(block, place.atom, place.column)));
+    }
 }
 
 /// The columns that the classes of some places have in valuations.
@@ -73,8 +105,6 @@ pub fn columns_at(
         ≡ map (λ p. column_of classes.now (place_class block.now p)) places.now) }
 {
     let mut found = Vec::with_capacity(alloc, places.len())?;
-    for place in places {
-        found.push_reserved(column_in(block, classes, class_at(block, place.atom, place.column)));
-    }
+    push_columns_at(block, classes, places, &mut found);
     Ok(found)
 }

@@ -12,8 +12,9 @@ ghost use Rattle.plan_ops.specs.Stages.{IsPair, IsStage, bound_with, joined_row,
 use crate::joining::{Join, join_of};
 use crate::keeping::{place_among, sign_holds};
 use crate::pairs::{pair_fits, push_pair, value_in_pair};
+use crate::picked::Picked;
 use crate::picking::{push_values, values_in};
-use crate::places::{columns_at, columns_in};
+use crate::places::columns_at;
 use beas_core::{
     Access, ColumnId, Comparison, Duplicate, List, NoMemory, Normal, Operand, Row, Value, compare,
 };
@@ -29,12 +30,10 @@ pub struct Stage {
     pub access: Snapshot<Access>,
     /// The classes that are bound before it, ascending, for clauses alone.
     pub from: Snapshot<List<u16>>,
-    /// The columns of its key in valuations of these classes.
-    pub key: Vec<ColumnId>,
     /// How tuples of the constraint join these valuations.
     pub join: Join,
-    /// The columns of the block's output in valuations after it.
-    pub output: Vec<ColumnId>,
+    /// The columns of its key in these valuations, and those of the block's output in valuations after it.
+    pub picked: Picked,
 }
 
 /// The stage of a step on an atom by a constraint, after valuations of these classes.
@@ -54,25 +53,21 @@ pub fn stage_of(
     ensures access { IfOk result (λ stage. stage.access.value ≡ access.now) }
     ensures from { IfOk result (λ stage. stage.from.value ≡ from.now) }
 {
-    let key = columns_in(alloc, block, from.as_slice(), atom, access.key.as_slice())?;
-    let join = join_of(alloc, block, atom, access, from.as_slice())?;
-    let output = columns_at(
-        alloc,
-        block,
-        join.classes.as_slice(),
-        block.output.as_slice(),
-    )?;
+    let before = from.as_slice();
+    let join = join_of(alloc, block, atom, access, before)?;
+    let after = join.classes.as_slice();
+    let picked = Picked::of(alloc, block, before, after, atom, access.key.as_slice())?;
     Ok(Stage {
         atom,
         access: Snapshot::of(access),
         from: Snapshot::of(from),
-        key,
         join,
-        output,
+        picked,
     })
 }
 
 /// Puts the key that a valuation gives to a step in the place of what stood in a row.
+#[inline(always)]
 pub fn key_into(
     alloc: Global,
     stage: &Stage,
@@ -83,8 +78,9 @@ pub fn key_into(
         → OnOk result (key.new.items ≡ key_by normal (use_at stage.now) (set_before normal stage.now) row.now) }
 {
     key.clear();
-    key.reserve(stage.key.len())?;
-    push_values(alloc, &stage.key, row, key)
+    let columns = stage.picked.key();
+    key.reserve(columns.len())?;
+    push_values(alloc, columns, row, key)
 }
 
 // A value of a valuation joined with a tuple. The joined row isn't made.
@@ -227,7 +223,7 @@ pub fn joined_output(
         → IfOk result (λ output. output ≡ output_row normal (bound_with normal (use_at stage.now) (set_before normal stage.now))
         (joined_row normal (use_at stage.now) (set_before normal stage.now) row.now tuple.now)) }
 {
-    output_values(alloc, &stage.join, row, tuple, &stage.output)
+    output_values(alloc, &stage.join, row, tuple, stage.picked.output())
 }
 
 // Whether a joined row has a value in a column. One past its end has a made-up one, since nothing reaches it.
@@ -273,7 +269,7 @@ pub fn is_joined_output(stage: &Stage, row: &[Value], tuple: &[Value], output: &
         → (IsTrue result ↔ (output.now ≡ output_row normal (bound_with normal (use_at stage.now) (set_before normal stage.now))
         (joined_row normal (use_at stage.now) (set_before normal stage.now) row.now tuple.now))) }
 {
-    has_values(&stage.join, row, tuple, &stage.output, output)
+    has_values(&stage.join, row, tuple, stage.picked.output(), output)
 }
 
 /// The output row of a valuation of these classes.

@@ -14,8 +14,8 @@ returns-in_err-place-clause-spent g c =
     c.in_ok-key_into.ensures c.args.block.now c.requires.stage (ap length c.row.ensures ∙ c.requires.wide) ∙ ap key_from c.row.ensures in
     let failed = err_from_is_err_and c.from_residual-in_err-place.result c.from_residual-in_err-place.ensures.1 in
     rw (failed.1)
-    (spent_probed (g.P.AccessPort.rows c.args.port.now) (g.P.AccessPort.accesses c.args.port.now) c.args.id c.args.at.step c.args.known.now c.deref.result.now probed key
-    c.deref.ensures.value is_key c.in_default.ensures.none c.args.steps.now c.fetch.new.steps c.in_err-place.ensures.cost)
+    (spent_probed (g.P.AccessPort.rows c.args.port.now) (g.P.AccessPort.accesses c.args.port.now) c.args.id c.args.at.step c.args.known.now c.deref-2.result.now probed key
+    c.deref-2.ensures.value is_key c.in_default.ensures.none c.args.steps.now c.fetch.new.steps c.in_err-place.ensures.cost)
 
 pub returns-clause-found : goal.returns-clause-found
 returns-clause-found g c =
@@ -24,6 +24,6 @@ returns-clause-found g c =
     let probed = c.key_into.new.key.items in
     let is_key : probed ≡ key =
     c.in_ok-key_into.ensures c.args.block.now c.requires.stage (ap length c.row.ensures ∙ c.requires.wide) ∙ ap key_from c.row.ensures in
-    found_probed (g.P.AccessPort.rows c.args.port.now) (g.P.AccessPort.accesses c.args.port.now) c.args.id c.args.at.step c.args.known.now c.deref.result.now probed key
-    c.deref.ensures.value is_key c.in_default.ensures.none c.fetch.new.self c.in_ok-place.ensures.entries c.in_ok-place.place c.in_ok-place.ensures.place
+    found_probed (g.P.AccessPort.rows c.args.port.now) (g.P.AccessPort.accesses c.args.port.now) c.args.id c.args.at.step c.args.known.now c.deref-2.result.now probed key
+    c.deref-2.ensures.value is_key c.in_default.ensures.none c.fetch.new.self c.in_ok-place.ensures.entries c.in_ok-place.place c.in_ok-place.ensures.place
     c.count.result c.count.ensures c.max.result c.max.ensures c.args.steps.now c.fetch.new.steps c.in_ok-place.ensures.cost

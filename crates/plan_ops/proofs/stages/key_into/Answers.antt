@@ -7,5 +7,5 @@ pub returns : goal.returns
 returns c =
     let cleared : c.reserve.new.self.items ≡ [] = search rules in λ normal is wide.
     if_ok c.push_values.result (λ _ h.
-    h ∙ ap (λ vs. vs ++ project c.deref.result.now c.args.row.now) cleared
-    ∙ ap (λ ks. project ks c.args.row.now) c.deref.ensures.value ∙ key_made normal c.args.stage.now is c.args.row.now wide) c.push_values.ensures
+    h ∙ ap (λ vs. vs ++ project c.key-columns.result.now c.args.row.now) cleared
+    ∙ ap (λ ks. project ks c.args.row.now) c.key-columns.ensures ∙ key_made normal c.args.stage.now is c.args.row.now wide) c.push_values.ensures

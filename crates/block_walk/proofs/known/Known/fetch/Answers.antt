@@ -1,11 +1,11 @@
-use Rattle.std.proofs.Common.{◌≡◌, ◌∙◌, ◌++◌, ◌∷◌, [], length, drop, arith, ap, refl}
-use Rattle.std.proofs.lemmas.List.{length-drop}
+use Rattle.std.proofs.Common.{◌≡◌, ◌∙◌, ◌++◌, ◌∷◌, [], All, length, take, drop, arith, ap, refl, sym, subst}
+use Rattle.std.proofs.lemmas.List.{length-append, length-drop}
 use Rattle.std.proofs.lemmas.Grind.{common_steps}
 use Rattle.beas_core.specs.Derivations.{access_in}
 use Rattle.beas_core.specs.Groups.{group_of}
 use Rattle.block_walk.specs.declared.known.Spot.{Spot}
-use Rattle.block_walk.specs.Entries.{entries_in}
-use Rattle.block_walk.specs.Hashing.{hash_of}
+use Rattle.plan_ops.proofs.ProbeFacts.{group_takes}
+use Rattle.block_walk.specs.Entries.{entries_in, key_alone}
 use Rattle.block_walk.proofs.KnownFacts.{Added, entries_added, known_added, values_behind}
 use Rattle.block_walk.proofs.known.Known.fetch.Given
 use Rattle.block_walk.proofs.known.Known.fetch.Goals as goal
@@ -21,16 +21,23 @@ spot_of g c = record {
 
 added : (g : Given.Over) (c : goal.In_ok-push-2 g)
     → Added c.args.self.now (drop (length c.args.self.now.values.items) c.fetch.new.values.items) c.args.key.now.items (spot_of g c)
-    c.append.new.self.items c.push.new.self.items
+    c.keep_key.new.values.items c.push.new.self.items
 added g c =
     let old = c.args.self.now.values.items in
     let fetched = c.fetch.new.values.items in
     let gone = length-drop (length old) fetched in
+    let access = access_in (g.P.AccessPort.accesses c.args.port.now) c.args.id in
+    let columns = ap length c.requires.columns ∙ length-append access.key access.fetched in
+    let tuples = c.in_ok-count.ensures.tuples ∙ ap (group_of (g.P.AccessPort.rows c.args.port.now access.table) access) c.deref.ensures.value in
     record {
       from = grind (arith, common_steps);
       wide = omega (arith, gone, c.in_ok-count.ensures.len);
       key_wide = grind (arith, common_steps);
-      values_are = values_behind old fetched c.args.key.now.items c.append.new.self.items c.in_ok-count.ensures.front c.in_ok-append.ensures.items;
+      narrow = omega (arith, columns, c.requires.width);
+      begin = subst (All (λ tuple. take (length c.args.key.now.items) tuple ≡ c.args.key.now.items)) (sym tuples)
+          (group_takes (g.P.AccessPort.rows c.args.port.now access.table) access c.args.key.now.items c.requires.width);
+      values_are = values_behind old fetched (key_alone c.in_ok-count.count c.args.key.now.items) c.keep_key.new.values.items
+          c.in_ok-count.ensures.front c.in_ok-keep_key.ensures.values;
       spots_are = c.in_ok-push.ensures.items;
     }
 
@@ -39,10 +46,9 @@ returns-clause-known g c =
     let known = c.args.self.now in
     let found = drop (length known.values.items) c.fetch.new.values.items in
     let key = c.args.key.now.items in
-    let hash : c.hash_of-hash.result ≡ hash_of c.args.step key = c.hash_of-hash.ensures ∙ ap (hash_of c.args.step) c.deref.ensures.value in
-    known_added known c.requires.known found key (spot_of g c) c.append.new.self.items c.push.new.self.items (added g c)
-    (record { values = c.append.new.self; spots = c.push.new.self; chains = c.push-2.new.self }) refl refl
-    (c.in_ok-push-2.ensures.ok ∙ ap (λ h. known.chains ++ h ∷ []) hash)
+    known_added known c.requires.known found key (spot_of g c) c.keep_key.new.values.items c.push.new.self.items (added g c)
+    (record { values = c.keep_key.new.values; spots = c.push.new.self; chains = c.push-2.new.self }) refl refl
+    (c.in_ok-push-2.ensures.ok ∙ ap (λ h. known.chains ++ h ∷ []) c.requires.hash)
 
 pub returns-clause-entries : goal.returns-clause-entries
 returns-clause-entries g c =
@@ -50,6 +56,6 @@ returns-clause-entries g c =
     let found = drop (length known.values.items) c.fetch.new.values.items in
     let key = c.args.key.now.items in
     let access = access_in (g.P.AccessPort.accesses c.args.port.now) c.args.id in
-    let tuples = c.in_ok-count.ensures.tuples ∙ ap (group_of (g.P.AccessPort.rows c.args.port.now access.table) access) c.deref-2.ensures.value in
-    entries_added known c.requires.known found key (spot_of g c) c.append.new.self.items c.push.new.self.items (added g c)
+    let tuples = c.in_ok-count.ensures.tuples ∙ ap (group_of (g.P.AccessPort.rows c.args.port.now access.table) access) c.deref.ensures.value in
+    entries_added known c.requires.known found key (spot_of g c) c.keep_key.new.values.items c.push.new.self.items (added g c)
     ∙ ap (λ rows. entries_in known ++ ((c.args.step, key), rows) ∷ []) tuples

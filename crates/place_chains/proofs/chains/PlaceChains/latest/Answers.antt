@@ -9,4 +9,4 @@ returns c =
     let some : 0 < count = omega arith in
     let wide : count ≡ length heads.items = omega (arith, heads.ok.0, c.len-count.ensures) in
     latest_found heads.items c.self.inside.links.items c.deref.result.now c.args.self.now c.self.invariant.0 c.deref.ensures.value c.self.view_is
-    c.args.hash c.bucket_of.result count c.index.result.now c.same_from.result some wide c.bucket_of.ensures c.index.ensures c.same_from.ensures
+    c.args.hash c.bucket_of.result count c.index.result.now c.same_from.result some wide c.bucket_of.ensures.is c.index.ensures c.same_from.ensures

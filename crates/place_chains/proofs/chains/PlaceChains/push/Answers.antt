@@ -1,9 +1,9 @@
-use Rattle.std.proofs.Common.{◌≡◌, ◌<◌, ◌≤◌, ◌%◌, ◌++◌, None, Some, length, slice_index_or, take, drop, vec_capacity, vec_len, ap, sym, ◌∙◌, subst, arith}
+use Rattle.std.proofs.Common.{◌≡◌, ◌<◌, ◌≤◌, ◌++◌, None, Some, length, slice_index_or, take, drop, vec_capacity, vec_len, ap, sym, ◌∙◌, subst, arith}
 use Rattle.std.proofs.Math.ListN.{set}
 use Rattle.std.proofs.Math.Seq.{take-append_seam}
 use Rattle.std.proofs.lemmas.List.{length-set}
 use Rattle.place_chains.specs.declared.chains.PlaceChains.TheInside.{Inside}
-use Rattle.place_chains.specs.Buckets.{IsChained}
+use Rattle.place_chains.specs.Buckets.{IsChained, bucket}
 use Rattle.place_chains.proofs.Linking.{chained_next}
 use Rattle.place_chains.proofs.chains.PlaceChains.push.Goals as goal
 use Rattle.place_chains.proofs.chains.PlaceChains.push.Goals.{then-len+in_ok-self-inside, else-len}
@@ -35,13 +35,13 @@ invariant_of-self-2 c =
     let hash = c.args.hash in
     let same : read ≡ old = c.deref_mut.ensures.value in
     let at : c.len-place.result ≡ length made.links.items = omega (arith, c.len-place.ensures, made.links.ok.0) in
-    let replaced : new ≡ set old (hash % length old) (Some (length made.links.items)) =
-    c.replace_head-earlier.ensures.heads ∙ ap (λ hs. set hs (hash % length hs) (Some c.len-place.result)) same
-    ∙ ap (λ n. set old (hash % length old) (Some n)) at in
-    let was = c.replace_head-earlier.ensures.earlier ∙ ap (λ hs. slice_index_or hs (hash % length hs) None) same in
+    let replaced : new ≡ set old (bucket hash (length old)) (Some (length made.links.items)) =
+    c.replace_head-earlier.ensures.heads ∙ ap (λ hs. set hs (bucket hash (length hs)) (Some c.len-place.result)) same
+    ∙ ap (λ n. set old (bucket hash (length old)) (Some n)) at in
+    let was = c.replace_head-earlier.ensures.earlier ∙ ap (λ hs. slice_index_or hs (bucket hash (length hs)) None) same in
     let chained = chained_next old new made.links.items hash c.replace_head-earlier.result room.0 room.1 replaced was in
     let long : made.heads.len ≡ length new =
-    omega (arith, made.heads.ok.0, ap length replaced, length-set old (hash % length old) (Some (length made.links.items))) in
+    omega (arith, made.heads.ok.0, ap length replaced, length-set old (bucket hash (length old)) (Some (length made.links.items))) in
     let written : take made.heads.len (new ++ drop (length new) old) ≡ new =
     ap (λ n. take n (new ++ drop (length new) old)) long ∙ take-append_seam new (drop (length new) old) in (
       subst (λ hs. IsChained hs c.push_reserved.new.self.items) (sym written)
