@@ -1,7 +1,9 @@
 pub mod Accesses
 pub mod DistinctRows
+pub mod FoldedFacts
 pub mod Groups
 pub mod Identifiers
+pub mod Sameness
 pub mod Sets
 pub mod TupleOrder
 pub mod ValueOrder

@@ -7,7 +7,7 @@
 --     serves normal set u                  the set holds the key's classes, and the atom's needed columns are all in key or fetched
 --     is_covered normal accesses set       the set holds each needed column's class, and each atom has a use that serves it
 --     reason normal accesses set           the first needed column whose class isn't in the set, else the first atom that nothing serves
-use Rattle.std.specs.Prelude.{◌&&◌, ◌||◌, ◌==◌, ◌+◌, ◌<◌, if◌then◌else◌, Bool, true, false, not, ℕ, zero, suc, List, [], ◌∷◌, length, map, filter, flat_map, fold, find, replicate, slice_index_or, slice_set, IsTrue, All, Contains, Option, option_map}
+use Rattle.std.specs.Prelude.{◌&&◌, ◌||◌, ◌==◌, ◌<◌, if◌then◌else◌, Bool, true, false, not, ℕ, zero, suc, List, [], length, map, filter, flat_map, fold, find, replicate, slice_index_or, slice_set, IsTrue, All, Contains, Option, option_map}
 use Rattle.std.specs.List.{list_any, list_all, enumerate_from, range_with_len}
 use Rattle.std.specs.Option.{option_or}
 use Rattle.beas_core.specs.declared.schema.ColumnId.{ColumnId}

@@ -7,7 +7,7 @@
 --     is_guided_task task                  the block has a guide, and isn't covered by itself: it starts from its guide's answers
 --     task_start, task_reason, task_steps  the classes that are bound before its first step, why it isn't covered from there, its derivation
 --     first_uncovered tasks                the first block that isn't covered, with its reason
-use Rattle.std.specs.Prelude.{◌&&◌, ◌+◌, Bool, true, false, not, ℕ, List, [], ◌∷◌, ◌++◌, length, Option, Some, None, option_map}
+use Rattle.std.specs.Prelude.{◌&&◌, ◌+◌, Bool, true, false, not, ℕ, List, [], ◌∷◌, ◌++◌, length, Option, None, option_map}
 use Rattle.std.specs.Option.{option_or}
 use Rattle.beas_core.specs.declared.schema.Access.{Access}
 use Rattle.beas_core.specs.declared.plan.DStep.{DStep}

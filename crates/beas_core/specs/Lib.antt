@@ -2,6 +2,7 @@ pub mod Classes
 pub mod Coverage
 pub mod Derivations
 pub mod Fits
+pub mod FoldedWords
 pub mod Found
 pub mod Full
 pub mod Groups
@@ -9,6 +10,7 @@ pub mod Guiding
 pub mod Hashing
 pub mod Heights
 pub mod Kept
+pub mod Mixing
 pub mod Nodes
 pub mod Numbers
 pub mod Order
@@ -19,7 +21,6 @@ pub mod Refusals
 pub mod Results
 pub mod Sets
 pub mod Shapes
-pub mod Shown
 pub mod Spelling
 pub mod Telling
 pub mod Texts

@@ -9,7 +9,7 @@
 --     reads_in rows accesses guided plans n guide t     for each probe the greater of 1 and the size of its group, summed
 -- and of a query as a whole, which has no guide:
 --     query_answers, query_size, query_bound, query_probes, query_reads
-use Rattle.std.specs.Prelude.{◌+◌, if◌then◌else◌, Bool, false, ℕ, List, [], ◌∷◌, ◌++◌, map, filter, sum_by, slice_index_or, Some, None}
+use Rattle.std.specs.Prelude.{◌+◌, if◌then◌else◌, Bool, false, ℕ, List, [], ◌++◌, map, filter, sum_by, slice_index_or, Some, None}
 use Rattle.std.specs.List.{list_any}
 use Rattle.beas_core.specs.declared.schema.Access.{Access}
 use Rattle.beas_core.specs.declared.plan.Derivation.{Derivation}

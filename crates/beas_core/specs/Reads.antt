@@ -3,7 +3,7 @@
 --                                                  number from 0 on with this key
 --     reads_of rows normal accesses guide steps    for each probe the greater of 1 and the size of its group, summed
 --     step_reads rows normal accesses s set found  the part of one step, where `found` are the valuations before it
-use Rattle.std.specs.Prelude.{◌+◌, ℕ, List, [], ◌∷◌, ◌++◌, length, map, max, sum_by, slice_index_or, is_some}
+use Rattle.std.specs.Prelude.{ℕ, List, [], ◌∷◌, ◌++◌, length, map, max, sum_by, slice_index_or, is_some}
 use Rattle.beas_core.specs.declared.schema.Access.{Access}
 use Rattle.beas_core.specs.declared.plan.DStep.{DStep}
 use Rattle.beas_core.specs.declared.plan.Normal.{Normal}

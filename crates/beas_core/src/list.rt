@@ -1,5 +1,7 @@
 // A list that contracts see as a list, and no more: neither where it lies nor how much room it has.
 ghost use Rattle.std.specs.Prelude.{◌≡◌, ◌↔◌, [], ◌∷◌, ◌++◌, length, IfOk, OnOk, OnErr, IsTrue};
+ghost use Rattle.std.specs.Fn.{CalledAt};
+ghost use Rattle.std.specs.List.Retain.{IsFiltered};
 ghost use Rattle.std.specs.Cmp.Lexicographic.{slice_cmp, pointwise, slice_partial_cmp, lists_per, lists_equiv, lists_po, lists_total, lists_agrees, lists_ties};
 
 use crate::duplicate::Duplicate;
@@ -77,6 +79,14 @@ impl<T: Drop> List<T> {
     {
         self.items.push(item)?;
         Ok(())
+    }
+
+    /// Keeps the items that pass a test, in their order. It takes no memory.
+    pub fn retain<F: FnMut(&T) -> bool>(&mut self, f: F)
+        requires { F.IsAlwaysCallable f }
+        ensures { IsFiltered (CalledAt F.FnMut) f self.old self.new }
+    {
+        self.items.retain(f);
     }
 }
 

@@ -1,4 +1,7 @@
 // What is worked out of a query before any row is read, and its answer.
+ghost use Rattle.std.specs.Prelude.{◌≡◌};
+ghost use Rattle.beas_core.specs.Coverage.{class_at as class_of_column};
+
 use crate::duplicate::Duplicate;
 use crate::errors::NoMemory;
 use crate::list::{List, Row};
@@ -22,6 +25,19 @@ pub struct Normal {
     pub needed: List<List<ColumnId>>,
     pub comparisons: List<Comparison>,
     pub output: List<Place>,
+}
+
+/// The class of a column of an atom.
+pub fn class_at(block: &Normal, atom: u16, column: ColumnId) -> u16
+    ensures { result ≡ class_of_column block.now atom column }
+{
+    match block.classes.as_slice().get(usize::from(atom)) {
+        Some(classes) => match classes.as_slice().get(usize::from(column.0)) {
+            Some(class) => *class,
+            None => 0,
+        },
+        None => 0,
+    }
 }
 
 /// One use of a constraint on an atom. `adds` says whether it binds a class that wasn't bound before.

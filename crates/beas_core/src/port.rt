@@ -9,7 +9,6 @@ ghost use Rattle.beas_core.specs.Derivations.{access_in, is_live};
 use crate::schema::{Access, AccessId, ColumnId};
 use crate::steps::Steps;
 use crate::value::Value;
-use crate::value_ref::ValueRef;
 use std::marker::Model;
 use std::sync::ledger::Ledger;
 
@@ -98,12 +97,12 @@ pub trait AccessPort {
         ensures cost { steps.new ≡ steps.old + max 1 result.len };
 
     /// A column of a tuple that a probe found and counted.
-    fn value(&self, hits: &Hits, i: u32, column: ColumnId) -> ValueRef<'_>
+    fn value(&self, hits: &Hits, i: u32, column: ColumnId) -> &Value
         requires live { IsTrue (is_live (accesses self.now) hits.now.access) }
         requires stands { stands self.now hits.now }
         requires member { i < hits.now.len }
         requires column { IsTrue (has_column (member_columns (access_in (accesses self.now) hits.now.access)) column) }
-        ensures { result
+        ensures { result.now
             ≡ value_in (member_columns (access_in (accesses self.now) hits.now.access))
             (slice_index_or (members self.now hits.now) i []) column };
 }

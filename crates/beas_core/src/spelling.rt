@@ -6,64 +6,11 @@ ghost use Rattle.std.specs.Str.{bytes_eq};
 ghost use Rattle.beas_core.specs.Spelling.{begins_word, continues_word, is_word, is_reserved, is_name, name_of, limit_in};
 
 use crate::errors::NoMemory;
+use crate::folded_names::is_reserved;
 use crate::names::Name;
+use crate::same_text::first_byte;
 use crate::text::Text;
 use std::alloc::Global;
-
-/// The words that are no names.
-const RESERVED: [&str; 51] = [
-    "access",
-    "all",
-    "and",
-    "as",
-    "between",
-    "by",
-    "case",
-    "create",
-    "cross",
-    "delete",
-    "discover",
-    "distinct",
-    "drop",
-    "except",
-    "exists",
-    "explain",
-    "fetch",
-    "from",
-    "full",
-    "group",
-    "having",
-    "in",
-    "inner",
-    "insert",
-    "int",
-    "integer",
-    "intersect",
-    "into",
-    "is",
-    "join",
-    "left",
-    "like",
-    "limit",
-    "load",
-    "natural",
-    "not",
-    "null",
-    "offset",
-    "on",
-    "or",
-    "order",
-    "outer",
-    "right",
-    "select",
-    "table",
-    "text",
-    "union",
-    "using",
-    "values",
-    "where",
-    "with",
-];
 
 /// The greatest bound of a constraint.
 const GREATEST_LIMIT: u64 = 4_294_967_295;
@@ -80,12 +27,6 @@ pub fn continues_word(byte: u8) -> bool
     ensures { result ≡ continues_word byte }
 {
     begins_word(byte) || byte.is_ascii_digit()
-}
-
-fn first_byte(text: &[u8]) -> u8
-    ensures { result ≡ slice_index text.now 0 }
-{
-    if text.is_empty() { 0 } else { text[0] }
 }
 
 fn all_continue(text: &[u8]) -> bool
@@ -106,45 +47,6 @@ fn is_a_word(text: &[u8]) -> bool
     let goes_on = all_continue(text);
     let fits = text.len() <= 64;
     begins && goes_on && fits
-}
-
-fn is_among(words: &[&str], word: &str) -> bool
-    ensures { result ≡ list_any (λ r. bytes_eq r.now word.now) words.now }
-{
-    for other in words {
-        if *other == word {
-            return true;
-        }
-    }
-    false
-}
-
-/// Whether a word in lower case is one of those that are no names. It takes no memory.
-#[tactic(auto, unfolding(crate::specs::Spelling::is_reserved, crate::specs::Spelling::reserved_words))]
-pub fn is_reserved(word: &str) -> bool
-    ensures { result ≡ is_reserved word.now }
-{
-    is_among(&RESERVED, word)
-}
-
-fn has_capital(text: &[u8]) -> bool
-    ensures { result ≡ list_any is_ascii_uppercase text.now }
-{
-    for byte in text {
-        if byte.is_ascii_uppercase() {
-            return true;
-        }
-    }
-    false
-}
-
-/// Whether a text is an identifier in lower case: a letter or `_`, then letters, digits and `_`, at most 64 bytes in
-/// all, and no reserved word. It takes no memory.
-#[tactic(auto, unfolding(crate::specs::Spelling::is_name))]
-pub fn is_name(text: &str) -> bool
-    ensures { result ≡ is_name text.now }
-{
-    is_a_word(text.as_bytes()) && !has_capital(text.as_bytes()) && !is_reserved(text)
 }
 
 impl Name {

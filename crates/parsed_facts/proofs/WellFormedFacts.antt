@@ -3,22 +3,22 @@ use Rattle.std.proofs.Common.{ℕ, ◌+◌, ◌-◌, ◌^◌, ◌<◌, ◌≤◌
 use Rattle.std.proofs.lemmas.List.{length-append, length-map}
 use Rattle.std.proofs.lemmas.List.Elements.{All-cons, All-nil, All-weaker}
 use Rattle.sql_parser.specs.Outcome.{Parses}
-use Rattle.sql_text.specs.declared.token.Token.{Token}
-use Rattle.sql_tree.specs.declared.tree.BlockTree.{BlockTree}
-use Rattle.sql_tree.specs.declared.tree.ColumnRef.{ColumnRef}
-use Rattle.sql_tree.specs.declared.tree.Cond.{Cond}
-use Rattle.sql_tree.specs.declared.tree.GroupItem.{GroupItem}
-use Rattle.sql_tree.specs.declared.tree.Literal.{Literal}
-use Rattle.sql_tree.specs.declared.tree.Statement.{Statement}
-use Rattle.sql_tree.specs.Grammar.{Commas, last, comma, IsId, IsTuple, tuple, IsWhere, alone, no_join, joined_source, all_rows, all_columns, select_output, from_sources, select_block, single, term, IsQuery, Spells, create_table, create_access, drop_access, load, insert, delete, discover_group, discover_pairs, grouped, over_query, IsOverQuery, select, explain, scan_ok, specialise, Body, IsBody, block_of, body_of}
-use Rattle.sql_tree.specs.Grouping.{grouped_block}
-use Rattle.sql_tree.specs.Symbols.{Symbol, symbol_of, symbols}
-use Rattle.sql_tree.specs.Trees.{Tree, Block}
-use Rattle.sql_tree.specs.Words.{BY, GROUP, OPEN, CLOSE, COMMA, INSERT, INTO, VALUES, DELETE, FROM, SELECT, STAR}
+use Rattle.sql_tokens.specs.declared.token.Token.{Token}
+use Rattle.sql_text.specs.declared.tree.BlockTree.{BlockTree}
+use Rattle.sql_text.specs.declared.tree.ColumnRef.{ColumnRef}
+use Rattle.sql_text.specs.declared.tree.Cond.{Cond}
+use Rattle.sql_text.specs.declared.tree.GroupItem.{GroupItem}
+use Rattle.sql_text.specs.declared.tree.Literal.{Literal}
+use Rattle.sql_text.specs.declared.tree.Statement.{Statement}
+use Rattle.sql_text.specs.Grammar.{Commas, last, comma, IsId, IsTuple, tuple, IsWhere, alone, no_join, joined_source, all_rows, all_columns, select_output, from_sources, select_block, single, term, IsQuery, Spells, create_table, create_access, drop_access, load, insert, delete, discover_group, discover_pairs, grouped, over_query, IsOverQuery, select, explain, scan_ok, specialise, Body, IsBody, block_of, body_of}
+use Rattle.sql_text.specs.Grouping.{grouped_block}
+use Rattle.sql_text.specs.Symbols.{Symbol, symbol_of, symbols}
+use Rattle.sql_text.specs.Trees.{Tree, Block}
+use Rattle.sql_text.specs.Words.{BY, GROUP, OPEN, CLOSE, COMMA, INSERT, INTO, VALUES, DELETE, FROM, SELECT, STAR}
 use Rattle.binder.specs.Binding.{blocks_of}
 use Rattle.binder.proofs.BindFacts.{all_of}
 use Rattle.binder.proofs.SpelledTrees.{IsFew, query_few}
-use Rattle.piece_reader.specs.declared.saying.Saying.{Saying}
+use Rattle.piece_reader.specs.declared.event.Event.{Event}
 use Rattle.piece_reader.specs.Sayings.{IsReadAs, statement_in}
 use Rattle.piece_reader.proofs.SayingFacts.{statement_is_in}
 use Rattle.session.specs.Statements.{GroupedIsWellFormed, StatementIsWellFormed, TreeIsWellFormed}
@@ -121,7 +121,7 @@ parsed_well tokens s spelled few =
     well_formed (symbols tokens) s spelled.1 (omega arith)
 
 -- and of a statement that a piece says, of a session or of none
-pub said_well : (tokens : List Token) (saying : Saying) (s : Statement) → IsReadAs tokens (Ok saying) → statement_in saying ≡ Some s
+pub said_well : (tokens : List Token) (saying : Event) (s : Statement) → IsReadAs tokens (Ok saying) → statement_in saying ≡ Some s
     → length tokens < 2 ^ 32 - 1 → StatementIsWellFormed s
 said_well tokens saying s reading stated few =
     let same = length-map tokens (λ (token : Token). symbol_of token.kind token.text) in

@@ -7,11 +7,11 @@ ghost use Rattle.std.specs.Prelude.{◌≡◌, ◌-◌, ◌<◌, ◌^◌, length
 ghost use Rattle.piece_reader.specs.Sayings.{IsReadAs, statement_in};
 ghost use Rattle.session.specs.Statements.{StatementIsWellFormed};
 ghost use Rattle.sql_parser.specs.Outcome.{Parses};
-ghost use Rattle.sql_tree.specs.Symbols.{symbols};
+ghost use Rattle.sql_text.specs.Symbols.{symbols};
 
-use piece_reader::Saying;
-use sql_text::Token;
-use sql_tree::Statement;
+use piece_reader::Event;
+use sql_text::Statement;
+use sql_tokens::Token;
 
 /// A statement that fewer than 2^32 - 1 tokens spell has what a session asks of the statements that it carries out.
 #[tactic(auto, using(crate::proofs::WellFormedFacts::parsed_well))]
@@ -23,9 +23,9 @@ pub fn law_parsed_well(tokens: &[Token], statement: &Statement)
 
 /// So has a statement that a piece of fewer than 2^32 - 1 tokens says, of a session or of none.
 #[tactic(auto, using(crate::proofs::WellFormedFacts::said_well))]
-pub fn law_said_well(tokens: &[Token], saying: &Saying, statement: &Statement)
+pub fn law_said_well(tokens: &[Token], event: &Event, statement: &Statement)
     requires few { length tokens.now < 2 ^ 32 - 1 }
-    requires said { IsReadAs tokens.now (Ok saying.now) }
-    requires stated { statement_in saying.now ≡ Some statement.now }
+    requires said { IsReadAs tokens.now (Ok event.now) }
+    requires stated { statement_in event.now ≡ Some statement.now }
     ensures { StatementIsWellFormed statement.now }
 {}

@@ -7,14 +7,14 @@ use Rattle.beas_core.specs.declared.errors.Fail.{Fail}
 use Rattle.beas_core.specs.declared.errors.Fail.TheVariants.{Refused, NoMemory}
 use Rattle.beas_core.specs.declared.refusal.Refusal.{Refusal}
 use Rattle.beas_core.specs.Results.{Gives}
-use Rattle.sql_tree.specs.declared.tree.Statement.{Statement}
-use Rattle.sql_tree.specs.Symbols.{Symbol, word, number, quoted, mark, bad}
+use Rattle.sql_text.specs.declared.tree.Statement.{Statement}
+use Rattle.sql_text.specs.Symbols.{Symbol, word, number, quoted, mark, bad}
 use Rattle.token_reader.specs.Reading.{expect, read_number, rest_of, starts}
 use Rattle.sql_parser.specs.Outcome.{Parses, found_reading}
 use Rattle.sql_parser.proofs.Parsing.{one_reading, parsed-parses}
 use Rattle.sql_parser.proofs.ReadIsSpelled.{starts-inv}
-use Rattle.piece_reader.specs.declared.saying.Saying.{Saying}
-use Rattle.piece_reader.specs.declared.saying.Saying.TheVariants.{Said, Stepped}
+use Rattle.piece_reader.specs.declared.event.Event.{Event}
+use Rattle.piece_reader.specs.declared.event.Event.TheVariants.{Said, Stepped}
 use Rattle.piece_reader.specs.Sayings.{AT, STEP, BeginsWithAt, BeginsWithNumber, Reading, Says, plain, step, said, unnumbered, after_at, after_number, found_saying, is_step, of_session, as_plain, said_after, session_of, statement_in}
 
 -- ---- how the tokens begin
@@ -117,17 +117,17 @@ one_saying a reading (unnumbered {a = rest} none) = elim (number_or_not rest) [
 
 -- ---- what an answer tells, where it is the reading
 
-pub answer_says : (tokens : List Symbol) (answer : Result Saying Fail) → Gives answer (found_saying tokens) → IfOk answer (λ s. Says tokens (Ok s))
+pub answer_says : (tokens : List Symbol) (answer : Result Event Fail) → Gives answer (found_saying tokens) → IfOk answer (λ s. Says tokens (Ok s))
 answer_says tokens (Ok s) e = subst (Says tokens) e (found-says tokens)
 answer_says tokens (Err why) e = tt
 
-pub refusal_says : (tokens : List Symbol) (answer : Result Saying Fail) → Gives answer (found_saying tokens) → (why : Refusal) → IsErrOf answer (Refused why)
+pub refusal_says : (tokens : List Symbol) (answer : Result Event Fail) → Gives answer (found_saying tokens) → (why : Refusal) → IsErrOf answer (Refused why)
     → Says tokens (Err why)
 refusal_says tokens (Ok s) e why h = cc
 refusal_says tokens (Err NoMemory) e why h = cc
 refusal_says tokens (Err (Refused w)) e why h = let same : w ≡ why = cc in subst (Says tokens) (e ∙ ap (λ (r : Refusal). Err r) same) (found-says tokens)
 
-pub reading_given : (tokens : List Symbol) (answer : Result Saying Fail) → Gives answer (found_saying tokens) → (reading : Reading) → Says tokens reading
+pub reading_given : (tokens : List Symbol) (answer : Result Event Fail) → Gives answer (found_saying tokens) → (reading : Reading) → Says tokens reading
     → Gives answer reading
 reading_given tokens answer e reading h = subst (Gives answer) (one_saying tokens reading h) e
 

@@ -1,8 +1,8 @@
 -- What the tokens of a piece say.
 --     Reading                        what a piece says, or why it says nothing
---     statement_in saying            the statement that it says, if it says one
+--     statement_in event             the statement that it says, if it says one
 --     session_of digits              the session with this number, or its refusal
---     as_plain reading               a statement's reading, as that of a piece which names no session
+--     as_plain reading               a statement's reading, as that of a piece which names no session: session 0 says it
 --     Says symbols reading           the reading by the grammar
 --     found_saying symbols           the reading as it is found
 --     IsReadAs, reading_of           both of the tokens with their places
@@ -11,19 +11,18 @@ use Rattle.std.specs.Option.{option_map_or}
 use Rattle.beas_core.specs.declared.refusal.Refusal.{Refusal}
 use Rattle.beas_core.specs.declared.refusal.Refusal.TheVariants.{BadSession, Syntax}
 use Rattle.beas_core.specs.Spelling.{number_within}
-use Rattle.sql_text.specs.declared.token.Token.{Token}
-use Rattle.sql_tree.specs.declared.tree.Statement.{Statement}
-use Rattle.sql_tree.specs.Symbols.{Symbol, word, number, mark, is_word, symbols}
+use Rattle.sql_tokens.specs.declared.token.Token.{Token}
+use Rattle.sql_text.specs.declared.tree.Statement.{Statement}
+use Rattle.sql_text.specs.Symbols.{Symbol, word, number, mark, is_word, symbols}
 use Rattle.token_reader.specs.Reading.{expect, read_number}
 use Rattle.sql_parser.specs.Outcome.{Reading as StatementReading, Parses, found_reading}
-use Rattle.piece_reader.specs.declared.saying.Saying.{Saying}
-use Rattle.piece_reader.specs.declared.saying.Saying.TheVariants.{Plain, Said, Stepped}
+use Rattle.piece_reader.specs.declared.event.Event.{Event}
+use Rattle.piece_reader.specs.declared.event.Event.TheVariants.{Said, Stepped}
 
 abbrev pub Reading : Type 0
-Reading = Result Saying Refusal
+Reading = Result Event Refusal
 
-abbrev pub statement_in : Saying → Option Statement
-statement_in (Plain statement) = Some statement
+abbrev pub statement_in : Event → Option Statement
 statement_in (Said session statement) = Some statement
 statement_in (Stepped session) = None
 
@@ -39,15 +38,15 @@ STEP = word (codes "step")
 abbrev pub session_of : List ℕ → Result ℕ Refusal
 session_of digits = option_map_or Ok (number_within 1 64 digits) (Err (BadSession digits))
 
-abbrev pub of_session : (ℕ → Saying) → Result ℕ Refusal → Reading
-of_session saying (Ok session) = Ok (saying session)
-of_session saying (Err why) = Err why
+abbrev pub of_session : (ℕ → Event) → Result ℕ Refusal → Reading
+of_session event (Ok session) = Ok (event session)
+of_session event (Err why) = Err why
 
 -- ---- by the grammar
 
 -- a statement's reading, as that of a piece
 abbrev pub as_plain : StatementReading → Reading
-as_plain (Ok statement) = Ok (Plain statement)
+as_plain (Ok statement) = Ok (Said 0 statement)
 as_plain (Err why) = Err why
 
 -- a statement of the session with this number; why it is no statement comes before what is wrong with the number

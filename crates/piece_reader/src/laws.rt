@@ -1,6 +1,6 @@
 // Laws of readings.
 ghost use Rattle.std.specs.Prelude.{◌≡◌, List};
-ghost use Rattle.sql_text.specs.declared.token.Token.{Token};
+ghost use Rattle.sql_tokens.specs.declared.token.Token.{Token};
 ghost use Rattle.piece_reader.specs.Sayings.{IsReadAs, Reading, reading_of};
 
 /// The tokens of a piece have a reading, and no other: what they say, or why they say nothing.

@@ -5,10 +5,10 @@
 //! that the session has an open query or has none, which the desk sees to, nor that a call says `NoMemory` only where memory ran out.
 #![tactic(auto)]
 
+mod event;
 mod laws;
 mod reading;
-mod saying;
 
+pub use event::Event;
 pub use laws::law_one_saying;
 pub use reading::read_piece;
-pub use saying::Saying;

@@ -2,15 +2,18 @@
 ghost use Rattle.std.specs.Prelude.{◌≡◌, IfOk, IsErrOf, option_map};
 ghost use Rattle.beas_core.specs.declared.refusal.Refusal.{Refusal};
 ghost use Rattle.beas_core.specs.Results.{Gives};
-ghost use Rattle.sql_tree.specs.Symbols.{symbols};
+ghost use Rattle.sql_text.specs.Symbols.{symbols};
 ghost use Rattle.token_reader.specs.Reading.{expect, read_number};
 ghost use Rattle.piece_reader.specs.Sayings.{AT, IsReadAs, Reading, after_at, after_number, is_step, reading_of, session_of};
 
-use crate::saying::Saying;
+use crate::event::Event;
 use beas_core::{Duplicate, Fail, Refusal, Text, limit_of};
 use sql_parser::parse;
-use sql_text::{Token, TokenKind};
+use sql_tokens::{Token, TokenKind};
 use std::alloc::Global;
+
+/// The session of the pieces that name none. No piece can name it.
+const UNNAMED: u32 = 0;
 
 /// The greatest number of a session.
 const MOST_SESSIONS: u32 = 64;
@@ -65,21 +68,21 @@ fn session_of(alloc: Global, digits: &Text) -> Result<u32, Fail>
 }
 
 /// Reads what stands after the number of a session.
-fn said_by(alloc: Global, digits: &Text, tokens: &[Token]) -> Result<Saying, Fail>
+fn said_by(alloc: Global, digits: &Text, tokens: &[Token]) -> Result<Event, Fail>
     ensures { Gives result (after_number digits.now (symbols tokens.now)) }
 {
     if is_step(tokens) {
         let session = session_of(alloc, digits)?;
-        return Ok(Saying::Stepped { session });
+        return Ok(Event::Stepped { session });
     }
     // What is no statement is refused as such, whatever the number.
     let statement = parse(alloc, tokens)?;
     let session = session_of(alloc, digits)?;
-    Ok(Saying::Said { session, statement })
+    Ok(Event::Said { session, statement })
 }
 
 /// Reads what stands after `@`.
-fn numbered(alloc: Global, tokens: &[Token]) -> Result<Saying, Fail>
+fn numbered(alloc: Global, tokens: &[Token]) -> Result<Event, Fail>
     ensures { Gives result (after_at (symbols tokens.now)) }
 {
     match number_first(tokens) {
@@ -89,14 +92,17 @@ fn numbered(alloc: Global, tokens: &[Token]) -> Result<Saying, Fail>
 }
 
 /// Reads the tokens of a piece, unless memory runs out.
-fn reading(alloc: Global, tokens: &[Token]) -> Result<Saying, Fail>
+fn reading(alloc: Global, tokens: &[Token]) -> Result<Event, Fail>
     ensures { Gives result (reading_of tokens.now) }
 {
     match without_at(tokens) {
         Some(rest) => numbered(alloc, rest),
         None => {
             let statement = parse(alloc, tokens)?;
-            Ok(Saying::Plain { statement })
+            Ok(Event::Said {
+                session: UNNAMED,
+                statement,
+            })
         }
     }
 }
@@ -105,7 +111,7 @@ fn reading(alloc: Global, tokens: &[Token]) -> Result<Saying, Fail>
 /// is `Syntax`, however deep what follows is nested. After `@` and a number, STEP alone goes on with a query; all else is a statement,
 /// refused as `parse` refuses it. Only then is the number looked at: it has to be from 1 to 64 (`BadSession`, with the digits as they
 /// are written); leading zeros are allowed.
-pub fn read_piece(alloc: Global, tokens: &[Token]) -> Result<Saying, Fail>
+pub fn read_piece(alloc: Global, tokens: &[Token]) -> Result<Event, Fail>
     // What is answered is so by the grammar.
     ensures said { IfOk result (λ saying. IsReadAs tokens.now (Ok saying)) }
     ensures refused { (why : Refusal) → IsErrOf result (Fail.Refused why) → IsReadAs tokens.now (Err why) }

@@ -2,8 +2,8 @@
 use Rattle.std.proofs.Common.{◌≡◌, ◌≤◌, ◌<◌, ℕ, true, false, List, [], ◌∷◌, max, refl, sym, ap, inl, inr, cond, get_or, drop, length, ◌+◌, ◌∙◌, arith}
 use Rattle.std.specs.Prelude.{◌||◌, Bool, codes, nat_lt}
 use Rattle.std.proofs.lemmas.List.{at_drop_more}
-use Rattle.sql_text.specs.declared.token.Token.{Token}
-use Rattle.sql_tree.specs.Symbols.{Symbol, depth_from, depth_after, joins_after, joins_blocks, symbol_of, symbols, is_word}
+use Rattle.sql_tokens.specs.declared.token.Token.{Token}
+use Rattle.sql_text.specs.Symbols.{Symbol, depth_from, depth_after, joins_after, joins_blocks, symbol_of, symbols, is_word}
 use Rattle.token_reader.specs.Reading.{has_group}
 use Rattle.std.proofs.lemmas.Bool.{lt-ltb, le-ltb, cases_lt}
 

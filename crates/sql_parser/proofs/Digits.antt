@@ -1,7 +1,7 @@
 -- Digits that begin with no zero.
 use Rattle.std.proofs.Common.{◌≡◌, ◌≢◌, ℕ, Bool, true, false, cond, eqb, List, [], ◌∷◌, Option, None, MatchOption, Bor, refl, ap, subst}
 use Rattle.std.proofs.lemmas.Bool.{eqb-true}
-use Rattle.sql_tree.specs.Grammar.{significant_digits}
+use Rattle.sql_text.specs.Grammar.{significant_digits}
 
 pub keeps : (digits : List ℕ) → ((rest : List ℕ) → digits ≡ 48 ∷ rest → ⊥) → significant_digits digits ≡ digits
 keeps [] h = refl

@@ -1,17 +1,17 @@
 -- Reading conditions, sources, joins and terms in a loop.
 use Rattle.std.proofs.Common.{◌≡◌, ℕ, zero, suc, ◌-◌, ◌<◌, true, false, List, [], ◌++◌, Option, Some, None, Err, refl, sym, ap, ◌∙◌, append_assoc, arith}
 use Rattle.std.proofs.lemmas.List.{append-nil}
-use Rattle.sql_tree.specs.declared.tree.Cond.{Cond}
-use Rattle.sql_tree.specs.declared.tree.FromItem.{FromItem}
-use Rattle.sql_tree.specs.Grammar.{Source}
-use Rattle.sql_tree.specs.Symbols.{Symbol}
-use Rattle.sql_tree.specs.Trees.{Tree}
+use Rattle.sql_text.specs.declared.tree.Cond.{Cond}
+use Rattle.sql_text.specs.declared.tree.FromItem.{FromItem}
+use Rattle.sql_text.specs.Grammar.{Source}
+use Rattle.sql_text.specs.Symbols.{Symbol}
+use Rattle.sql_text.specs.Trees.{Tree}
 use Rattle.token_reader.specs.declared.reader.ReadError.{ReadError}
 use Rattle.token_reader.specs.declared.reader.ReadError.TheVariants as errors
 use Rattle.sql_parser.specs.declared.queries.Front.{Front}
 use Rattle.sql_parser.specs.declared.queries.Front.TheVariants.{Nothing, BeforeUnion, BeforeExcept}
 use Rattle.sql_parser.specs.Fronts.{joined_to}
-use Rattle.sql_tree.specs.Words.{COMMA, AND, UNION, EXCEPT}
+use Rattle.sql_text.specs.Words.{COMMA, AND, UNION, EXCEPT}
 use Rattle.token_reader.specs.Reading.{◌>>=◌, starts, rest_of}
 use Rattle.sql_parser.specs.Reading.{Adds, after, after_both, read_condition, read_conditions, read_source, read_sources, starts_join, read_join, read_joins, read_term, read_query}
 

@@ -4,14 +4,14 @@ use Rattle.std.specs.Prelude.{codes, ◌||◌}
 use Rattle.std.specs.List.{list_any}
 use Rattle.std.proofs.lemmas.List.{append-nil}
 use Rattle.std.proofs.lemmas.List.Folds.{list_any-append}
-use Rattle.sql_tree.specs.declared.tree.ColumnRef.{ColumnRef}
-use Rattle.sql_tree.specs.declared.tree.GroupItem.{GroupItem}
-use Rattle.sql_tree.specs.declared.tree.Statement.TheVariants.{Grouped}
-use Rattle.sql_tree.specs.Symbols.{Symbol, word, is_word}
-use Rattle.sql_tree.specs.Trees.{Block}
-use Rattle.sql_tree.specs.Grammar.{Commas, id, IsRef, bare, dotted, Body, IsBody, from_sources, IsGroupItem, shared, counted, summed, least, greatest}
-use Rattle.sql_tree.specs.Grouping.{grouped_block}
-use Rattle.sql_tree.specs.Words.{BY, DISTINCT, GROUP, OPEN, CLOSE, COMMA, DOT, SELECT}
+use Rattle.sql_text.specs.declared.tree.ColumnRef.{ColumnRef}
+use Rattle.sql_text.specs.declared.tree.GroupItem.{GroupItem}
+use Rattle.sql_text.specs.declared.tree.Statement.TheVariants.{Grouped}
+use Rattle.sql_text.specs.Symbols.{Symbol, word, is_word}
+use Rattle.sql_text.specs.Trees.{Block}
+use Rattle.sql_text.specs.Grammar.{Commas, id, IsRef, bare, dotted, Body, IsBody, from_sources, IsGroupItem, shared, counted, summed, least, greatest}
+use Rattle.sql_text.specs.Grouping.{grouped_block}
+use Rattle.sql_text.specs.Words.{BY, DISTINCT, GROUP, OPEN, CLOSE, COMMA, DOT, SELECT}
 use Rattle.token_reader.specs.Reading.{starts, rest_of, begins_with, has_group}
 use Rattle.sql_parser.specs.Reading.{read_list, read_ref, read_body, read_distinct_ref, read_group_item, read_group_keys, read_grouped, read_selection, read_first, read_statement}
 use Rattle.sql_parser.proofs.SpelledIsRead.{NoDot, closed-reads, list-reads, ref-reads, ref-some}

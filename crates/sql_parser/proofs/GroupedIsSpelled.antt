@@ -1,12 +1,12 @@
 -- Grouped statements that are read are spelled so.
 use Rattle.std.proofs.Common.{◌≡◌, true, List, [], ◌∷◌, ◌++◌, length, Option, Some, cond, refl, sym, ap, subst, inl, inr, ◌∙◌, append_assoc}
-use Rattle.sql_tree.specs.declared.tree.ColumnRef.{ColumnRef}
-use Rattle.sql_tree.specs.declared.tree.GroupItem.{GroupItem}
-use Rattle.sql_tree.specs.declared.tree.GroupItem.TheVariants.{Plain, Count, Sum, Least, Greatest}
-use Rattle.sql_tree.specs.declared.tree.Statement.{Statement}
-use Rattle.sql_tree.specs.Symbols.{Symbol}
-use Rattle.sql_tree.specs.Grammar.{Commas, IsRef, IsGroupItem, shared, counted, summed, least, greatest, Spells, grouped}
-use Rattle.sql_tree.specs.Words.{BY, COUNT, DISTINCT, GROUP, MAX, MIN, SELECT, SUM, OPEN, CLOSE}
+use Rattle.sql_text.specs.declared.tree.ColumnRef.{ColumnRef}
+use Rattle.sql_text.specs.declared.tree.GroupItem.{GroupItem}
+use Rattle.sql_text.specs.declared.tree.GroupItem.TheVariants.{Plain, Count, Sum, Least, Greatest}
+use Rattle.sql_text.specs.declared.tree.Statement.{Statement}
+use Rattle.sql_text.specs.Symbols.{Symbol}
+use Rattle.sql_text.specs.Grammar.{Commas, IsRef, IsGroupItem, shared, counted, summed, least, greatest, Spells, grouped}
+use Rattle.sql_text.specs.Words.{BY, COUNT, DISTINCT, GROUP, MAX, MIN, SELECT, SUM, OPEN, CLOSE}
 use Rattle.token_reader.specs.Reading.{expect, begins_with, after_all, rest_of}
 use Rattle.sql_parser.specs.Reading.{read_list, read_ref, read_body, read_closed_ref, read_distinct_ref, made_of, read_group_item, read_group_keys, read_grouped}
 use Rattle.sql_parser.proofs.ReadIsSpelled.{Took, then_parts, bind-inv, pick-inv, took_as, begins-inv, expect-inv, closed-inv, commas-spelled, ref-spelled}

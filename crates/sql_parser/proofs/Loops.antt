@@ -1,9 +1,9 @@
 -- Reading in a loop: what was read before, and what is still read.
 use Rattle.std.proofs.Common.{◌≡◌, ℕ, suc, ◌-◌, ◌<◌, true, false, List, [], ◌∷◌, ◌++◌, length, Option, Some, None, Err, refl, sym, ap, ◌∙◌, append_assoc, arith}
-use Rattle.sql_tree.specs.Symbols.{Symbol}
+use Rattle.sql_text.specs.Symbols.{Symbol}
 use Rattle.token_reader.specs.declared.reader.ReadError.{ReadError}
 use Rattle.token_reader.specs.declared.reader.ReadError.TheVariants as errors
-use Rattle.sql_tree.specs.Words.{COMMA}
+use Rattle.sql_text.specs.Words.{COMMA}
 use Rattle.token_reader.specs.Reading.{◌>>=◌, GivesWithRest, starts, rest_of}
 use Rattle.sql_parser.specs.Reading.{after, read_commas}
 

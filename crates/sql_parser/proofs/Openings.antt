@@ -3,8 +3,8 @@ use Rattle.std.proofs.Common.{◌≡◌, ◌≤◌, ◌<◌, ℕ, ◌+◌, true,
 use Rattle.std.specs.Prelude.{codes}
 use Rattle.std.proofs.lemmas.Slice.Eq.{bytes_eq-Decides}
 use Rattle.std.proofs.lemmas.List.{at_drop_more, drop_all}
-use Rattle.sql_tree.specs.Symbols.{Symbol, word, number, quoted, mark, bad}
-use Rattle.sql_tree.specs.Words.{SELECT}
+use Rattle.sql_text.specs.Symbols.{Symbol, word, number, quoted, mark, bad}
+use Rattle.sql_text.specs.Words.{SELECT}
 use Rattle.sql_parser.specs.declared.statements.Opening.{Opening}
 use Rattle.token_reader.specs.Reading.{starts, begins_with, after_all}
 use Rattle.sql_parser.specs.Reading.{words_of, read_opened, read_first, read_selection, read_statement}

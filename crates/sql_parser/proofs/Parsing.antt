@@ -3,14 +3,14 @@ use Rattle.std.proofs.Common.{◌≡◌, ◌≤◌, Bool, true, false, List, [],
 use Rattle.std.specs.Prelude.{nat_lt, IfOk, IsErrOf}
 use Rattle.std.proofs.lemmas.List.{append-nil}
 use Rattle.std.proofs.lemmas.Bool.{false≢true, ltb-false, ltb-true, le-ltb, lt-ltb}
-use Rattle.sql_tree.specs.declared.tree.Statement.{Statement}
-use Rattle.sql_tree.specs.Trees.{Tree}
+use Rattle.sql_text.specs.declared.tree.Statement.{Statement}
+use Rattle.sql_text.specs.Trees.{Tree}
 use Rattle.beas_core.specs.declared.errors.Fail.{Fail}
 use Rattle.beas_core.specs.declared.errors.Fail.TheVariants.{Refused, NoMemory}
 use Rattle.beas_core.specs.declared.refusal.Refusal.{Refusal}
 use Rattle.beas_core.specs.declared.refusal.Refusal.TheVariants as refusal
-use Rattle.sql_tree.specs.Symbols.{Symbol, depth}
-use Rattle.sql_tree.specs.Grammar.{Spells, create_table, create_access, drop_access, load, insert, delete, discover_group, discover_pairs, grouped, over_query, IsOverQuery, select, explain, scan_ok, specialise, SpellsLone, lone, wants_distinct}
+use Rattle.sql_text.specs.Symbols.{Symbol, depth}
+use Rattle.sql_text.specs.Grammar.{Spells, create_table, create_access, drop_access, load, insert, delete, discover_group, discover_pairs, grouped, over_query, IsOverQuery, select, explain, scan_ok, specialise, SpellsLone, lone, wants_distinct}
 use Rattle.beas_core.specs.Results.{Gives}
 use Rattle.sql_parser.specs.Reading.{read_statement}
 use Rattle.sql_parser.specs.Outcome.{Reading, Parses, SpellsNothing, lacks_distinct, with_distinct, to_the_end, found_reading}

@@ -5,20 +5,20 @@ use Rattle.std.proofs.lemmas.Bool.{false≢true}
 use Rattle.std.proofs.lemmas.Slice.Eq.{bytes_eq-Decides}
 use Rattle.beas_core.specs.declared.schema.Column.{Column}
 use Rattle.beas_core.specs.declared.query.Sign.{Sign}
-use Rattle.sql_tree.specs.declared.tree.Literal.{Literal}
-use Rattle.sql_tree.specs.declared.tree.ColumnRef.{ColumnRef}
-use Rattle.sql_tree.specs.declared.tree.Side.{Side}
-use Rattle.sql_tree.specs.declared.tree.Cond.{Cond}
-use Rattle.sql_tree.specs.declared.tree.Cond.TheVariants.{Compare, Between}
+use Rattle.sql_text.specs.declared.tree.Literal.{Literal}
+use Rattle.sql_text.specs.declared.tree.ColumnRef.{ColumnRef}
+use Rattle.sql_text.specs.declared.tree.Side.{Side}
+use Rattle.sql_text.specs.declared.tree.Cond.{Cond}
+use Rattle.sql_text.specs.declared.tree.Cond.TheVariants.{Compare, Between}
 use Rattle.beas_core.specs.declared.schema.ColType.{ColType}
 use Rattle.beas_core.specs.declared.schema.ColType.TheVariants.{Integer, Words as Texts}
-use Rattle.sql_tree.specs.declared.tree.Literal.TheVariants.{Words}
-use Rattle.sql_tree.specs.declared.tree.Side.TheVariants.{Column as Placed, Fixed}
+use Rattle.sql_text.specs.declared.tree.Literal.TheVariants.{Words}
+use Rattle.sql_text.specs.declared.tree.Side.TheVariants.{Column as Placed, Fixed}
 use Rattle.beas_core.specs.declared.query.Sign.TheVariants.{Equal, Differs, Less, AtMost, More, AtLeast}
 use Rattle.beas_core.specs.Spelling.{is_name}
-use Rattle.sql_tree.specs.Symbols.{Symbol, word, number, quoted, mark}
-use Rattle.sql_tree.specs.Grammar.{Commas, last, comma, IsId, id, IsMaybeIds, no_ids, ids, IsColumn, integer, int, text, IsLiteral, plain, positive, negative, between_quotes, IsTuple, tuple, IsRef, bare, dotted, IsSide, placed, written, IsSign, equal, differs, not_equal, less, at_most, more, at_least, is_literal, signed_literal, IsCondition, comparison, range, parentheses, IsConditions, last_condition, conjunction}
-use Rattle.sql_tree.specs.Words.{AND, BETWEEN, INT, INTEGER, TEXT, OPEN, CLOSE, COMMA, DOT, PLUS, MINUS}
+use Rattle.sql_text.specs.Symbols.{Symbol, word, number, quoted, mark}
+use Rattle.sql_text.specs.Grammar.{Commas, last, comma, IsId, id, IsMaybeIds, no_ids, ids, IsColumn, integer, int, text, IsLiteral, plain, positive, negative, between_quotes, IsTuple, tuple, IsRef, bare, dotted, IsSide, placed, written, IsSign, equal, differs, not_equal, less, at_most, more, at_least, is_literal, signed_literal, IsCondition, comparison, range, parentheses, IsConditions, last_condition, conjunction}
+use Rattle.sql_text.specs.Words.{AND, BETWEEN, INT, INTEGER, TEXT, OPEN, CLOSE, COMMA, DOT, PLUS, MINUS}
 use Rattle.token_reader.specs.Reading.{◌>>=◌, same, expect, starts, rest_of, begins_with, after_all, starts_id, read_id, read_number, read_quoted, starts_quoted, sign_of, read_sign}
 use Rattle.sql_parser.specs.Reading.{read_commas, read_list, then_close, read_maybe_ids, read_kind, read_column, read_signed, read_literal, read_tuple, read_ref, read_side, read_range, read_comparison, read_simple, read_condition, read_conditions}
 

@@ -3,18 +3,18 @@ use Rattle.std.proofs.Common.{◌≡◌, ℕ, true, false, List, [], ◌∷◌, 
 use Rattle.std.specs.Prelude.{codes, bytes_eq}
 use Rattle.std.proofs.lemmas.List.{append-nil}
 use Rattle.beas_core.specs.declared.schema.Column.{Column}
-use Rattle.sql_tree.specs.declared.tree.Literal.{Literal}
-use Rattle.sql_tree.specs.declared.tree.Cond.{Cond}
-use Rattle.sql_tree.specs.declared.tree.Statement.{Statement}
-use Rattle.sql_tree.specs.declared.tree.Statement.TheVariants.{CreateTable, CreateAccess, DropAccess, Load, Insert, Delete, DiscoverGroup, DiscoverPairs, Select, Explain, ScanOk, Specialise}
+use Rattle.sql_text.specs.declared.tree.Literal.{Literal}
+use Rattle.sql_text.specs.declared.tree.Cond.{Cond}
+use Rattle.sql_text.specs.declared.tree.Statement.{Statement}
+use Rattle.sql_text.specs.declared.tree.Statement.TheVariants.{CreateTable, CreateAccess, DropAccess, Load, Insert, Delete, DiscoverGroup, DiscoverPairs, Select, Explain, ScanOk, Specialise}
 use Rattle.sql_parser.specs.declared.statements.Opening.{Opening}
 use Rattle.sql_parser.specs.declared.statements.Opening.TheVariants as opening
-use Rattle.sql_tree.specs.declared.tree.BlockTree.{BlockTree}
-use Rattle.sql_tree.specs.Trees.{Tree, Block}
+use Rattle.sql_text.specs.declared.tree.BlockTree.{BlockTree}
+use Rattle.sql_text.specs.Trees.{Tree, Block}
 use Rattle.beas_core.specs.Spelling.{is_name}
-use Rattle.sql_tree.specs.Symbols.{Symbol, word, number, quoted}
-use Rattle.sql_tree.specs.Grammar.{Commas, IsId, id, IsMaybeIds, IsColumn, IsTuple, IsWhere, IsBlock, IsQuery, Spells, create_table, create_access, drop_access, load, insert, delete, discover_group, discover_pairs, grouped, over_query, IsOverQuery, select, explain, scan_ok, specialise}
-use Rattle.sql_tree.specs.Words.{ACCESS, CREATE, DELETE, DISCOVER, DROP, EXPLAIN, FETCH, FROM, INSERT, INTO, LIMIT, LOAD, OK, ON, SCAN, SELECT, SPECIALISE, TABLE, VALUES, OPEN, CLOSE}
+use Rattle.sql_text.specs.Symbols.{Symbol, word, number, quoted}
+use Rattle.sql_text.specs.Grammar.{Commas, IsId, id, IsMaybeIds, IsColumn, IsTuple, IsWhere, IsBlock, IsQuery, Spells, create_table, create_access, drop_access, load, insert, delete, discover_group, discover_pairs, grouped, over_query, IsOverQuery, select, explain, scan_ok, specialise}
+use Rattle.sql_text.specs.Words.{ACCESS, CREATE, DELETE, DISCOVER, DROP, EXPLAIN, FETCH, FROM, INSERT, INTO, LIMIT, LOAD, OK, ON, SCAN, SELECT, SPECIALISE, TABLE, VALUES, OPEN, CLOSE}
 use Rattle.token_reader.specs.Reading.{starts, rest_of, read_id, read_number, read_quoted, has_group, begins_with, after_all}
 use Rattle.sql_parser.specs.Reading.{read_list, read_maybe_ids, read_column, read_tuple, read_where, read_whole_query, read_columns, read_key, read_fetched, read_create_table, read_create_access, read_drop_access, read_load, read_insert, read_delete, read_pairs, read_group, read_discover, read_explain, read_scan_ok, read_block, read_block_term, read_specialise, read_select, read_selection, words_of, openings, read_first, read_statement}
 use Rattle.sql_parser.proofs.SpelledIsRead.{ids-reads, closed-reads, maybe_ids-reads, columns-read, tuples-read}

@@ -3,12 +3,12 @@ use Rattle.std.proofs.Common.{◌≡◌, ℕ, Bool, true, false, List, [], ◌�
 use Rattle.sql_parser.specs.declared.statements.Opening.{Opening}
 use Rattle.sql_parser.specs.declared.statements.Opening.TheVariants as opening
 use Rattle.beas_core.specs.declared.schema.Column.{Column}
-use Rattle.sql_tree.specs.declared.tree.Statement.{Statement}
-use Rattle.sql_tree.specs.declared.tree.Statement.TheVariants.{Specialise}
-use Rattle.sql_tree.specs.Trees.{Tree, Block}
-use Rattle.sql_tree.specs.Symbols.{Symbol, number, quoted}
-use Rattle.sql_tree.specs.Grammar.{Commas, IsId, IsMaybeIds, IsColumn, IsTuple, Spells, create_table, create_access, drop_access, load, insert, delete, discover_group, discover_pairs, over_query, IsOverQuery, select, explain, scan_ok, specialise, wants_distinct}
-use Rattle.sql_tree.specs.Words.{ACCESS, CREATE, DELETE, DISCOVER, DROP, EXPLAIN, FETCH, FROM, INSERT, INTO, LIMIT, LOAD, OK, ON, SCAN, SPECIALISE, TABLE, VALUES, OPEN, CLOSE}
+use Rattle.sql_text.specs.declared.tree.Statement.{Statement}
+use Rattle.sql_text.specs.declared.tree.Statement.TheVariants.{Specialise}
+use Rattle.sql_text.specs.Trees.{Tree, Block}
+use Rattle.sql_text.specs.Symbols.{Symbol, number, quoted}
+use Rattle.sql_text.specs.Grammar.{Commas, IsId, IsMaybeIds, IsColumn, IsTuple, Spells, create_table, create_access, drop_access, load, insert, delete, discover_group, discover_pairs, over_query, IsOverQuery, select, explain, scan_ok, specialise, wants_distinct}
+use Rattle.sql_text.specs.Words.{ACCESS, CREATE, DELETE, DISCOVER, DROP, EXPLAIN, FETCH, FROM, INSERT, INTO, LIMIT, LOAD, OK, ON, SCAN, SPECIALISE, TABLE, VALUES, OPEN, CLOSE}
 use Rattle.token_reader.specs.Reading.{expect, starts, rest_of, read_id, read_number, read_quoted, has_group, begins_with, after_all}
 use Rattle.sql_parser.specs.Reading.{read_list, read_maybe_ids, read_column, read_tuple, read_where, read_whole_query, read_columns, read_key, read_fetched, read_create_table, read_create_access, read_drop_access, read_load, read_insert, read_delete, read_pairs, read_group, read_discover, read_explain, read_scan_ok, read_specialise, read_select, read_block, read_block_term, read_grouped, read_selection, words_of, read_opened, openings, read_first, read_statement}
 use Rattle.sql_parser.proofs.ReadIsSpelled.{Took, then_parts, bind-inv, pick-inv, some_is, took_as, starts-inv, begins-inv, expect-inv, closed-inv, id-spelled, number-inv, quoted-inv, commas-spelled, ids-spelled, maybe_ids-spelled, column-spelled, tuple-spelled}

@@ -3,18 +3,18 @@ use Rattle.std.proofs.Common.{◌≡◌, ℕ, Bool, true, false, List, [], ◌�
 use Rattle.std.specs.Prelude.{codes}
 use Rattle.std.specs.List.{list_any}
 use Rattle.std.proofs.lemmas.List.Folds.{list_any-append}
-use Rattle.sql_tree.specs.declared.tree.ColumnRef.{ColumnRef}
-use Rattle.sql_tree.specs.declared.tree.Cond.{Cond}
-use Rattle.sql_tree.specs.declared.tree.FromItem.{FromItem}
-use Rattle.sql_tree.specs.declared.tree.BlockTree.{BlockTree}
-use Rattle.sql_tree.specs.declared.tree.Literal.{Literal}
-use Rattle.sql_tree.specs.declared.tree.Side.{Side}
+use Rattle.sql_text.specs.declared.tree.ColumnRef.{ColumnRef}
+use Rattle.sql_text.specs.declared.tree.Cond.{Cond}
+use Rattle.sql_text.specs.declared.tree.FromItem.{FromItem}
+use Rattle.sql_text.specs.declared.tree.BlockTree.{BlockTree}
+use Rattle.sql_text.specs.declared.tree.Literal.{Literal}
+use Rattle.sql_text.specs.declared.tree.Side.{Side}
 use Rattle.beas_core.specs.declared.query.Sign.{Sign}
-use Rattle.sql_tree.specs.Trees.{Tree}
+use Rattle.sql_text.specs.Trees.{Tree}
 use Rattle.beas_core.specs.Spelling.{is_reserved, reserved_words}
-use Rattle.sql_tree.specs.Symbols.{Symbol, is_word}
-use Rattle.sql_tree.specs.Grammar.{Commas, last, comma, IsId, id, IsLiteral, plain, positive, negative, between_quotes, IsRef, bare, dotted, IsSide, placed, written, IsSign, equal, differs, not_equal, less, at_most, more, at_least, IsCondition, comparison, range, parentheses, IsConditions, last_condition, conjunction, IsWhere, no_where, where_, IsItem, alone, alias, as_alias, IsJoins, no_join, join, inner_join, cross_join, Source, IsSource, joined_source, IsDistinct, all_rows, distinct_rows, IsOutput, all_columns, columns, IsHead, select_output, Body, IsBody, from_sources, IsBlock, select_block, IsTerm, single, nested, IsQuery, term, union, except}
-use Rattle.sql_tree.specs.Words.{AND, AS, BETWEEN, DOT, EXCEPT, ON, UNION, CLOSE, COMMA}
+use Rattle.sql_text.specs.Symbols.{Symbol, is_word}
+use Rattle.sql_text.specs.Grammar.{Commas, last, comma, IsId, id, IsLiteral, plain, positive, negative, between_quotes, IsRef, bare, dotted, IsSide, placed, written, IsSign, equal, differs, not_equal, less, at_most, more, at_least, IsCondition, comparison, range, parentheses, IsConditions, last_condition, conjunction, IsWhere, no_where, where_, IsItem, alone, alias, as_alias, IsJoins, no_join, join, inner_join, cross_join, Source, IsSource, joined_source, IsDistinct, all_rows, distinct_rows, IsOutput, all_columns, columns, IsHead, select_output, Body, IsBody, from_sources, IsBlock, select_block, IsTerm, single, nested, IsQuery, term, union, except}
+use Rattle.sql_text.specs.Words.{AND, AS, BETWEEN, DOT, EXCEPT, ON, UNION, CLOSE, COMMA}
 use Rattle.token_reader.specs.Reading.{has_group}
 use Rattle.sql_parser.proofs.SpelledIsRead.{id_is_no_word}
 

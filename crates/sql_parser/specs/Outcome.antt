@@ -4,10 +4,10 @@
 use Rattle.std.specs.Prelude.{◌<◌, ◌≤◌, nat_lt, if◌then◌else◌, Bool, false, List, [], ◌∷◌, Option, Some, None, Result, Ok, Err}
 use Rattle.beas_core.specs.declared.refusal.Refusal.{Refusal}
 use Rattle.beas_core.specs.declared.refusal.Refusal.TheVariants.{Syntax, TooDeep, NeedsDistinct}
-use Rattle.sql_tree.specs.declared.tree.Statement.{Statement}
-use Rattle.sql_tree.specs.declared.tree.Statement.TheVariants.{CreateTable, CreateAccess, DropAccess, Load, Insert, Delete, DiscoverGroup, DiscoverPairs, Select, Explain, ScanOk, Grouped, Specialise}
-use Rattle.sql_tree.specs.Grammar.{Spells, SpellsLone, wants_distinct}
-use Rattle.sql_tree.specs.Symbols.{Symbol, depth}
+use Rattle.sql_text.specs.declared.tree.Statement.{Statement}
+use Rattle.sql_text.specs.declared.tree.Statement.TheVariants.{CreateTable, CreateAccess, DropAccess, Load, Insert, Delete, DiscoverGroup, DiscoverPairs, Select, Explain, ScanOk, Grouped, Specialise}
+use Rattle.sql_text.specs.Grammar.{Spells, SpellsLone, wants_distinct}
+use Rattle.sql_text.specs.Symbols.{Symbol, depth}
 use Rattle.sql_parser.specs.Reading.{read_statement}
 
 -- a statement, or why the tokens of a piece spell none

@@ -11,26 +11,26 @@ use Rattle.sql_parser.specs.declared.statements.Opening.{Opening}
 use Rattle.sql_parser.specs.declared.statements.Opening.TheVariants as opening
 use Rattle.sql_parser.specs.declared.queries.Front.{Front}
 use Rattle.sql_parser.specs.declared.queries.Front.TheVariants.{Nothing, BeforeUnion, BeforeExcept}
-use Rattle.sql_tree.specs.declared.tree.Literal.{Literal}
-use Rattle.sql_tree.specs.declared.tree.Literal.TheVariants.{Words}
-use Rattle.sql_tree.specs.declared.tree.ColumnRef.{ColumnRef}
-use Rattle.sql_tree.specs.declared.tree.Side.{Side}
-use Rattle.sql_tree.specs.declared.tree.Side.TheVariants.{Column as Placed, Fixed}
-use Rattle.sql_tree.specs.declared.tree.Cond.{Cond}
-use Rattle.sql_tree.specs.declared.tree.Cond.TheVariants.{Compare, Between}
-use Rattle.sql_tree.specs.declared.tree.FromItem.{FromItem}
-use Rattle.sql_tree.specs.declared.tree.BlockTree.{BlockTree}
-use Rattle.sql_tree.specs.declared.tree.Statement.{Statement}
-use Rattle.sql_tree.specs.declared.tree.GroupItem.{GroupItem}
-use Rattle.sql_tree.specs.declared.tree.GroupItem.TheVariants.{Plain, Count, Sum, Least, Greatest}
-use Rattle.sql_tree.specs.declared.tree.Statement.TheVariants.{CreateTable, CreateAccess, DropAccess, Load, Insert, Delete, DiscoverGroup, DiscoverPairs, Select, Explain, ScanOk, Grouped, Specialise}
-use Rattle.sql_tree.specs.Trees.{Tree, Block}
-use Rattle.sql_tree.specs.Symbols.{Symbol}
+use Rattle.sql_text.specs.declared.tree.Literal.{Literal}
+use Rattle.sql_text.specs.declared.tree.Literal.TheVariants.{Words}
+use Rattle.sql_text.specs.declared.tree.ColumnRef.{ColumnRef}
+use Rattle.sql_text.specs.declared.tree.Side.{Side}
+use Rattle.sql_text.specs.declared.tree.Side.TheVariants.{Column as Placed, Fixed}
+use Rattle.sql_text.specs.declared.tree.Cond.{Cond}
+use Rattle.sql_text.specs.declared.tree.Cond.TheVariants.{Compare, Between}
+use Rattle.sql_text.specs.declared.tree.FromItem.{FromItem}
+use Rattle.sql_text.specs.declared.tree.BlockTree.{BlockTree}
+use Rattle.sql_text.specs.declared.tree.Statement.{Statement}
+use Rattle.sql_text.specs.declared.tree.GroupItem.{GroupItem}
+use Rattle.sql_text.specs.declared.tree.GroupItem.TheVariants.{Plain, Count, Sum, Least, Greatest}
+use Rattle.sql_text.specs.declared.tree.Statement.TheVariants.{CreateTable, CreateAccess, DropAccess, Load, Insert, Delete, DiscoverGroup, DiscoverPairs, Select, Explain, ScanOk, Grouped, Specialise}
+use Rattle.sql_text.specs.Trees.{Tree, Block}
+use Rattle.sql_text.specs.Symbols.{Symbol}
 use Rattle.token_reader.specs.Reading.{◌>>=◌, starts, rest_of, begins_with, after_all, expect, read_id, starts_id, read_number, read_quoted, starts_quoted, read_sign, has_group}
-use Rattle.sql_tree.specs.Grammar.{signed_literal, is_literal, Source, Body, block_of}
-use Rattle.sql_tree.specs.Grouping.{grouped_block}
+use Rattle.sql_text.specs.Grammar.{signed_literal, is_literal, Source, Body, block_of}
+use Rattle.sql_text.specs.Grouping.{grouped_block}
 use Rattle.sql_parser.specs.Fronts.{joined_to}
-use Rattle.sql_tree.specs.Words.{ACCESS, AND, AS, BETWEEN, BY, COUNT, CREATE, CROSS, DELETE, DISCOVER, DISTINCT, DROP, EXCEPT, EXPLAIN, FETCH, FROM, GROUP, INNER, INSERT, INT, INTEGER, INTO, JOIN, LIMIT, LOAD, MAX, MIN, OK, ON, SCAN, SELECT, SPECIALISE, SUM, TABLE, TEXT, UNION, VALUES, WHERE, OPEN, CLOSE, COMMA, DOT, STAR, PLUS, MINUS}
+use Rattle.sql_text.specs.Words.{ACCESS, AND, AS, BETWEEN, BY, COUNT, CREATE, CROSS, DELETE, DISCOVER, DISTINCT, DROP, EXCEPT, EXPLAIN, FETCH, FROM, GROUP, INNER, INSERT, INT, INTEGER, INTO, JOIN, LIMIT, LOAD, MAX, MIN, OK, ON, SCAN, SELECT, SPECIALISE, SUM, TABLE, TEXT, UNION, VALUES, WHERE, OPEN, CLOSE, COMMA, DOT, STAR, PLUS, MINUS}
 
 -- The same of a call that answers nothing, and changes what it was handed to new.
 abbrev pub Adds : {X Y : Type 0} → Result X ReadError → Y → List Symbol → Option (Y × List Symbol) → Type 0

@@ -6,7 +6,7 @@ ghost use Rattle.sql_parser.specs.Reading.{Adds, after, after_both, read_alias, 
 use crate::conditions::{conditions, where_conditions};
 use crate::parts::commas;
 use beas_core::{Duplicate, List, Name, NoMemory};
-use sql_tree::{BlockTree, ColumnRef, Cond, FromItem};
+use sql_text::{BlockTree, ColumnRef, Cond, FromItem};
 use std::alloc::Global;
 use token_reader::{ReadError, Reader};
 

@@ -6,7 +6,7 @@ ghost use Rattle.sql_parser.specs.Reading.{Adds, after, then_close, read_side, r
 
 use crate::parts::{Part, column_after};
 use beas_core::{List, Sign};
-use sql_tree::{Cond, Literal, Side};
+use sql_text::{Cond, Literal, Side};
 use std::alloc::Global;
 use token_reader::{ReadError, Reader};
 

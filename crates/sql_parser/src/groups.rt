@@ -6,7 +6,7 @@ ghost use Rattle.sql_parser.specs.Reading.{read_closed_ref, read_distinct_ref, r
 use crate::blocks::block_body;
 use crate::parts::{Part, commas};
 use beas_core::List;
-use sql_tree::{ColumnRef, GroupItem, Statement, grouped_over};
+use sql_text::{ColumnRef, GroupItem, Statement, grouped_over};
 use std::alloc::Global;
 use token_reader::{ReadError, Reader};
 

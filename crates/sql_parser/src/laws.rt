@@ -1,8 +1,8 @@
 // Laws of the grammar.
 ghost use Rattle.std.specs.Prelude.{◌≡◌, List};
-ghost use Rattle.sql_tree.specs.declared.tree.Statement.{Statement};
-ghost use Rattle.sql_tree.specs.Symbols.{Symbol};
-ghost use Rattle.sql_tree.specs.Grammar.{Spells};
+ghost use Rattle.sql_text.specs.declared.tree.Statement.{Statement};
+ghost use Rattle.sql_text.specs.Symbols.{Symbol};
+ghost use Rattle.sql_text.specs.Grammar.{Spells};
 ghost use Rattle.sql_parser.specs.Outcome.{Parses, Reading, found_reading};
 
 /// Tokens spell at most one statement.

@@ -1,10 +1,10 @@
 // What a look over all of the tokens of a statement tells: how deep they are nested, and whether they have a word GROUP.
 ghost use Rattle.std.specs.Prelude.{◌≡◌, ◌<◌, ◌≤◌, ◌-◌, ◌^◌, ◌||◌, ℕ, MatchOption, codes, nat_lt, true, false};
 ghost use Rattle.token_reader.specs.Reading.{has_group};
-ghost use Rattle.sql_tree.specs.Symbols.{Symbol, word, mark, symbol_of, symbols, is_word, joins_blocks, depth_after, joins_after, depth};
+ghost use Rattle.sql_text.specs.Symbols.{Symbol, word, mark, symbol_of, symbols, is_word, joins_blocks, depth_after, joins_after, depth};
 
-use sql_text::{Token, TokenKind};
-use token_reader::is_text;
+use beas_core::is_text;
+use sql_tokens::{Token, TokenKind};
 
 /// How deep a statement may be nested.
 const DEEPEST: usize = 32;

@@ -1,6 +1,6 @@
 // Digits without leading zeros.
 ghost use Rattle.std.specs.Prelude.{◌≡◌, ◌<◌, IfOk, MatchOption, length};
-ghost use Rattle.sql_tree.specs.Grammar.{significant_digits};
+ghost use Rattle.sql_text.specs.Grammar.{significant_digits};
 
 use beas_core::{NoMemory, Text};
 use std::alloc::Global;

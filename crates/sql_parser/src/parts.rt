@@ -2,11 +2,11 @@
 ghost use Rattle.std.specs.Prelude.{◌≡◌, List, Option, ◌∷◌, [], codes, length};
 ghost use Rattle.token_reader.specs.Reading.{GivesWithRest, read_id, starts_quoted};
 ghost use Rattle.sql_parser.specs.Reading.{read_commas, read_list, read_column, read_kind, read_signed, read_literal, read_tuple, read_ref, read_ref_after, read_maybe_ids, then_close};
-ghost use Rattle.sql_tree.specs.Symbols.{Symbol};
+ghost use Rattle.sql_text.specs.Symbols.{Symbol};
 
 use crate::numbers::significant_digits;
 use beas_core::{ColType, Column, List as Items, Name};
-use sql_tree::{ColumnRef, Literal};
+use sql_text::{ColumnRef, Literal};
 use std::alloc::Global;
 use token_reader::{ReadError, Reader};
 

@@ -1,13 +1,13 @@
 // Queries: terms joined by UNION and EXCEPT, grouped from the left.
 ghost use Rattle.std.specs.Prelude.{◌≡◌, IfOk, length};
-ghost use Rattle.sql_tree.specs.Trees.{Block, Union, Except};
+ghost use Rattle.sql_text.specs.Trees.{Block, Union, Except};
 ghost use Rattle.sql_parser.specs.Fronts.{joined_to};
 ghost use Rattle.token_reader.specs.Reading.{GivesWithRest};
 ghost use Rattle.sql_parser.specs.Reading.{read_block_term, read_term, read_query, read_whole_query, then_close};
 
 use crate::blocks::block;
 use beas_core::NoMemory;
-use sql_tree::{SelectNode, SelectTree};
+use sql_text::{SelectNode, SelectTree};
 use std::alloc::Global;
 use token_reader::{ReadError, Reader};
 

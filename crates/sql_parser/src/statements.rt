@@ -8,7 +8,7 @@ use crate::groups::grouped;
 use crate::parts::{commas, maybe_names};
 use crate::queries::{block_term, query};
 use beas_core::{AccessSpec, Column, List, Name};
-use sql_tree::{Literal, Statement};
+use sql_text::{Literal, Statement};
 use std::alloc::Global;
 use token_reader::{ReadError, Reader};
 

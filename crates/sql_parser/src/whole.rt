@@ -2,9 +2,9 @@
 ghost use Rattle.std.specs.Prelude.{◌≡◌, [], IfOk, IsErrOf};
 ghost use Rattle.beas_core.specs.declared.refusal.Refusal.{Refusal};
 ghost use Rattle.beas_core.specs.Results.{Gives};
-ghost use Rattle.sql_tree.specs.Grammar.{wants_distinct};
-ghost use Rattle.sql_tree.specs.Symbols.{symbols};
-ghost use Rattle.sql_tree.specs.declared.tree.Statement.{Statement};
+ghost use Rattle.sql_text.specs.Grammar.{wants_distinct};
+ghost use Rattle.sql_text.specs.Symbols.{symbols};
+ghost use Rattle.sql_text.specs.declared.tree.Statement.{Statement};
 ghost use Rattle.sql_parser.specs.Outcome.{Parses, Reading, lacks_distinct, found_reading};
 ghost use Rattle.sql_parser.specs.Reading.{read_statement};
 ghost use Rattle.token_reader.specs.Reading.{has_group};
@@ -12,8 +12,8 @@ ghost use Rattle.token_reader.specs.Reading.{has_group};
 use crate::nesting::group_unless_too_deep;
 use crate::statements::statement;
 use beas_core::{Fail, Refusal};
-use sql_text::Token;
-use sql_tree::{SelectNode, SelectTree, Statement};
+use sql_text::{SelectNode, SelectTree, Statement};
+use sql_tokens::Token;
 use std::alloc::Global;
 use token_reader::{ReadError, Reader};
 

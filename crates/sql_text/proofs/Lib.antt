@@ -1,8 +1,2 @@
-pub mod ByteKinds
-pub mod Doubling
-pub mod FirstPiece
-pub mod Leads
-pub mod Parts
-pub mod Quotes
-pub mod Spans
-pub mod Steps
+pub mod Columns
+pub mod Written

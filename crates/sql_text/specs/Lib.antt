@@ -1,4 +1,10 @@
-pub mod Cuts
-pub mod Pieces
-pub mod Spans
-pub mod Tokens
+pub mod Between
+pub mod Canonical
+pub mod Grammar
+pub mod Grouping
+pub mod Heights
+pub mod Nodes
+pub mod Symbols
+pub mod Trees
+pub mod Words
+pub mod Writing

@@ -1,15 +1,15 @@
-//! The text of a script: its tokens, and the pieces between semicolons.
+//! The trees of statements, the grammar that tokens spell them by, and their canonical text.
 #![tactic(auto)]
 
-mod lexer;
-mod piece_lexer;
-mod pieces;
-mod quoting;
-mod runs;
-mod token;
+mod grouping;
+mod printing;
+mod tree;
+mod writer;
 
-pub use lexer::lex;
-pub use piece_lexer::lex_piece;
-pub use pieces::split;
-pub use quoting::push_quoted;
-pub use token::{Piece, Token, TokenKind};
+pub use grouping::grouped_over;
+pub use printing::print;
+pub use sql_tokens::{Piece, Token, TokenKind, lex, lex_piece, push_quoted, split};
+pub use tree::{
+    BlockTree, ColumnRef, Cond, FromItem, GroupItem, Literal, SelectNode, SelectTree, Side,
+    Statement,
+};

@@ -2,8 +2,8 @@
 use Rattle.std.proofs.Common.{◌≡◌, List, [], ◌∷◌, refl, ap}
 use Rattle.std.specs.Prelude.{◌||◌}
 use Rattle.std.specs.List.{list_any}
-use Rattle.sql_text.specs.declared.token.Token.{Token}
-use Rattle.sql_tree.specs.Symbols.{symbols}
+use Rattle.sql_tokens.specs.declared.token.Token.{Token}
+use Rattle.sql_text.specs.Symbols.{symbols}
 use Rattle.token_reader.specs.Reading.{is_group, has_group}
 
 pub any_group : (tokens : List Token) → has_group (symbols tokens) ≡ list_any is_group tokens

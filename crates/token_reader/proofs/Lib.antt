@@ -1,3 +1,1 @@
 pub mod Groups
-pub mod NameFacts
-pub mod Sameness

@@ -4,8 +4,8 @@ use Rattle.std.specs.List.{list_any}
 use Rattle.beas_core.specs.declared.query.Sign.{Sign}
 use Rattle.beas_core.specs.declared.query.Sign.TheVariants.{Equal, Differs, Less, AtMost, More, AtLeast}
 use Rattle.beas_core.specs.Spelling.{is_name}
-use Rattle.sql_text.specs.declared.token.Token.{Token}
-use Rattle.sql_tree.specs.Symbols.{Symbol, symbol_of, word, number, quoted, mark, is_word}
+use Rattle.sql_tokens.specs.declared.token.Token.{Token}
+use Rattle.sql_text.specs.Symbols.{Symbol, symbol_of, word, number, quoted, mark, is_word}
 use Rattle.token_reader.specs.declared.reader.ReadError.{ReadError}
 use Rattle.token_reader.specs.declared.reader.ReadError.TheVariants as errors
 

@@ -5,9 +5,7 @@
 //! memory ran out.
 #![tactic(auto)]
 
-mod names;
 mod reader;
 mod texts;
 
 pub use reader::{ReadError, Reader};
-pub use texts::is_text;

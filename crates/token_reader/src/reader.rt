@@ -2,13 +2,12 @@
 ghost use Rattle.std.specs.Prelude.{◌≡◌, ◌∷◌, [], codes, length, if◌then◌else◌, true, false, IsTrue, IfOk, OnOk, MatchOption, Some};
 ghost use Rattle.token_reader.specs.Reading.{GivesWithRest, Passes, starts, rest_of, begins_with, expect, read_id, read_number, read_quoted, starts_id, starts_quoted, read_sign, sign_of, is_group, has_group};
 ghost use Rattle.std.specs.List.{list_any};
-ghost use Rattle.sql_tree.specs.Symbols.{word, mark, symbols};
-ghost use Rattle.sql_tree.specs.Words.{OPEN};
+ghost use Rattle.sql_text.specs.Symbols.{word, mark, symbols};
+ghost use Rattle.sql_text.specs.Words.{OPEN};
 
-use crate::names::is_name;
-use crate::texts::{copy_of, is_text};
-use beas_core::{Duplicate, Name, NoMemory, Sign, Text};
-use sql_text::{Token, TokenKind};
+use crate::texts::copy_of;
+use beas_core::{Duplicate, Name, NoMemory, Sign, Text, is_name, is_text};
+use sql_tokens::{Token, TokenKind};
 use std::alloc::{AllocError, AllocFailed, Global};
 use std::marker::Model;
 
@@ -66,7 +65,7 @@ pub struct Reader<'a> {
 
 impl<'a> Model for Reader<'a> {
     ghost use Rattle.std.specs.Prelude.{List};
-    ghost use Rattle.sql_tree.specs.Symbols.{Symbol, symbols};
+    ghost use Rattle.sql_text.specs.Symbols.{Symbol, symbols};
 
     ghost Value = { List Symbol };
 

@@ -1,4 +1,4 @@
-use Rattle.sql_tree.specs.Symbols.{symbols}
+use Rattle.sql_text.specs.Symbols.{symbols}
 use Rattle.piece_reader.proofs.SayingFacts.{found-says, one_saying}
 use Rattle.piece_reader.proofs.laws.law_one_saying.Goals as goal
 

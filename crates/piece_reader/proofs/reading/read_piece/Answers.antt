@@ -1,4 +1,4 @@
-use Rattle.sql_tree.specs.Symbols.{symbols}
+use Rattle.sql_text.specs.Symbols.{symbols}
 use Rattle.piece_reader.proofs.SayingFacts.{answer_says, refusal_says, reading_given}
 use Rattle.piece_reader.proofs.reading.read_piece.Goals as goal
 

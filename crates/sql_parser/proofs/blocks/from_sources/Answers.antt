@@ -1,6 +1,6 @@
 use Rattle.std.proofs.Common.{◌∙◌, sym, length, arith}
 use Rattle.std.proofs.lemmas.Result.{err_from_is_err_and}
-use Rattle.sql_tree.specs.Grammar.{Source}
+use Rattle.sql_text.specs.Grammar.{Source}
 use Rattle.sql_parser.specs.Reading.{after_both, read_source, read_sources}
 use Rattle.sql_parser.proofs.Fronts.{adding_fails, sources-go_on, sources-end, sources-none, sources-over}
 use Rattle.sql_parser.proofs.blocks.from_sources.Goals as goal

@@ -1,6 +1,6 @@
 use Rattle.std.proofs.Common.{◌∙◌, sym, length, arith}
 use Rattle.std.proofs.lemmas.Result.{err_from_is_err_and}
-use Rattle.sql_tree.specs.Grammar.{Source}
+use Rattle.sql_text.specs.Grammar.{Source}
 use Rattle.sql_parser.specs.Reading.{after_both, read_join, read_joins}
 use Rattle.sql_parser.proofs.Fronts.{adding_fails, joins-go_on, joins-end, joins-none, joins-over}
 use Rattle.sql_parser.proofs.blocks.joins.Goals as goal

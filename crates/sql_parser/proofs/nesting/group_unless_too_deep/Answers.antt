@@ -1,5 +1,5 @@
 use Rattle.std.proofs.Common.{◌∙◌, sym, arith}
-use Rattle.sql_tree.specs.Symbols.{symbol_of}
+use Rattle.sql_text.specs.Symbols.{symbol_of}
 use Rattle.sql_parser.proofs.Depths.{too_deep_here, depth_on, group_on, joins_rise}
 use Rattle.sql_parser.proofs.nesting.group_unless_too_deep.Goals as goal
 

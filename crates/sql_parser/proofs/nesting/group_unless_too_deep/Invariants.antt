@@ -1,6 +1,6 @@
 use Rattle.std.proofs.Common.{◌≡◌, ◌≤◌, drop}
 use Rattle.std.specs.Prelude.{◌||◌, nat_lt}
-use Rattle.sql_tree.specs.Symbols.{symbols, depth, depth_from}
+use Rattle.sql_text.specs.Symbols.{symbols, depth, depth_from}
 use Rattle.token_reader.specs.Reading.{has_group}
 use Rattle.sql_parser.proofs.nesting.group_unless_too_deep.Given as goal
 

@@ -1,5 +1,5 @@
 use Rattle.std.proofs.Common.{◌∙◌, sym}
-use Rattle.sql_tree.specs.Symbols.{word}
+use Rattle.sql_text.specs.Symbols.{word}
 use Rattle.sql_parser.proofs.nesting.look_at_word.Goals as goal
 
 pub returns-then-joins_two_blocks-clause-depth : goal.returns-then-joins_two_blocks-clause-depth

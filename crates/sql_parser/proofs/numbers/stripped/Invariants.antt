@@ -1,7 +1,7 @@
 use Rattle.std.proofs.Common.{◌≡◌, length}
 use denote.Text.{Utf8}
 use denote.Shadow.{shadow}
-use Rattle.sql_tree.specs.Grammar.{significant_digits}
+use Rattle.sql_text.specs.Grammar.{significant_digits}
 use Rattle.sql_parser.proofs.numbers.stripped.Given as goal
 
 abbrev pub invariant-loop-rest : goal.invariant-loop-rest

@@ -1,4 +1,4 @@
-use Rattle.sql_tree.specs.Symbols.{symbols}
+use Rattle.sql_text.specs.Symbols.{symbols}
 use Rattle.sql_parser.proofs.Parsing.{spelled, refused, answered}
 use Rattle.sql_parser.proofs.whole.parse.Goals as goal
 

@@ -1,5 +1,5 @@
 use Rattle.std.proofs.Common.{◌∙◌, sym, ap, Err}
-use Rattle.sql_tree.specs.Symbols.{symbols}
+use Rattle.sql_text.specs.Symbols.{symbols}
 use Rattle.sql_parser.proofs.Parsing.{deep-parsed, syntax-parsed, lone-parsed, whole-parsed}
 use Rattle.sql_parser.proofs.whole.reading.Goals as goal
 

@@ -1,8 +1,0 @@
-use Rattle.std.proofs.Common.{◌<◌, arith}
-use Rattle.sql_text.proofs.ByteKinds.{kind_at}
-use Rattle.sql_text.proofs.runs.kind_of.Goals as goal
-
-pub returns : goal.returns
-returns c =
-    let low : c.args.byte < 256 = omega (arith, c.ranges.byte.fits) in
-    kind_at c.args.byte low

@@ -1,6 +1,0 @@
-use Rattle.std.proofs.Common.{◌≡◌, ◌++◌, map, drop}
-use Rattle.sql_tree.specs.Grouping.{column_in}
-use Rattle.sql_tree.proofs.grouping.columns_of.Given as goal
-
-abbrev pub invariant-loop-item : goal.invariant-loop-item
-invariant-loop-item l = l.columns ++ map column_in (drop l.item-index l.item-items) ≡ l.keys ++ map column_in l.items

@@ -1,8 +1,0 @@
-use Rattle.std.proofs.Common.{◌∙◌}
-use Rattle.sql_tree.specs.Canonical.{lexemes_of}
-use Rattle.sql_tree.proofs.Written.{from_start}
-use Rattle.sql_tree.proofs.printing.print.Goals as goal
-
-pub returns : goal.returns
-returns c = c.into_text.ensures ∙ from_start c.new-writer.result c.write_statement.new.writer (lexemes_of c.args.statement.now) c.new-writer.ensures.text
-    c.new-writer.ensures.held c.in_ok-write_statement.ensures
