@@ -1,15 +1,12 @@
 -- The hash of a list of values, by which groups are told apart at first.
-use Rattle.std.specs.Prelude.{◌*◌, ◌%◌, ◌^◌, ℕ, pos, bit_xor, unsigned_abs, fold, List, Option, None, Some}
+use Rattle.std.specs.Prelude.{ℕ, pos, unsigned_abs, fold, List, Option, None, Some}
 use Rattle.beas_core.specs.declared.value.Value.{Value}
 use Rattle.beas_core.specs.declared.value.Value.TheVariants.{Int, Str}
-
--- a number mixed into a hash, with a factor that is odd and has no pattern in its bits
-unfoldable pub mix : ℕ → ℕ → ℕ
-mix state word = (bit_xor state word * 0x9E3779B97F4A7C15) % 2 ^ 64
+use Rattle.beas_core.specs.Mixing.{mixed}
 
 abbrev pub with_value : ℕ → Value → ℕ
-with_value state (Int n) = mix state (unsigned_abs n)
-with_value state (Str text) = fold mix state text
+with_value state (Int n) = mixed state (unsigned_abs n)
+with_value state (Str text) = fold mixed state text
 
 unfoldable pub hash_of : List Value → ℕ
 hash_of values = fold with_value 0x243F6A8885A308D3 values

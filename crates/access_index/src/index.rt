@@ -10,7 +10,7 @@ ghost use Rattle.access_index.specs.Index.{IsIndexOf, WouldHold, members_at, sta
 use crate::bucket::{Bucket, count_down, count_up, front, group_in, of_one, search};
 use crate::lending::{Lent, lend_in_order, lend_new_in_order};
 use crate::values::{Given, Picked, hash_values};
-use beas_core::{Access, ColumnId, Hits, List, NoMemory, Row, Steps, Value, ValueRef};
+use beas_core::{Access, ColumnId, Hits, List, NoMemory, Row, Steps, Value};
 use indexmap::IndexMap;
 use row_store::Rows;
 use std::alloc::Global;
@@ -347,16 +347,19 @@ impl AccessIndex {
     }
 
     /// A column of a tuple that a probe found and counted, while the index is as it was. It takes no memory.
-    pub fn value(&self, hits: &Hits, i: u32, column: ColumnId) -> ValueRef<'_>
+    pub fn value(&self, hits: &Hits, i: u32, column: ColumnId) -> &Value
         requires stands { stands_at self.now hits.now }
         requires member { i < hits.now.len }
         requires column { IsTrue (has_column (member_columns self.now.access) column) }
-        ensures { result
+        ensures { result.now
             ≡ value_in (member_columns self.now.access) (slice_index_or (members_at self.now hits.now) i []) column }
     {
         let bucket = &self.buckets[(hits.place() / 0x1_0000_0000) as usize];
         let at = (hits.place() % 0x1_0000_0000) as usize + i as usize;
-        let tuple = bucket.get(at).tuple.as_slice();
-        ValueRef::of(value_of(self.columns.as_slice(), tuple, column))
+        value_of(
+            self.columns.as_slice(),
+            bucket.get(at).tuple.as_slice(),
+            column,
+        )
     }
 }

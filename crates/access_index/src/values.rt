@@ -4,9 +4,9 @@ ghost use Rattle.std.specs.Option.{option_copied};
 ghost use Rattle.beas_core.specs.declared.value.Value.{Value};
 ghost use Rattle.beas_core.specs.Order.{row_cmp, value_cmp};
 ghost use Rattle.beas_core.specs.Groups.{project};
-ghost use Rattle.access_index.specs.Hashing.{or_zero, hash_of, mix, with_value};
+ghost use Rattle.access_index.specs.Hashing.{or_zero, hash_of, with_value};
 
-use beas_core::{ColumnId, Value, compare};
+use beas_core::{ColumnId, Value, compare, mixed};
 use std::cmp::Ordering;
 
 /// A list of values that is read where it stands.
@@ -89,19 +89,12 @@ pub fn compare_values<W: Values>(left: &[Value], right: &W) -> Ordering
     Ordering::Equal
 }
 
-#[tactic(auto, unfolding(crate::specs::Hashing::mix))]
-fn mix(state: u64, word: u64) -> u64
-    ensures { result ≡ mix state word }
-{
-    (state ^ word).wrapping_mul(0x9E37_79B9_7F4A_7C15)
-}
-
 fn mix_bytes(state: u64, bytes: &[u8]) -> u64
     ensures { result ≡ with_value state (Value.Str bytes.now) }
 {
     let mut mixture = state;
     for byte in bytes {
-        mixture = mix(mixture, u64::from(*byte));
+        mixture = mixed(mixture, u64::from(*byte));
     }
     mixture
 }
@@ -110,9 +103,9 @@ fn mix_value(state: u64, value: Option<&Value>) -> u64
     ensures { result ≡ with_value state (or_zero (option_copied value.entry)) }
 {
     match value {
-        Some(Value::Int(number)) => mix(state, number.unsigned_abs()),
+        Some(Value::Int(number)) => mixed(state, number.unsigned_abs()),
         Some(Value::Str(text)) => mix_bytes(state, text.as_str().as_bytes()),
-        None => mix(state, 0),
+        None => mixed(state, 0),
     }
 }
 

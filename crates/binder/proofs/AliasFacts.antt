@@ -9,7 +9,7 @@ use Rattle.std.specs.Cmp.Lexicographic.{nat_list_eq_equiv}
 use Rattle.std.proofs.lemmas.List.{length-take-le, map_more, take-map, get_or-map, length-map}
 use Rattle.beas_core.specs.declared.refusal.Refusal.{Refusal}
 use Rattle.beas_core.specs.declared.refusal.Refusal.TheVariants.{DuplicateName}
-use Rattle.sql_tree.specs.declared.tree.FromItem.{FromItem}
+use Rattle.sql_text.specs.declared.tree.FromItem.{FromItem}
 use Rattle.catalogue.specs.Refusing.{first_repeated, repeated_name}
 use Rattle.catalogue.specs.Schema.{Schema}
 use Rattle.catalogue.proofs.RepeatFacts.{repeated_from, repeated_step, repeated_end}

@@ -26,15 +26,15 @@ use Rattle.beas_core.specs.Shapes.{QueryIsWellFormed}
 use Rattle.beas_core.specs.Trees as query
 use Rattle.catalogue.specs.Queries.{QueryIsOver}
 use Rattle.catalogue.specs.Schema.{Schema, SchemaIsSound, table_named, columns_at}
-use Rattle.sql_tree.specs.declared.tree.BlockTree.{BlockTree}
-use Rattle.sql_tree.specs.declared.tree.ColumnRef.{ColumnRef}
-use Rattle.sql_tree.specs.declared.tree.Cond.{Cond}
-use Rattle.sql_tree.specs.declared.tree.FromItem.{FromItem}
-use Rattle.sql_tree.specs.declared.tree.Literal.{Literal}
-use Rattle.sql_tree.specs.declared.tree.Literal.TheVariants.{Number, Words}
-use Rattle.sql_tree.specs.declared.tree.Side.{Side}
-use Rattle.sql_tree.specs.declared.tree.Side.TheVariants as side
-use Rattle.sql_tree.specs.Trees as tree
+use Rattle.sql_text.specs.declared.tree.BlockTree.{BlockTree}
+use Rattle.sql_text.specs.declared.tree.ColumnRef.{ColumnRef}
+use Rattle.sql_text.specs.declared.tree.Cond.{Cond}
+use Rattle.sql_text.specs.declared.tree.FromItem.{FromItem}
+use Rattle.sql_text.specs.declared.tree.Literal.{Literal}
+use Rattle.sql_text.specs.declared.tree.Literal.TheVariants.{Number, Words}
+use Rattle.sql_text.specs.declared.tree.Side.{Side}
+use Rattle.sql_text.specs.declared.tree.Side.TheVariants as side
+use Rattle.sql_text.specs.Trees as tree
 use Rattle.binder.specs.declared.kinds.Kind.{Kind}
 use Rattle.binder.specs.declared.kinds.Kind.TheVariants.{Types, Shapes, Blocks, Atoms, Outputs}
 use Rattle.binder.specs.declared.meaning.BoundColumn.{BoundColumn}

@@ -10,7 +10,7 @@ use Rattle.beas_core.specs.declared.refusal.Refusal.{Refusal}
 use Rattle.beas_core.specs.declared.schema.ColType.{ColType}
 use Rattle.beas_core.specs.Shapes.{width_of}
 use Rattle.catalogue.specs.Schema.{Schema, SchemaIsSound}
-use Rattle.sql_tree.specs.declared.tree.BlockTree.{BlockTree}
+use Rattle.sql_text.specs.declared.tree.BlockTree.{BlockTree}
 use Rattle.binder.specs.declared.kinds.Kind.TheVariants.{Atoms}
 use Rattle.binder.specs.declared.meaning.Condition.{Condition}
 use Rattle.binder.specs.declared.meaning.Condition.TheVariants.{Compare, Between}

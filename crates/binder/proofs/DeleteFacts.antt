@@ -4,8 +4,8 @@ use Rattle.std.proofs.lemmas.List.{length-map}
 use Rattle.beas_core.specs.declared.schema.ColType.{ColType}
 use Rattle.binder.specs.declared.meaning.Meaning.{Meaning}
 use Rattle.catalogue.specs.Schema.{Schema, SchemaIsSound}
-use Rattle.sql_tree.specs.declared.tree.Cond.{Cond}
-use Rattle.sql_tree.specs.declared.tree.FromItem.{FromItem}
+use Rattle.sql_text.specs.declared.tree.Cond.{Cond}
+use Rattle.sql_text.specs.declared.tree.FromItem.{FromItem}
 use Rattle.binder.specs.Binding.{delete_block}
 use Rattle.binder.specs.LookedUp.{looked_up, output_kinds, BlockIsSmall}
 use Rattle.binder.specs.Meanings.{sources, meaning, condition}

@@ -7,8 +7,8 @@ use Rattle.std.proofs.lemmas.List.Concat.{flat_map-append}
 use Rattle.std.proofs.lemmas.List.Elements.{filter-append}
 use Rattle.beas_core.specs.declared.query.Atom.{Atom}
 use Rattle.catalogue.specs.Schema.{Schema}
-use Rattle.sql_tree.specs.declared.tree.ColumnRef.{ColumnRef}
-use Rattle.sql_tree.specs.declared.tree.FromItem.{FromItem}
+use Rattle.sql_text.specs.declared.tree.ColumnRef.{ColumnRef}
+use Rattle.sql_text.specs.declared.tree.FromItem.{FromItem}
 use Rattle.binder.specs.declared.found.Found.{Found}
 use Rattle.binder.specs.declared.found.NamedAtom.{NamedAtom}
 use Rattle.binder.specs.declared.meaning.BoundColumn.{BoundColumn}

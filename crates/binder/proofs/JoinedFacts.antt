@@ -5,8 +5,8 @@ use Rattle.std.specs.Borrow.{Bor}
 use Rattle.std.specs.List.{flat_map}
 use Rattle.beas_core.specs.Trees.{QueryTree}
 use Rattle.beas_core.specs.declared.query.Block.{Block}
-use Rattle.sql_tree.specs.declared.tree.BlockTree.{BlockTree}
-use Rattle.sql_tree.specs.Trees.{Tree}
+use Rattle.sql_text.specs.declared.tree.BlockTree.{BlockTree}
+use Rattle.sql_text.specs.Trees.{Tree}
 use Rattle.binder.specs.Binding.{blocks_of, with_blocks}
 
 pub joins_both : (left right : Tree) (before between after : List Block) (left_query right_query : QueryTree)

@@ -1,6 +1,5 @@
 mod Digits
 pub mod Numbered
-pub mod Sameness
 pub mod ScopeFacts
 pub mod AliasFacts
 pub mod FewFacts

@@ -4,8 +4,8 @@ use Rattle.std.proofs.Math.Path.{fun_ext}
 use Rattle.beas_core.specs.declared.query.Atom.{Atom}
 use Rattle.beas_core.specs.declared.schema.ColType.{ColType}
 use Rattle.catalogue.specs.Schema.{Schema}
-use Rattle.sql_tree.specs.declared.tree.BlockTree.{BlockTree}
-use Rattle.sql_tree.specs.declared.tree.ColumnRef.{ColumnRef}
+use Rattle.sql_text.specs.declared.tree.BlockTree.{BlockTree}
+use Rattle.sql_text.specs.declared.tree.ColumnRef.{ColumnRef}
 use Rattle.binder.specs.declared.meaning.Condition.{Condition}
 use Rattle.binder.specs.declared.meaning.LookedUp.{LookedUp}
 use Rattle.binder.specs.declared.meaning.Meaning.{Meaning}

@@ -9,10 +9,10 @@ use Rattle.beas_core.specs.declared.schema.TableId.{TableId}
 use Rattle.beas_core.specs.Trees as query
 use Rattle.catalogue.specs.Queries.{AtomIsOver, BlockIsOver, QueryIsOver}
 use Rattle.catalogue.specs.Schema.{Schema, table_named, columns_at}
-use Rattle.sql_tree.specs.declared.tree.BlockTree.{BlockTree}
-use Rattle.sql_tree.specs.declared.tree.Cond.{Cond}
-use Rattle.sql_tree.specs.declared.tree.FromItem.{FromItem}
-use Rattle.sql_tree.specs.Trees as tree
+use Rattle.sql_text.specs.declared.tree.BlockTree.{BlockTree}
+use Rattle.sql_text.specs.declared.tree.Cond.{Cond}
+use Rattle.sql_text.specs.declared.tree.FromItem.{FromItem}
+use Rattle.sql_text.specs.Trees as tree
 use Rattle.binder.specs.Binding.{delete_block, blocks_of, bound_query}
 use Rattle.binder.specs.LookedUp.{atom_of, looked_up, bound_block}
 use Rattle.binder.specs.Meanings.{columns_named}

@@ -12,14 +12,14 @@ use Rattle.beas_core.specs.declared.value.Value.{Value}
 use Rattle.beas_core.specs.Shapes.{IsPlace, width_of}
 use Rattle.catalogue.specs.declared.tables.TableSchema.{TableSchema}
 use Rattle.catalogue.specs.Schema.{Schema, SchemaIsSound, TableIsSound, table_named, columns_at, no_table}
-use Rattle.sql_tree.specs.declared.tree.ColumnRef.{ColumnRef}
-use Rattle.sql_tree.specs.declared.tree.Cond.{Cond}
-use Rattle.sql_tree.specs.declared.tree.Cond.TheVariants as written
-use Rattle.sql_tree.specs.declared.tree.FromItem.{FromItem}
-use Rattle.sql_tree.specs.declared.tree.Literal.{Literal}
-use Rattle.sql_tree.specs.declared.tree.Literal.TheVariants.{Number, Words}
-use Rattle.sql_tree.specs.declared.tree.Side.{Side}
-use Rattle.sql_tree.specs.declared.tree.Side.TheVariants as side
+use Rattle.sql_text.specs.declared.tree.ColumnRef.{ColumnRef}
+use Rattle.sql_text.specs.declared.tree.Cond.{Cond}
+use Rattle.sql_text.specs.declared.tree.Cond.TheVariants as written
+use Rattle.sql_text.specs.declared.tree.FromItem.{FromItem}
+use Rattle.sql_text.specs.declared.tree.Literal.{Literal}
+use Rattle.sql_text.specs.declared.tree.Literal.TheVariants.{Number, Words}
+use Rattle.sql_text.specs.declared.tree.Side.{Side}
+use Rattle.sql_text.specs.declared.tree.Side.TheVariants as side
 use Rattle.binder.specs.declared.meaning.BoundColumn.{BoundColumn}
 use Rattle.binder.specs.declared.meaning.Condition.{Condition}
 use Rattle.binder.specs.declared.meaning.Condition.TheVariants.{Compare, Between}

@@ -4,7 +4,7 @@ use Rattle.std.specs.List.{cons_option}
 use Rattle.std.proofs.lemmas.List.{take_more}
 use Rattle.std.proofs.lemmas.List.Elements.{filter_map-append}
 use Rattle.beas_core.specs.declared.value.Value.{Value}
-use Rattle.sql_tree.specs.declared.tree.Literal.{Literal}
+use Rattle.sql_text.specs.declared.tree.Literal.{Literal}
 use Rattle.binder.specs.Binding.{value_of, bound_row}
 use Rattle.binder.specs.Meanings.{literal_meaning}
 

@@ -11,7 +11,7 @@ use Rattle.std.proofs.lemmas.List.Elements.{filter-append}
 use Rattle.std.proofs.lemmas.List.Folds.{list_any-append}
 use Rattle.std.proofs.lemmas.Slice.Eq.{bytes_eq-Decides}
 use Rattle.beas_core.specs.declared.schema.Column.{Column}
-use Rattle.sql_tree.specs.declared.tree.ColumnRef.{ColumnRef}
+use Rattle.sql_text.specs.declared.tree.ColumnRef.{ColumnRef}
 use Rattle.binder.specs.declared.found.AtomColumns.{AtomColumns}
 use Rattle.binder.specs.declared.found.Found.{Found}
 use Rattle.binder.specs.declared.meaning.BoundColumn.{BoundColumn}

@@ -3,17 +3,17 @@ use Rattle.std.proofs.Common.{ℕ, ◌≤◌, Bool, List, [], ◌∷◌, ◌++�
 use Rattle.std.specs.List.{flat_map}
 use Rattle.std.proofs.lemmas.List.{length-append}
 use Rattle.beas_core.specs.declared.query.Sign.{Sign}
-use Rattle.sql_tree.specs.declared.tree.BlockTree.{BlockTree}
-use Rattle.sql_tree.specs.declared.tree.ColumnRef.{ColumnRef}
-use Rattle.sql_tree.specs.declared.tree.Cond.{Cond}
-use Rattle.sql_tree.specs.declared.tree.FromItem.{FromItem}
-use Rattle.sql_tree.specs.Grammar.{Commas, last, comma, IsSign, equal, differs, not_equal, less, at_most, more, at_least}
-use Rattle.sql_tree.specs.Grammar.{IsCondition, comparison, range, parentheses, IsConditions, last_condition, conjunction, IsWhere, no_where, where_}
-use Rattle.sql_tree.specs.Grammar.{IsJoins, no_join, join, inner_join, cross_join, Source, IsSource, joined_source, Body, IsBody, from_sources, IsHead, select_output, IsBlock, select_block}
-use Rattle.sql_tree.specs.Grammar.{IsTerm, single, nested, IsQuery, term, union, except}
-use Rattle.sql_tree.specs.Symbols.{Symbol}
-use Rattle.sql_tree.specs.Trees.{Tree}
-use Rattle.sql_tree.specs.Words.{AND, BETWEEN, CLOSE, COMMA, CROSS, EXCEPT, FROM, INNER, JOIN, ON, SELECT, UNION}
+use Rattle.sql_text.specs.declared.tree.BlockTree.{BlockTree}
+use Rattle.sql_text.specs.declared.tree.ColumnRef.{ColumnRef}
+use Rattle.sql_text.specs.declared.tree.Cond.{Cond}
+use Rattle.sql_text.specs.declared.tree.FromItem.{FromItem}
+use Rattle.sql_text.specs.Grammar.{Commas, last, comma, IsSign, equal, differs, not_equal, less, at_most, more, at_least}
+use Rattle.sql_text.specs.Grammar.{IsCondition, comparison, range, parentheses, IsConditions, last_condition, conjunction, IsWhere, no_where, where_}
+use Rattle.sql_text.specs.Grammar.{IsJoins, no_join, join, inner_join, cross_join, Source, IsSource, joined_source, Body, IsBody, from_sources, IsHead, select_output, IsBlock, select_block}
+use Rattle.sql_text.specs.Grammar.{IsTerm, single, nested, IsQuery, term, union, except}
+use Rattle.sql_text.specs.Symbols.{Symbol}
+use Rattle.sql_text.specs.Trees.{Tree}
+use Rattle.sql_text.specs.Words.{AND, BETWEEN, CLOSE, COMMA, CROSS, EXCEPT, FROM, INNER, JOIN, ON, SELECT, UNION}
 use Rattle.binder.specs.Binding.{blocks_of}
 use Rattle.binder.proofs.Ranges.{Each, each_append, each_weaker}
 

@@ -22,10 +22,10 @@ use Rattle.beas_core.specs.Shapes.{IsPlace, width_of, ComparisonIsWellFormed, At
 use Rattle.beas_core.specs.Trees as query
 use Rattle.catalogue.specs.declared.tables.TableSchema.{TableSchema}
 use Rattle.catalogue.specs.Schema.{Schema, SchemaIsSound, TableIsSound, table_named, columns_at, no_table}
-use Rattle.sql_tree.specs.declared.tree.BlockTree.{BlockTree}
-use Rattle.sql_tree.specs.declared.tree.Cond.{Cond}
-use Rattle.sql_tree.specs.declared.tree.FromItem.{FromItem}
-use Rattle.sql_tree.specs.Trees as tree
+use Rattle.sql_text.specs.declared.tree.BlockTree.{BlockTree}
+use Rattle.sql_text.specs.declared.tree.Cond.{Cond}
+use Rattle.sql_text.specs.declared.tree.FromItem.{FromItem}
+use Rattle.sql_text.specs.Trees as tree
 use Rattle.binder.specs.declared.kinds.Kind.TheVariants.{Shapes}
 use Rattle.binder.specs.declared.meaning.BoundColumn.{BoundColumn}
 use Rattle.binder.specs.declared.meaning.Condition.{Condition}

@@ -16,8 +16,8 @@ use Rattle.beas_core.specs.declared.query.Block.{Block}
 use Rattle.beas_core.specs.declared.query.Place.{Place}
 use Rattle.beas_core.specs.declared.query.Sign.{Sign}
 use Rattle.beas_core.specs.declared.value.Value.TheVariants.{Int, Str}
-use Rattle.sql_tree.specs.declared.tree.BlockTree.{BlockTree}
-use Rattle.sql_tree.specs.declared.tree.ColumnRef.{ColumnRef}
+use Rattle.sql_text.specs.declared.tree.BlockTree.{BlockTree}
+use Rattle.sql_text.specs.declared.tree.ColumnRef.{ColumnRef}
 use Rattle.binder.specs.declared.found.NamedAtom.{NamedAtom}
 use Rattle.binder.specs.declared.meaning.Condition.{Condition}
 use Rattle.binder.specs.declared.meaning.LookedUp.{LookedUp}

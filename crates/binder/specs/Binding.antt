@@ -12,10 +12,10 @@ use Rattle.beas_core.specs.declared.schema.ColType.{ColType}
 use Rattle.beas_core.specs.declared.value.Value.{Value}
 use Rattle.beas_core.specs.Trees as query
 use Rattle.catalogue.specs.Schema.{Schema}
-use Rattle.sql_tree.specs.declared.tree.BlockTree.{BlockTree}
-use Rattle.sql_tree.specs.declared.tree.Cond.{Cond}
-use Rattle.sql_tree.specs.declared.tree.Literal.{Literal}
-use Rattle.sql_tree.specs.Trees as tree
+use Rattle.sql_text.specs.declared.tree.BlockTree.{BlockTree}
+use Rattle.sql_text.specs.declared.tree.Cond.{Cond}
+use Rattle.sql_text.specs.declared.tree.Literal.{Literal}
+use Rattle.sql_text.specs.Trees as tree
 use Rattle.binder.specs.declared.kinds.Flaw.TheVariants.{UnknownColumn, AmbiguousColumn, NumberRange, TextTooLong}
 use Rattle.binder.specs.declared.kinds.Kind.{Kind}
 use Rattle.binder.specs.declared.kinds.Kind.TheVariants.{OfMeaning, Types, Shapes, Blocks, Atoms, Outputs}

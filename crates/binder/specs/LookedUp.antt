@@ -14,8 +14,8 @@ use Rattle.beas_core.specs.declared.query.Sign.TheVariants.{Equal, Differs, Less
 use Rattle.beas_core.specs.declared.schema.ColType.{ColType}
 use Rattle.beas_core.specs.declared.value.Value.{Value}
 use Rattle.catalogue.specs.Schema.{Schema, table_named}
-use Rattle.sql_tree.specs.declared.tree.BlockTree.{BlockTree}
-use Rattle.sql_tree.specs.declared.tree.FromItem.{FromItem}
+use Rattle.sql_text.specs.declared.tree.BlockTree.{BlockTree}
+use Rattle.sql_text.specs.declared.tree.FromItem.{FromItem}
 use Rattle.binder.specs.declared.meaning.BoundColumn.{BoundColumn}
 use Rattle.binder.specs.declared.meaning.Condition.{Condition}
 use Rattle.binder.specs.declared.meaning.Condition.TheVariants.{Compare, Between}

@@ -17,8 +17,8 @@ use Rattle.beas_core.specs.declared.value.Value.TheVariants.{Int, Str}
 use Rattle.beas_core.specs.Results.{refused_if}
 use Rattle.catalogue.specs.Refusing.{repeated_name, unknown_table}
 use Rattle.catalogue.specs.Schema.{Schema}
-use Rattle.sql_tree.specs.declared.tree.BlockTree.{BlockTree}
-use Rattle.sql_tree.specs.declared.tree.FromItem.{FromItem}
+use Rattle.sql_text.specs.declared.tree.BlockTree.{BlockTree}
+use Rattle.sql_text.specs.declared.tree.FromItem.{FromItem}
 use Rattle.binder.specs.declared.kinds.Flaw.{Flaw}
 use Rattle.binder.specs.declared.kinds.Flaw.TheVariants.{UnknownColumn, AmbiguousColumn, NumberRange, TextTooLong}
 use Rattle.binder.specs.declared.kinds.Kind.{Kind}

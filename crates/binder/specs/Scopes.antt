@@ -10,7 +10,7 @@ use Rattle.std.specs.Borrow.{Bor}
 use Rattle.std.specs.HashMap.{HashMap, get_by}
 use Rattle.std.specs.List.{enumerate_from, flat_map, list_any}
 use Rattle.std.specs.Str.{bytes_eq}
-use Rattle.sql_tree.specs.declared.tree.ColumnRef.{ColumnRef}
+use Rattle.sql_text.specs.declared.tree.ColumnRef.{ColumnRef}
 use Rattle.binder.specs.declared.found.Found.{Found}
 use Rattle.binder.specs.declared.found.Found.TheVariants.{One, Several}
 use Rattle.binder.specs.declared.found.AtomColumns.{AtomColumns}

@@ -5,7 +5,7 @@ ghost use Rattle.std.specs.List.{list_any};
 ghost use Rattle.beas_core.specs.declared.query.Block.{Block as MadeBlock};
 ghost use Rattle.beas_core.specs.declared.value.Value.TheVariants.{Int, Str};
 ghost use Rattle.beas_core.specs.Trees.{QueryTree};
-ghost use Rattle.sql_tree.specs.Trees as written;
+ghost use Rattle.sql_text.specs.Trees as written;
 ghost use Rattle.catalogue.specs.Schema.{SchemaIsSound};
 ghost use Rattle.binder.specs.AtOnce.{AddsSound, ArePlacesOf, IsSoundOutput, IsSoundOver, PairAdds, meaning_of, told_among};
 ghost use Rattle.binder.specs.Binding.{refusals, bound_query};
@@ -25,7 +25,7 @@ use beas_core::{
     Atom, Block, ColType, Fail, Limits, List, NoMemory, Place, Query, QueryNode, Sign, Text, Value,
 };
 use catalogue::Catalogue;
-use sql_tree::{BlockTree, ColumnRef, Cond, SelectNode, SelectTree, Side};
+use sql_text::{BlockTree, ColumnRef, Cond, SelectNode, SelectTree, Side};
 use std::alloc::Global;
 
 /// Adds what a comparison of two columns adds, where they agree in type. Whether they do.

@@ -2,7 +2,7 @@
 ghost use Rattle.std.specs.Prelude.{◌≡◌, ◌++◌, ◌∷◌, [], ◌<◌, ◌≤◌, ◌+◌, ◌^◌, List, All, IfOk, OnOk, length, map, vec_len};
 ghost use Rattle.std.specs.List.{flat_map, enumerate_from};
 ghost use Rattle.beas_core.specs.declared.query.Block.{Block};
-ghost use Rattle.sql_tree.specs.declared.tree.BlockTree.{BlockTree};
+ghost use Rattle.sql_text.specs.declared.tree.BlockTree.{BlockTree};
 ghost use Rattle.catalogue.specs.Queries.{QueryIsOver};
 ghost use Rattle.catalogue.specs.Schema.{SchemaIsSound};
 ghost use Rattle.beas_core.specs.Shapes.{QueryIsWellFormed};
@@ -20,7 +20,7 @@ use crate::meaning::LookedUp;
 use crate::refusing::{any_block_has_flaw, refuse_block};
 use beas_core::{Block, ColType, Fail, Limits, NoMemory, Query, QueryNode};
 use catalogue::Catalogue;
-use sql_tree::{BlockTree, SelectNode, SelectTree};
+use sql_text::{BlockTree, SelectNode, SelectTree};
 use std::alloc::Global;
 
 /// The kinds of refusals that come after unknown tables and repeated aliases, in their order.

@@ -16,7 +16,7 @@ use crate::names::names_of_block;
 use crate::refusing::refuse_block;
 use beas_core::{Block, Duplicate, Fail, Limits, List, Name};
 use catalogue::Catalogue;
-use sql_tree::{Cond, FromItem};
+use sql_text::{Cond, FromItem};
 use std::alloc::Global;
 
 /// The kinds of refusals that come after an unknown table, in their order.

@@ -4,8 +4,8 @@
 //! stands on `Meanings`, what a name stands for, `LookedUp`, blocks with their names looked up, and `Refusing`, the
 //! places of each kind of refusal in their order.
 //!
-//! Scripts test it (`script_cases/data`), and so do sessions with lowered limits (`limit_cases/data`) and drawn queries
-//! (`query_cases`). It doesn't promise that a query is covered, nor that the rows of an INSERT fit their table, since
+//! Scripts and sessions with lowered limits test it (`session_cases/data`), and so do drawn queries
+//! (`drawn_cases`). It doesn't promise that a query is covered, nor that the rows of an INSERT fit their table, since
 //! it looks at their literals alone, nor that it says `NoMemory` only where memory ran out.
 #![tactic(auto)]
 
@@ -23,7 +23,6 @@ mod refusing;
 mod rows;
 mod scope;
 mod sound;
-mod texts;
 
 pub use binding::bind;
 pub use deleting::bind_delete;

@@ -9,7 +9,7 @@ ghost use Rattle.binder.specs.Refusing.{first};
 
 use crate::meaning::Meaning;
 use beas_core::{Duplicate, Fail, NoMemory, Refusal, Value};
-use sql_tree::Literal;
+use sql_text::Literal;
 use std::alloc::Global;
 
 /// What a literal stands for.

@@ -13,7 +13,7 @@ use crate::names::{Names, names_of_block};
 use crate::scope::columns_named;
 use beas_core::{Atom, ColType, Duplicate, Fail, List, Name, NoMemory, Refusal, TableId};
 use catalogue::Catalogue;
-use sql_tree::{BlockTree, ColumnRef, Cond, FromItem};
+use sql_text::{BlockTree, ColumnRef, Cond, FromItem};
 use std::alloc::Global;
 
 /// Refuses a name that no table has.

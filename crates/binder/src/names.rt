@@ -1,7 +1,7 @@
 // What the names of a block stand for. A block of few atoms is walked for each name, since that takes less time than to make maps.
 ghost use Rattle.std.specs.List.{list_any};
 ghost use Rattle.std.specs.Prelude.{◌≡◌, Some, None, IfOk, bytes_eq, map};
-ghost use Rattle.sql_tree.specs.declared.tree.ColumnRef.{ColumnRef};
+ghost use Rattle.sql_text.specs.declared.tree.ColumnRef.{ColumnRef};
 ghost use Rattle.binder.specs.LookedUp.{atom_of};
 ghost use Rattle.binder.specs.Meanings.{side_meaning, columns_named, condition, meaning, named_by, sources};
 ghost use Rattle.beas_core.specs.Results.{IsRefusedAs};
@@ -12,10 +12,9 @@ use crate::found::{Found, NamedAtom};
 use crate::literals::literal_meaning;
 use crate::meaning::{Condition, Meaning};
 use crate::scope::{Scope, copy_of, find_in, scope_of};
-use crate::texts::is_same;
-use beas_core::{Atom, Duplicate, Fail, NoMemory, Refusal, TableId};
+use beas_core::{Atom, Duplicate, Fail, NoMemory, Refusal, TableId, is_text};
 use catalogue::Catalogue;
-use sql_tree::{ColumnRef, Cond, FromItem, Side};
+use sql_text::{ColumnRef, Cond, FromItem, Side};
 use std::alloc::Global;
 
 /// So many atoms, and no more, are walked, and so many has a block at most that is bound at once.
@@ -32,7 +31,7 @@ fn has_alias(atoms: &[NamedAtom], alias: &str) -> bool
     ensures { result ≡ list_any (λ a. bytes_eq a.alias.now alias.now) atoms.now }
 {
     for atom in atoms {
-        if is_same(atom.alias, alias) {
+        if is_text(alias, atom.alias) {
             return true;
         }
     }
@@ -107,7 +106,7 @@ fn find_with_alias(atoms: &[NamedAtom], alias: &str, name: &str) -> Option<Found
 {
     let mut found = None;
     for (number, atom) in atoms.iter().enumerate() {
-        if is_same(atom.alias, alias) {
+        if is_text(alias, atom.alias) {
             found = found_or_more(found, find_in(number, atom.columns, name));
         }
     }

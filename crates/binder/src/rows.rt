@@ -8,7 +8,7 @@ ghost use Rattle.binder.specs.Refusing.{first};
 use crate::literals::literal_value;
 use crate::refusing::refuse_text;
 use beas_core::{Fail, Limits, List, Row};
-use sql_tree::Literal;
+use sql_text::Literal;
 use std::alloc::Global;
 
 /// The values of a row's literals.

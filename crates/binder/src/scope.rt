@@ -3,7 +3,7 @@ ghost use Rattle.std.specs.List.{list_any};
 ghost use Rattle.std.specs.Prelude.{false, Some, ◌≡◌, ◌++◌, ◌∷◌, ◌≤◌, [], ℕ, List, Option, IfOk, OnOk, if◌then◌else◌, bytes_eq, take, length};
 ghost use Rattle.std.specs.HashMap.{get_by, HashMap};
 ghost use Rattle.catalogue.specs.Schema.{table_named};
-ghost use Rattle.sql_tree.specs.declared.tree.ColumnRef.{ColumnRef};
+ghost use Rattle.sql_text.specs.declared.tree.ColumnRef.{ColumnRef};
 ghost use Rattle.binder.specs.declared.meaning.BoundColumn.{BoundColumn};
 ghost use Rattle.binder.specs.Meanings.{Source, columns_named, columns_in, meaning, sources};
 ghost use Rattle.beas_core.specs.Results.{IsRefusedAs};
@@ -12,10 +12,9 @@ ghost use Rattle.binder.specs.Scopes.{found_in, found_at, one_more, found_by, na
 
 use crate::found::{AtomColumns, Found};
 use crate::meaning::BoundColumn;
-use crate::texts::is_same;
-use beas_core::{Column, Duplicate, Fail, Name, NoMemory, Refusal};
+use beas_core::{Column, Duplicate, Fail, Name, NoMemory, Refusal, is_text};
 use catalogue::Catalogue;
-use sql_tree::{ColumnRef, FromItem};
+use sql_text::{ColumnRef, FromItem};
 use std::alloc::Global;
 use std::collections::HashMap;
 
@@ -56,7 +55,7 @@ pub fn find_in(atom: usize, columns: &[Column], name: &str) -> Option<Found>
 {
     let mut found = None;
     for (place, column) in columns.iter().enumerate() {
-        if is_same(column.name.as_str(), name) {
+        if is_text(name, column.name.as_str()) {
             let kind = column.kind;
             found = Some(one_more(
                 found,

@@ -8,7 +8,7 @@ use crate::found::{Found, NamedAtom};
 use crate::literals::signed_number;
 use crate::meaning::BoundColumn;
 use crate::names::find_among;
-use sql_tree::{ColumnRef, Literal, Side};
+use sql_text::{ColumnRef, Literal, Side};
 
 /// What a side of a condition stands for, where it has no flaw.
 #[derive(Clone, Copy)]

@@ -47,6 +47,20 @@ impl Model for Catalogue {
         (map (λ ids. ids.items) s.by_table.items) };
 }
 
+/// A catalogue has these fields and no other, so it keeps names and numbers and no row of a table: with a further field this
+/// would not compile.
+fn catalogue_fields(catalogue: &Catalogue) {
+    let Catalogue {
+        alloc: _alloc,
+        tables: _tables,
+        accesses: _accesses,
+        created: _created,
+        table_numbers: _table_numbers,
+        access_ids: _access_ids,
+        by_table: _by_table,
+    } = catalogue;
+}
+
 impl Catalogue {
     /// A catalogue without tables. It takes no memory.
     pub fn new(alloc: Global) -> Catalogue

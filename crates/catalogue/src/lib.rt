@@ -5,7 +5,7 @@
 //! three more: `Database`, what updates make of tables with their rows, `Stored`, a catalogue and the rows of its tables
 //! as a database, and `Queries`, when a query is over a catalogue's tables.
 //!
-//! Scripts test it (`script_cases/data`), and so do sessions with lowered limits (`limit_cases/data`) and drawn statements
+//! Scripts and sessions with lowered limits test it (`session_cases/data`), and so do drawn statements
 //! (`scripts/compare-statements`). It keeps no rows, so it doesn't promise that a constraint holds, nor that a call says
 //! `NoMemory` only where memory ran out.
 #![tactic(auto)]
@@ -18,4 +18,5 @@ mod repeats;
 mod tables;
 
 pub use catalogue::Catalogue;
+pub use ids::place_of_id;
 pub use tables::TableSchema;

@@ -13,6 +13,11 @@ pub struct NameMap {
     numbers: IndexMap<String, u32>,
 }
 
+/// A map of names has this one field and no other: with a further field this would not compile.
+fn map_fields(map: &NameMap) {
+    let NameMap { numbers: _numbers } = map;
+}
+
 impl NameMap {
     /// No names. It takes no memory.
     pub fn new(alloc: Global) -> NameMap

@@ -17,7 +17,7 @@ pub fn field_at(fields: &ByteRecord, place: usize) -> Option<&[u8]>
 }
 
 /// Whether a header's field is a column's name, in any case of its letters.
-pub fn is_name(field: &[u8], column: &Column) -> bool
+pub fn names_column(field: &[u8], column: &Column) -> bool
     ensures { result ≡ names field.now column.now }
 {
     field.eq_ignore_ascii_case(column.name.as_str().as_bytes())

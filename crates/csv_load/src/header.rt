@@ -7,7 +7,7 @@ ghost use Rattle.csv.specs.Records.{fields_of};
 ghost use Rattle.csv_load.specs.CsvRows.{column_of, place_of, in_file_order, is_header};
 ghost use Rattle.csv_load.specs.Layouts.{slots_of, IsLayout};
 
-use crate::fields::{field_at, is_name};
+use crate::fields::{field_at, names_column};
 use beas_core::{ColType, Column, NoMemory};
 use csv::ByteRecord;
 use std::alloc::Global;
@@ -34,7 +34,7 @@ fn column_of<'a>(columns: &'a [Column], field: &[u8]) -> Option<&'a Column>
 {
     let mut found = None;
     for column in columns {
-        if is_name(field, column) {
+        if names_column(field, column) {
             if found.is_some() {
                 return None;
             }
@@ -49,7 +49,7 @@ fn is_named_at(header: &ByteRecord, place: usize, column: &Column) -> bool
     ensures { result ≡ option_map_or (λ field. names field column.now) (slice_get (fields_of header.now) place) false }
 {
     match field_at(header, place) {
-        Some(field) => is_name(field, column),
+        Some(field) => names_column(field, column),
         None => false,
     }
 }

@@ -1,6 +1,6 @@
 -- Marks that are spread evenly.
 use Rattle.std.proofs.Common.{◌≡◌, ◌≤◌, ◌<◌, ◌+◌, ◌-◌, ◌*◌, ◌^◌, ℕ, List, length, get_or, set, map, ap, sym, ◌∙◌, arith, inl, inr}
-use Rattle.std.proofs.Math.Nat.{mul-le-mul_left}
+use Rattle.std.proofs.Math.Nat.{mul-le-mul_left, mul-le-mul_right}
 use Rattle.std.proofs.lemmas.Bool.{cases_eq, cases_lt}
 use Rattle.std.proofs.lemmas.List.{map-set, set-get_or, get_or-map, get_or-set_same, get_or-set_other, length-map}
 use Rattle.marked_list.specs.declared.slot.Standing.{Standing}
@@ -42,11 +42,23 @@ spread_more old mid new first i low step w s f l count mark is = record {
 pub length_spread : (old new : List (List ℕ × Standing)) (first end low step : ℕ) → IsSpread old new first end low step → length new ≡ length old
 length_spread old new first end low step s = sym (length-map new item_of) ∙ ap length s.same ∙ length-map old item_of
 
+-- a stretch is sparse where its even step is so many times its parts
+pub sparse_steps : (step parts span : ℕ) → 2 ^ 8 * parts ≤ step → step * parts ≤ span → 2 ^ 8 * parts * parts ≤ span
+sparse_steps step parts span wide fits = let a = mul-le-mul_right parts wide in omega (arith, a, fits)
+
 pub even_rises : (low step m n : ℕ) → 0 < step → m < n → low + step * m < low + step * n
 even_rises low step m n some h = let next : m + 1 ≤ n = omega (arith, h) in let a = mul-le-mul_left step next in omega (arith, a, some)
 
 pub even_joins : (low step a b c : ℕ) → a + b ≡ c → low + step * a + step * b ≡ low + step * c
 even_joins low step a b c e = let z = ap (λ n. step * n) e in omega (arith, z)
+
+-- the last mark of a stretch that is spread lies below its end
+pub spread_fits : (low high step first at end : ℕ) → first ≤ at → at ≤ end → low < high → high ≤ 2 ^ 64 - 1 → step * (end - first + 2) ≤ high - low
+    → low + step * (at - first + 1) + step * (end - at) < 2 ^ 64
+spread_fits low high step first at end before after open_between top fits =
+    let joined = even_joins low step (at - first + 1) (end - at) (end - first + 1) (omega (arith, before, after)) in
+    let less : step * (end - first + 1) ≤ step * (end - first + 2) = mul-le-mul_left step (omega arith) in
+    omega (arith, joined, less, fits, open_between, top)
 
 -- a stretch whose marks before a place and from it on are spread evenly, with one mark left out between
 module _ (ts mid new : List (List ℕ × Standing)) (at : ℕ) (s : Stretch) (step mark : ℕ) (r : Rises ts) (is : IsStretch ts s) (before : s.first ≤ at) (after : at ≤ s.end)

@@ -1,9 +1,15 @@
 -- Stretches of a marked list whose marks are spread evenly.
 --     IsStretch tuples stretch                the marks before and after the stretch lie at or outside its ends
+--     parts_of stretch                        into how many parts its n tuples and one more cut it: n + 2
 --     HasRoom stretch                         there is room for the stretch's tuples and one more
+--     IsSparse stretch                        spread, its n tuples come to stand 2^8 n apart at least, so that a stretch is
+--                                             the sparser the wider it is; then many tuples find room in its parts before it
+--                                             is spread again (order maintenance: Dietz and Sleator, Two algorithms for
+--                                             maintaining order in a list, 1987; Bender and others, Two simplified
+--                                             algorithms for maintaining order in a list, 2002)
 --     IsSpread old new first end low step     from `first` to `end` the marks are low + step, low + 2 step and so on;
 --                                             the words, the counts and all other marks stay
-use Rattle.std.specs.Prelude.{◌≡◌, ◌<◌, ◌≤◌, ◌+◌, ◌-◌, ◌*◌, ℕ, List, length, map}
+use Rattle.std.specs.Prelude.{◌≡◌, ◌<◌, ◌≤◌, ◌+◌, ◌-◌, ◌*◌, ◌^◌, ℕ, List, length, map}
 use Rattle.marked_list.specs.declared.slot.Standing.{Standing}
 use Rattle.marked_list.specs.declared.stretch.Stretch.{Stretch}
 use Rattle.marked_list.specs.Marks.{item_of, mark_in}
@@ -15,8 +21,14 @@ pub record IsStretch (tuples : List (List ℕ × Standing)) (stretch : Stretch) 
   pub behind : (i : ℕ) → i < stretch.first → mark_in tuples i ≤ stretch.low
   pub ahead : (i : ℕ) → stretch.end ≤ i → i < length tuples → stretch.high ≤ mark_in tuples i
 
+abbrev pub parts_of : Stretch → ℕ
+parts_of stretch = stretch.end - stretch.first + 2
+
 abbrev pub HasRoom : Stretch → Type 0
-HasRoom stretch = stretch.low + (stretch.end - stretch.first + 2) ≤ stretch.high
+HasRoom stretch = stretch.low + parts_of stretch ≤ stretch.high
+
+abbrev pub IsSparse : Stretch → Type 0
+IsSparse stretch = 2 ^ 8 * parts_of stretch * parts_of stretch ≤ stretch.high - stretch.low
 
 pub record IsSpread (old new : List (List ℕ × Standing)) (first end low step : ℕ) : Type 0 where
   pub same : map item_of new ≡ map item_of old

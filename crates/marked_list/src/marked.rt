@@ -8,11 +8,11 @@ ghost use Rattle.marked_list.specs.declared.slot.Standing.{Standing};
 
 use crate::coded::Coded;
 use crate::marks::make_mark;
-use crate::places::{Tuples, WordsPlace, count_at, mark_at, place_of_entry, write};
+use crate::places::{Tuples, WordsPlace, count_at, item_of_slot, mark_at, place_of_entry, write};
 use crate::slot::{Slot, Standing};
 use crate::words::TupleWords;
 use beas_core::{Duplicate, NoMemory};
-use blocked_list::{Before, BlockedList};
+use blocked_list::{Before, BlockedList, Walk};
 use indexmap::IndexMap;
 use std::alloc::Global;
 use std::marker::Model;
@@ -34,6 +34,14 @@ impl Model for MarkedList {
     ghost view = { λ s. items_of s.tuples.entries s.slots };
 
     ghost invariant = { λ s. IsMarked s.tuples.entries s.slots };
+}
+
+/// A marked list has these two fields and no other, so each tuple once: with a further field this would not compile.
+fn list_fields(list: &MarkedList) {
+    let MarkedList {
+        slots: _slots,
+        tuples: _tuples,
+    } = list;
 }
 
 /// Puts a tuple that isn't there in at a place. After an error all is as before.
@@ -64,6 +72,23 @@ fn put(
             Err(NoMemory)
         }
     }
+}
+
+/// A list of the tuples that the slots name, in their order.
+fn copy_of(
+    alloc: Global,
+    tuples: &Tuples,
+    slots: &BlockedList<Slot>,
+) -> Result<MarkedList, NoMemory>
+    requires { IsMarked tuples.now.entries slots.now }
+    ensures { IfOk result (λ copy. copy ≡ items_of tuples.now.entries slots.now) }
+{
+    let mut copy = MarkedList::new(alloc);
+    let mut walk = Walk::over(slots);
+    for i in 0..tuples.len() {
+        copy.insert(alloc, i, item_of_slot(alloc, tuples, walk.get(i))?)?;
+    }
+    Ok(copy)
 }
 
 impl MarkedList {
@@ -179,8 +204,9 @@ impl MarkedList {
         ensures { IfOk result (λ list. list ≡ tuples.now) }
     {
         let mut list = MarkedList::new(alloc);
+        let mut walk = Walk::over(tuples);
         for i in 0..tuples.len() {
-            list.insert(alloc, i, tuples.get(i).copy(alloc)?)?;
+            list.insert(alloc, i, walk.get(i).copy(alloc)?)?;
         }
         Ok(list)
     }
@@ -189,10 +215,6 @@ impl MarkedList {
     pub fn copy(&self, alloc: Global) -> Result<MarkedList, NoMemory>
         ensures { IfOk result (λ copy. copy ≡ self.now) }
     {
-        let mut copy = MarkedList::new(alloc);
-        for i in 0..self.len() {
-            copy.insert(alloc, i, Coded::of(alloc, self.words(i), self.count(i))?)?;
-        }
-        Ok(copy)
+        copy_of(alloc, &self.tuples, &self.slots)
     }
 }

@@ -1,12 +1,12 @@
 // Marks for new tuples.
-ghost use Rattle.std.specs.Prelude.{◌≡◌, ◌<◌, ◌≤◌, ◌+◌, ◌-◌, ◌*◌, ◌^◌, length};
+ghost use Rattle.std.specs.Prelude.{◌≡◌, ◌<◌, ◌≤◌, ◌⊎◌, ◌+◌, ◌-◌, ◌*◌, ◌^◌, true, length};
 ghost use Rattle.marked_list.specs.Marks.{ArePlaces, IsMarked, SitsAt, in_order, items_of, mark_in};
-ghost use Rattle.marked_list.specs.Spreads.{IsStretch, IsSpread, HasRoom};
+ghost use Rattle.marked_list.specs.Spreads.{IsStretch, IsSpread, IsSparse, HasRoom, parts_of};
 
-use crate::places::{Tuples, count_at, mark_at, write};
-use crate::slot::{Slot, Standing};
+use crate::places::{Tuples, mark_at, remark};
+use crate::slot::Slot;
 use crate::stretch::Stretch;
-use blocked_list::BlockedList;
+use blocked_list::{BlockedList, Walk};
 
 /// How far from the last mark the next one stands at either end of the list: millions of tuples find room there.
 const STEP: u64 = 1 << 38;
@@ -14,9 +14,9 @@ const STEP: u64 = 1 << 38;
 /// A stretch reaches so far to either side of a place at first.
 const NEAR: usize = 16;
 
-/// So far apart the marks of the first stretch come to stand at least, so that many more tuples find room there before the
-/// marks are spread again. A stretch of twice the length may be twice as dense.
-const WIDE: u64 = 1 << 24;
+/// The marks of n tuples that are spread come to stand so many times n apart, at least: the wider a stretch, the sparser it
+/// has to be. A list of fewer than 2^28 - 2 tuples is sparse enough in whole; a longer one is spread in whole all the same.
+const SPARSE: u64 = 1 << 8;
 
 /// The mark of the tuple before a place, or 0 at the front.
 fn mark_before(tuples: &Tuples, slots: &BlockedList<Slot>, at: usize) -> u64
@@ -63,6 +63,15 @@ fn stretch_of(tuples: &Tuples, slots: &BlockedList<Slot>, first: usize, end: usi
     }
 }
 
+/// Into how many parts the n tuples of a stretch and one more cut it where they are spread evenly: n + 2.
+fn parts(stretch: &Stretch) -> u64
+    requires ordered { stretch.now.first ≤ stretch.now.end }
+    requires few { stretch.now.end < 2 ^ 32 }
+    ensures { result ≡ parts_of stretch.now }
+{
+    (stretch.end - stretch.first) as u64 + 2
+}
+
 /// How far apart the marks of a stretch come to stand where they and one more are spread evenly.
 fn even_step(stretch: &Stretch) -> u64
     requires ordered { stretch.now.first ≤ stretch.now.end }
@@ -72,12 +81,23 @@ fn even_step(stretch: &Stretch) -> u64
     ensures some { HasRoom stretch.now → 0 < result }
     ensures room { 0 < result → HasRoom stretch.now }
 {
-    let parts = (stretch.end - stretch.first) as u64 + 2;
-    (stretch.high - stretch.low) / parts
+    (stretch.high - stretch.low) / parts(stretch)
 }
 
-/// A stretch around a place that has room for one more tuple. It grows until its marks are far enough apart, at most to
-/// the whole list, so that the work is spread over many inserts.
+/// Whether a stretch is wide enough for its tuples.
+fn is_sparse(stretch: &Stretch) -> bool
+    requires ordered { stretch.now.first ≤ stretch.now.end }
+    requires few { stretch.now.end < 2 ^ 32 }
+    requires open_between { stretch.now.low < stretch.now.high }
+    ensures sparse { result ≡ true → IsSparse stretch.now }
+    ensures room { result ≡ true → HasRoom stretch.now }
+{
+    even_step(stretch) >= SPARSE * parts(stretch)
+}
+
+/// A stretch around a place that has room for one more tuple. It grows until it is sparse enough for its length, at most to
+/// the whole list. Spread, its parts are sparser than they have to be, and they fill up before this stretch is spread
+/// again, so the work is shared by many inserts.
 fn roomy_stretch(tuples: &Tuples, slots: &BlockedList<Slot>, at: usize) -> Stretch
     requires marked { IsMarked tuples.now.entries slots.now }
     requires within { at ≤ length slots.now }
@@ -85,10 +105,10 @@ fn roomy_stretch(tuples: &Tuples, slots: &BlockedList<Slot>, at: usize) -> Stret
     ensures before { result.first ≤ at }
     ensures after { at ≤ result.end }
     ensures room { HasRoom result }
+    ensures sparse { IsSparse result ⊎ ((result.first ≡ 0) × (result.end ≡ length slots.now)) }
 {
     let len = slots.len();
     let mut reach = NEAR;
-    let mut least = WIDE;
     while reach < len {
         let stretch = stretch_of(
             tuples,
@@ -96,11 +116,10 @@ fn roomy_stretch(tuples: &Tuples, slots: &BlockedList<Slot>, at: usize) -> Stret
             at.saturating_sub(reach),
             (at + reach).min(len),
         );
-        if even_step(&stretch) >= least {
+        if is_sparse(&stretch) {
             return stretch;
         }
         reach *= 2;
-        least = (least / 2).max(1);
     }
     stretch_of(tuples, slots, 0, len)
 }
@@ -121,11 +140,11 @@ fn spread(
     ensures same_length { length tuples.new.entries ≡ length tuples.old.entries }
     ensures spread { IsSpread (in_order tuples.old.entries slots.now) (in_order tuples.new.entries slots.now) first end low step }
 {
+    let mut walk = Walk::over(slots);
     let mut mark = low;
     for i in first..end {
         mark += step;
-        let count = count_at(tuples, slots, i);
-        write(tuples, slots, i, Standing { count, mark });
+        remark(tuples, walk.get(i), mark);
     }
 }
 

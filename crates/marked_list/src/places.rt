@@ -1,12 +1,16 @@
 // Where a tuple stands in the list, by its place in the map.
-ghost use Rattle.std.specs.Prelude.{◌≡◌, ◌<◌, length, nat_lt, slice_index_or, slice_set};
-ghost use Rattle.marked_list.specs.Marks.{ArePlaces, IsMarked, entry_at, in_order, no_tuple, passes};
+ghost use Rattle.std.specs.Prelude.{◌≡◌, ◌<◌, length, nat_lt, slice_index_or, slice_set, IfOk};
+ghost use Rattle.indexmap.specs.IndexMap.{set_value_at};
+ghost use Rattle.marked_list.specs.Marks.{ArePlaces, IsMarked, entry_at, in_order, item_of, no_tuple, passes};
 ghost use Rattle.marked_list.specs.declared.slot.Slot.{Slot};
 
+use crate::coded::Coded;
 use crate::slot::{Slot, Standing};
 use crate::words::TupleWords;
+use beas_core::NoMemory;
 use blocked_list::{Before, BlockedList};
 use indexmap::IndexMap;
+use std::alloc::Global;
 
 /// Each tuple's count and mark by its words.
 pub type Tuples = IndexMap<TupleWords, Standing>;
@@ -76,6 +80,17 @@ pub fn count_at(tuples: &Tuples, slots: &BlockedList<Slot>, at: usize) -> u32
     tuples[slots.get(at).entry as usize].count
 }
 
+/// The words and the count of the tuple that a slot names.
+pub fn item_of_slot(alloc: Global, tuples: &Tuples, slot: &Slot) -> Result<Coded, NoMemory>
+    requires { slot.now.entry < length tuples.now.entries }
+    ensures { IfOk result (λ item. item ≡ item_of (entry_at tuples.now.entries slot.now)) }
+{
+    match tuples.get_index(slot.entry as usize) {
+        Some((words, standing)) => Coded::of(alloc, words.as_slice(), standing.count),
+        None => unreachable!(),
+    }
+}
+
 /// Writes the count and the mark of the tuple at a place.
 pub fn write(tuples: &mut Tuples, slots: &BlockedList<Slot>, at: usize, standing: Standing)
     requires places { ArePlaces (length tuples.old.entries) slots.now }
@@ -89,4 +104,19 @@ pub fn write(tuples: &mut Tuples, slots: &BlockedList<Slot>, at: usize, standing
         unreachable!()
     };
     *place = standing;
+}
+
+/// Writes the mark of the tuple that a slot names, whose count stays.
+pub fn remark(tuples: &mut Tuples, slot: &Slot, mark: u64)
+    requires within { slot.now.entry < length tuples.old.entries }
+    ensures same_length { length tuples.new.entries ≡ length tuples.old.entries }
+    ensures remarked { tuples.new.entries ≡ set_value_at tuples.old.entries slot.now.entry
+        (record { count = (entry_at tuples.old.entries slot.now).1.count; mark = mark }) }
+{
+    let entry = slot.entry as usize;
+    let count = tuples[entry].count;
+    let Some(place) = tuples.get_index_mut(entry) else {
+        unreachable!()
+    };
+    *place = Standing { count, mark };
 }

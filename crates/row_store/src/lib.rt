@@ -28,6 +28,11 @@ impl Model for Rows {
     ghost invariant = { λ s. length s.rows.items < 2 ^ 32 };
 }
 
+/// A table's rows have this one field and no other, so no second copy of a row: with a further field this would not compile.
+fn rows_fields(rows: &Rows) {
+    let Rows { rows: _rows } = rows;
+}
+
 fn too_many(limit: u32) -> Fail
     ensures { result ≡ Fail.Refused (Refusal.TooMany Counted.Rows limit) }
 {
@@ -66,7 +71,7 @@ impl Rows {
 
     /// Adds a row at the end. It is refused as one too many where there are `limit` rows or more, and
     /// after any error the rows are as they were.
-    pub fn push(&mut self, row: Row, limit: u32) -> Result<(), Fail>
+    pub fn push(&mut self, alloc: Global, row: Row, limit: u32) -> Result<(), Fail>
         ensures too_many { IsErrOf result (Fail.Refused (Refusal.TooMany Counted.Rows limit)) ↔ (limit ≤ length self.old) }
         ensures memory { length self.old < limit → IfErr result (λ why. why ≡ Fail.NoMemory) }
         ensures ok { OnOk result (self.new ≡ self.old ++ row ∷ []) }
@@ -75,8 +80,9 @@ impl Rows {
         if self.len() >= limit {
             return Err(too_many(limit));
         }
-        self.rows.push(row)?;
-        Ok(())
+        let mut last = List::new(alloc);
+        last.push(row)?;
+        self.append(alloc, &mut last, limit)
     }
 
     /// Moves all of `rows` to the end, in order. They are refused as too many where there would be more than

@@ -1,6 +1,6 @@
 // Plans read the store through the indexes of its constraints.
 use crate::guarded::Guarded;
-use beas_core::{Access, AccessId, AccessPort, ColumnId, Hits, Steps, Value, ValueRef};
+use beas_core::{Access, AccessId, AccessPort, ColumnId, Hits, Steps, Value};
 use std::sync::ledger::Ledger;
 
 impl AccessPort for Guarded {
@@ -25,7 +25,7 @@ impl AccessPort for Guarded {
         self.indexes.as_slice()[place].probe(key, steps)
     }
 
-    fn value(&self, hits: &Hits, i: u32, column: ColumnId) -> ValueRef<'_> {
+    fn value(&self, hits: &Hits, i: u32, column: ColumnId) -> &Value {
         let place = self.catalogue.place(hits.access());
         self.indexes.as_slice()[place].value(hits, i, column)
     }

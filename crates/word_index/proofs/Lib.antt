@@ -1,20 +1,4 @@
-pub mod Changing
-pub mod CodeFacts
-pub mod CopyFacts
-pub mod Distinct
-pub mod Greatest
-pub mod GroupFacts
-pub mod Growth
-pub mod Holding
-pub mod Indexing
-pub mod Keys
-pub mod Members
-pub mod Ordering
-pub mod Past
-pub mod ReadFacts
-pub mod RowFacts
-pub mod SpellingFacts
-pub mod Steps
-pub mod Storing
-pub mod UnknownFacts
-pub mod WordFacts
+mod PartFacts
+mod PlaceFacts
+pub mod KeptFacts
+pub mod ProbeFacts

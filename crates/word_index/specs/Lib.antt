@@ -1,6 +1,4 @@
-pub mod Codes
-pub mod Forms
-pub mod Reading
-pub mod Spelling
-pub mod Taking
-pub mod Widths
+pub mod Freezing
+pub mod Parts
+pub mod Stored
+pub mod Kept

@@ -1,25 +1,18 @@
-//! Values as numbers, and the index of one access constraint over rows of these.
+//! The store whose indexes keep codes of values: tables with their rows, each constraint with its index, and updates that
+//! keep every constraint. A table can be frozen: a copy that stands by itself, with its constraints and their indexes.
 #![tactic(auto)]
 
-mod any;
-mod asked;
-mod bulk;
-mod fixed;
-mod form;
-mod group;
-mod hasher;
-mod interner;
-mod key;
-mod long;
-mod rows;
-mod spelling;
-mod tuples;
-mod words;
+mod copying;
+mod freezing;
+mod frozen;
+mod frozen_port;
+mod guarded;
+mod indexes;
+mod laws;
+mod port;
+mod probing;
 
-pub use any::AnyIndex;
-pub use bulk::{add_rows, index_of, remove_rows};
-pub use fixed::FixedIndex;
-pub use interner::Interner;
-pub use long::LongIndex;
-pub use rows::{add_if_holds, find_group, remove_row};
-pub use words::word_at;
+pub use code_index::{FixedIndex, Interner};
+pub use frozen::Frozen;
+pub use guarded::WordGuarded;
+pub use laws::law_interned;

@@ -1,7 +1,7 @@
 use Rattle.std.proofs.Common.{◌≡◌, take}
 use Rattle.std.specs.List.{fold}
-use Rattle.access_index.specs.Hashing.{mix}
+use Rattle.beas_core.specs.Mixing.{mixed}
 use Rattle.access_index.proofs.values.mix_bytes.Given as goal
 
 abbrev pub invariant-loop-byte : goal.invariant-loop-byte
-invariant-loop-byte l = l.mixture ≡ fold mix l.state (take l.byte-index l.bytes)
+invariant-loop-byte l = l.mixture ≡ fold mixed l.state (take l.byte-index l.bytes)

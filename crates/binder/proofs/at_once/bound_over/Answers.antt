@@ -1,6 +1,6 @@
 use Rattle.std.proofs.Common.{◌∙◌, map, ap, subst, refl}
 use Rattle.beas_core.specs.declared.query.Block.{Block}
-use Rattle.sql_tree.specs.declared.tree.ColumnRef.{ColumnRef}
+use Rattle.sql_text.specs.declared.tree.ColumnRef.{ColumnRef}
 use Rattle.binder.specs.declared.meaning.Meaning.{Meaning}
 use Rattle.binder.specs.AtOnce.{AddsSound, IsSoundOutput, found_over, told_among}
 use Rattle.binder.specs.LookedUp.{outputs}

@@ -1,6 +1,6 @@
 use Rattle.std.proofs.Common.{◌∷◌, [], ◌++◌, ◌∙◌, List, ap, map, subst, arith}
 use Rattle.std.proofs.lemmas.List.{take_all}
-use Rattle.sql_tree.specs.declared.tree.ColumnRef.{ColumnRef}
+use Rattle.sql_text.specs.declared.tree.ColumnRef.{ColumnRef}
 use Rattle.binder.specs.AtOnce.{ArePlacesOf, told_among}
 use Rattle.binder.proofs.AtOnceFacts.{places_sound_to}
 use Rattle.binder.proofs.at_once.places_if_sound.Goals as goal

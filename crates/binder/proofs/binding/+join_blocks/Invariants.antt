@@ -1,6 +1,6 @@
 use Rattle.std.proofs.Common.{◌+◌, ◌*◌}
 use Rattle.std.specs.Prelude.{max}
-use Rattle.sql_tree.specs.Nodes.{height}
+use Rattle.sql_text.specs.Nodes.{height}
 use Rattle.binder.proofs.binding.+join_blocks.Given as goal
 
 abbrev pub decreases-join_sides : goal.decreases-join_sides

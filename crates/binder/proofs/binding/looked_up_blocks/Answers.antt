@@ -3,7 +3,7 @@ use Rattle.std.specs.Borrow.{Bor}
 use Rattle.std.specs.List.{flat_map}
 use Rattle.std.proofs.lemmas.Result.{err_from_is_err_and, IfOk-weaker}
 use Rattle.beas_core.specs.declared.refusal.Refusal.{Refusal}
-use Rattle.sql_tree.specs.declared.tree.BlockTree.{BlockTree}
+use Rattle.sql_text.specs.declared.tree.BlockTree.{BlockTree}
 use Rattle.binder.specs.Binding.{blocks_of}
 use Rattle.binder.specs.LookedUp.{looked_up}
 use Rattle.binder.specs.Refusing.{first, unknown_tables, repeated_aliases}

@@ -1,6 +1,6 @@
 use Rattle.std.proofs.Common.{map, ap, ◌∙◌}
 use Rattle.std.proofs.lemmas.Result.{err_from_is_err_and}
-use Rattle.sql_tree.specs.declared.tree.FromItem.{FromItem}
+use Rattle.sql_text.specs.declared.tree.FromItem.{FromItem}
 use Rattle.binder.specs.Binding.{delete_block}
 use Rattle.binder.specs.LookedUp.{atom_of}
 use Rattle.binder.specs.Meanings.{sources, meaning}

@@ -1,5 +1,5 @@
 use Rattle.std.proofs.Common.{None, refl, ◌∙◌}
-use Rattle.sql_tree.specs.declared.tree.ColumnRef.{ColumnRef}
+use Rattle.sql_text.specs.declared.tree.ColumnRef.{ColumnRef}
 use Rattle.binder.specs.Meanings.{named_by}
 use Rattle.binder.proofs.FewFacts.{found_to_named}
 use Rattle.binder.proofs.names.find_in_any.Goals as goal

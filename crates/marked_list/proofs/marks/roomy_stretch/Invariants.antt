@@ -2,7 +2,7 @@ use Rattle.std.proofs.Common.{◌-◌, ◌<◌}
 use Rattle.marked_list.proofs.marks.roomy_stretch.Given as goal
 
 abbrev pub invariant-loop-reach : goal.invariant-loop-reach
-invariant-loop-reach l = record { far : 0 < l.reach; some : 0 < l.least }
+invariant-loop-reach l = 0 < l.reach
 
 abbrev pub decreases-loop-reach : goal.decreases-loop-reach
 decreases-loop-reach l = l.len - l.reach

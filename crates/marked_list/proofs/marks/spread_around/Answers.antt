@@ -1,7 +1,14 @@
 use Rattle.std.proofs.Common.{rules, ◌≤◌, ◌-◌, ◌^◌, sym, ◌∙◌, refl, subst}
 use Rattle.marked_list.specs.Marks.{ArePlaces, in_order}
-use Rattle.marked_list.proofs.SpreadFacts.{spread_rises, spread_sits}
+use Rattle.marked_list.proofs.SpreadFacts.{spread_fits, spread_rises, spread_sits}
 use Rattle.marked_list.proofs.marks.spread_around.Goals as goal
+
+pub spread-requires-2-clause-fits : goal.spread-requires-2-clause-fits
+spread-requires-2-clause-fits c =
+    let s = c.roomy_stretch-stretch in
+    let top : s.result.high ≤ 2 ^ 64 - 1 = search (rules, s.type_inv) in
+    spread_fits s.result.low s.result.high c.even_step-step.result s.result.first c.args.at s.result.end s.ensures.before s.ensures.after
+    s.ensures.is.open_between top c.even_step-step.ensures.fits
 
 pub returns-clause-marked : goal.returns-clause-marked
 returns-clause-marked c =

@@ -23,7 +23,7 @@ value_of-requires-clause-width c =
     let bucket = bucket_at_place n (length c.self.inside.access.key) entries (hits.place / 4294967296) ts c.self.invariant.1.buckets there in
     let wide = eqb-true n (length (get_or ts (hits.place % 4294967296 + c.args.i) b).tuple)
     (all_at (λ t. is_wide n t.tuple ≡ true) ts (hits.place % 4294967296 + c.args.i) b within bucket.1.wide) in
-    omega (arith, wide, ap length c.as_slice.ensures, ap length c.as_slice-tuple.ensures, ap (λ t. length t.tuple) own)
+    omega (arith, wide, ap length c.as_slice.ensures, ap length c.as_slice-2.ensures, ap (λ t. length t.tuple) own)
 
 pub returns : goal.returns
 returns c =
@@ -36,8 +36,8 @@ returns c =
     let within = stand_within (values_of entries) hits ts c.args.i there c.requires.member stands in
     let own = c.get.ensures ∙ ap (λ p. get_or ts (p % 4294967296 + c.args.i) b) c.place-2.ensures in
     let access = c.self.inside.access in
-    subst (λ (s : Index). c.of.result ≡ value_in (member_columns s.access) (get_or (members_at s hits) c.args.i []) c.args.column) c.self.view_is
-    (c.of.ensures ∙ c.value_of.ensures
-    ∙ ap (λ cs. value_in cs c.as_slice-tuple.result.now c.args.column) (c.as_slice.ensures ∙ c.self.invariant.0)
+    subst (λ (s : Index). c.value_of.result.now ≡ value_in (member_columns s.access) (get_or (members_at s hits) c.args.i []) c.args.column) c.self.view_is
+    (c.value_of.ensures
+    ∙ ap (λ cs. value_in cs c.as_slice-2.result.now c.args.column) (c.as_slice.ensures ∙ c.self.invariant.0)
     ∙ ap (λ t. value_in (member_columns access) t c.args.column)
-    (c.as_slice-tuple.ensures ∙ ap (λ t. t.tuple) own ∙ sym (member_at (values_of entries) hits ts c.args.i b there c.requires.member within)))
+    (c.as_slice-2.ensures ∙ ap (λ t. t.tuple) own ∙ sym (member_at (values_of entries) hits ts c.args.i b there c.requires.member within)))

@@ -1,0 +1,30 @@
+use Rattle.std.proofs.Common.{◌≡◌, ◌∙◌, ◌++◌, ◌∷◌, [], ℕ, length, take, ap, sym, subst, arith}
+use Rattle.std.specs.List.{fold, flat_map}
+use Rattle.std.specs.Hash as fed
+use Rattle.std.proofs.lemmas.List.{flat_map_more, length-map, map_more, take_all}
+use Rattle.code_index.specs.Reading.{pick, word_at}
+use Rattle.code_index.proofs.asked.AskedRowHash.hash.Goals as goal
+
+pub loop-column-preserved : goal.loop-column-preserved
+loop-column-preserved g c =
+    let columns = c.args.self.now.columns.now in
+    let words = c.args.self.now.words.now in
+    let i = c.loop-column.column-index in
+    let w = c.word_at.result in
+    let front = pick (take i columns) words in
+    let step = map_more (word_at words) columns i (record { 0 = 0 }) c.loop-column-test.true ∙ ap (λ x. front ++ x ∷ []) (sym c.word_at.ensures) in
+    fed.fed_along g.H.Hasher.write c.write_usize.new.self c.write_u64.new.self
+    (flat_map_more fed.u64 [] front w ∙ ap (flat_map fed.u64) (sym step))
+    (fed.fed_then g.H.Hasher.write c.write_usize.new.self c.loop-column.state c.write_u64.new.self (flat_map fed.u64 front) (fed.u64 w)
+    c.loop-column.invariant c.write_u64.ensures)
+
+pub returns : goal.returns
+returns g c =
+    let columns = c.args.self.now.columns.now in
+    let words = c.args.self.now.words.now in
+    let i = c.loop-column.column-index in
+    let fed_words = subst (λ xs. c.loop-column.state ≡ fold g.H.Hasher.write c.write_usize.new.self (flat_map fed.u64 (pick xs words)))
+    (take_all i columns (omega (arith, c.loop-column-test.false))) c.loop-column.invariant in
+    let fed_length = subst (λ n. c.write_usize.new.self ≡ fold g.H.Hasher.write c.args.state.now (fed.usize n)) (sym (length-map columns (word_at words))) c.write_usize.ensures in
+    fed.fed_then g.H.Hasher.write c.args.state.now c.write_usize.new.self c.loop-column.state (fed.usize (length (pick columns words)))
+    (flat_map fed.u64 (pick columns words)) fed_length fed_words

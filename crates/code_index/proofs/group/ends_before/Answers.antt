@@ -1,0 +1,24 @@
+use Rattle.std.proofs.Common.{◌≡◌, ◌<◌, ◌-◌, [], length, ap, sym, ◌∙◌, subst, arith}
+use Rattle.beas_core.specs.Order.{row_cmp}
+use Rattle.beas_core.specs.Groups.{member_columns}
+use Rattle.access_index.specs.declared.tally.Tally.{Tally}
+use Rattle.access_index.specs.Buckets.{IsGap}
+use Rattle.marked_list.specs.declared.coded.Coded.{Coded}
+use Rattle.code_index.specs.Reading.{read, read_group, pick}
+use Rattle.code_index.proofs.GroupFacts.{read_at, length_group, end_gap}
+use Rattle.code_index.proofs.group.ends_before.Goals as goal
+
+pub returns-in-Less : goal.returns-in-Less
+returns-in-Less c told =
+    let codes = c.args.codes.now in
+    let g = c.args.group.now in
+    let x = read codes (pick (member_columns c.args.access.now) c.args.words.now) in
+    let len = c.len-len.result in
+    let long : len ≡ length g = c.len-len.ensures in
+    let some : 0 < len = omega (arith, c.if-len-eq0.false) in
+    let d0 : Coded = record { words = []; count = 0 } in
+    let word = c.words.ensures d0 in
+    subst (λ n. IsGap (read_group codes g) x n) (length_group codes g)
+    (end_gap x (read_group codes g) c.requires (len - 1) (omega (arith, some, long, length_group codes g))
+    (λ d. ap (λ (t : Tally). row_cmp t.tuple x) (read_at codes g (len - 1) d0 d (omega (arith, some, long)))
+    ∙ ap (λ ws. row_cmp (read codes ws) x) (sym word) ∙ sym c.compare_tuple.ensures ∙ c.in-Less.is))

@@ -1,0 +1,32 @@
+-- The codes of values.
+--     IsCodeOf codes code value      the value was interned, with this code
+--     HasCode codes value            the value was interned
+--     AllHaveCodes codes values      each of them was
+--     AreCodesOf codes words values  the words are the codes of these values
+--     IsCodeIn codes words row column      a row's word in a column is the code of its value there
+use Rattle.std.specs.Prelude.{◌≡◌, ◌<◌, ℕ, List, length}
+use Rattle.std.specs.List.{AllByRecursion}
+use Rattle.beas_core.specs.declared.value.Value.{Value}
+use Rattle.beas_core.specs.declared.schema.ColumnId.{ColumnId}
+use Rattle.beas_core.specs.Groups.{value_at}
+use Rattle.code_index.specs.Codes.{value_of}
+use Rattle.code_index.specs.Reading.{read, word_at, AllKnown}
+
+pub record IsCodeOf (codes : List Value) (code : ℕ) (value : Value) : Type 0 where
+  pub known : code < length codes
+  pub same : value_of codes code ≡ value
+
+pub record HasCode (codes : List Value) (value : Value) : Type 0 where
+  pub code : ℕ
+  pub is : IsCodeOf codes code value
+
+abbrev pub AllHaveCodes : List Value → List Value → Type 0
+AllHaveCodes codes values = AllByRecursion (HasCode codes) values
+
+-- words are the codes of these values
+pub record AreCodesOf (codes : List Value) (words : List ℕ) (values : List Value) : Type 0 where
+  pub known : AllKnown codes words
+  pub same : read codes words ≡ values
+
+abbrev pub IsCodeIn : List Value → List ℕ → List Value → ColumnId → Type 0
+IsCodeIn codes words row column = IsCodeOf codes (word_at words column) (value_at row column)

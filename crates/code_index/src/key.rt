@@ -1,0 +1,67 @@
+// Words by which maps are asked.
+ghost use Rattle.std.specs.Prelude.{◌≡◌, ◌≤◌, length, take, IfSome, MatchOption};
+ghost use Rattle.beas_core.specs.Groups.{member_columns};
+ghost use Rattle.code_index.specs.Reading.{pick};
+ghost use Rattle.code_index.specs.Spelling.{AllHaveCodes, AreCodesOf};
+
+use crate::interner::Interner;
+use crate::words::{column_at, word_at};
+use beas_core::{Access, ColumnId, Value};
+use std::marker::Model;
+
+/// The words of a whole tuple, by which a map is asked. They lie in place and take no memory.
+#[derive(Drop)]
+pub struct KeyWords {
+    words: [u64; 64],
+    len: usize,
+}
+
+impl Model for KeyWords {
+    ghost use Rattle.std.specs.Prelude.{◌≡◌, ◌≤◌, List, ℕ, length, take};
+
+    ghost Value = { List ℕ };
+
+    ghost view = { λ s. take s.len s.words };
+
+    ghost invariant = { λ s. (s.len ≤ 64) × (length s.words ≡ 64) };
+}
+
+impl KeyWords {
+    /// The words of a row's tuple, or none where it has more than 64.
+    #[tactic(auto, using(crate::proofs::Members::members_long))]
+    pub fn tuple(access: &Access, words: &[u64]) -> Option<KeyWords>
+        ensures { IfSome result (λ tuple. tuple ≡ pick (member_columns access.now) words.now) }
+    {
+        let len = access.key.len().saturating_add(access.fetched.len());
+        if len > 64 {
+            return None;
+        }
+        let mut tuple = [0; 64];
+        for i in 0..len {
+            tuple[i] = word_at(words, column_at(access, i));
+        }
+        Some(KeyWords { words: tuple, len })
+    }
+
+    pub fn as_slice(&self) -> &[u64]
+        ensures { result.now ≡ self.now }
+    {
+        &self.words[..self.len]
+    }
+}
+
+/// The codes of a key's values, at the front of `N` words, or none where one of them was never interned.
+pub fn known_codes<const N: usize>(codes: &Interner, key: &[Value]) -> Option<[u64; N]>
+    requires { length key.now ≤ N }
+    ensures { MatchOption result (AllHaveCodes codes.now key.now → ⊥)
+        (λ words. AreCodesOf codes.now (take (length key.now) words) key.now) }
+{
+    let mut words = [0; N];
+    for (i, value) in key.iter().enumerate() {
+        match codes.code(value) {
+            Some(code) => words[i] = code,
+            None => return None,
+        }
+    }
+    Some(words)
+}

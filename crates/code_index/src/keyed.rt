@@ -1,0 +1,282 @@
+// The index of one access constraint over codes, whatever holds the words of its keys.
+ghost use Rattle.std.specs.Prelude.{◌≡◌, ◌+◌, ◌<◌, ◌≤◌, ◌^◌, ◌↔◌, ◌++◌, ◌∷◌, [], ℕ, List, length, map, slice_index_or, IsTrue, IfOk, IfSome, MatchOption, OnOk, OnErr, if◌then◌else◌};
+ghost use Rattle.beas_core.specs.declared.value.Value.{Value};
+ghost use Rattle.beas_core.specs.Groups.{Holds, greatest, group_of, member_columns, has_column};
+ghost use Rattle.access_index.specs.Index.{IsIndexOf, WouldHold};
+ghost use Rattle.code_index.specs.Codes.{AreDistinct};
+ghost use Rattle.code_index.specs.Reading.{read, read_index, pick, AllKnown, Spells, IsInOrderFor, words_at, word_in};
+ghost use Rattle.code_index.specs.Taking.{CountsWhere, HoldsWhere};
+
+use crate::asked::{AskedRow, AskedWords};
+use crate::group::{count_down, count_up, has_room, of_one, put_copy};
+use crate::hasher::WordHashing;
+use crate::interner::Interner;
+use crate::own_words::{GroupKey, OwnWords};
+use crate::tuples::Group;
+use crate::words::word_of;
+use beas_core::{Access, ColumnId, Duplicate, List, NoMemory};
+use indexmap::IndexMap;
+use marked_list::TupleWords;
+use std::alloc::Global;
+use std::marker::Model;
+
+/// The index of one access constraint over rows of codes.
+#[derive(Drop)]
+pub struct KeyedIndex<W: OwnWords> {
+    access: Access,
+    total: u32,
+    groups: IndexMap<GroupKey<W>, Group, WordHashing>,
+}
+
+/// The index of one access constraint whose key has `K` columns.
+pub type FixedIndex<const K: usize> = KeyedIndex<[u64; K]>;
+
+/// The index of one access constraint whose key has up to 64 columns.
+pub type LongIndex = KeyedIndex<TupleWords>;
+
+impl<W: OwnWords> Model for KeyedIndex<W> {
+    ghost use Rattle.std.specs.Prelude.{◌≡◌, ◌≤◌, length};
+    ghost use Rattle.code_index.specs.Reading.{WordIndex, IsOrdered};
+
+    ghost Value = { WordIndex };
+
+    ghost view = { λ s. record { access = s.access; total = s.total; groups = s.groups.entries } };
+
+    ghost invariant = { λ s. W.fits (length s.access.key)
+        × IsOrdered (record { access = s.access; total = s.total; groups = s.groups.entries }) };
+}
+
+/// An index has these three fields and no other, so each tuple in its group alone: with a further field this would not
+/// compile.
+fn index_fields<W: OwnWords>(index: &KeyedIndex<W>) {
+    let KeyedIndex {
+        access: _access,
+        total: _total,
+        groups: _groups,
+    } = index;
+}
+
+/// The same groups under the same keys.
+fn copy_groups<W: OwnWords>(
+    alloc: Global,
+    groups: &IndexMap<GroupKey<W>, Group, WordHashing>,
+) -> Result<IndexMap<GroupKey<W>, Group, WordHashing>, NoMemory>
+    ensures { IfOk result (λ copy. copy.entries ≡ groups.now.entries) }
+{
+    let mut copy = IndexMap::with_hasher(alloc, WordHashing::new());
+    for i in 0..groups.len() {
+        let Some((key, group)) = groups.get_index(i) else {
+            unreachable!()
+        };
+        put_copy(alloc, &mut copy, key.copy(alloc)?, group)?;
+    }
+    Ok(copy)
+}
+
+impl<W: OwnWords> KeyedIndex<W> {
+    /// An index of no rows.
+    pub fn new(alloc: Global, access: Access) -> KeyedIndex<W>
+        requires { W.fits (length access.key) }
+        ensures access { result.access ≡ access }
+        ensures none { result.groups ≡ [] }
+        ensures total { result.total ≡ 0 }
+        ensures in_order { (codes : List Value) → AreDistinct codes → IsInOrderFor codes result }
+        ensures index { (codes : List Value) → IsIndexOf (read_index codes result) [] }
+    {
+        KeyedIndex {
+            access,
+            total: 0,
+            groups: IndexMap::with_hasher(alloc, WordHashing::new()),
+        }
+    }
+
+    /// The constraint. It takes no memory.
+    pub fn access(&self) -> &Access
+        ensures { result.now ≡ self.now.access }
+    {
+        &self.access
+    }
+
+    /// Counts one row more, wherever among the rows it stands. After an error the index is as it was.
+    pub fn add(&mut self, alloc: Global, codes: &Interner, words: &[u64]) -> Result<(), NoMemory>
+        requires in_order { IsInOrderFor codes.now self.old }
+        requires known { AllKnown codes.now (pick (member_columns self.old.access) words.now) }
+        requires room { self.old.total + 1 < 2 ^ 32 }
+        ensures access { self.new.access ≡ self.old.access }
+        ensures total { OnOk result (self.new.total ≡ self.old.total + 1) }
+        ensures in_order { IsInOrderFor codes.now self.new }
+        ensures ok { OnOk result ((row : List Value) (front back : List (List Value))
+            → Spells codes.now (member_columns self.old.access) words.now row
+            → IsIndexOf (read_index codes.now self.old) (front ++ back)
+            → IsIndexOf (read_index codes.now self.new) (front ++ row ∷ back)) }
+        ensures err { OnErr result (self.new ≡ self.old) }
+    {
+        let asked = AskedRow {
+            columns: self.access.key.as_slice(),
+            words,
+        };
+        if let Some(group) = self.groups.get_mut(asked) {
+            count_up(alloc, codes, group, &self.access, words)?;
+            self.total += 1;
+            return Ok(());
+        }
+        let group = of_one(alloc, &self.access, words)?;
+        let key = GroupKey::of_row(alloc, self.access.key.as_slice(), words)?;
+        self.groups.insert(key, group)?;
+        self.total += 1;
+        Ok(())
+    }
+
+    /// Whether the row's tuple is there or its group has fewer members than the bound. It takes no memory.
+    pub fn would_hold(&self, words: &[u64]) -> bool
+        ensures exactly { (codes row : List Value) → IsInOrderFor codes self.now
+            → Spells codes (member_columns self.now.access) words.now row
+            → (IsTrue result ↔ WouldHold (read_index codes self.now) row) }
+        ensures holds { (codes row : List Value) (rows : List (List Value)) → IsInOrderFor codes self.now
+            → Spells codes (member_columns self.now.access) words.now row
+            → IsIndexOf (read_index codes self.now) rows → Holds rows self.now.access
+            → (IsTrue result ↔ Holds (rows ++ row ∷ []) self.now.access) }
+    {
+        let asked = AskedRow {
+            columns: self.access.key.as_slice(),
+            words,
+        };
+        match self.groups.get(asked) {
+            None => self.access.bound > 0,
+            Some(group) => has_room(group, &self.access, words),
+        }
+    }
+
+    /// Counts one row more, wherever among the rows it stands, where its tuple is there or its group has fewer members than
+    /// the bound, and else it stays the index of its rows. The group is looked up once. After an error the index is as it was.
+    pub fn add_if_holds(
+        &mut self,
+        alloc: Global,
+        codes: &Interner,
+        words: &[u64],
+    ) -> Result<bool, NoMemory>
+        requires in_order { IsInOrderFor codes.now self.old }
+        requires known { AllKnown codes.now (pick (member_columns self.old.access) words.now) }
+        requires room { self.old.total + 1 < 2 ^ 32 }
+        ensures access { self.new.access ≡ self.old.access }
+        ensures total { IfOk result (λ held. self.new.total ≡ self.old.total + (if held then 1 else 0)) }
+        ensures in_order { IsInOrderFor codes.now self.new }
+        ensures index { IfOk result (λ held. CountsWhere held codes.now words.now self.old self.new) }
+        ensures holds { IfOk result (λ held. HoldsWhere held codes.now words.now self.old) }
+        ensures err { OnErr result (self.new ≡ self.old) }
+    {
+        let asked = AskedRow {
+            columns: self.access.key.as_slice(),
+            words,
+        };
+        if let Some(group) = self.groups.get_mut(asked) {
+            if !has_room(group, &self.access, words) {
+                return Ok(false);
+            }
+            count_up(alloc, codes, group, &self.access, words)?;
+            self.total += 1;
+            return Ok(true);
+        }
+        if self.access.bound == 0 {
+            return Ok(false);
+        }
+        let group = of_one(alloc, &self.access, words)?;
+        let key = GroupKey::of_row(alloc, self.access.key.as_slice(), words)?;
+        self.groups.insert(key, group)?;
+        self.total += 1;
+        Ok(true)
+    }
+
+    /// Counts one row fewer, wherever among the rows it stood. The tuple goes with its last row. It takes no memory.
+    pub fn remove(&mut self, words: &[u64])
+        ensures access { self.new.access ≡ self.old.access }
+        ensures total { self.new.total ≤ self.old.total }
+        ensures in_order { (codes : List Value) → IsInOrderFor codes self.old → IsInOrderFor codes self.new }
+        ensures rest { (codes row : List Value) (front back : List (List Value)) → IsInOrderFor codes self.old
+            → Spells codes (member_columns self.old.access) words.now row
+            → IsIndexOf (read_index codes self.old) (front ++ row ∷ back)
+            → IsIndexOf (read_index codes self.new) (front ++ back) }
+    {
+        let asked = AskedRow {
+            columns: self.access.key.as_slice(),
+            words,
+        };
+        let group = match self.groups.get_mut(asked) {
+            Some(group) => group,
+            None => return,
+        };
+        let at = match group.position_of(&self.access, words) {
+            Some(at) => at,
+            None => return,
+        };
+        let rows = group.count(at) as usize;
+        if group.len().max(rows) > 1 {
+            count_down(group, at);
+            self.total -= 1;
+            return;
+        }
+        self.groups.swap_remove(AskedRow {
+            columns: self.access.key.as_slice(),
+            words,
+        });
+        self.total -= 1;
+    }
+
+    /// The place and the length of a key's group, or none where it is empty. It takes no memory.
+    pub fn find(&self, key: &[u64]) -> Option<(u64, u32)>
+        requires { length key.now ≡ length self.now.access.key }
+        ensures len { IfSome result (λ found. found.1 ≡ length (words_at self.now found.0)) }
+        ensures group { (codes : List Value) (rows : List (List Value)) → IsInOrderFor codes self.now
+            → AllKnown codes key.now → IsIndexOf (read_index codes self.now) rows
+            → MatchOption result (group_of rows self.now.access (read codes key.now) ≡ [])
+            (λ found. map (read codes) (words_at self.now found.0) ≡ group_of rows self.now.access (read codes key.now)) }
+        ensures some { IfSome result (λ found. 0 < found.1) }
+        ensures stands { IfSome result (λ found. found.0 < length self.now.groups) }
+    {
+        // Read for what its type tells: there are fewer than 2^32 rows, and so fewer tuples in each group.
+        let _in_range = self.total;
+        match self.groups.get_index_of(AskedWords { words: key }) {
+            None => None,
+            Some(index) => Some((index as u64, self.groups[index].len() as u32)),
+        }
+    }
+
+    /// A column's word of a tuple that `find` found, while the index is as it was. It takes no memory.
+    pub fn word(&self, place: u64, i: u32, column: ColumnId) -> u64
+        requires stands { place < length self.now.groups }
+        requires member { i < length (words_at self.now place) }
+        requires column { IsTrue (has_column (member_columns self.now.access) column) }
+        ensures { result ≡ word_in (member_columns self.now.access) (slice_index_or (words_at self.now place) i []) column }
+    {
+        let group = &self.groups[place as usize];
+        word_of(&self.access, group.words(i as usize), column)
+    }
+
+    /// The size of the greatest group, 0 where there is none. It takes no memory.
+    pub fn greatest(&self) -> u32
+        ensures { (codes : List Value) (rows : List (List Value)) → IsInOrderFor codes self.now
+            → IsIndexOf (read_index codes self.now) rows
+            → result ≡ greatest rows self.now.access.key self.now.access.fetched }
+    {
+        // Read for what its type tells: there are fewer than 2^32 rows, and so fewer tuples in each group.
+        let _in_range = self.total;
+        let mut best = 0;
+        for i in 0..self.groups.len() {
+            best = (self.groups[i].len() as u32).max(best);
+        }
+        best
+    }
+
+    /// An equal index, in a time that grows with its size.
+    pub fn copy(&self, alloc: Global) -> Result<KeyedIndex<W>, NoMemory>
+        ensures { IfOk result (λ copy. copy ≡ self.now) }
+    {
+        let access = self.access.copy(alloc)?;
+        let groups = copy_groups(alloc, &self.groups)?;
+        Ok(KeyedIndex {
+            access,
+            total: self.total,
+            groups,
+        })
+    }
+}

@@ -1,0 +1,144 @@
+// What holds the words of a group's key: an array where their number is fixed, else `TupleWords`.
+ghost use Rattle.std.specs.Prelude.{◌≡◌, ◌≤◌, ℕ, List, length, nat_eq, IfOk};
+ghost use Rattle.std.specs.Cmp.{partial_equiv_from_equiv};
+ghost use Rattle.std.specs.Cmp.Lexicographic.{pointwise, nat_list_eq_equiv};
+ghost use Rattle.std.specs.Hash as fed;
+ghost use Rattle.marked_list.specs.Hashing.{words_alike};
+ghost use Rattle.code_index.specs.Reading.{pick};
+
+use crate::words::{key_of, push_words};
+use beas_core::{ColumnId, Duplicate, NoMemory};
+use marked_list::TupleWords;
+use std::alloc::Global;
+use std::hash::{Hash, Hasher};
+use std::marker::Model;
+
+/// What holds the words of a key: an array where their number is fixed, else `TupleWords`.
+pub trait OwnWords: Drop {
+    ghost seen: { Self → List ℕ };
+
+    ghost fits: { ℕ → Type 0 };
+
+    /// The words. It takes no memory.
+    fn as_slice(&self) -> &[u64]
+        ensures { result.now ≡ seen self.now };
+
+    /// The words of a row in some columns.
+    fn of_row(alloc: Global, columns: &[ColumnId], words: &[u64]) -> Result<Self, NoMemory>
+        requires { fits (length columns.now) }
+        ensures { IfOk result (λ own. seen own ≡ pick columns.now words.now) };
+
+    /// The same words.
+    fn copy(&self, alloc: Global) -> Result<Self, NoMemory>
+        ensures { IfOk result (λ copy. seen copy ≡ seen self.now) };
+}
+
+/// Exactly `K` words, in place. They take no memory.
+impl<const K: usize> OwnWords for [u64; K] {
+    ghost seen = { λ s. s };
+
+    ghost fits = { λ n. n ≡ K };
+
+    fn as_slice(&self) -> &[u64] {
+        &self[..]
+    }
+
+    fn of_row(_alloc: Global, columns: &[ColumnId], words: &[u64]) -> Result<[u64; K], NoMemory> {
+        Ok(key_of::<K>(columns, words))
+    }
+
+    fn copy(&self, _alloc: Global) -> Result<[u64; K], NoMemory> {
+        Ok(*self)
+    }
+}
+
+/// Up to 64 words, as many as a key can have.
+impl OwnWords for TupleWords {
+    ghost seen = { λ s. s };
+
+    ghost fits = { λ n. n ≤ 64 };
+
+    fn as_slice(&self) -> &[u64] {
+        self.as_slice()
+    }
+
+    fn of_row(alloc: Global, columns: &[ColumnId], words: &[u64]) -> Result<TupleWords, NoMemory> {
+        let mut key = Vec::with_capacity(alloc, columns.len())?;
+        push_words(&mut key, columns, words)?;
+        Ok(TupleWords::from_vec(key))
+    }
+
+    fn copy(&self, alloc: Global) -> Result<TupleWords, NoMemory> {
+        Duplicate::copy(self, alloc)
+    }
+}
+
+/// The key of a group, seen as its words.
+#[derive(Drop)]
+pub struct GroupKey<W: OwnWords> {
+    own: W,
+}
+
+impl<W: OwnWords> Model for GroupKey<W> {
+    ghost use Rattle.std.specs.Prelude.{List, ℕ};
+
+    ghost Value = { List ℕ };
+
+    ghost view = { λ s. W.seen s.own };
+}
+
+impl<W: OwnWords> GroupKey<W> {
+    /// The key of a row.
+    pub fn of_row(
+        alloc: Global,
+        columns: &[ColumnId],
+        words: &[u64],
+    ) -> Result<GroupKey<W>, NoMemory>
+        requires { W.fits (length columns.now) }
+        ensures { IfOk result (λ key. key ≡ pick columns.now words.now) }
+    {
+        Ok(GroupKey {
+            own: W::of_row(alloc, columns, words)?,
+        })
+    }
+
+    /// Its words. It takes no memory.
+    pub fn as_slice(&self) -> &[u64]
+        ensures { result.now ≡ self.now }
+    {
+        self.own.as_slice()
+    }
+
+    /// The same key.
+    pub fn copy(&self, alloc: Global) -> Result<GroupKey<W>, NoMemory>
+        ensures { IfOk result (λ copy. copy ≡ self.now) }
+    {
+        Ok(GroupKey {
+            own: self.own.copy(alloc)?,
+        })
+    }
+}
+
+impl<W: OwnWords> PartialEq for GroupKey<W> {
+    ghost eq = { pointwise nat_eq };
+
+    ghost laws = { partial_equiv_from_equiv nat_list_eq_equiv };
+
+    fn eq(&self, other: &GroupKey<W>) -> bool {
+        self.as_slice() == other.as_slice()
+    }
+}
+
+impl<W: OwnWords> Eq for GroupKey<W> {
+    ghost laws = { nat_list_eq_equiv };
+}
+
+impl<W: OwnWords> Hash for GroupKey<W> {
+    ghost hash_input = { fed.slice fed.u64 };
+
+    ghost respects_eq = { words_alike };
+
+    fn hash<H: Hasher>(&self, state: &mut H) {
+        self.as_slice().hash(state);
+    }
+}

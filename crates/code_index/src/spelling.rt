@@ -1,0 +1,89 @@
+// The codes of a row's values.
+ghost use Rattle.std.specs.Prelude.{◌≡◌, ◌≤◌, ◌<◌, Some, List, length, IfOk, MatchOption};
+ghost use Rattle.beas_core.specs.Groups.{value_at, project, member_columns};
+ghost use Rattle.beas_core.specs.Shapes.{AccessIsWellFormed};
+ghost use Rattle.code_index.specs.Codes.{code_of};
+ghost use Rattle.code_index.specs.Reading.{KeepsCodes, Spells};
+ghost use Rattle.code_index.specs.Spelling.{AllHaveCodes};
+
+use crate::interner::Interner;
+use crate::words::column_at;
+use beas_core::{Access, ColumnId, Duplicate, NoMemory, Value};
+use std::alloc::Global;
+
+/// The code of a row's value in a column, or none where it was never interned. A column that the row doesn't have stands
+/// for the integer 0.
+pub fn code_in(codes: &Interner, row: &[Value], column: ColumnId) -> Option<u64>
+    ensures { result ≡ code_of codes.now (value_at row.now column) }
+{
+    match row.get(column.0 as usize) {
+        Some(value) => codes.code(value),
+        None => codes.code(&Value::Int(0)),
+    }
+}
+
+/// A copy of a row's value in a column.
+fn copy_in(alloc: Global, row: &[Value], column: ColumnId) -> Result<Value, NoMemory>
+    ensures { IfOk result (λ copy. copy ≡ value_at row.now column) }
+{
+    match row.get(column.0 as usize) {
+        Some(value) => value.copy(alloc),
+        None => Ok(Value::Int(0)),
+    }
+}
+
+/// The code of a row's value in a column, which is interned where it wasn't yet.
+fn interned_in(
+    alloc: Global,
+    codes: &mut Interner,
+    row: &[Value],
+    column: ColumnId,
+) -> Result<u64, NoMemory>
+    ensures kept { KeepsCodes codes.old codes.new }
+    ensures code { IfOk result (λ code. code_of codes.new (value_at row.now column) ≡ Some code) }
+{
+    match code_in(codes, row, column) {
+        Some(code) => Ok(code),
+        None => codes.intern(alloc, copy_in(alloc, row, column)?),
+    }
+}
+
+/// The codes of a row's values in the columns of a constraint's tuples, each at the place of its column, or none where
+/// one of the values was never interned. It takes no memory.
+#[tactic(auto, using(crate::proofs::Members::members_long))]
+pub fn known_words(codes: &Interner, access: &Access, row: &[Value]) -> Option<[u64; 64]>
+    requires { AccessIsWellFormed 64 access.now }
+    ensures { MatchOption result (AllHaveCodes codes.now (project (member_columns access.now) row.now) → ⊥)
+        (λ words. Spells codes.now (member_columns access.now) words row.now) }
+{
+    let mut words = [0; 64];
+    for i in 0..access.key.len() + access.fetched.len() {
+        let column = column_at(access, i);
+        match code_in(codes, row, column) {
+            Some(code) => words[column.0 as usize] = code,
+            None => return None,
+        }
+    }
+    Some(words)
+}
+
+/// The codes of a row's values in the columns of a constraint's tuples, each at the place of its column. Values that
+/// weren't interned yet are, and all others keep their codes.
+#[tactic(auto, using(crate::proofs::Members::members_long))]
+pub fn interned_words(
+    alloc: Global,
+    codes: &mut Interner,
+    access: &Access,
+    row: &[Value],
+) -> Result<[u64; 64], NoMemory>
+    requires { AccessIsWellFormed 64 access.now }
+    ensures kept { KeepsCodes codes.old codes.new }
+    ensures spells { IfOk result (λ words. Spells codes.new (member_columns access.now) words row.now) }
+{
+    let mut words = [0; 64];
+    for i in 0..access.key.len() + access.fetched.len() {
+        let column = column_at(access, i);
+        words[column.0 as usize] = interned_in(alloc, codes, row, column)?;
+    }
+    Ok(words)
+}

@@ -1,0 +1,225 @@
+// The tuples of one key, whatever their number.
+ghost use Rattle.std.specs.Prelude.{◌≡◌, ◌≢◌, ◌+◌, ◌<◌, ◌≤◌, ◌^◌, ◌∷◌, [], List, length, filter, insert, remove, slice_index_or, slice_set, MatchOption, IfOk, OnOk, OnErr};
+ghost use Rattle.std.specs.List.{AllByRecursion};
+ghost use Rattle.std.specs.List.Sorted.{IsPartitionedBy};
+ghost use Rattle.beas_core.specs.Groups.{member_columns};
+ghost use Rattle.marked_list.specs.Marks.{AreDistinct};
+ghost use Rattle.marked_list.specs.declared.coded.Coded.{Coded};
+ghost use Rattle.code_index.specs.Forms.{tuples_of};
+ghost use Rattle.code_index.specs.Reading.{pick};
+
+use crate::form::Form;
+use crate::key::KeyWords;
+use crate::words::is_tuple;
+use beas_core::{Access, Duplicate, NoMemory};
+use blocked_list::{Before, BlockedList};
+use marked_list::{Coded, MarkedList, TupleWords};
+use std::alloc::Global;
+use std::marker::Model;
+
+/// A short group has as many tuples at most.
+const SHORT: usize = 512;
+
+/// The tuples of one key in an order that only the writer knows, each with how many rows have it.
+#[derive(Drop)]
+pub struct Group {
+    form: Form,
+}
+
+impl Model for Group {
+    ghost use Rattle.std.specs.Prelude.{List};
+    ghost use Rattle.marked_list.specs.declared.coded.Coded.{Coded};
+    ghost use Rattle.code_index.specs.Forms.{tuples_of};
+
+    ghost Value = { List Coded };
+
+    ghost view = { λ s. tuples_of s.form };
+}
+
+/// A group has this one field and no other, so each tuple once: with a further field this would not compile.
+fn group_fields(group: &Group) {
+    let Group { form: _form } = group;
+}
+
+/// The place of a tuple by the place of its words.
+#[derive(Drop)]
+struct CodedPlace<'a, B> {
+    wanted: &'a B,
+}
+
+impl<B: Before<TupleWords>> Before<Coded> for CodedPlace<'_, B> {
+    ghost before = { λ place coded. B.before place.wanted.now coded.words };
+
+    fn is_before(&self, coded: &Coded) -> bool {
+        self.wanted.is_before(&coded.words)
+    }
+}
+
+/// A copy of the tuples of a short group.
+fn copy_short(alloc: Global, tuples: &BlockedList<Coded>) -> Result<BlockedList<Coded>, NoMemory>
+    ensures { IfOk result (λ copy. copy ≡ tuples.now) }
+{
+    let mut copy = BlockedList::new(alloc);
+    for i in 0..tuples.len() {
+        copy.insert(alloc, i, tuples.get(i).copy(alloc)?)?;
+    }
+    Ok(copy)
+}
+
+impl Group {
+    /// A group of one tuple.
+    pub fn of(alloc: Global, tuple: Coded) -> Result<Group, NoMemory>
+        ensures { IfOk result (λ group. group ≡ tuple ∷ []) }
+    {
+        let mut tuples = BlockedList::new(alloc);
+        tuples.insert(alloc, 0, tuple)?;
+        Ok(Group {
+            form: Form::Short(tuples),
+        })
+    }
+
+    /// How many tuples there are. It takes no memory.
+    pub fn len(&self) -> usize
+        ensures { result ≡ length self.now }
+    {
+        match &self.form {
+            Form::Short(tuples) => tuples.len(),
+            Form::Marked(tuples) => tuples.len(),
+        }
+    }
+
+    /// The words of the tuple at a place. It takes no memory.
+    pub fn words(&self, at: usize) -> &[u64]
+        requires { at < length self.now }
+        ensures { (d : Coded) → result.now ≡ (slice_index_or self.now at d).words }
+    {
+        match &self.form {
+            Form::Short(tuples) => tuples.get(at).words.as_slice(),
+            Form::Marked(tuples) => tuples.words(at),
+        }
+    }
+
+    /// How many rows have the tuple at a place. It takes no memory.
+    pub fn count(&self, at: usize) -> u32
+        requires { at < length self.now }
+        ensures { (d : Coded) → result ≡ (slice_index_or self.now at d).count }
+    {
+        match &self.form {
+            Form::Short(tuples) => tuples.get(at).count,
+            Form::Marked(tuples) => tuples.count(at),
+        }
+    }
+
+    /// How many tuples stand before a place, where they are the first ones. It takes no memory.
+    pub fn place_of<B: Before<TupleWords>>(&self, wanted: &B) -> usize
+        requires { IsPartitionedBy (λ (tuple : Coded). B.before wanted.now tuple.words) self.now }
+        ensures { result ≡ length (filter (λ (tuple : Coded). B.before wanted.now tuple.words) self.now) }
+    {
+        match &self.form {
+            Form::Short(tuples) => tuples.place_of(&CodedPlace { wanted }),
+            Form::Marked(tuples) => tuples.place_of(wanted),
+        }
+    }
+
+    /// Where a row's tuple is, by a look at each.
+    fn scan(&self, access: &Access, words: &[u64]) -> Option<usize>
+        ensures { MatchOption result
+            (AllByRecursion (λ (tuple : Coded). tuple.words ≢ pick (member_columns access.now) words.now) self.now)
+            (λ at. (at < length self.now)
+            × ((d : Coded) → (slice_index_or self.now at d).words ≡ pick (member_columns access.now) words.now)) }
+    {
+        for i in 0..self.len() {
+            if is_tuple(self.words(i), access, words) {
+                return Some(i);
+            }
+        }
+        None
+    }
+
+    /// Where a row's tuple is by its words alone: in a short group by a look at each tuple's words, in a long one by its
+    /// mark. It takes no memory.
+    pub fn position_of(&self, access: &Access, words: &[u64]) -> Option<usize>
+        ensures { MatchOption result
+            (AllByRecursion (λ (tuple : Coded). tuple.words ≢ pick (member_columns access.now) words.now) self.now)
+            (λ at. (at < length self.now)
+            × ((d : Coded) → (slice_index_or self.now at d).words ≡ pick (member_columns access.now) words.now)) }
+    {
+        match &self.form {
+            Form::Short(_) => self.scan(access, words),
+            Form::Marked(tuples) => match KeyWords::tuple(access, words) {
+                Some(tuple) => tuples.position_of(tuple.as_slice()),
+                // More than 64 words, as where a key and the fetched columns overlap.
+                None => self.scan(access, words),
+            },
+        }
+    }
+
+    /// Gives a short group that is full the form of a long one. The tuples stay.
+    fn widen(&mut self, alloc: Global) -> Result<(), NoMemory>
+        requires few { length self.old < 2 ^ 32 }
+        requires distinct { AreDistinct self.old }
+        ensures { self.new ≡ self.old }
+    {
+        let tuples = match &self.form {
+            Form::Marked(_) => return Ok(()),
+            Form::Short(tuples) => {
+                if tuples.len() < SHORT {
+                    return Ok(());
+                }
+                MarkedList::over(alloc, tuples)?
+            }
+        };
+        self.form = Form::Marked(Box::new(alloc, tuples)?);
+        Ok(())
+    }
+
+    /// Puts a tuple that isn't there in at a place. After an error all is as before.
+    pub fn insert(&mut self, alloc: Global, at: usize, tuple: Coded) -> Result<(), NoMemory>
+        requires within { at ≤ length self.old }
+        requires room { length self.old + 1 < 2 ^ 32 }
+        requires distinct { AreDistinct self.old }
+        requires absent { AllByRecursion (λ (item : Coded). item.words ≢ tuple.words) self.old }
+        ensures ok { OnOk result (self.new ≡ insert self.old at tuple) }
+        ensures err { OnErr result (self.new ≡ self.old) }
+    {
+        self.widen(alloc)?;
+        match &mut self.form {
+            Form::Short(tuples) => tuples.insert(alloc, at, tuple),
+            Form::Marked(tuples) => tuples.insert(alloc, at, tuple),
+        }
+    }
+
+    /// Writes how many rows have the tuple at a place. It takes no memory.
+    pub fn recount(&mut self, at: usize, count: u32)
+        requires { at < length self.old }
+        ensures { (d : Coded) → self.new
+            ≡ slice_set self.old at (record { words = (slice_index_or self.old at d).words; count = count }) }
+    {
+        match &mut self.form {
+            Form::Short(tuples) => tuples.recount(at, count),
+            Form::Marked(tuples) => tuples.recount(at, count),
+        }
+    }
+
+    /// Drops the tuple at a place. It takes no memory.
+    pub fn remove(&mut self, at: usize)
+        requires { at < length self.old }
+        ensures { self.new ≡ remove self.old at }
+    {
+        match &mut self.form {
+            Form::Short(tuples) => tuples.remove(at),
+            Form::Marked(tuples) => tuples.remove(at),
+        }
+    }
+
+    /// An equal group, in a time that grows with its length.
+    pub fn copy(&self, alloc: Global) -> Result<Group, NoMemory>
+        ensures { IfOk result (λ copy. copy ≡ self.now) }
+    {
+        let form = match &self.form {
+            Form::Short(tuples) => Form::Short(copy_short(alloc, tuples)?),
+            Form::Marked(tuples) => Form::Marked(Box::new(alloc, tuples.copy(alloc)?)?),
+        };
+        Ok(Group { form })
+    }
+}

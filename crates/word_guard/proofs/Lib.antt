@@ -1,2 +1,0 @@
-mod PartFacts
-mod PlaceFacts

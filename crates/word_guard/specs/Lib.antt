@@ -1,3 +1,0 @@
-pub mod Freezing
-pub mod Parts
-pub mod Stored

@@ -1,0 +1,54 @@
+// What a probe finds in an index over codes, as the values of these codes.
+ghost use Rattle.std.specs.Prelude.{◌≡◌, ◌+◌, ◌<◌, [], List, length, max, slice_index_or, IsTrue};
+ghost use Rattle.beas_core.specs.Types.{Row};
+ghost use Rattle.beas_core.specs.Groups.{group_of, member_columns, has_column, value_in};
+ghost use Rattle.access_index.specs.Index.{IsIndexOf, members_at, stands_at};
+ghost use Rattle.code_index.specs.Widths.{index_in};
+ghost use Rattle.word_index.specs.Kept.{meaning, IsKept};
+
+use beas_core::{ColumnId, Hits, Steps, Value};
+use code_index::{AnyIndex, Interner, find_group};
+use std::sync::ledger::Ledger;
+
+/// The group of a key, counted: the greater of 1 and the number of its tuples. It takes no memory.
+pub fn probe_in<L: Ledger>(
+    codes: &Interner,
+    index: &AnyIndex,
+    key: &[Value],
+    steps: &mut Steps<L>,
+) -> Hits
+    requires kept { IsKept codes.now index.now }
+    requires width { length key.now ≡ length (index_in index.now).access.key }
+    ensures access { result.access ≡ (index_in index.now).access.id }
+    ensures members { (rows : List Row) → IsIndexOf (meaning codes.now index.now) rows
+        → members_at (meaning codes.now index.now) result ≡ group_of rows (index_in index.now).access key.now }
+    ensures len { result.len ≡ length (members_at (meaning codes.now index.now) result) }
+    ensures stands { stands_at (meaning codes.now index.now) result }
+    ensures cost { steps.new ≡ steps.old + max 1 result.len }
+{
+    let id = index.access().id;
+    match find_group(codes, index, key) {
+        Some((group, len)) => Hits::counted(id, group * 0x1_0000_0000, len, steps),
+        None => Hits::counted(id, 0, 0, steps),
+    }
+}
+
+/// A column of a tuple that a probe found and counted, while the index is as it was. It takes no memory.
+pub fn value_in_hits<'a>(
+    codes: &'a Interner,
+    index: &AnyIndex,
+    hits: &Hits,
+    i: u32,
+    column: ColumnId,
+) -> &'a Value
+    requires kept { IsKept codes.now index.now }
+    requires stands { stands_at (meaning codes.now index.now) hits.now }
+    requires member { i < hits.now.len }
+    requires column { IsTrue (has_column (member_columns (index_in index.now).access) column) }
+    ensures { result.now ≡ value_in (member_columns (index_in index.now).access)
+        (slice_index_or (members_at (meaning codes.now index.now) hits.now) i []) column }
+{
+    let group = hits.place() / 0x1_0000_0000;
+    let at = (hits.place() % 0x1_0000_0000) as u32 + i;
+    codes.value(index.word(group, at, column))
+}

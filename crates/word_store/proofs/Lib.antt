@@ -1,2 +1,0 @@
-pub mod KeptFacts
-pub mod ProbeFacts
