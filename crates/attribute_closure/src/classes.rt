@@ -1,23 +1,10 @@
 // Classes of columns, and sets of classes.
 ghost use Rattle.std.specs.Prelude.{◌≡◌, IfOk, OnOk, length, map, replicate, false};
 ghost use Rattle.std.specs.List.{list_all};
-ghost use Rattle.beas_core.specs.Coverage.{has, holds_classes, class_at as class_of_column, with_classes, constant_classes as classes_of_constants};
+ghost use Rattle.beas_core.specs.Coverage.{class_at as class_of_column, has, holds_classes, with_classes, constant_classes as classes_of_constants};
 
-use beas_core::{ColumnId, List, NoMemory, Normal, Value};
+use beas_core::{ColumnId, List, NoMemory, Normal, Value, class_at};
 use std::alloc::Global;
-
-/// The class of a column of an atom.
-pub fn class_at(block: &Normal, atom: u16, column: ColumnId) -> u16
-    ensures { result ≡ class_of_column block.now atom column }
-{
-    match block.classes.as_slice().get(usize::from(atom)) {
-        Some(classes) => match classes.as_slice().get(usize::from(column.0)) {
-            Some(class) => *class,
-            None => 0,
-        },
-        None => 0,
-    }
-}
 
 /// Whether a set holds a class.
 pub fn has_class(set: &[bool], class: u16) -> bool

@@ -4,9 +4,8 @@ ghost use Rattle.beas_core.specs.Coverage.{ClassesInRange, key_classes, uses, wi
 ghost use Rattle.attribute_closure.specs.Uses.{as_use};
 ghost use Rattle.attribute_closure.specs.Keys.{AreCounted, CountedDown, GoesOn, KeysAreCounted, WaitsFor, number_at, times};
 
-use crate::classes::class_at;
 use crate::uses::{UseAt, uses_of};
-use beas_core::{Access, ColumnId, List, NoMemory, Normal};
+use beas_core::{Access, ColumnId, List, NoMemory, Normal, class_at};
 use std::alloc::Global;
 
 /// The uses of constraints on the atoms of a block, and a growing set of classes. `missing` says for each use how many

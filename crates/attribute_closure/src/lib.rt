@@ -7,7 +7,7 @@ mod keys;
 mod reasons;
 mod uses;
 
-pub use classes::{add_constants, class_at, constant_classes, has_class, holds_columns};
+pub use classes::{add_constants, constant_classes, has_class, holds_columns};
 pub use closure::{close, close_from};
 pub use keys::Keys;
 pub use reasons::{holds_needed, open_place, reason, serves, why_not};

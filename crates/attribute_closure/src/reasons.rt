@@ -6,9 +6,9 @@ ghost use Rattle.beas_core.specs.Coverage.{atoms_of, holds_needed as needed_are_
 ghost use Rattle.beas_core.specs.Groups.{has_column, member_columns};
 ghost use Rattle.attribute_closure.specs.Uses.{as_use};
 
-use crate::classes::{class_at, has_class, holds_columns};
+use crate::classes::{has_class, holds_columns};
 use crate::uses::UseAt;
-use beas_core::{Access, ColumnId, List, NoMemory, Normal, NotCovered, Place};
+use beas_core::{Access, ColumnId, List, NoMemory, Normal, NotCovered, Place, class_at};
 use std::alloc::Global;
 
 #[tactic(auto, using(crate::proofs::Searches::any_more, crate::proofs::Searches::any_here))]

@@ -13,3 +13,5 @@ pub mod SumFacts
 mod VisitFacts
 mod WalkFacts
 mod WorldFacts
+pub mod Linking
+pub mod Search

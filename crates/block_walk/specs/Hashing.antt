@@ -1,18 +1,15 @@
 -- The hash of a step and a key, by which what a probe found is found again.
---     mixed state word           a word mixed into a state: both halves of (state xor word) times a constant, joined
 --     word_of value              the word that stands for a value: its number, and of a text its hash
 --     hash_of step key           the hash of a step and a key: the step is mixed, and then the words of the values one after another
-use Rattle.std.specs.Prelude.{ℕ, bit_xor}
+use Rattle.std.specs.Prelude.{ℕ}
 use Rattle.std.specs.Int.{w64, cast_unsigned}
 use Rattle.std.specs.List.{fold}
 use Rattle.std.specs.Hash.FoldHasher as folding
 use Rattle.beas_core.specs.declared.value.Value.{Value}
 use Rattle.beas_core.specs.declared.value.Value.TheVariants.{Int, Str}
 use Rattle.beas_core.specs.Hashing.{writes_of}
+use Rattle.beas_core.specs.Mixing.{mixed}
 use Rattle.beas_core.specs.Types.{Row}
-
-unfoldable pub mixed : ℕ → ℕ → ℕ
-mixed state word = folding.folded_multiply (bit_xor state word) 0x9e37_79b9_7f4a_7c15
 
 abbrev pub word_of : Value → ℕ
 word_of (Int n) = cast_unsigned w64 n

@@ -8,3 +8,5 @@ pub mod Stacks
 pub mod Turns
 pub mod Walks
 pub mod Worlds
+pub mod Buckets
+pub mod Chains

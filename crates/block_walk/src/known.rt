@@ -1,16 +1,15 @@
 // What the probes of a walk found.
 ghost use Rattle.std.specs.Prelude.{◌≡◌, ◌+◌, ◌<◌, ◌++◌, ◌∷◌, ◌↔◌, [], length, IfOk, IfSome, IfNone, IsTrue, OnOk, slice_index_or};
-ghost use Rattle.std.specs.Hash.FoldHasher.{folded_multiply};
 ghost use Rattle.beas_core.specs.Derivations.{access_in, is_live};
 ghost use Rattle.beas_core.specs.Groups.{group_of, member_columns};
 ghost use Rattle.beas_core.specs.Reads.{probe_reads};
 ghost use Rattle.beas_core.proofs.Sets.{Has};
 ghost use Rattle.block_walk.specs.Kept.{Entry};
 ghost use Rattle.block_walk.specs.Entries.{IsKnown, entries_in, entry_of, key_alone};
-ghost use Rattle.block_walk.specs.Hashing.{hash_of, mixed, word_of};
+ghost use Rattle.block_walk.specs.Hashing.{hash_of, word_of};
 
-use beas_core::{AccessId, AccessPort, ColumnId, NoMemory, Steps, Value};
-use place_chains::PlaceChains;
+use crate::chains::PlaceChains;
+use beas_core::{AccessId, AccessPort, ColumnId, NoMemory, Steps, Value, mixed};
 use plan_ops::fetch;
 use std::alloc::Global;
 use std::hash::{FoldHasher, Hash, Hasher};
@@ -43,24 +42,6 @@ const VALUES: usize = 96;
 
 const ENTRIES: usize = 24;
 
-// 2^64 over the golden ratio, rounded to an odd number, as multiplicative hashing often takes it. `word_index` mixes words so too.
-const MULTIPLIER: u64 = 0x9e37_79b9_7f4a_7c15;
-
-// Both halves of the product of two words, joined.
-fn folded_product(a: u64, b: u64) -> u64
-    ensures { result ≡ folded_multiply a b }
-{
-    let product = a as u128 * b as u128;
-    (product & 0xFFFF_FFFF_FFFF_FFFF) as u64 ^ (product >> 64) as u64
-}
-
-// A word mixed into a state.
-fn mix(state: u64, word: u64) -> u64
-    ensures { result ≡ mixed state word }
-{
-    folded_product(state ^ word, MULTIPLIER)
-}
-
 // The word that stands for a value.
 fn word_of(value: &Value) -> u64
     ensures { result ≡ word_of value.now }
@@ -80,9 +61,9 @@ pub fn hash_of(step: usize, key: &[Value]) -> u64
     ensures { result ≡ hash_of step key.now }
 {
     // The step is mixed in first, so that equal numbers of different steps have hashes of their own.
-    let mut hash = mix(step as u64, 0);
+    let mut hash = mixed(step as u64, 0);
     for value in key {
-        hash = mix(hash, word_of(value));
+        hash = mixed(hash, word_of(value));
     }
     hash
 }

@@ -1,10 +1,14 @@
 //! The walk of one block through its derivation, depth first, one probe a turn.
 #![tactic(auto)]
 
+mod chains;
+mod fields;
 mod known;
 mod laws;
+mod links;
 mod stack;
 mod walking;
 
+pub use fields::walk_fields;
 pub use laws::law_walk;
 pub use walking::{Walk, answer, begin, turn};

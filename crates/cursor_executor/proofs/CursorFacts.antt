@@ -8,8 +8,8 @@ use Rattle.beas_core.specs.Fits.{Fits}
 use Rattle.beas_core.specs.Full.{full_of}
 use Rattle.evaluation_facts.proofs.GuidedLaw.{guided_answers_are_full}
 use Rattle.evaluation_facts.proofs.QueryBounds.{few, shaped_query}
-use Rattle.plan_executor.specs.Held.{PlanHolds}
-use Rattle.plan_executor.proofs.TreeFacts.{all_hold}
+use Rattle.plan_ops.specs.Held.{PlanHolds}
+use Rattle.plan_ops.proofs.TreeFacts.{all_hold}
 use Rattle.block_walk.specs.Worlds.{World, world}
 use Rattle.cursor_executor.specs.declared.courses.Course.{Course}
 use Rattle.cursor_executor.specs.declared.cursors.Turn.TheVariants.{Probed, Done}

@@ -4,7 +4,6 @@
 --     ProbedOne w prepared reads old new before after    exactly one due probe was made, and is fetched now; it took so many reads
 --     SpentDue w prepared fetched before after           one probe that was due was counted
 --     QuerySpent w prepared fetched before after         what failed counted nothing, or one probe that was due
---     SpentWithin w prepared reads before after          what failed counted nothing, or no more than the reads that were left
 --     HasRun old new before after                        an operation of a course that made no probe has run
 --     Stepped w prepared reads old new before after      what carrying out one operation did
 --     HasEnded old new before after                      all operations have run, and none made a probe
@@ -50,10 +49,6 @@ pub record SpentDue (w : World) (prepared : Prepared) (fetched : List BlockFetch
 
 abbrev pub QuerySpent : World → Prepared → List BlockFetched → ℕ → ℕ → Type 0
 QuerySpent w prepared fetched before after = (after ≡ before) ⊎ SpentDue w prepared fetched before after
-
--- nothing was counted, or no more than the reads that were left
-abbrev pub SpentWithin : World → Prepared → ℕ → ℕ → ℕ → Type 0
-SpentWithin w prepared reads before after = (after ≡ before) ⊎ (after + reads ≤ before + reads_due w prepared)
 
 -- ---- of a course
 

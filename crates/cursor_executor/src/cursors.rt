@@ -1,15 +1,14 @@
 // A query that is answered turn by turn.
-ghost use Rattle.std.specs.Prelude.{◌≡◌, ◌+◌, ◌≤◌, [], true, false, None, Ok, Some, IfOk, IsErr, IsOk, IsTrue, OnErr, OnOk, is_some};
+ghost use Rattle.std.specs.Prelude.{◌≡◌, ◌≤◌, [], true, false, None, Ok, Some, IfOk, IsErr, IsTrue, OnErr, OnOk, is_some};
 ghost use Rattle.beas_core.specs.Fits.{Fits, PreparedIsWellFormed};
-ghost use Rattle.beas_core.specs.Full.{full_of};
 ghost use Rattle.block_walk.specs.Worlds.{world};
-ghost use Rattle.cursor_executor.specs.Courses.{IsCourse, fetched_by, left_of};
-ghost use Rattle.cursor_executor.specs.Fetching.{AllAgree, IsWorld, probed, probes_due, reads_due, reads_fetched};
-ghost use Rattle.cursor_executor.specs.Turns.{HasGone, QuerySpent, SpentWithin, TurnIs};
+ghost use Rattle.cursor_executor.specs.Courses.{IsCourse, fetched_by};
+ghost use Rattle.cursor_executor.specs.Fetching.{AllAgree, IsWorld, reads_fetched};
+ghost use Rattle.cursor_executor.specs.Turns.{HasGone, QuerySpent, TurnIs};
 
 use crate::courses::{Course, course_of, go};
 use beas_core::{AccessPort, Answer, NoMemory, Prepared, Steps};
-use plan_executor::ask_for_all;
+use plan_ops::ask_for_all;
 use std::alloc::Global;
 use std::marker::Model;
 use std::sync::ledger::Ledger;
@@ -78,33 +77,6 @@ fn probe_next<P: AccessPort, L: Ledger>(
     Ok(true)
 }
 
-// Makes all probes that are due.
-fn probe_all<P: AccessPort, L: Ledger>(
-    alloc: Global,
-    port: &P,
-    prepared: &Prepared,
-    course: &mut Course,
-    reads: &mut u128,
-    steps: &mut Steps<L>,
-) -> Result<(), NoMemory>
-    requires fits { IsWorld (world (P.rows port.now) (P.accesses port.now)) prepared.now }
-    requires course { IsCourse prepared.now course.old }
-    requires agrees { AllAgree (world (P.rows port.now) (P.accesses port.now)) prepared.now (fetched_by course.old) }
-    requires reads { reads.old ≡ reads_fetched (fetched_by course.old) }
-    ensures course { OnOk result (IsCourse prepared.now course.new) }
-    ensures left { OnOk result (left_of course.new ≡ []) }
-    ensures agrees { OnOk result (AllAgree (world (P.rows port.now) (P.accesses port.now)) prepared.now
-        (fetched_by course.new)) }
-    ensures reads { OnOk result (reads.new ≡ reads_fetched (fetched_by course.new)) }
-    ensures cost { OnOk result (steps.new + reads.old ≡ steps.old + reads.new) }
-    ensures spent { OnErr result (SpentWithin (world (P.rows port.now) (P.accesses port.now)) prepared.now reads.old
-        steps.old steps.new) }
-    ensures kept { steps.old ≤ steps.new }
-{
-    'probes: while probe_next(alloc, port, prepared, course, reads, steps)? {}
-    Ok(())
-}
-
 impl Cursor {
     /// A cursor that has fetched nothing.
     pub fn begin(alloc: Global, prepared: Prepared) -> Result<Cursor, NoMemory>
@@ -144,6 +116,7 @@ impl Cursor {
         ensures turn { IfOk result
             (λ turn. TurnIs (world (P.rows port.now) (P.accesses port.now)) turn self.old self.new
             steps.old steps.new) }
+        ensures bound { OnOk result (self.new.reads ≤ self.old.prepared.bound) }
 
         ensures failed { OnErr result (self.new.failed ≡ true) }
         ensures spent { OnErr result (QuerySpent (world (P.rows port.now) (P.accesses port.now)) self.old.prepared
@@ -177,53 +150,6 @@ impl Cursor {
         Ok(Turn::Done)
     }
 
-    /// Makes all probes that are due, each once and no other, so that the answer is there: as `plan_executor::execute`
-    /// does, and with its reads. Out of memory, the cursor has failed, and no more was counted than the reads that were left.
-    pub fn complete<P: AccessPort, L: Ledger>(
-        &mut self,
-        alloc: Global,
-        port: &P,
-        steps: &mut Steps<L>,
-    ) -> Result<(), NoMemory>
-        requires fits { Fits (P.accesses port.now) (P.rows port.now) self.old.prepared }
-        requires going { self.old.failed ≡ false }
-        requires agrees { AllAgree (world (P.rows port.now) (P.accesses port.now)) self.old.prepared self.old.fetched }
-        ensures prepared { self.new.prepared ≡ self.old.prepared }
-        ensures fetched { OnOk result (probes_due (world (P.rows port.now) (P.accesses port.now)) self.old.prepared
-            ≡ probed self.new.fetched) }
-        ensures agree { OnOk result (AllAgree (world (P.rows port.now) (P.accesses port.now)) self.old.prepared
-            self.new.fetched) }
-        ensures answer { OnOk result (self.new.answer ≡ Some (full_of (P.rows port.now) self.old.prepared.query)) }
-        ensures reads { OnOk result (self.new.reads
-            ≡ reads_due (world (P.rows port.now) (P.accesses port.now)) self.old.prepared) }
-        ensures bound { OnOk result (self.new.reads ≤ self.old.prepared.bound) }
-
-        ensures failed { OnErr result (self.new.failed ≡ true) }
-        ensures cost { OnOk result (steps.new + self.old.reads ≡ steps.old + self.new.reads) }
-        ensures spent { OnErr result (SpentWithin (world (P.rows port.now) (P.accesses port.now)) self.old.prepared
-            self.old.reads steps.old steps.new) }
-        ensures kept { steps.old ≤ steps.new }
-        ensures once_whole { IsTrue (is_some self.old.answer) → IsOk result }
-    {
-        let prepared = &self.prepared;
-        ask_for_all(port, prepared.derivations.as_slice());
-        if self.whole {
-            return Ok(());
-        }
-        self.failed = true;
-        probe_all(
-            alloc,
-            port,
-            prepared,
-            &mut self.course,
-            &mut self.reads,
-            steps,
-        )?;
-        self.failed = false;
-        self.whole = true;
-        Ok(())
-    }
-
     /// The answer of a cursor that is whole, and its reads. It takes no memory.
     pub fn finish(self) -> Answer
         requires { IsTrue (is_some self.answer) }
@@ -238,4 +164,23 @@ impl Cursor {
             reads: self.reads,
         }
     }
+}
+
+/// A cursor and its course have these fields and no others: with a further one, such as a copy of the rows of a table, this
+/// wouldn't compile. `block_walk::walk_fields` says so of its walks.
+pub fn cursor_fields(cursor: &Cursor) {
+    let Cursor {
+        prepared: _prepared,
+        course,
+        reads: _reads,
+        failed: _failed,
+        whole: _whole,
+    } = cursor;
+    let Course {
+        operations: _operations,
+        place: _place,
+        stack: _stack,
+        finished: _finished,
+        walk: _walk,
+    } = course;
 }

@@ -9,4 +9,4 @@ mod courses;
 mod cursors;
 mod operations;
 
-pub use cursors::{Cursor, Turn};
+pub use cursors::{Cursor, Turn, cursor_fields};

@@ -3,3 +3,4 @@ pub mod ListFacts
 pub mod NumberFacts
 pub mod PlanFacts
 pub mod PreparingFacts
+pub mod ScanFacts

@@ -29,7 +29,7 @@ use Rattle.evaluation_facts.proofs.StartFacts.{start_counted}
 use Rattle.evaluation_facts.proofs.TaskFacts.{length-tasks, task_normals}
 use Rattle.plan_builder.specs.Preparation.{IsWellFormedIn, atom_table, constraints_with, no_block, with_lists}
 use Rattle.plan_builder.proofs.PreparationFacts.{as_many_needed, atoms_are, ids_once, mapped_numbered}
-use Rattle.scan_port.specs.Scans.{TableSizes}
+use Rattle.partial_plan.specs.Scans.{TableSizes}
 use Rattle.partial_plan.specs.ScanPlans.{lists_after, named_atom, or_first, scan_for, scan_lists, scan_of, tasks_with, with_scan}
 use Rattle.partial_plan.proofs.CoverFacts.{constraints_at, first_at, named_below, not_named}
 

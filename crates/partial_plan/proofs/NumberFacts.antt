@@ -16,7 +16,7 @@ use Rattle.beas_core.proofs.Sets.{Has, Has-from_filter}
 use Rattle.catalogue.specs.Schema.{Schema}
 use Rattle.plan_builder.specs.Preparation.{atom_table, constraints_with, no_block, plans_of, preparation, prepared_query, unless_uncovered, with_lists}
 use Rattle.plan_builder.proofs.Extras.{same_tasks}
-use Rattle.scan_port.specs.Scans.{TableSizes, scanned_rows}
+use Rattle.partial_plan.specs.Scans.{TableSizes, scanned_rows}
 use Rattle.partial_plan.specs.declared.plan.ScanPlan.{ScanPlan}
 use Rattle.partial_plan.specs.ScanPlans.{is_used, lists_after, named_atom, or_first, plan_without_scans, scan_for, scan_lists, scan_plan_over, scan_preparation, tasks_with, unless_too_large, used_scans, with_scan, without_scans}
 use Rattle.partial_plan.proofs.ListFacts.{IsLacking, has_grown, is_lacking, lists_are, none_listed}

@@ -26,8 +26,8 @@ use Rattle.evaluation_facts.proofs.UseFacts.{found_by_id}
 use Rattle.plan_builder.specs.Preparation.{with_lists}
 use Rattle.plan_builder.proofs.Extras.{pairs_right, part_once}
 use Rattle.access_index.specs.Index.{Index, IsIndexOf}
-use Rattle.scan_port.specs.Scans.{AreBuilt, IndexesStand, IsScanIndex, TableSizes, rows_of_tables, scanned_rows, sizes_of, sizes_of_tables}
-use Rattle.scan_port.proofs.ScanFacts.{read_within, scan_holds}
+use Rattle.partial_plan.specs.Scans.{AreBuilt, IndexesStand, IsScanIndex, TableSizes, rows_of_tables, scanned_rows, sizes_of, sizes_of_tables}
+use Rattle.partial_plan.proofs.ScanFacts.{read_within, scan_holds}
 use Rattle.partial_plan.specs.declared.plan.ScanPlan.{ScanPlan}
 use Rattle.partial_plan.specs.ScanPlans.{IsNewScan, ScanPlanFits, is_used, used_scans}
 use Rattle.partial_plan.proofs.ListFacts.{AreListed, live_low, with_lists_once}

@@ -21,7 +21,7 @@ use Rattle.beas_core.proofs.Sets.{Has-from_filter, all_from}
 use Rattle.catalogue.specs.Schema.{Schema, SchemaIsSound}
 use Rattle.catalogue.specs.Queries.{QueryIsOver, RowsAreWide}
 use Rattle.plan_builder.specs.Preparation.{preparation_over, prepared_query, unless_uncovered, with_lists}
-use Rattle.scan_port.specs.Scans.{TableSizes, rows_of_tables, scanned_rows, sizes_of_tables}
+use Rattle.partial_plan.specs.Scans.{TableSizes, rows_of_tables, scanned_rows, sizes_of_tables}
 use Rattle.partial_plan.specs.declared.plan.ScanPlan.{ScanPlan}
 use Rattle.partial_plan.specs.ScanPlans.{ScanPlanFits, is_used, plan_over_lists, scan_lists, scan_preparation, tasks_with, unless_too_large, used_scans}
 use Rattle.partial_plan.proofs.ListFacts.{AreListed, all_covered, are_listed}

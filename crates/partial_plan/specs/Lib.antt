@@ -1,1 +1,2 @@
 pub mod ScanPlans
+pub mod Scans

@@ -30,7 +30,7 @@ use Rattle.beas_core.specs.Queries.{query_reads}
 use Rattle.beas_core.specs.Fits.{Fits}
 use Rattle.catalogue.specs.Schema.{Schema}
 use Rattle.plan_builder.specs.Preparation.{atom_table, no_block, constraints_with, with_lists, prepared_query}
-use Rattle.scan_port.specs.Scans.{TableSizes, sizes_of, rows_of_tables, scanned_rows}
+use Rattle.partial_plan.specs.Scans.{TableSizes, sizes_of, rows_of_tables, scanned_rows}
 use Rattle.partial_plan.specs.declared.plan.ScanPlan.{ScanPlan}
 
 -- ---- scan constraints

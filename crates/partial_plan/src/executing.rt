@@ -3,13 +3,14 @@ ghost use Rattle.std.specs.Prelude.{◌≡◌, ◌+◌, ◌≤◌, IfOk, OnErr};
 ghost use Rattle.beas_core.specs.declared.schema.TableId.{TableId};
 ghost use Rattle.beas_core.specs.Full.{full_of};
 ghost use Rattle.partial_plan.specs.ScanPlans.{ScanPlanFits, scan_plan_reads};
-ghost use Rattle.scan_port.specs.Scans.{rows_of_tables};
+ghost use Rattle.partial_plan.specs.Scans.{rows_of_tables};
 
+use crate::building::build_indexes;
 use crate::plan::ScanPlan;
+use crate::port::ScanPort;
 use beas_core::{AccessPort, Answer, List, NoMemory, Steps};
 use plan_executor::execute;
 use row_store::Rows;
-use scan_port::{ScanPort, build_indexes};
 use std::alloc::Global;
 use std::sync::ledger::Ledger;
 
@@ -19,12 +20,12 @@ use std::sync::ledger::Ledger;
 pub fn scan_execute<P: AccessPort, L: Ledger>(
     alloc: Global,
     port: &P,
-    tables: &List<Rows>,
+    rows: &List<Rows>,
     plan: &ScanPlan,
     steps: &mut Steps<L>,
 ) -> Result<Answer, NoMemory>
-    requires fits { ScanPlanFits (P.accesses port.now) (P.rows port.now) tables.now plan.now }
-    requires rows { (id : TableId) → P.rows port.now id ≡ rows_of_tables tables.now id }
+    requires fits { ScanPlanFits (P.accesses port.now) (P.rows port.now) rows.now plan.now }
+    requires rows { (id : TableId) → P.rows port.now id ≡ rows_of_tables rows.now id }
     ensures rows { IfOk result (λ answer. answer.rows ≡ full_of (P.rows port.now) plan.now.prepared.query) }
     ensures reads { IfOk result (λ answer. answer.reads
         ≡ scan_plan_reads (P.rows port.now) (P.accesses port.now) plan.now) }
@@ -35,7 +36,7 @@ pub fn scan_execute<P: AccessPort, L: Ledger>(
         ≤ steps.old + scan_plan_reads (P.rows port.now) (P.accesses port.now) plan.now) }
     ensures kept { steps.old ≤ steps.new }
 {
-    let indexes = build_indexes(alloc, tables.as_slice(), plan.scans.as_slice(), steps)?;
+    let indexes = build_indexes(alloc, rows.as_slice(), plan.scans.as_slice(), steps)?;
     let scanned = ScanPort {
         port,
         indexes: indexes.as_slice(),

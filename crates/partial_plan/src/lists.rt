@@ -5,7 +5,7 @@ ghost use Rattle.beas_core.specs.Shapes.{QueryIsWellFormed};
 ghost use Rattle.beas_core.specs.Trees.{blocks_of};
 ghost use Rattle.catalogue.specs.Queries.{QueryIsOver};
 ghost use Rattle.partial_plan.specs.ScanPlans.{scan_lists, tasks_with, with_scan};
-ghost use Rattle.scan_port.specs.Scans.{sizes_of_tables};
+ghost use Rattle.partial_plan.specs.Scans.{sizes_of_tables};
 
 use crate::scans::{named_atom, scan_of};
 use beas_core::{Access, Block, List, NoMemory, Query};

@@ -7,7 +7,7 @@ ghost use Rattle.beas_core.specs.Trees.{blocks_of};
 ghost use Rattle.beas_core.specs.Types.{TableRows};
 ghost use Rattle.catalogue.specs.Queries.{QueryIsOver, RowsAreWide};
 ghost use Rattle.partial_plan.specs.ScanPlans.{ScanPlanFits, scan_preparation};
-ghost use Rattle.scan_port.specs.Scans.{rows_of_tables, sizes_of_tables};
+ghost use Rattle.partial_plan.specs.Scans.{rows_of_tables, sizes_of_tables};
 
 use crate::lists::scan_lists;
 use crate::plan::ScanPlan;
@@ -25,21 +25,21 @@ use std::alloc::Global;
 pub fn scan_prepare(
     alloc: Global,
     catalogue: &Catalogue,
-    tables: &List<Rows>,
+    rows: &List<Rows>,
     query: Query,
 ) -> Result<ScanPlan, Fail>
     requires well_formed { QueryIsWellFormed query }
     requires over { QueryIsOver catalogue.now query }
     requires few { length (blocks_of query) < 2 ^ 27 }
-    requires tables { length tables.now ≡ length catalogue.now.tables }
-    ensures prepared { Gives result (scan_preparation catalogue.now (sizes_of_tables tables.now) query) }
-    ensures fits { IfOk result (λ plan. (rows : TableRows) → RowsAreWide catalogue.now rows
-        → ((id : TableId) → rows id ≡ rows_of_tables tables.now id)
-        → ScanPlanFits catalogue.now.accesses rows tables.now plan) }
+    requires rows { length rows.now ≡ length catalogue.now.tables }
+    ensures prepared { Gives result (scan_preparation catalogue.now (sizes_of_tables rows.now) query) }
+    ensures fits { IfOk result (λ plan. (found : TableRows) → RowsAreWide catalogue.now found
+        → ((id : TableId) → found id ≡ rows_of_tables rows.now id)
+        → ScanPlanFits catalogue.now.accesses found rows.now plan) }
 {
     // Read for what it shows: no id stands twice among the live constraints, and all are below those of scans.
     let _live = catalogue.accesses();
-    let lists = scan_lists(alloc, catalogue, tables.as_slice(), &query)?;
+    let lists = scan_lists(alloc, catalogue, rows.as_slice(), &query)?;
     let prepared = prepare_over(alloc, catalogue, &lists, query)?;
-    plan_over_lists(alloc, tables.as_slice(), lists.as_slice(), prepared)
+    plan_over_lists(alloc, rows.as_slice(), lists.as_slice(), prepared)
 }

@@ -5,7 +5,7 @@ ghost use Rattle.beas_core.specs.Coverage.{needed_of};
 ghost use Rattle.beas_core.specs.Shapes.{BlockIsWellFormed};
 ghost use Rattle.plan_builder.specs.Preparation.{atom_table};
 ghost use Rattle.partial_plan.specs.ScanPlans.{named_atom, or_first, scan_of};
-ghost use Rattle.scan_port.specs.Scans.{sizes_of_tables};
+ghost use Rattle.partial_plan.specs.Scans.{sizes_of_tables};
 
 use beas_core::{
     Access, AccessId, Block, ColumnId, Duplicate, List, Name, NoMemory, NotCovered, Text,

@@ -4,7 +4,7 @@ ghost use Rattle.std.specs.List.{list_any};
 ghost use Rattle.beas_core.specs.declared.refusal.Refusal.TheVariants.{TooLarge};
 ghost use Rattle.beas_core.specs.Results.{Gives};
 ghost use Rattle.partial_plan.specs.ScanPlans.{is_used, plan_over_lists, unless_too_large, used_scans};
-ghost use Rattle.scan_port.specs.Scans.{scanned_rows, sizes_of_tables};
+ghost use Rattle.partial_plan.specs.Scans.{scanned_rows, sizes_of_tables};
 
 use crate::plan::ScanPlan;
 use beas_core::{

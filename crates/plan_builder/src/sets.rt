@@ -4,8 +4,8 @@ ghost use Rattle.beas_core.specs.Coverage.{class_at, place_class, start_classes,
 ghost use Rattle.beas_core.specs.Derivations.{adds_class, with_use};
 ghost use Rattle.attribute_closure.specs.Uses.{as_use};
 
-use attribute_closure::{UseAt, class_at, constant_classes, holds_columns};
-use beas_core::{ColumnId, List, NoMemory, Normal, Place};
+use attribute_closure::{UseAt, constant_classes, holds_columns};
+use beas_core::{ColumnId, List, NoMemory, Normal, Place, class_at};
 use std::alloc::Global;
 
 /// Whether a use adds a class to a set.

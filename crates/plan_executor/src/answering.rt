@@ -45,7 +45,7 @@ fn take_step<P: AccessPort, L: Ledger>(
         step.now (bound_set block.now from.now) from.now.rows) }
 {
     let mut found = extend(alloc, port, block, step, from, reads, steps)?;
-    keep(alloc, block, &mut found);
+    keep(block, &mut found);
     Ok(found)
 }
 

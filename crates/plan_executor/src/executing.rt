@@ -4,9 +4,9 @@ ghost use Rattle.beas_core.specs.Fits.{Fits};
 ghost use Rattle.beas_core.specs.Full.{full_of};
 ghost use Rattle.beas_core.specs.Queries.{query_reads};
 
-use crate::asking::ask_for_all;
 use crate::trees::answer_tree;
 use beas_core::{AccessPort, Answer, NoMemory, Prepared, Steps};
+use plan_ops::ask_for_all;
 use std::alloc::Global;
 use std::sync::ledger::Ledger;
 

@@ -2,9 +2,7 @@
 #![tactic(auto)]
 
 mod answering;
-mod asking;
 mod executing;
 mod trees;
 
-pub use asking::ask_for_all;
 pub use executing::execute;

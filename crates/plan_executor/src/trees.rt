@@ -4,7 +4,7 @@ ghost use Rattle.std.specs.Option.{option_copied};
 ghost use Rattle.beas_core.specs.Fits.{StepsHold};
 ghost use Rattle.beas_core.specs.Guiding.{after};
 ghost use Rattle.beas_core.specs.Queries.{answers, plan_of, reads_in};
-ghost use Rattle.plan_executor.specs.Asked.{TreeFits};
+ghost use Rattle.plan_ops.specs.Asked.{TreeFits};
 ghost use Rattle.plan_ops.specs.Over.{Counts};
 
 use crate::answering::answer_block;

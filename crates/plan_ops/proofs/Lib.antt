@@ -4,6 +4,7 @@ mod ExtendFacts
 pub mod FetchedFacts
 pub mod FrontFacts
 mod GuidedStarts
+pub mod HeldFacts
 mod JoinFacts
 mod KeyFacts
 pub mod MeetFacts
@@ -12,3 +13,4 @@ pub mod PlaceFacts
 pub mod ProbeFacts
 pub mod RowFacts
 mod TableFacts
+pub mod TreeFacts

@@ -1,4 +1,6 @@
+pub mod Asked
 pub mod Fetched
+pub mod Held
 pub mod Joins
 pub mod Merging
 pub mod Over

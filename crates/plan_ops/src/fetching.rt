@@ -1,5 +1,5 @@
 // What one probe fetches, added to what is kept.
-ghost use Rattle.std.specs.Prelude.{◌≡◌, ◌+◌, ◌*◌, ◌++◌, ◌∷◌, ◌<◌, ◌≤◌, length, slice_index_or, take, drop, vec_capacity, vec_len, [], All, IfOk, IsTrue, OnOk};
+ghost use Rattle.std.specs.Prelude.{◌≡◌, ◌+◌, ◌*◌, ◌++◌, ◌<◌, ◌≤◌, length, slice_index_or, take, drop, vec_capacity, vec_len, [], All, IfOk, IsTrue, OnOk};
 ghost use Rattle.beas_core.specs.Derivations.{access_in, is_live};
 ghost use Rattle.beas_core.specs.Groups.{group_of, member_columns};
 ghost use Rattle.beas_core.specs.Reads.{probe_reads};
@@ -7,7 +7,7 @@ ghost use Rattle.plan_ops.specs.Fetched.{rows_in};
 ghost use Rattle.plan_ops.specs.Joins.{HitsAre};
 
 use crate::copying::push_copy;
-use beas_core::{AccessId, AccessPort, ColumnId, Hits, NoMemory, Steps, Value, ValueRef};
+use beas_core::{AccessId, AccessPort, ColumnId, Hits, NoMemory, Steps, Value};
 use std::alloc::Global;
 use std::sync::ledger::Ledger;
 
@@ -21,38 +21,6 @@ fn push_key(alloc: Global, key: &[Value], values: &mut Vec<Value>) -> Result<(),
     for value in key {
         push_copy(alloc, value, values)?;
     }
-    Ok(())
-}
-
-// Adds a copy of a value that the port shows, where there is room for it. A number is put in its place at once, as most are.
-#[inline(always)]
-fn push_shown(alloc: Global, value: &ValueRef<'_>, values: &mut Vec<Value>) -> Result<(), NoMemory>
-    requires { vec_len values.old < vec_capacity values.old }
-    ensures items { OnOk result (values.new.items ≡ values.old.items ++ value.now ∷ []) }
-    ensures len { OnOk result (vec_len values.new ≡ vec_len values.old + 1) }
-    ensures room { OnOk result (vec_capacity values.new ≡ vec_capacity values.old) }
-{
-    match value.as_int() {
-        Some(number) => values.push_reserved(Value::Int(number)),
-        None => push_shown_text(alloc, value, values)?,
-    }
-    Ok(())
-}
-
-// Adds a copy of a text that the port shows, or of any value. It stands by itself so that `push_shown` stays short where it is
-// put in.
-#[inline(never)]
-fn push_shown_text(
-    alloc: Global,
-    value: &ValueRef<'_>,
-    values: &mut Vec<Value>,
-) -> Result<(), NoMemory>
-    requires { vec_len values.old < vec_capacity values.old }
-    ensures items { OnOk result (values.new.items ≡ values.old.items ++ value.now ∷ []) }
-    ensures len { OnOk result (vec_len values.new ≡ vec_len values.old + 1) }
-    ensures room { OnOk result (vec_capacity values.new ≡ vec_capacity values.old) }
-{
-    values.push_reserved(value.copy(alloc)?);
     Ok(())
 }
 
@@ -79,7 +47,7 @@ fn push_tuple<P: AccessPort>(
 {
     push_key(alloc, key, values)?;
     for at in key.len()..columns.len() {
-        push_shown(alloc, &port.value(hits, i, columns[at]), values)?;
+        push_copy(alloc, port.value(hits, i, columns[at]), values)?;
     }
     Ok(())
 }

@@ -11,11 +11,8 @@ ghost use Rattle.plan_ops.specs.Places.{place_of};
 
 use crate::places::{place_in, value_or};
 use crate::valuations::Valuations;
-use attribute_closure::class_at;
-use beas_core::{Comparison, List, Normal, Operand, Place, Row, Sign, Value, compare};
-use std::alloc::Global;
+use beas_core::{Comparison, List, Normal, Operand, Place, Row, Sign, Value, class_at, compare};
 use std::cmp::Ordering;
-use std::mem;
 
 /// Whether an order of two values is what the sign asks. It takes no memory.
 pub fn sign_holds(sign: Sign, order: Ordering) -> bool
@@ -32,19 +29,19 @@ pub fn sign_holds(sign: Sign, order: Ordering) -> bool
 }
 
 // Drops the rows whose value at a place doesn't compare so with a fixed one.
-fn keep_fixed(rows: &mut Vec<Row>, left: usize, sign: Sign, right: &Value, zero: &Value)
-    ensures { rows.new.items
-        ≡ filter (λ row. holds_of sign (value_cmp (slice_index_or row left zero.now) right.now)) rows.old.items }
+fn keep_fixed(rows: &mut List<Row>, left: usize, sign: Sign, right: &Value, zero: &Value)
+    ensures { rows.new
+        ≡ filter (λ row. holds_of sign (value_cmp (slice_index_or row left zero.now) right.now)) rows.old }
 {
     rows.retain(|row| sign_holds(sign, compare(value_or(row.as_slice(), left, zero), right)));
 }
 
 // Drops the rows whose values at two places don't compare so.
-fn keep_pair(rows: &mut Vec<Row>, left: usize, sign: Sign, right: usize, zero: &Value)
-    ensures { rows.new.items
+fn keep_pair(rows: &mut List<Row>, left: usize, sign: Sign, right: usize, zero: &Value)
+    ensures { rows.new
         ≡ filter
         (λ row. holds_of sign (value_cmp (slice_index_or row left zero.now) (slice_index_or row right zero.now)))
-        rows.old.items }
+        rows.old }
 {
     rows.retain(|row| {
         let row = row.as_slice();
@@ -68,14 +65,14 @@ fn keep_meeting(
     block: &Normal,
     classes: &[u16],
     comparison: &Comparison,
-    rows: &mut Vec<Row>,
+    rows: &mut List<Row>,
     zero: &Value,
 )
     requires classes { classes.now ≡ classes_in (set_of block.now classes.now) }
-    requires widths { All (λ row. length row ≡ length classes.now) rows.old.items }
+    requires widths { All (λ row. length row ≡ length classes.now) rows.old }
     requires zero { zero.now ≡ Int (pos 0) }
-    ensures { rows.new.items ≡ filter (λ row. comparison_is_met block.now (set_of block.now classes.now)
-        (as_bindings (set_of block.now classes.now) row) comparison.now) rows.old.items }
+    ensures { rows.new ≡ filter (λ row. comparison_is_met block.now (set_of block.now classes.now)
+        (as_bindings (set_of block.now classes.now) row) comparison.now) rows.old }
 {
     let left = place_among(block, classes, &comparison.left);
     if left == classes.len() {
@@ -92,11 +89,11 @@ fn keep_meeting(
     }
 }
 
-fn keep_all(block: &Normal, classes: &[u16], rows: &mut Vec<Row>, zero: &Value)
+fn keep_all(block: &Normal, classes: &[u16], rows: &mut List<Row>, zero: &Value)
     requires classes { classes.now ≡ classes_in (set_of block.now classes.now) }
-    requires widths { All (λ row. length row ≡ length classes.now) rows.old.items }
+    requires widths { All (λ row. length row ≡ length classes.now) rows.old }
     requires zero { zero.now ≡ Int (pos 0) }
-    ensures { rows.new.items ≡ keep_met block.now (set_of block.now classes.now) rows.old.items }
+    ensures { rows.new ≡ keep_met block.now (set_of block.now classes.now) rows.old }
 {
     for comparison in block.comparisons.as_slice() {
         keep_meeting(block, classes, comparison, rows, zero);
@@ -104,14 +101,12 @@ fn keep_all(block: &Normal, classes: &[u16], rows: &mut Vec<Row>, zero: &Value)
 }
 
 /// Drops the valuations that fail a comparison whose columns are all bound. It takes no memory.
-pub fn keep(alloc: Global, block: &Normal, from: &mut Valuations)
+pub fn keep(block: &Normal, from: &mut Valuations)
     requires { IsOver (bound_set block.now from.old) from.old }
     ensures over { IsOver (bound_set block.now from.old) from.new }
     ensures rows { from.new.rows ≡ keep_met block.now (bound_set block.now from.old) from.old.rows }
     ensures classes { from.new.classes ≡ from.old.classes }
 {
     let zero = Value::Int(0);
-    let mut rows = mem::replace(&mut from.rows, List::new(alloc)).into_vec();
-    keep_all(block, from.classes.as_slice(), &mut rows, &zero);
-    from.rows = List::from_vec(rows);
+    keep_all(block, from.classes.as_slice(), &mut from.rows, &zero);
 }

@@ -5,6 +5,7 @@
 //! the matter of the crate above.
 #![tactic(auto)]
 
+mod asking;
 mod copying;
 mod extending;
 mod fetching;
@@ -23,6 +24,7 @@ mod starting;
 mod tables;
 mod valuations;
 
+pub use asking::ask_for_all;
 pub use extending::extend;
 pub use fetching::fetch;
 pub use joining::Join;

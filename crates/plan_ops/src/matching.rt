@@ -10,7 +10,7 @@ ghost use Rattle.plan_ops.specs.Joins.{HitsAre, IsGroup, IsWithin, at_place, fit
 
 use crate::joining::Join;
 use crate::probing::place_of_key;
-use beas_core::{AccessId, AccessPort, ColumnId, Hits, List, NoMemory, Row, Value, ValueRef};
+use beas_core::{AccessId, AccessPort, ColumnId, Duplicate, Hits, List, NoMemory, Row, Value};
 use std::alloc::Global;
 
 // The value of a joined row at a place.
@@ -21,15 +21,15 @@ fn value_at<'a, P: AccessPort>(
     hits: &Hits,
     i: u32,
     place: usize,
-) -> ValueRef<'a>
+) -> &'a Value
     requires hits { HitsAre (P.accesses port.now) (P.stands port.now) (P.members port.now) hits.now }
     requires columns { columns.now ≡ member_columns (access_in (P.accesses port.now) hits.now.access) }
     requires member { i < hits.now.len }
     requires place { place < length row.now + length columns.now }
-    ensures { result ≡ at_place row.now (slice_index_or (P.members port.now hits.now) i []) place }
+    ensures { result.now ≡ at_place row.now (slice_index_or (P.members port.now hits.now) i []) place }
 {
     if place < row.len() {
-        ValueRef::of(&row[place])
+        &row[place]
     } else {
         port.value(hits, i, columns[place - row.len()])
     }
@@ -53,7 +53,7 @@ fn is_same<P: AccessPort>(
 {
     let left = value_at(port, columns, row, hits, i, check.0);
     let right = value_at(port, columns, row, hits, i, check.1);
-    left == right
+    *left == *right
 }
 
 // Whether a tuple fits the valuation.

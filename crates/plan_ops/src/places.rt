@@ -7,8 +7,7 @@ ghost use Rattle.beas_core.specs.Valuations.{classes_in};
 ghost use Rattle.plan_ops.specs.Over.{set_of};
 ghost use Rattle.plan_ops.specs.Places.{column_of, place_of};
 
-use attribute_closure::class_at;
-use beas_core::{ColumnId, NoMemory, Normal, Place, Value};
+use beas_core::{ColumnId, NoMemory, Normal, Place, Value, class_at};
 use std::alloc::Global;
 
 /// Where a class stands among ascending ones, or their number where it stands nowhere. It takes no memory.

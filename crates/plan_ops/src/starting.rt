@@ -11,8 +11,7 @@ ghost use Rattle.plan_ops.specs.Places.{place_of, places_in};
 use crate::keeping::keep;
 use crate::tables::{ClassList, classes_of, first_places};
 use crate::valuations::Valuations;
-use attribute_closure::class_at;
-use beas_core::{Duplicate, List, NoMemory, Normal, Row, Value, sort_distinct};
+use beas_core::{Duplicate, List, NoMemory, Normal, Row, Value, class_at, sort_distinct};
 use std::alloc::Global;
 
 // The class of each constant.
@@ -110,7 +109,7 @@ pub fn start(alloc: Global, block: &Normal) -> Result<Valuations, NoMemory>
         classes,
         rows: List::from_vec(rows),
     };
-    keep(alloc, block, &mut found);
+    keep(block, &mut found);
     Ok(found)
 }
 
@@ -190,7 +189,7 @@ fn start_guided(alloc: Global, block: &Normal, answers: &[Row]) -> Result<Valuat
         classes,
         rows: List::from_vec(rows),
     };
-    keep(alloc, block, &mut found);
+    keep(block, &mut found);
     Ok(Valuations {
         classes: found.classes,
         rows: List::from_vec(sort_distinct(found.rows.into_vec())),

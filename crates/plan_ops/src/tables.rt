@@ -6,8 +6,7 @@ ghost use Rattle.beas_core.specs.Valuations.{classes_in};
 ghost use Rattle.plan_ops.specs.Over.{set_of};
 ghost use Rattle.plan_ops.specs.Places.{place_of, places_in};
 
-use attribute_closure::class_at;
-use beas_core::{ColumnId, List, NoMemory, Normal};
+use beas_core::{ColumnId, List, NoMemory, Normal, class_at};
 use std::alloc::Global;
 use std::marker::Model;
 

@@ -9,8 +9,8 @@ ghost use Rattle.attribute_closure.specs.Uses.{as_use};
 ghost use Rattle.specialise.specs.Specialised.{candidates, first_place as first_place_of};
 ghost use Rattle.specialise.specs.Trials.{candidate_of, is_marked};
 
-use attribute_closure::{UseAt, class_at, has_class};
-use beas_core::{Block, ColumnId, List, NoMemory, Normal, Place};
+use attribute_closure::{UseAt, has_class};
+use beas_core::{Block, ColumnId, List, NoMemory, Normal, Place, class_at};
 use std::alloc::Global;
 
 /// A class that may be given as a constant, with its first place.

@@ -4,8 +4,8 @@ ghost use Rattle.beas_core.specs.Coverage.{class_at as class_of_column, has, hol
 ghost use Rattle.attribute_closure.specs.Uses.{as_use};
 ghost use Rattle.specialise.specs.Trials.{Applied, Grown, IsLeastUnder, outside, rule_of};
 
-use attribute_closure::{UseAt, class_at, has_class};
-use beas_core::{ColumnId, List, NoMemory, Normal};
+use attribute_closure::{UseAt, has_class};
+use beas_core::{ColumnId, List, NoMemory, Normal, class_at};
 use std::alloc::Global;
 
 /// A use of a constraint, told by the classes that the covered set lacks: where a set holds its key, it holds what it gives.

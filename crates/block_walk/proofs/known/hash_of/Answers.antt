@@ -1,12 +1,13 @@
 use Rattle.std.proofs.Common.{◌≡◌, ◌∙◌, ◌<◌, ◌+◌, ℕ, length, take, get_or, List, ap, sym}
 use Rattle.std.proofs.lemmas.List.Sums.{fold_more}
 use Rattle.beas_core.specs.declared.value.Value.{Value}
-use Rattle.block_walk.specs.Hashing.{hash_of, mixed, word_of}
+use Rattle.beas_core.specs.Mixing.{mixed}
+use Rattle.block_walk.specs.Hashing.{hash_of, word_of}
 use Rattle.block_walk.proofs.known.hash_of.Goals as goal
 
 pub loop-value-init : goal.loop-value-init
 unfolding hash_of
-loop-value-init c = c.mix-hash.ensures
+loop-value-init c = c.mixed-hash.ensures
 
 -- the word of one value more is mixed in
 hash_more : (step : ℕ) (key : List Value) (i : ℕ) (d : Value) → i < length key
@@ -17,7 +18,7 @@ hash_more step key i d l = fold_more (λ state value. mixed state (word_of value
 pub loop-value-preserved : goal.loop-value-preserved
 loop-value-preserved c =
     let more = hash_more c.args.step c.args.key.now c.loop-value.value-index c.value-item.result c.loop-value-test.true in
-    c.mix-hash-in-loop-value.ensures
+    c.mixed-hash-in-loop-value.ensures
     ∙ ap (λ s. mixed s c.word_of.result) c.loop-value.invariant
     ∙ ap (mixed (hash_of c.args.step (take c.loop-value.value-index c.args.key.now))) (c.word_of.ensures ∙ ap word_of c.value-item.is)
     ∙ sym more

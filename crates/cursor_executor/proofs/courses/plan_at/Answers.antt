@@ -1,6 +1,6 @@
 use Rattle.std.proofs.Common.{◌∙◌, List, [], ap, get_or}
 use Rattle.beas_core.specs.declared.plan.Derivation.{Derivation}
-use Rattle.plan_executor.proofs.TreeFacts.{at_number}
+use Rattle.plan_ops.proofs.TreeFacts.{at_number}
 use Rattle.cursor_executor.proofs.courses.plan_at.Goals as goal
 
 pub returns : goal.returns

@@ -7,7 +7,7 @@ use Rattle.beas_core.specs.Guiding.{Uncovered, first_uncovered}
 use Rattle.beas_core.specs.Shapes.{BlockIsWellFormed}
 use Rattle.beas_core.specs.Trees.{blocks_of}
 use Rattle.plan_builder.specs.Preparation.{atom_table, no_block}
-use Rattle.scan_port.specs.Scans.{sizes_of_tables}
+use Rattle.partial_plan.specs.Scans.{sizes_of_tables}
 use Rattle.partial_plan.specs.ScanPlans.{scan_of, tasks_with, with_scan}
 use Rattle.partial_plan.proofs.ListFacts.{block_is_formed, is_lacking, new_listed}
 use Rattle.partial_plan.proofs.lists.add_scan.Goals as goal

@@ -2,7 +2,7 @@ use Rattle.std.proofs.Common.{◌≡◌, ◌*◌, ◌≤◌, ◌∙◌, None, ap
 use Rattle.std.proofs.lemmas.List.{length-map}
 use Rattle.beas_core.specs.Guiding.{first_uncovered}
 use Rattle.beas_core.specs.Trees.{blocks_of}
-use Rattle.scan_port.specs.Scans.{sizes_of_tables}
+use Rattle.partial_plan.specs.Scans.{sizes_of_tables}
 use Rattle.partial_plan.specs.ScanPlans.{lists_after, tasks_with, with_scan}
 use Rattle.partial_plan.proofs.ListFacts.{length-listed, lists_are, lists_past, none_left}
 use Rattle.partial_plan.proofs.lists.fill.Goals as goal

@@ -1,5 +1,5 @@
 use Rattle.std.proofs.Common.{◌≡◌}
-use Rattle.scan_port.specs.Scans.{sizes_of_tables}
+use Rattle.partial_plan.specs.Scans.{sizes_of_tables}
 use Rattle.partial_plan.specs.ScanPlans.{lists_after}
 use Rattle.partial_plan.proofs.lists.fill.Given as goal
 

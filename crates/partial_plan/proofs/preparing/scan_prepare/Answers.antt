@@ -9,7 +9,7 @@ use Rattle.beas_core.specs.Trees.{blocks_of}
 use Rattle.beas_core.specs.Types.{TableRows}
 use Rattle.catalogue.specs.Queries.{RowsAreWide}
 use Rattle.plan_builder.specs.Preparation.{IsWellFormedIn, preparation_over, with_lists}
-use Rattle.scan_port.specs.Scans.{sizes_of_tables}
+use Rattle.partial_plan.specs.Scans.{sizes_of_tables}
 use Rattle.partial_plan.specs.ScanPlans.{plan_over_lists, scan_lists, unless_too_large, used_scans}
 use Rattle.partial_plan.proofs.ListFacts.{lists_are_formed, with_lists_once}
 use Rattle.partial_plan.proofs.PreparingFacts.{fits_given, gives_planned, gives_refused, scans_listed, used_on_tables}
@@ -18,35 +18,35 @@ use Rattle.partial_plan.proofs.preparing.scan_prepare.Goals as goal
 pub prepare_over-requires-clause-ids : goal.prepare_over-requires-clause-ids
 prepare_over-requires-clause-ids c =
     let schema = c.args.catalogue.now in
-    let tables = c.args.tables.now in
+    let tables = c.args.rows.now in
     let sizes = sizes_of_tables tables in
     let query = c.args.query in
     let shape = c.requires.well_formed in
     let sound = c.accesses-live.ensures.sound in
     let same : c.in_ok-lists.lists ≡ scan_lists schema sizes query =
     c.in_ok-lists.ensures ∙ ap (λ ts. scan_lists schema (sizes_of_tables ts) query) c.as_slice.ensures in
-    let listed = scans_listed schema sound tables c.requires.tables query shape c.requires.over in
+    let listed = scans_listed schema sound tables c.requires.rows query shape c.requires.over in
     subst (λ lists. EachIdOnce (with_lists schema.accesses lists)) (sym same)
     (with_lists_once schema sound sizes (16 * length (blocks_of query)) (scan_lists schema sizes query) listed)
 
 pub prepare_over-requires-clause-extra : goal.prepare_over-requires-clause-extra
 prepare_over-requires-clause-extra c =
     let schema = c.args.catalogue.now in
-    let tables = c.args.tables.now in
+    let tables = c.args.rows.now in
     let sizes = sizes_of_tables tables in
     let query = c.args.query in
     let shape = c.requires.well_formed in
     let sound = c.accesses-live.ensures.sound in
     let same : c.in_ok-lists.lists ≡ scan_lists schema sizes query =
     c.in_ok-lists.ensures ∙ ap (λ ts. scan_lists schema (sizes_of_tables ts) query) c.as_slice.ensures in
-    let listed = scans_listed schema sound tables c.requires.tables query shape c.requires.over in
+    let listed = scans_listed schema sound tables c.requires.rows query shape c.requires.over in
     subst (All (All (IsWellFormedIn schema))) (sym same)
     (lists_are_formed schema sound sizes (16 * length (blocks_of query)) (scan_lists schema sizes query) listed)
 
 pub returns-in_err-prepared-clause-prepared : goal.returns-in_err-prepared-clause-prepared
 returns-in_err-prepared-clause-prepared c =
     let schema = c.args.catalogue.now in
-    let tables = c.args.tables.now in
+    let tables = c.args.rows.now in
     let sizes = sizes_of_tables tables in
     let query = c.args.query in
     let shape = c.requires.well_formed in
@@ -59,7 +59,7 @@ returns-in_err-prepared-clause-prepared c =
 pub plan_over_lists-requires : goal.plan_over_lists-requires
 plan_over_lists-requires c =
     let schema = c.args.catalogue.now in
-    let tables = c.args.tables.now in
+    let tables = c.args.rows.now in
     let sizes = sizes_of_tables tables in
     let query = c.args.query in
     let shape = c.requires.well_formed in
@@ -69,12 +69,12 @@ plan_over_lists-requires c =
     let plans = c.in_ok-prepared.prepared.derivations in
     subst (λ ts. All (λ (scan : Access). scan.table.0 < length ts) (used_scans c.as_slice-3.result.now plans)) (sym c.as_slice-2.ensures)
     (subst (λ lists. All (λ (scan : Access). scan.table.0 < length tables) (used_scans lists plans)) (sym (c.as_slice-3.ensures ∙ same))
-    (used_on_tables schema sound tables c.requires.tables query shape c.requires.over c.in_ok-prepared.prepared))
+    (used_on_tables schema sound tables c.requires.rows query shape c.requires.over c.in_ok-prepared.prepared))
 
 pub returns-clause-prepared : goal.returns-clause-prepared
 returns-clause-prepared c =
     let schema = c.args.catalogue.now in
-    let tables = c.args.tables.now in
+    let tables = c.args.rows.now in
     let sizes = sizes_of_tables tables in
     let query = c.args.query in
     let shape = c.requires.well_formed in
@@ -91,7 +91,7 @@ returns-clause-prepared c =
 pub returns-clause-fits : goal.returns-clause-fits
 returns-clause-fits c =
     let schema = c.args.catalogue.now in
-    let tables = c.args.tables.now in
+    let tables = c.args.rows.now in
     let sizes = sizes_of_tables tables in
     let query = c.args.query in
     let shape = c.requires.well_formed in
@@ -104,4 +104,4 @@ returns-clause-fits c =
     c.as_slice-2.ensures c.plan_over_lists.ensures) in
     let fits = subst (λ lists. (rows : TableRows) → RowsAreWide schema rows → Fits (with_lists schema.accesses lists) rows prepared) same
     c.in_ok-prepared.ensures.fits in
-    fits_given schema sound tables c.requires.tables query shape c.requires.over prepared c.plan_over_lists.result given fits
+    fits_given schema sound tables c.requires.rows query shape c.requires.over prepared c.plan_over_lists.result given fits

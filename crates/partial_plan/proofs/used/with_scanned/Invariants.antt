@@ -1,5 +1,5 @@
 use Rattle.std.proofs.Common.{◌≡◌, ◌+◌, take}
-use Rattle.scan_port.specs.Scans.{scanned_rows, sizes_of_tables}
+use Rattle.partial_plan.specs.Scans.{scanned_rows, sizes_of_tables}
 use Rattle.partial_plan.proofs.used.with_scanned.Given as goal
 
 -- the number with the rows that the scans so far read

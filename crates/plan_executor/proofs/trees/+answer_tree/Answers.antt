@@ -9,9 +9,9 @@ use Rattle.beas_core.specs.Nodes.{query_tree}
 use Rattle.beas_core.specs.Guiding.{after}
 use Rattle.beas_core.specs.Queries.{guide_of, answers, reads_in}
 use Rattle.evaluation_facts.proofs.GuidedLaw.{answers_in_order}
-use Rattle.plan_executor.specs.Asked.{TreeFits}
+use Rattle.plan_ops.specs.Asked.{TreeFits}
 use Rattle.plan_ops.proofs.FrontFacts.{at_error}
-use Rattle.plan_executor.proofs.TreeFacts.{block_is, union_left, union_right, except_left, except_right}
+use Rattle.plan_ops.proofs.TreeFacts.{block_is, union_left, union_right, except_left, except_right}
 use Rattle.plan_executor.proofs.trees.+answer_tree.Goals as goal
 
 pub answer_block-requires-clause-classes : goal.answer_block-requires-clause-classes

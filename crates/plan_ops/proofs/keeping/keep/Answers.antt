@@ -8,9 +8,7 @@ pub returns-clause-over : goal.returns-clause-over
 returns-clause-over c = record {
   classes_are = c.requires.classes_are;
   widths = subst (All (λ row. length row ≡ length c.args.from.now.classes))
-      (sym (c.from_vec.ensures ∙ c.keep_all.ensures
-      ∙ ap (λ cs. keep_met c.args.block.now (set_of c.args.block.now cs) c.into_vec-rows.result.items) c.as_slice.ensures
-      ∙ ap (keep_met c.args.block.now (bound_set c.args.block.now c.args.from.now)) (c.into_vec-rows.ensures ∙ c.replace.ensures.value)))
+      (sym (c.keep_all.ensures ∙ ap (λ cs. keep_met c.args.block.now (set_of c.args.block.now cs) c.args.from.now.rows) c.as_slice.ensures))
       (kept_wide (length c.args.from.now.classes) (meets_bound c.args.block.now (bound_set c.args.block.now c.args.from.now)) c.args.from.now.rows
       c.requires.widths);
 }

@@ -1,15 +1,15 @@
-use Rattle.std.proofs.Common.{◌≡◌, All, false, true, subst, sym}
+use Rattle.std.proofs.Common.{◌≡◌, ◌≤◌, All, false, true, arith, refl, subst, sym}
 use Rattle.beas_core.specs.declared.plan.Derivation.{Derivation}
 use Rattle.beas_core.specs.Derivations.{is_live}
 use Rattle.beas_core.specs.Fits.{Fits}
 use Rattle.evaluation_facts.proofs.QueryBounds.{prepared_is_live}
-use Rattle.plan_executor.specs.Held.{PlanHolds}
+use Rattle.plan_ops.specs.Held.{PlanHolds}
 use Rattle.block_walk.specs.Worlds.{world}
 use Rattle.cursor_executor.specs.declared.cursors.Turn.TheVariants.{Done}
 use Rattle.cursor_executor.specs.contracts.cursors.Cursor.{the_view}
 use Rattle.cursor_executor.specs.Fetching.{AllAgree}
 use Rattle.cursor_executor.specs.Turns.{HasGone, TurnIs}
-use Rattle.cursor_executor.proofs.CursorFacts.{done_again, done_turn, kept_done, world_of}
+use Rattle.cursor_executor.proofs.CursorFacts.{done_again, done_reads, done_turn, kept_done, reads_few, world_of}
 use Rattle.cursor_executor.proofs.cursors.Cursor.advance.Goals as goal
 
 pub ask_for_all-requires : goal.ask_for_all-requires
@@ -82,3 +82,49 @@ returns-clause-turn g c =
     (done_turn w s.prepared is_world s.course c.probe_next.new.course c.in_ok-probed.ensures.course agree ended.same ended.left
     c.probe_next.new.reads c.in_ok-probed.ensures.reads s.reads (c.self.invariant.counts c.if-self.false) s.failed s.whole
     c.args.steps.now c.probe_next.new.steps ended.cost)
+
+pub returns-then-self-2-clause-bound : goal.returns-then-self-2-clause-bound
+returns-then-self-2-clause-bound g c =
+    let rows = g.P.AccessPort.rows c.args.port.now in
+    let accesses = g.P.AccessPort.accesses c.args.port.now in
+    let w = world rows accesses in
+    let s = c.self.inside in
+    let fits = subst (λ seen. Fits accesses rows seen.prepared) (sym c.self.view_is) c.requires.fits in
+    let is_world = world_of rows accesses s.prepared fits (subst (All (PlanHolds rows accesses)) c.as_slice.ensures c.ask_for_all.ensures) in
+    let few = reads_few w s.prepared is_world in
+    let agree = subst (λ seen. seen.failed ≡ false → AllAgree w seen.prepared seen.fetched) (sym c.self.view_is) c.requires.agrees c.if-self.false in
+    let reads = done_reads w s.prepared is_world s.course s.course (c.self.invariant.stands c.if-self.false) agree refl
+    (c.self.invariant.ended c.if-self-2.true) s.reads (c.self.invariant.counts c.if-self.false) in
+    subst (λ seen. seen.reads ≤ seen.prepared.bound) c.self.view_is (omega (arith, few, reads))
+
+pub returns-then-probed-clause-bound : goal.returns-then-probed-clause-bound
+returns-then-probed-clause-bound g c =
+    let rows = g.P.AccessPort.rows c.args.port.now in
+    let accesses = g.P.AccessPort.accesses c.args.port.now in
+    let w = world rows accesses in
+    let s = c.self.inside in
+    let fits = subst (λ seen. Fits accesses rows seen.prepared) (sym c.self.view_is) c.requires.fits in
+    let is_world = world_of rows accesses s.prepared fits (subst (All (PlanHolds rows accesses)) c.as_slice.ensures c.ask_for_all.ensures) in
+    let few = reads_few w s.prepared is_world in
+    let made = (subst (λ b. HasGone w s.prepared b s.course c.probe_next.new.course c.args.steps.now c.probe_next.new.steps) c.if-probed.true
+    c.in_ok-probed.ensures.went).1 in
+    let within = made.within in
+    let all = made.all_reads in
+    let counts = c.in_ok-probed.ensures.reads in
+    subst (λ seen. c.probe_next.new.reads ≤ seen.prepared.bound) c.self.view_is (omega (arith, few, within, all, counts))
+
+pub returns-clause-bound : goal.returns-clause-bound
+returns-clause-bound g c =
+    let rows = g.P.AccessPort.rows c.args.port.now in
+    let accesses = g.P.AccessPort.accesses c.args.port.now in
+    let w = world rows accesses in
+    let s = c.self.inside in
+    let fits = subst (λ seen. Fits accesses rows seen.prepared) (sym c.self.view_is) c.requires.fits in
+    let is_world = world_of rows accesses s.prepared fits (subst (All (PlanHolds rows accesses)) c.as_slice.ensures c.ask_for_all.ensures) in
+    let few = reads_few w s.prepared is_world in
+    let agree = subst (λ seen. seen.failed ≡ false → AllAgree w seen.prepared seen.fetched) (sym c.self.view_is) c.requires.agrees c.if-self.false in
+    let ended = subst (λ b. HasGone w s.prepared b s.course c.probe_next.new.course c.args.steps.now c.probe_next.new.steps) c.if-probed.false
+    c.in_ok-probed.ensures.went in
+    let reads = done_reads w s.prepared is_world s.course c.probe_next.new.course c.in_ok-probed.ensures.course agree ended.same ended.left
+    c.probe_next.new.reads c.in_ok-probed.ensures.reads in
+    subst (λ seen. c.probe_next.new.reads ≤ seen.prepared.bound) c.self.view_is (omega (arith, few, reads))

@@ -1,0 +1,26 @@
+// What a walk is made of.
+use crate::known::Known;
+use crate::stack::Stack;
+use crate::walking::Walk;
+
+/// A walk, what its probes found and the valuations that it has yet to visit have these fields and no others: with a further
+/// one, such as a copy of the rows that it has read, this wouldn't compile.
+pub fn walk_fields(walk: &Walk) {
+    let Walk {
+        first: _first,
+        stages: _stages,
+        known,
+        pending,
+        key: _key,
+        through: _through,
+    } = walk;
+    let Known {
+        values: _values,
+        spots: _spots,
+        chains: _chains,
+    } = known;
+    let Stack {
+        values: _left,
+        marks: _marks,
+    } = pending;
+}
