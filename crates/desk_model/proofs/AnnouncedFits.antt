@@ -27,7 +27,7 @@ use Rattle.evaluation_facts.proofs.StartFacts.{start_counted}
 use Rattle.evaluation_facts.proofs.TaskFacts.{task_normals}
 use Rattle.catalogue.specs.Queries.{QueryIsOver}
 use Rattle.catalogue.specs.Schema.{Schema, SchemaIsSound}
-use Rattle.sql_tree.specs.Trees.{Tree}
+use Rattle.sql_text.specs.Trees.{Tree}
 use Rattle.binder.specs.Binding.{blocks_of as blocks_in, bound_query, looked_refusals, refusals}
 use Rattle.binder.specs.LookedUp.{looked_up}
 use Rattle.binder.specs.Refusing.{first, repeated_aliases, unknown_tables}

@@ -9,15 +9,15 @@ use Rattle.beas_core.specs.declared.plan.Prepared.{Prepared}
 use Rattle.beas_core.specs.declared.refusal.Refusal.{Refusal}
 use Rattle.beas_core.specs.Fits.{PlanFits}
 use Rattle.catalogue.specs.Database.{schema_of}
-use Rattle.sql_tree.specs.declared.tree.Statement.{Statement}
-use Rattle.sql_tree.specs.declared.tree.Statement.TheVariants.{CreateTable, CreateAccess, DropAccess, Load, Insert, Delete, DiscoverGroup, DiscoverPairs, Select, Explain, ScanOk, Grouped, Specialise}
+use Rattle.sql_text.specs.declared.tree.Statement.{Statement}
+use Rattle.sql_text.specs.declared.tree.Statement.TheVariants.{CreateTable, CreateAccess, DropAccess, Load, Insert, Delete, DiscoverGroup, DiscoverPairs, Select, Explain, ScanOk, Grouped, Specialise}
 use Rattle.report.specs.declared.reports.Report.{Report}
 use Rattle.report.specs.declared.reports.Report.TheVariants.{Answered}
 use Rattle.session.specs.declared.loading.LoadOutcome.{LoadOutcome}
 use Rattle.session.specs.Announced.{announcement}
 use Rattle.session.specs.Effects.{Action, Does, Loads, Settings, action_of, answer_effect}
-use Rattle.desk_model.specs.declared.event.Event.{Event}
-use Rattle.desk_model.specs.declared.event.Event.TheVariants.{Said, Stepped}
+use Rattle.piece_reader.specs.declared.event.Event.{Event}
+use Rattle.piece_reader.specs.declared.event.Event.TheVariants.{Said, Stepped}
 use Rattle.desk_model.specs.Answers.{Happening, answer_to, as_answer, effect_by, first_answer}
 use Rattle.kept_facts.specs.OpenQueries.{OpenQuery, answer_of, probes_of, reads_of}
 use Rattle.desk_model.specs.Desks.{AtOnce, DeskEffect, State, action_of_event, answered_effect, at_desk, is_of, new_query, opened_effect, place_of, probed_effect, query_effect, query_of, said_action, statement_action, stepped_effect, with_query, without_query}

@@ -19,10 +19,10 @@ use Rattle.evaluation_facts.proofs.MemberTests.{and_both, any_by}
 use Rattle.catalogue.specs.Database.{Database, block_table, kept_rows, rows_at, schema_of}
 use Rattle.catalogue.specs.Refusing.{add_table_refusal, admit_refusal, already_broken, drop_access_refusal, insert_refusal, new_access}
 use Rattle.catalogue.specs.Schema.{access_has_name, columns_at, table_named}
-use Rattle.sql_tree.specs.declared.tree.Cond.{Cond}
-use Rattle.sql_tree.specs.declared.tree.Literal.{Literal}
-use Rattle.sql_tree.specs.declared.tree.Statement.{Statement}
-use Rattle.sql_tree.specs.declared.tree.Statement.TheVariants.{CreateTable, CreateAccess, DropAccess, Load, Insert, Delete, DiscoverGroup, DiscoverPairs, Select, Explain, ScanOk, Grouped, Specialise}
+use Rattle.sql_text.specs.declared.tree.Cond.{Cond}
+use Rattle.sql_text.specs.declared.tree.Literal.{Literal}
+use Rattle.sql_text.specs.declared.tree.Statement.{Statement}
+use Rattle.sql_text.specs.declared.tree.Statement.TheVariants.{CreateTable, CreateAccess, DropAccess, Load, Insert, Delete, DiscoverGroup, DiscoverPairs, Select, Explain, ScanOk, Grouped, Specialise}
 use Rattle.binder.specs.Binding.{bound_delete, delete_refusals}
 use Rattle.binder.specs.Refusing.{table_refusals}
 use Rattle.binder.specs.LookedUp.{atom_of, bound_block, looked_up}

@@ -11,14 +11,14 @@ use Rattle.beas_core.specs.declared.plan.Prepared.{Prepared}
 use Rattle.beas_core.specs.declared.refusal.Refusal.{Refusal}
 use Rattle.catalogue.specs.Database.{schema_of}
 use Rattle.catalogue.proofs.ListFacts.{find_none}
-use Rattle.sql_tree.specs.declared.tree.Statement.{Statement}
-use Rattle.sql_tree.specs.declared.tree.Statement.TheVariants.{CreateTable, CreateAccess, DropAccess, Load, Insert, Delete, DiscoverGroup, DiscoverPairs, Select, Explain, ScanOk, Grouped, Specialise}
+use Rattle.sql_text.specs.declared.tree.Statement.{Statement}
+use Rattle.sql_text.specs.declared.tree.Statement.TheVariants.{CreateTable, CreateAccess, DropAccess, Load, Insert, Delete, DiscoverGroup, DiscoverPairs, Select, Explain, ScanOk, Grouped, Specialise}
 use Rattle.session.specs.declared.loading.LoadOutcome.{LoadOutcome}
 use Rattle.session.specs.Announced.{announcement}
 use Rattle.session.specs.Effects.{Action, Does, Loads, Settings, action_of}
 use Rattle.kept_facts.specs.OpenQueries.{OpenQuery, probes_of}
-use Rattle.desk_model.specs.declared.event.Event.{Event}
-use Rattle.desk_model.specs.declared.event.Event.TheVariants.{Said, Stepped}
+use Rattle.piece_reader.specs.declared.event.Event.{Event}
+use Rattle.piece_reader.specs.declared.event.Event.TheVariants.{Said, Stepped}
 use Rattle.desk_model.specs.Answers.{effect_by}
 use Rattle.desk_model.specs.Desks.{AtOnce, DeskAction, OneEach, State, action_of_event, answered_effect, at_desk, is_of, lost, new_query, opened_effect, place_of, probed_effect, query_effect, query_of, said_action, statement_action, stepped_effect, wanting, with_query, without_query}
 use Rattle.desk_model.proofs.Places.{map-set-found}

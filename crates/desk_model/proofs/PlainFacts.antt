@@ -11,9 +11,9 @@ use Rattle.beas_core.specs.Types.{TableRows}
 use Rattle.beas_core.proofs.Sets.{Has}
 use Rattle.catalogue.specs.Database.{rows_at, schema_of}
 use Rattle.catalogue.specs.Schema.{SchemaIsSound}
-use Rattle.sql_tree.specs.declared.tree.Statement.{Statement}
-use Rattle.sql_tree.specs.declared.tree.Statement.TheVariants.{CreateTable, CreateAccess, DropAccess, Load, Insert, Delete, DiscoverGroup, DiscoverPairs, Select, Explain, ScanOk, Grouped, Specialise}
-use Rattle.sql_tree.specs.Trees.{Tree}
+use Rattle.sql_text.specs.declared.tree.Statement.{Statement}
+use Rattle.sql_text.specs.declared.tree.Statement.TheVariants.{CreateTable, CreateAccess, DropAccess, Load, Insert, Delete, DiscoverGroup, DiscoverPairs, Select, Explain, ScanOk, Grouped, Specialise}
+use Rattle.sql_text.specs.Trees.{Tree}
 use Rattle.report.specs.declared.reports.Report.{Report}
 use Rattle.report.specs.declared.reports.Report.TheVariants.{Answered}
 use Rattle.session.specs.declared.loading.LoadOutcome.{LoadOutcome}
@@ -28,7 +28,7 @@ use Rattle.kept_facts.proofs.KeepingFacts.{keeps_its_constraints, keeps_its_rows
 use Rattle.kept_facts.proofs.QueryFacts.{full_stays}
 use Rattle.kept_facts.specs.OpenQueries.{OpenQuery, answer_of, probes_of, reads_of}
 use Rattle.desk_model.specs.Desks.{AtOnce, DeskAction, DeskEffect, State, answered_effect, at_desk, is_of, new_query, opened_effect, probed_effect, query_effect, query_of, refused, said_action, statement_action, stepped_effect, with_effect, with_query, without_query}
-use Rattle.piece_reader.specs.declared.saying.Saying.TheVariants.{Plain}
+use Rattle.piece_reader.specs.declared.event.Event.TheVariants.{Said}
 use Rattle.piece_reader.specs.Sayings.{as_plain}
 use Rattle.desk_model.specs.Pieces.{DeskTurn, Next, after_cost, and_step, and_steps, answered_if_opened, next, opens, piece_action, probes_due, seen_turns, turns, with_answer}
 use Rattle.desk_model.specs.PlainScripts.{NextTurn, beside, next_turn, reading_action, statement_turns}
@@ -160,9 +160,9 @@ same_answer state (Loads name effect) idle = refl
 
 module _ (s : Settings) (state : State) (sound : SchemaIsSound (schema_of state.db)) (idle : query_of 0 state ≡ None) where
   abbrev Plainly : Statement → Type 0
-  Plainly statement = piece_action s state (Ok (Plain statement)) ≡ Some (at_desk state (action_of s state.db statement))
+  Plainly statement = piece_action s state (Ok (Said 0 statement)) ≡ Some (at_desk state (action_of s state.db statement))
 
-  said : (statement : Statement) → piece_action s state (Ok (Plain statement)) ≡ Some (with_answer state (statement_action s state 0 statement))
+  said : (statement : Statement) → piece_action s state (Ok (Said 0 statement)) ≡ Some (with_answer state (statement_action s state 0 statement))
   said statement = ap (λ o. Some (with_answer state (said_action s state 0 o statement))) idle
 
   other : (statement : Statement) → statement_action s state 0 statement ≡ at_desk state (action_of s state.db statement) → Plainly statement

@@ -12,8 +12,8 @@ use Rattle.catalogue.specs.Schema.{Schema, SchemaIsSound, columns_at}
 use Rattle.catalogue.specs.declared.tables.TableSchema.{TableSchema}
 use Rattle.catalogue.proofs.Keeping.{sound_with_access, sound_with_table, sound_without}
 use Rattle.catalogue.proofs.MayMake.{may_make_access, may_make_table}
-use Rattle.sql_tree.specs.declared.tree.Statement.{Statement}
-use Rattle.sql_tree.specs.declared.tree.Statement.TheVariants.{CreateTable, CreateAccess, DropAccess, Load, Insert, Delete, DiscoverGroup, DiscoverPairs, Select, Explain, ScanOk, Grouped, Specialise}
+use Rattle.sql_text.specs.declared.tree.Statement.{Statement}
+use Rattle.sql_text.specs.declared.tree.Statement.TheVariants.{CreateTable, CreateAccess, DropAccess, Load, Insert, Delete, DiscoverGroup, DiscoverPairs, Select, Explain, ScanOk, Grouped, Specialise}
 use Rattle.session.specs.declared.loading.LoadOutcome.{LoadOutcome}
 use Rattle.session.specs.declared.loading.LoadOutcome.TheVariants.{Content, Failed, TooLong}
 use Rattle.session.specs.Announced.{announcement, binding, scan_announcement}

@@ -10,8 +10,8 @@ use Rattle.report.specs.declared.reports.Report.{Report}
 use Rattle.report.specs.declared.reports.Report.TheVariants.{Answered}
 use Rattle.session.specs.declared.loading.LoadOutcome.{LoadOutcome}
 use Rattle.session.specs.Effects.{Settings}
-use Rattle.desk_model.specs.declared.event.Event.{Event}
-use Rattle.desk_model.specs.declared.event.Event.TheVariants.{Said, Stepped}
+use Rattle.piece_reader.specs.declared.event.Event.{Event}
+use Rattle.piece_reader.specs.declared.event.Event.TheVariants.{Said, Stepped}
 use Rattle.desk_model.specs.Desks.{DeskAction, AtOnce, ByLoad, DeskEffect, State, action_of_event}
 
 pub record Happening : Type 0 where

@@ -6,8 +6,8 @@ use Rattle.std.specs.List.{list_any}
 use Rattle.std.specs.Option.{option_map_or}
 use Rattle.beas_core.specs.declared.schema.TableId.{TableId}
 use Rattle.catalogue.specs.Schema.{Schema, access_has_name, table_named}
-use Rattle.sql_tree.specs.declared.tree.Statement.{Statement}
-use Rattle.sql_tree.specs.declared.tree.Statement.TheVariants.{CreateTable, CreateAccess, DropAccess, Load, Insert, Delete, DiscoverGroup, DiscoverPairs, Select, Explain, ScanOk, Grouped, Specialise}
+use Rattle.sql_text.specs.declared.tree.Statement.{Statement}
+use Rattle.sql_text.specs.declared.tree.Statement.TheVariants.{CreateTable, CreateAccess, DropAccess, Load, Insert, Delete, DiscoverGroup, DiscoverPairs, Select, Explain, ScanOk, Grouped, Specialise}
 
 -- the table has this name
 abbrev pub is_named : Schema → List ℕ → TableId → Bool

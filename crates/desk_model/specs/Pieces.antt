@@ -4,8 +4,8 @@
 --     and_step session effect                  an effect after which the session's query goes on by one event; and_steps by more
 --     probes_due session state                 how many probes the session's query asks for
 --     answered_if_opened, with_answer          a query that was opened goes on until it is answered
---     piece_action settings state reading      what a piece does: a statement that names no session is said by session 0, and where it opens a
---                                              query, the query's probes follow until it is answered
+--     piece_action settings state reading      what a piece does: what session 0 says is what pieces say that name no session, and where it opens
+--                                              a query, the query's probes follow until it is answered
 --     DeskTurn                                 what was done in a turn, and the load that it took
 --     Next, next action outcomes               the turn that an action makes, and the outcomes of the loads after it
 --     turns settings state readings outcomes   what the pieces do one after another, where loads give these outcomes
@@ -14,12 +14,11 @@
 --                                              nothing: what its probes read stands beside the cost
 use Rattle.std.specs.Prelude.{◌+◌, ◌&&◌, not, if◌then◌else◌, ℕ, zero, suc, Bool, List, [], ◌∷◌, length, map, Option, Some, None, is_some, option_map, Ok, Err}
 use Rattle.std.specs.Option.{option_map_or}
-use Rattle.piece_reader.specs.declared.saying.Saying.TheVariants as saying
 use Rattle.piece_reader.specs.Sayings.{Reading}
 use Rattle.session.specs.declared.loading.LoadOutcome.{LoadOutcome}
 use Rattle.session.specs.Effects.{Settings}
 use Rattle.session.specs.Turns.{FileLoad, Turn}
-use Rattle.desk_model.specs.declared.event.Event.TheVariants.{Said, Stepped}
+use Rattle.piece_reader.specs.declared.event.Event.TheVariants.{Said, Stepped}
 use Rattle.kept_facts.specs.OpenQueries.{probes_of}
 use Rattle.desk_model.specs.Desks.{DeskAction, AtOnce, ByLoad, DeskEffect, State, action_of_event, query_of, refused, stepped_effect}
 
@@ -58,9 +57,9 @@ with_answer before (ByLoad name effect) = ByLoad name effect
 
 abbrev pub piece_action : Settings → State → Reading → Option DeskAction
 piece_action settings state (Err why) = Some (AtOnce (refused state why))
-piece_action settings state (Ok (saying.Plain statement)) = option_map (with_answer state) (action_of_event settings state (Said 0 statement))
-piece_action settings state (Ok (saying.Said session statement)) = action_of_event settings state (Said session statement)
-piece_action settings state (Ok (saying.Stepped session)) = action_of_event settings state (Stepped session)
+piece_action settings state (Ok (Said zero statement)) = option_map (with_answer state) (action_of_event settings state (Said 0 statement))
+piece_action settings state (Ok (Said (suc session) statement)) = action_of_event settings state (Said (suc session) statement)
+piece_action settings state (Ok (Stepped session)) = action_of_event settings state (Stepped session)
 
 pub record DeskTurn : Type 0 where
   pub effect : DeskEffect

@@ -7,7 +7,7 @@ use Rattle.std.specs.Prelude.{List, [], ◌∷◌, Option, Some, None, Result, O
 use Rattle.std.specs.Option.{option_map_or}
 use Rattle.beas_core.specs.declared.refusal.Refusal.{Refusal}
 use Rattle.catalogue.specs.Database.{Database}
-use Rattle.sql_tree.specs.declared.tree.Statement.{Statement}
+use Rattle.sql_text.specs.declared.tree.Statement.{Statement}
 use Rattle.session.specs.declared.loading.LoadOutcome.{LoadOutcome}
 use Rattle.session.specs.Effects.{Action, Does, Loads, Settings, action_of, refusal_effect}
 use Rattle.session.specs.Turns.{Turn, turn_of}

@@ -8,7 +8,7 @@ ghost use Rattle.beas_core.specs.declared.schema.TableId.{TableId};
 ghost use Rattle.beas_core.specs.Shapes.{EachIdOnce};
 ghost use Rattle.catalogue.specs.Database.{Database, rows_at, schema_of};
 ghost use Rattle.catalogue.specs.Schema.{Schema, SchemaIsSound};
-ghost use Rattle.piece_reader.specs.declared.saying.Saying.TheVariants.{Plain};
+ghost use Rattle.piece_reader.specs.declared.event.Event.TheVariants.{Said};
 ghost use Rattle.piece_reader.specs.Sayings.{as_plain};
 ghost use Rattle.report.specs.declared.reports.Report.{Report};
 ghost use Rattle.session.specs.declared.loading.LoadOutcome.{LoadOutcome};
@@ -16,13 +16,13 @@ ghost use Rattle.session.specs.Announced.{announcement};
 ghost use Rattle.session.specs.Effects.{Settings, action_of, answer_effect};
 ghost use Rattle.session.specs.Statements.{StatementIsWellFormed, TreeIsWellFormed};
 ghost use Rattle.session.specs.Turns.{turn_of};
-ghost use Rattle.sql_tree.specs.declared.tree.Statement.{Statement};
-ghost use Rattle.sql_tree.specs.Trees.{Tree};
+ghost use Rattle.sql_text.specs.declared.tree.Statement.{Statement};
+ghost use Rattle.sql_text.specs.Trees.{Tree};
 ghost use Rattle.desk_model.specs.Answers.{Happening, effect_by, first_answer};
 ghost use Rattle.kept_facts.specs.Frames.{SameOn};
 ghost use Rattle.desk_model.specs.Changes.{changes};
 ghost use Rattle.desk_model.specs.Desks.{DeskAction, OneEach, State, action_of_event, at_desk, opened_effect, query_of, wanting};
-ghost use Rattle.desk_model.specs.declared.event.Event.{Event};
+ghost use Rattle.piece_reader.specs.declared.event.Event.{Event};
 ghost use Rattle.desk_model.specs.Pieces.{piece_action, seen_turns, turns};
 ghost use Rattle.desk_model.specs.PlainScripts.{beside, statement_turns};
 
@@ -48,7 +48,7 @@ pub fn law_first_answer()
 pub fn law_plain_piece()
     ensures { (settings : Settings) (state : State) (statement : Statement) → SchemaIsSound (schema_of state.db)
         → query_of 0 state ≡ None → StatementIsWellFormed statement
-        → piece_action settings state (Ok (Plain statement)) ≡ Some (at_desk state (action_of settings state.db statement)) }
+        → piece_action settings state (Ok (Said 0 statement)) ≡ Some (at_desk state (action_of settings state.db statement)) }
 {}
 
 /// So does a whole script that names no session: its turns are those of its statements, and after each the same queries

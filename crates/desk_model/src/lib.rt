@@ -2,10 +2,8 @@
 //! them. There are no threads: events come one after another, and each is done whole.
 #![tactic(auto)]
 
-mod event;
 mod laws;
 
-pub use event::Event;
 pub use laws::{
     law_announced_fits, law_first_answer, law_one_each, law_plain_piece, law_plain_script,
     law_unchanged_tables,

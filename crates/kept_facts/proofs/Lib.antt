@@ -3,3 +3,4 @@ pub mod PartFacts
 pub mod ProbeFacts
 pub mod QueryFacts
 pub mod UpdateFacts
+pub mod KeptFacts

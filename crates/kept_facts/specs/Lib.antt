@@ -1,3 +1,4 @@
 pub mod Frames
 pub mod Keeping
 pub mod OpenQueries
+pub mod Kept

@@ -2,8 +2,10 @@
 //! result whose contract is the law.
 #![tactic(auto)]
 
+mod part;
 mod parts;
 mod queries;
 
+pub use part::Part;
 pub use parts::{law_parts, law_updated, law_with_part};
 pub use queries::{law_kept_query, law_same_answer, law_same_query};

@@ -6,10 +6,10 @@ ghost use Rattle.beas_core.specs.declared.schema.TableId.{TableId};
 ghost use Rattle.beas_core.specs.Shapes.{EachIdOnce};
 ghost use Rattle.beas_core.specs.Types.{TableRows};
 ghost use Rattle.catalogue.specs.Database.{Database, rows_at};
-ghost use Rattle.kept_port.specs.Kept.{accesses_with, rows_with};
+ghost use Rattle.kept_facts.specs.Kept.{accesses_with, rows_with};
 ghost use Rattle.kept_facts.specs.Frames.{KeepsTable, IsUntouched, SameOn, Update, updated};
 
-use kept_port::Part;
+use crate::part::Part;
 
 /// An update leaves each table as it was that it doesn't touch.
 pub fn law_updated()

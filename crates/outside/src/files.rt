@@ -23,7 +23,7 @@ pub trait Files {
     ghost seen: { Self → Seen };
 
     /// The bytes of a file, of which there are at most `limit`.
-    fn load(&mut self, alloc: Global, name: &str, limit: u64) -> Result<Bytes, FilesError>
+    fn read(&mut self, alloc: Global, name: &str, limit: u64) -> Result<Bytes, FilesError>
         requires { limit < 2 ^ 64 - 1 }
         ensures later { IsLater (seen self.old) (seen self.new) }
         ensures counted { (seen self.new).loads ≡ raised 1 (seen self.old).loads }

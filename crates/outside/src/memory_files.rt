@@ -119,7 +119,7 @@ impl Files for MemoryFiles {
       loads = files.loads;
     } };
 
-    fn load(&mut self, alloc: Global, name: &str, limit: u64) -> Result<Bytes, FilesError>
+    fn read(&mut self, alloc: Global, name: &str, limit: u64) -> Result<Bytes, FilesError>
         ensures answer { IsErrOf result FilesError.NoMemory ⊎ (result ≡ next_answer self.old name.now limit) }
         ensures failed { IsErrOf result FilesError.Failed → self.new.failed ≡ self.old.failed ++ name.now ∷ [] }
         ensures rose { IsErrOf result FilesError.Failed → Rose (times self.old.failed name.now)
@@ -178,7 +178,7 @@ impl Files for SteadyFiles {
       loads = files.loads;
     } };
 
-    fn load(&mut self, alloc: Global, name: &str, limit: u64) -> Result<Bytes, FilesError>
+    fn read(&mut self, alloc: Global, name: &str, limit: u64) -> Result<Bytes, FilesError>
         ensures answer { IsErrOf result FilesError.NoMemory ⊎ (result
             ≡ answer_within (unwrap_or (content_of self.old.shelf name.now) []) limit) }
         ensures shelf { self.new.shelf ≡ self.old.shelf }

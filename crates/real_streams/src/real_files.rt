@@ -265,7 +265,7 @@ impl<R: rt::Files> Files for RealFiles<'_, R> {
       loads = files.loads;
     } };
 
-    fn load(&mut self, alloc: Global, name: &str, limit: u64) -> Result<Bytes, FilesError>
+    fn read(&mut self, alloc: Global, name: &str, limit: u64) -> Result<Bytes, FilesError>
         requires { limit < 2 ^ 64 - 1 }
         ensures fits { IfOk result (λ bytes. length bytes ≤ limit) }
         ensures counted { IfOk result (λ bytes. self.new.counts.taken

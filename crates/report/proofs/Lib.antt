@@ -1,5 +1,5 @@
 pub mod LiveFacts
-pub mod PlainFields
 pub mod PlanFacts
-pub mod RecordFacts
+pub mod RecordsAreText
 pub mod ReportFacts
+pub mod WriterFacts

@@ -10,7 +10,7 @@ use Rattle.beas_core.specs.declared.refusal.Counted.TheVariants.{Tables, Columns
 use Rattle.beas_core.specs.declared.refusal.Refusal.{Refusal}
 use Rattle.beas_core.specs.declared.refusal.Refusal.TheVariants.{Syntax, TooDeep, TableExists, UnknownTable, UnknownColumn, Ambiguous, DuplicateName, MixedTypes, WrongType, ShapeMismatch, BadLimit, AlreadyBroken, BreaksBound, WrongWidth, NumberRange, Unreadable, BadField, RecordWidth, HeaderMismatch, NotCovered, TooLarge, OverBudget, TooMany, NeedsDistinct, FileTooLong, UnknownAccess, TextTooLong, NotGrouped, SumOfText, TooManyCandidates, BadSession, SessionBusy, SessionIdle}
 use Rattle.beas_core.specs.Texts.{concatenation, with_commas}
-use Rattle.sql_text.specs.Tokens.{in_quotes}
+use Rattle.sql_tokens.specs.Tokens.{in_quotes}
 
 abbrev pub literal_text : Value → List ℕ
 literal_text (Int number) = signed_decimal number

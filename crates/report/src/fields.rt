@@ -1,50 +1,50 @@
 // What stands in the fields of records.
-ghost use Rattle.std.specs.Prelude.{◌≡◌, ◌++◌, ℕ, List, OnOk};
-ghost use Rattle.report.specs.Records.{written_field};
+ghost use Rattle.std.specs.Prelude.{◌+◌, ◌<◌, ◌^◌, ◌++◌, ◌∷◌, [], ℕ, List, length, OnOk};
+ghost use Rattle.report.specs.Records.{HasWritten};
 
-use crate::quoting::push_field;
 use aggregate::Cell;
 use beas_core::{Name, NoMemory, Text, Value};
+use csv::Writer;
 use itoa::Buffer;
+use std::io::Write;
 
 /// What can stand in a field of a record.
 pub trait Field {
     /// Its text.
     ghost field: { Self → List ℕ };
 
-    /// Adds it to a text, as csv's default writer writes a field.
-    fn push_to(&self, text: &mut Text) -> Result<(), NoMemory>
-        ensures { OnOk result (text.new ≡ text.old ++ written_field (field self.now)) };
+    /// Writes it as the next field of the record.
+    fn write_to<W: Write + Drop>(&self, writer: &mut Writer<W>) -> Result<(), NoMemory>
+        ensures { OnOk result ((before : List ℕ) (fields : List (List ℕ)) → length fields + 1 < 2 ^ 64
+            → HasWritten W.contents writer.old before fields
+            → HasWritten W.contents writer.new before (fields ++ field self.now ∷ [])) };
 }
 
-/// A name is written as it is: no letter, digit or `_` calls for quotes.
 impl Field for Name {
     ghost field = { λ name. name };
 
-    fn push_to(&self, text: &mut Text) -> Result<(), NoMemory> {
-        self.law_is_name();
-        text.push_str(self.as_str())
+    fn write_to<W: Write + Drop>(&self, writer: &mut Writer<W>) -> Result<(), NoMemory> {
+        write_field(writer, self.as_str())
     }
 }
 
 impl Field for Text {
     ghost field = { λ text. text };
 
-    fn push_to(&self, text: &mut Text) -> Result<(), NoMemory> {
-        push_field(text, self.as_str())
+    fn write_to<W: Write + Drop>(&self, writer: &mut Writer<W>) -> Result<(), NoMemory> {
+        write_field(writer, self.as_str())
     }
 }
 
-/// An integer is written as it is: no digit and no sign calls for quotes.
 impl Field for Value {
     ghost use Rattle.report.specs.Reports.{field_text};
 
     ghost field = { field_text };
 
-    fn push_to(&self, text: &mut Text) -> Result<(), NoMemory> {
+    fn write_to<W: Write + Drop>(&self, writer: &mut Writer<W>) -> Result<(), NoMemory> {
         match self {
-            Value::Int(number) => text.push_str(Buffer::new().format(*number)),
-            Value::Str(words) => push_field(text, words.as_str()),
+            Value::Int(number) => write_field(writer, Buffer::new().format(*number)),
+            Value::Str(words) => write_field(writer, words.as_str()),
         }
     }
 }
@@ -54,11 +54,23 @@ impl Field for Cell {
 
     ghost field = { cell_text };
 
-    fn push_to(&self, text: &mut Text) -> Result<(), NoMemory> {
+    fn write_to<W: Write + Drop>(&self, writer: &mut Writer<W>) -> Result<(), NoMemory> {
         match self {
-            Cell::Plain(value) => value.push_to(text),
-            Cell::Count(count) => text.push_str(Buffer::new().format(*count)),
-            Cell::Sum(sum) => text.push_str(Buffer::new().format(*sum)),
+            Cell::Plain(value) => value.write_to(writer),
+            Cell::Count(count) => write_field(writer, Buffer::new().format(*count)),
+            Cell::Sum(sum) => write_field(writer, Buffer::new().format(*sum)),
         }
     }
+}
+
+/// Writes a text as the next field of the record.
+fn write_field<W: Write + Drop>(writer: &mut Writer<W>, field: &str) -> Result<(), NoMemory>
+    ensures { OnOk result ((before : List ℕ) (fields : List (List ℕ)) → length fields + 1 < 2 ^ 64
+        → HasWritten W.contents writer.old before fields
+        → HasWritten W.contents writer.new before (fields ++ field.now ∷ [])) }
+{
+    if let Err(_) = writer.write_field(field.as_bytes()) {
+        return Err(NoMemory);
+    }
+    Ok(())
 }

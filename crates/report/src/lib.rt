@@ -5,7 +5,6 @@ mod decimal;
 mod fields;
 mod literals;
 mod plans;
-mod quoting;
 mod records;
 mod refusals;
 mod reports;

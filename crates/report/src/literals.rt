@@ -5,7 +5,7 @@ ghost use Rattle.report.specs.Texts.{literal_text};
 
 use beas_core::{List, NoMemory, Text, Value};
 use itoa::Buffer;
-use sql_text::push_quoted;
+use sql_tokens::push_quoted;
 use std::alloc::Global;
 
 /// Values with a comma and a space between them: a number in decimal, a text in quotes with its quotes

@@ -14,7 +14,7 @@ use beas_core::Refusal::{
     UnknownColumn, UnknownTable, Unreadable, WrongType, WrongWidth,
 };
 use beas_core::{Counted, Name, NoMemory, Refusal, Row, Text};
-use sql_text::push_quoted;
+use sql_tokens::push_quoted;
 use std::alloc::Global;
 
 /// What a report says of a refusal after its number.

@@ -189,7 +189,7 @@ fn answer_text<H: Field, F: Field>(
 {
     let mut text = empty_text_for(alloc, plan)?;
     push_bound(&mut text, number, bound, plan)?;
-    push_records(&mut text, header, rows)?;
+    push_records(alloc, &mut text, header, rows)?;
     push_counts(&mut text, number, rows.len(), reads)?;
     Ok(text)
 }

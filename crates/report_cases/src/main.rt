@@ -1,8 +1,24 @@
-//! Writes a report of each kind and a refusal of each text, as they stand for statement 7.
+//! Writes a report of each kind and a refusal of each text, as they stand for statement 7, and rows in groups.
+//!
+//! A case of groups on standard input is these lines, with words that stand apart by one space; a line that begins with
+//! `#` is a remark.
+//!
+//!     case NAME                 begins a case
+//!     keys NUMBER               how many columns in front are the key
+//!     folds FOLD ..             plain, count, sum, least or greatest, for each column after the key
+//!     row VALUE ..              a row: a value is a number, or a text after a quote: 'nyc
+//!
+//! Its rows are made a set in order, and it prints one line for each group: each cell, and a text after a quote. What
+//! is to come was worked out by hand. Then it makes as many rows as the first argument says, a hundred for each key,
+//! and sees that each group has what it is to have.
 #![tactic(auto)]
 
+mod cases;
+mod groups;
+mod many;
 mod refusals;
 mod reports;
+mod shown;
 
 use beas_core::{Name, NoMemory};
 use report::{Report, text};
@@ -42,8 +58,12 @@ fn write(rt: &HostRuntime, report: &Report) -> Result<(), Stop> {
 }
 
 fn write_all(rt: &HostRuntime) -> Result<(), Stop> {
+    println!(rt; "== refusals")?;
     refusals::write_all(rt)?;
-    reports::write_all(rt)
+    println!(rt; "== reports")?;
+    reports::write_all(rt)?;
+    println!(rt; "== groups")?;
+    groups::write_all(rt)
 }
 
 fn main(rt: HostRuntime) -> ExitCode {

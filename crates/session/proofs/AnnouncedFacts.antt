@@ -9,7 +9,7 @@ use Rattle.beas_core.specs.declared.refusal.Refusal.TheVariants.{OverBudget}
 use Rattle.beas_core.specs.Trees.{QueryTree}
 use Rattle.beas_core.specs.Results.{Gives, IsRefusedAs}
 use Rattle.catalogue.specs.Schema.{Schema}
-use Rattle.sql_tree.specs.Trees.{Tree}
+use Rattle.sql_text.specs.Trees.{Tree}
 use Rattle.binder.specs.Binding.{refusals, bound_query}
 use Rattle.binder.specs.Refusing.{first}
 use Rattle.plan_builder.specs.Preparation.{preparation}

@@ -5,8 +5,8 @@ use Rattle.beas_core.specs.declared.errors.Fail.{Fail}
 use Rattle.beas_core.specs.declared.errors.Fail.TheVariants.{NoMemory, Refused}
 use Rattle.beas_core.specs.declared.refusal.Refusal.{Refusal}
 use Rattle.beas_core.specs.Results.{IsRefusedAs}
-use Rattle.sql_tree.specs.declared.tree.GroupItem.{GroupItem}
-use Rattle.sql_tree.specs.Grouping.{column_in}
+use Rattle.sql_text.specs.declared.tree.GroupItem.{GroupItem}
+use Rattle.sql_text.specs.Grouping.{column_in}
 use Rattle.session.specs.Grouping.{PlacedItem, name_in}
 use Rattle.session.proofs.CarryFacts.{failed}
 

@@ -2,6 +2,7 @@ pub mod AnnouncedFacts
 pub mod AppliedFacts
 pub mod BlockFacts
 pub mod CarryFacts
+pub mod CursorFacts
 pub mod FileFacts
 pub mod GivenFacts
 pub mod GroupFacts

@@ -14,11 +14,11 @@ use Rattle.beas_core.specs.declared.schema.ColType.{ColType}
 use Rattle.beas_core.specs.Guiding.{Uncovered, block_tasks, first_uncovered}
 use Rattle.beas_core.specs.Trees.{QueryTree}
 use Rattle.catalogue.specs.Schema.{Schema}
-use Rattle.sql_tree.specs.declared.tree.BlockTree.{BlockTree}
-use Rattle.sql_tree.specs.declared.tree.ColumnRef.{ColumnRef}
-use Rattle.sql_tree.specs.declared.tree.GroupItem.{GroupItem}
-use Rattle.sql_tree.specs.Grouping.{IsGroupedOver, column_in, grouped_block}
-use Rattle.sql_tree.specs.Trees.{Tree, Block as BlockOf}
+use Rattle.sql_text.specs.declared.tree.BlockTree.{BlockTree}
+use Rattle.sql_text.specs.declared.tree.ColumnRef.{ColumnRef}
+use Rattle.sql_text.specs.declared.tree.GroupItem.{GroupItem}
+use Rattle.sql_text.specs.Grouping.{IsGroupedOver, column_in, grouped_block}
+use Rattle.sql_text.specs.Trees.{Tree, Block as BlockOf}
 use Rattle.binder.specs.declared.kinds.Flaw.TheVariants.{UnknownColumn, AmbiguousColumn}
 use Rattle.binder.specs.declared.kinds.Kind.TheVariants.{OfMeaning, Outputs}
 use Rattle.binder.specs.declared.meaning.BoundColumn.{BoundColumn}

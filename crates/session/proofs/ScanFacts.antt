@@ -17,7 +17,7 @@ use Rattle.catalogue.specs.declared.tables.TableSchema.{TableSchema}
 use Rattle.catalogue.specs.Database.{Table}
 use Rattle.catalogue.specs.Schema.{Schema}
 use Rattle.catalogue.specs.Stored.{tables_with}
-use Rattle.sql_tree.specs.Trees.{Tree}
+use Rattle.sql_text.specs.Trees.{Tree}
 use Rattle.binder.specs.declared.kinds.Kind.TheVariants.{Blocks}
 use Rattle.binder.specs.declared.meaning.LookedUp.{LookedUp}
 use Rattle.binder.specs.Binding.{blocks_of, kinds, looked_refusals, places_in_all, refusals, shape_of}
@@ -26,7 +26,7 @@ use Rattle.binder.specs.Refusing.{first, places, repeated_aliases, unknown_table
 use Rattle.binder.proofs.BindFacts.{none_each, none_left, not_over}
 use Rattle.partial_plan.specs.declared.plan.ScanPlan.{ScanPlan}
 use Rattle.partial_plan.specs.ScanPlans.{scan_preparation}
-use Rattle.scan_port.specs.Scans.{TableSizes, sizes_of_tables}
+use Rattle.partial_plan.specs.Scans.{TableSizes, sizes_of_tables}
 use Rattle.session.specs.Announced.{and_then, binding, scan_announcement, scans_within_budget}
 use Rattle.session.specs.Effects.{sizes_in}
 use Rattle.session.specs.Stores.{Store, database_in}

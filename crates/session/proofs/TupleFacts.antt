@@ -4,7 +4,7 @@ use Rattle.std.proofs.lemmas.List.{length-map}
 use Rattle.std.proofs.lemmas.List.Elements.{All-map, All-weaker}
 use Rattle.std.specs.List.{filter_map, cons_option}
 use Rattle.beas_core.specs.declared.value.Value.{Value}
-use Rattle.sql_tree.specs.declared.tree.Literal.{Literal}
+use Rattle.sql_text.specs.declared.tree.Literal.{Literal}
 use Rattle.binder.specs.Binding.{bound_row, bound_rows, value_of}
 use Rattle.binder.specs.Meanings.{literal_meaning}
 

@@ -10,12 +10,12 @@ use Rattle.beas_core.specs.declared.refusal.Refusal.{Refusal}
 use Rattle.beas_core.specs.declared.refusal.Refusal.TheVariants.{OverBudget}
 use Rattle.beas_core.specs.Trees.{QueryTree}
 use Rattle.catalogue.specs.Schema.{Schema}
-use Rattle.sql_tree.specs.Trees.{Tree}
+use Rattle.sql_text.specs.Trees.{Tree}
 use Rattle.binder.specs.Binding.{refusals, bound_query}
 use Rattle.partial_plan.specs.declared.plan.ScanPlan.{ScanPlan}
 use Rattle.partial_plan.specs.ScanPlans.{scan_preparation}
 use Rattle.plan_builder.specs.Preparation.{preparation}
-use Rattle.scan_port.specs.Scans.{TableSizes}
+use Rattle.partial_plan.specs.Scans.{TableSizes}
 
 -- an answer, unless there are refusals: then the first
 abbrev pub unless_refused : {A : Type 0} → List Refusal → A → Result A Refusal

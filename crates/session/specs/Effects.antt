@@ -27,13 +27,13 @@ use Rattle.beas_core.specs.Types.{Row}
 use Rattle.catalogue.specs.Database.{Database, schema_of, rows_at, with_table, with_access, without_access, with_more_rows, with_rows_kept, kept_rows, block_table}
 use Rattle.catalogue.specs.Refusing.{add_table_refusal, resolve_refusal, admit_refusal, drop_access_refusal, insert_refusal, already_broken, broken_bound, new_access, columns_of_named, column_ids}
 use Rattle.catalogue.specs.Schema.{Schema, accesses_on, table_named, columns_at}
-use Rattle.sql_tree.specs.declared.tree.Cond.{Cond}
-use Rattle.sql_tree.specs.declared.tree.Literal.{Literal}
-use Rattle.sql_tree.specs.declared.tree.Statement.{Statement}
-use Rattle.sql_tree.specs.declared.tree.ColumnRef.{ColumnRef}
-use Rattle.sql_tree.specs.declared.tree.GroupItem.{GroupItem}
-use Rattle.sql_tree.specs.declared.tree.Statement.TheVariants as statement
-use Rattle.sql_tree.specs.Trees.{Tree}
+use Rattle.sql_text.specs.declared.tree.Cond.{Cond}
+use Rattle.sql_text.specs.declared.tree.Literal.{Literal}
+use Rattle.sql_text.specs.declared.tree.Statement.{Statement}
+use Rattle.sql_text.specs.declared.tree.ColumnRef.{ColumnRef}
+use Rattle.sql_text.specs.declared.tree.GroupItem.{GroupItem}
+use Rattle.sql_text.specs.declared.tree.Statement.TheVariants as statement
+use Rattle.sql_text.specs.Trees.{Tree}
 use Rattle.binder.specs.Binding.{row_refusals, bound_rows, delete_refusals, bound_delete}
 use Rattle.csv_load.specs.CsvRows.{fault_of, rows_in}
 use Rattle.constraint_miner.specs.Pairs.{pairs_in}
@@ -43,7 +43,7 @@ use Rattle.partial_plan.specs.declared.plan.ScanPlan.{ScanPlan}
 use Rattle.partial_plan.specs.ScanPlans.{scan_plan_reads}
 use Rattle.plan_builder.specs.Preparation.{atom_table}
 use Rattle.report.specs.Plans.{plan_text, plan_text_over}
-use Rattle.scan_port.specs.Scans.{TableSizes, sizes_of_tables}
+use Rattle.partial_plan.specs.Scans.{TableSizes, sizes_of_tables}
 use Rattle.specialise.specs.Specialised.{specialised}
 use Rattle.session.specs.declared.discovery.Resolved.{Resolved}
 use Rattle.session.specs.declared.loading.LoadOutcome.{LoadOutcome}

@@ -22,9 +22,9 @@ use Rattle.beas_core.specs.Trees.{QueryTree, Single, Either, Minus}
 use Rattle.beas_core.specs.Types.{Row}
 use Rattle.catalogue.specs.Schema.{Schema, columns_at}
 use Rattle.plan_builder.specs.Preparation.{atom_table}
-use Rattle.sql_tree.specs.declared.tree.GroupItem.{GroupItem}
-use Rattle.sql_tree.specs.declared.tree.GroupItem.TheVariants.{Plain, Count, Sum, Least, Greatest}
-use Rattle.sql_tree.specs.Grouping.{column_in}
+use Rattle.sql_text.specs.declared.tree.GroupItem.{GroupItem}
+use Rattle.sql_text.specs.declared.tree.GroupItem.TheVariants.{Plain, Count, Sum, Least, Greatest}
+use Rattle.sql_text.specs.Grouping.{column_in}
 
 -- of several blocks the first
 abbrev pub first_block : QueryTree → Block

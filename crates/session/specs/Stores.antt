@@ -2,8 +2,8 @@
 --     Store
 --     database_in store      the database that it stands for
 use Rattle.catalogue.specs.Database.{Database}
-use Rattle.word_guard.specs.declared.guarded.WordGuarded.{WordGuarded}
-use Rattle.word_guard.specs.Stored.{database_in as database_of}
+use Rattle.word_index.specs.declared.guarded.WordGuarded.{WordGuarded}
+use Rattle.word_index.specs.Stored.{database_in as database_of}
 
 abbrev pub Store : Type 0
 Store = WordGuarded

@@ -22,7 +22,7 @@ use binder::{bind_delete, bind_rows};
 use csv_load::rows_of;
 use outside::Files;
 use report::Report;
-use sql_tree::{Cond, Literal};
+use sql_text::{Cond, Literal};
 use std::alloc::Global;
 use std::sync::ledger::Ledger;
 

@@ -30,7 +30,7 @@ use beas_core::{
 };
 use catalogue::Catalogue;
 use report::Report;
-use sql_tree::{ColumnRef, GroupItem, SelectTree};
+use sql_text::{ColumnRef, GroupItem, SelectTree};
 use std::alloc::Global;
 use std::sync::ledger::Ledger;
 

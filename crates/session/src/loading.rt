@@ -33,7 +33,7 @@ pub fn load_file<F: Files>(
     ensures later { IsLater (F.seen files.old) (F.seen files.new) }
     ensures counted { (F.seen files.new).loads ≡ raised 1 (F.seen files.old).loads }
 {
-    match files.load(alloc, name, limit) {
+    match files.read(alloc, name, limit) {
         Ok(bytes) => Ok(LoadOutcome::Content(bytes)),
         Err(FilesError::Failed) => Ok(LoadOutcome::Failed),
         Err(FilesError::TooLong { .. }) => Ok(LoadOutcome::TooLong),

@@ -20,11 +20,11 @@ use crate::stored::Store;
 use beas_core::{Answer, Duplicate, Fail, NoMemory, Prepared, Refusal, Steps, Text};
 use binder::bind;
 use catalogue::Catalogue;
-use cursor_executor::Cursor;
+use cursor_executor::{Cursor, Turn};
 use plan_builder::prepare;
 use plan_executor::execute;
 use report::{Report, plan_text};
-use sql_tree::SelectTree;
+use sql_text::SelectTree;
 use std::alloc::Global;
 use std::sync::ledger::Ledger;
 
@@ -121,7 +121,7 @@ pub fn answer<L: Ledger>(
     execute(alloc, store, prepared, steps)
 }
 
-/// The answer of a query, by a cursor that goes on until no probe is due.
+/// The answer of a query, by a cursor that goes on, probe by probe, until none is due.
 fn answer_by_cursor<L: Ledger>(
     alloc: Global,
     store: &Store,
@@ -137,8 +137,12 @@ fn answer_by_cursor<L: Ledger>(
     ensures no_fewer { steps.old ≤ steps.new }
 {
     let mut cursor = Cursor::begin(alloc, prepared)?;
-    cursor.complete(alloc, store, steps)?;
-    Ok(cursor.finish())
+    'probes: loop {
+        match cursor.advance(alloc, store, steps)? {
+            Turn::Probed => {}
+            Turn::Done => return Ok(cursor.finish()),
+        }
+    }
 }
 
 /// The report of a query that is announced.

@@ -9,7 +9,7 @@ ghost use Rattle.beas_core.specs.Types.{TableRows};
 ghost use Rattle.catalogue.specs.Database.{rows_at, schema_of};
 ghost use Rattle.catalogue.specs.Queries.{QueryIsOver, RowsAreWide};
 ghost use Rattle.partial_plan.specs.ScanPlans.{ScanPlanFits};
-ghost use Rattle.scan_port.specs.Scans.{rows_of_tables, sizes_of_tables};
+ghost use Rattle.partial_plan.specs.Scans.{rows_of_tables, sizes_of_tables};
 ghost use Rattle.session.specs.Announced.{binding, scan_announcement, scans_within_budget};
 ghost use Rattle.session.specs.Applying.{settings_in};
 ghost use Rattle.session.specs.Carrying.{CarriesOut};
@@ -26,7 +26,7 @@ use catalogue::Catalogue;
 use partial_plan::{ScanPlan, scan_execute, scan_prepare};
 use report::{Report, plan_text_over};
 use row_store::Rows;
-use sql_tree::SelectTree;
+use sql_text::SelectTree;
 use std::alloc::Global;
 use std::sync::ledger::Ledger;
 

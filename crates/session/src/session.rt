@@ -23,7 +23,7 @@ use beas_core::{Fail, Limits, NoMemory, Prepared, Steps};
 use outside::Files;
 use partial_plan::ScanPlan;
 use report::Report;
-use sql_tree::{SelectTree, Statement};
+use sql_text::{SelectTree, Statement};
 use std::alloc::Global;
 use std::sync::ledger::Ledger;
 

@@ -21,7 +21,7 @@ use binder::bind;
 use catalogue::Catalogue;
 use report::Report;
 use specialise::specialise;
-use sql_tree::SelectTree;
+use sql_text::SelectTree;
 use std::alloc::Global;
 
 /// The block of a query of one block, and of another query its first.

@@ -11,7 +11,7 @@ use row_store::Rows;
 use std::alloc::Global;
 
 /// The store: rows, catalogue and indexes together. Its type is named here alone.
-pub type Store = word_guard::WordGuarded;
+pub type Store = word_index::WordGuarded;
 
 /// The table with this name.
 pub fn known_table(alloc: Global, store: &Store, name: &Name) -> Result<TableId, Fail>

@@ -20,8 +20,8 @@ use Rattle.catalogue.specs.Schema.{AccessIsSound, Schema, SchemaIsSound, access_
 use Rattle.catalogue.proofs.ListFacts.{find_some}
 use Rattle.evaluation_facts.proofs.MemberTests.{first_of_pairs, rest_of_pairs}
 use Rattle.evaluation_facts.proofs.UseFacts.{found_by_id}
-use Rattle.sql_tree.specs.declared.tree.Statement.{Statement}
-use Rattle.sql_tree.specs.declared.tree.Statement.TheVariants.{CreateTable, CreateAccess, DropAccess, Load, Insert, Delete, DiscoverGroup, DiscoverPairs, Select, Explain, ScanOk, Grouped, Specialise}
+use Rattle.sql_text.specs.declared.tree.Statement.{Statement}
+use Rattle.sql_text.specs.declared.tree.Statement.TheVariants.{CreateTable, CreateAccess, DropAccess, Load, Insert, Delete, DiscoverGroup, DiscoverPairs, Select, Explain, ScanOk, Grouped, Specialise}
 use Rattle.desk_model.specs.Changes.{changes}
 use Rattle.version_store.specs.Events.{changed_table, table_of_named}
 

@@ -12,8 +12,8 @@ use Rattle.cursor_executor.specs.declared.cursors.Turn.TheVariants.{Probed}
 use Rattle.cursor_executor.specs.Fetching.{BlockFetched, Seen as CursorSeen, probe_of, probed, reads_fetched}
 use Rattle.cursor_executor.specs.Turns.{TurnIs}
 use Rattle.kept_facts.specs.OpenQueries.{OpenQuery, reads_of, share_of}
-use Rattle.open_queries.specs.Held.{IsKept, held, made_by}
-use Rattle.open_queries.proofs.WorldFacts.{reads_are, share_is}
+use Rattle.version_store.specs.Held.{IsKept, held, made_by}
+use Rattle.version_store.proofs.WorldFacts.{reads_are, share_is}
 use Rattle.version_store.specs.Stored.{AreCounted, probes_in, share_in}
 
 -- ---- a cursor that goes on, and one that failed

@@ -19,13 +19,13 @@ use Rattle.session.specs.Applying.{IsApplied, MayCost, MayLoad, database_of, set
 use Rattle.session.specs.Effects.{Action, Does, Loads, Effect, Settings, action_of}
 use Rattle.session.proofs.AppliedFacts.{later_same}
 use Rattle.session.proofs.TieFacts.{tied_none}
-use Rattle.sql_tree.specs.declared.tree.Statement.{Statement}
-use Rattle.sql_tree.specs.declared.tree.Statement.TheVariants.{CreateTable, CreateAccess, DropAccess, Load, Insert, Delete, DiscoverGroup, DiscoverPairs, Select, Explain, ScanOk, Grouped, Specialise}
-use Rattle.sql_tree.specs.Trees.{Tree}
+use Rattle.sql_text.specs.declared.tree.Statement.{Statement}
+use Rattle.sql_text.specs.declared.tree.Statement.TheVariants.{CreateTable, CreateAccess, DropAccess, Load, Insert, Delete, DiscoverGroup, DiscoverPairs, Select, Explain, ScanOk, Grouped, Specialise}
+use Rattle.sql_text.specs.Trees.{Tree}
 use Rattle.kept_facts.specs.OpenQueries.{OpenQuery, probes_of, share_of}
-use Rattle.open_queries.specs.Held.{cursor_of}
-use Rattle.open_queries.proofs.WorldFacts.{probes_are}
-use Rattle.desk_model.specs.declared.event.Event.TheVariants.{Said}
+use Rattle.version_store.specs.Held.{cursor_of}
+use Rattle.version_store.proofs.WorldFacts.{probes_are}
+use Rattle.piece_reader.specs.declared.event.Event.TheVariants.{Said}
 use Rattle.desk_model.specs.Desks.{AtOnce, DeskEffect, State, at_desk, is_of, query_of, refused, said_action, statement_action}
 use Rattle.version_store.specs.Desks.{GoesOn, IsDesk, MayCost as MayTakeOf, MayLoad as MayLoadOf, ProbesFit, Seen, Stays, Takes, TakesSome, waits_for_file}
 use Rattle.version_store.specs.Events.{Happens, HappensSome}

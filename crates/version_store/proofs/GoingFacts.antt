@@ -1,6 +1,6 @@
 -- What a turn of one of its open queries makes of a desk.
 use Rattle.std.proofs.Common.{◌≡◌, ◌≤◌, ◌==◌, ◌+◌, ◌∙◌, ℕ, Bool, true, false, List, length, get_or, set, remove, nat_lt, position, Option, Some, None, inl, inr, refl, ap, sym, subst, arith}
-use Rattle.std.specs.Prelude.{if◌then◌else◌, Contains, IsSome, IsSomeAnd, is_some}
+use Rattle.std.specs.Prelude.{if◌then◌else◌, Contains}
 use Rattle.std.proofs.lemmas.Bool.{lt-ltb, le-ltb}
 use Rattle.std.proofs.lemmas.List.{get_or-set_same}
 use Rattle.std.proofs.lemmas.List.Elements.{All-set}
@@ -20,12 +20,12 @@ use Rattle.session.specs.declared.session.Session.{Session}
 use Rattle.session.specs.Applying.{database_of, settings_of}
 use Rattle.session.specs.Turns.{IsWithin}
 use Rattle.kept_facts.specs.OpenQueries.{OpenQuery, answer_of, probes_of, reads_of, share_of}
-use Rattle.open_queries.specs.Turns.{Goes, IsAnswered, IsCompleted, MakesProbe, SpendsWithin}
-use Rattle.open_queries.proofs.WorldFacts.{probes_are as own_probes, reads_are as own_reads, share_is as own_share}
-use Rattle.desk_model.specs.declared.event.Event.TheVariants.{Stepped}
+use Rattle.version_store.specs.Turns.{Goes, IsAnswered, MakesProbe}
+use Rattle.version_store.proofs.WorldFacts.{probes_are as own_probes, reads_are as own_reads, share_is as own_share}
+use Rattle.piece_reader.specs.declared.event.Event.TheVariants.{Stepped}
 use Rattle.desk_model.specs.Desks.{OneEach, State, answered_effect, lost, probed_effect, query_effect, query_of, refused, stepped_effect, with_query}
 use Rattle.desk_model.proofs.OneEachFacts.{removed-apart, set-apart}
-use Rattle.version_store.specs.Desks.{Completes, Finishes, MaySpend, MayTake, ProbesOnce, Seen, desk_wanting, place_in, share_at}
+use Rattle.version_store.specs.Desks.{Finishes, MayTake, ProbesOnce, Seen, desk_wanting, place_in, share_at}
 use Rattle.version_store.specs.Events.{HappensSome}
 use Rattle.version_store.specs.Stored.{AreCounted, AreKept, IsOpenAt, Open, held_at, probes_in, seen_in, share_in, world_at}
 use Rattle.version_store.proofs.CountFacts.{counted_lost, counted_probed, going, going_probes, going_share, has_failed, lost_probes, lost_share}
@@ -190,51 +190,6 @@ module _ (session : Session) (queries : List Open) (k i : ℕ) (old new : Open) 
         → given ≡ (answered_effect before.state k q).report
     answered_report = reported (ap (λ (r : OpenQuery). r.prepared) h.is) (ap (λ (r : OpenQuery). r.plan) h.is) h.answer h.reads
 
-  -- ---- all its turns that are left
-
-  pub live_there : IsSomeAnd (query_of k before.state) (λ query. IsSome query.made) → old.cursor.failed ≡ false
-  live_there goes = by old.cursor.failed (subst (λ o. IsSomeAnd o (λ (query : OpenQuery). IsSome query.made)) query_is goes)
-    where
-      by : (b : Bool) → IsSome (if b then None else Some (length old.cursor.fetched)) → b ≡ false
-      by true h = cc
-      by false h = refl
-
-  pub completed_report : see new ≡ record q { made = (see new).made } → new.cursor.answer ≡ Some (answer_of q) → new.cursor.reads ≡ reads_of q
-      → (gone : Open) (given : Report) → gone ≡ get_or (set queries i new) i gone → new.header ≡ new.cursor.prepared.header
-      → ((rows : List Row) → gone.cursor.answer ≡ Some rows
-      → given ≡ report.Answered gone.cursor.prepared.bound gone.plan gone.header rows gone.cursor.reads)
-      → given ≡ (answered_effect before.state k q).report
-  completed_report sees = reported (ap (λ (r : OpenQuery). r.prepared) sees) (ap (λ (r : OpenQuery). r.plan) sees)
-
-  module _ (live : old.cursor.failed ≡ false) (s t : ℕ) where
-    counted_share : share_at k before ≡ old.cursor.reads
-    counted_share = share_is ∙ going_share old.cursor live
-
-    pub completes : IsCompleted q old.cursor new.cursor s t → (given : Report) → given ≡ (answered_effect before.state k q).report
-        → Completes k given before shorter s t
-    completes h given is =
-        let sums = seen.sum_remove see share probes (settings_of session) db queries k i old found was in
-        let mine = going_share old.cursor live in
-        let steps = h.steps in
-        record {
-          query = q;
-          is = query_is;
-          report_is = is;
-          state_is = seen.state_remove see share probes (settings_of session) db queries k i old found was;
-          settings_stay = refl;
-          probes = seen.probes_remove see share probes (settings_of session) db queries k i old found was;
-          shares = seen.shares_remove see share probes (settings_of session) db queries k i old found was;
-          steps = omega (arith, steps, counted_share);
-          counts = omega (arith, steps, sums, mine);
-        }
-
-    pub may_spend : AreCounted q old.cursor → SpendsWithin q old.cursor s t → MaySpend k before s t
-    may_spend counted spent = record { query = q; is = query_is; within = by spent }
-      where
-        by : SpendsWithin q old.cursor s t → t + share_at k before ≤ s + reads_of q
-        by (inl same) = let most = counted.most live in omega (arith, same, most, counted_share)
-        by (inr within) = omega (arith, within, counted_share)
-
   -- ---- out of memory
   module _ (h : see new ≡ record q { made = None }) where
     new_failed : new.cursor.failed ≡ true
@@ -335,11 +290,6 @@ module _ (session : Session) (queries : List Open) (k i : ℕ) (old new : Open) 
   left_is left gone = ap (seen_in session) (gone ∙ remove-set queries i new)
 
 -- ---- what the steps of a call tell
-
--- the query has a place
-pub place_there : (o : Option OpenQuery) (place : Option ℕ) → IsSomeAnd o (λ query. IsSome query.made) → is_some o ≡ is_some place → IsSome place
-place_there None place goes e = absurd goes
-place_there (Some query) place goes e = sym e
 
 pub where_found : (queries lent : List Open) (k : ℕ) (r o : Option ℕ) → lent ≡ queries → r ≡ position (λ q. q.session == k) lent → r ≡ o
     → position (λ q. q.session == k) queries ≡ o

@@ -6,3 +6,7 @@ pub mod OpeningFacts
 pub mod SayingFacts
 pub mod EventFacts
 pub mod ChangedFacts
+pub mod WorldFacts
+pub mod TurnFacts
+pub mod FreezingFacts
+pub mod LoopFacts

@@ -23,17 +23,17 @@ use Rattle.session.specs.Applying.{database_of, settings_of}
 use Rattle.session.specs.Carrying.{reported}
 use Rattle.session.specs.Effects.{plan_shown, reads_in}
 use Rattle.session.specs.Turns.{IsWithin}
-use Rattle.sql_tree.specs.declared.tree.Statement.TheVariants.{Select}
+use Rattle.sql_text.specs.declared.tree.Statement.TheVariants.{Select}
 use Rattle.kept_facts.specs.Keeping.{kept_accesses, kept_tables}
 use Rattle.kept_facts.specs.OpenQueries.{OpenQuery, reads_of}
-use Rattle.kept_port.specs.Kept.{AreApart}
-use Rattle.open_queries.specs.Held.{IsKept, held, world_of}
-use Rattle.desk_model.specs.declared.event.Event.TheVariants.{Said}
+use Rattle.kept_facts.specs.Kept.{AreApart}
+use Rattle.version_store.specs.Held.{IsKept, held, world_of}
+use Rattle.piece_reader.specs.declared.event.Event.TheVariants.{Said}
 use Rattle.desk_model.specs.Desks.{OneEach, State, new_query, opened_effect, query_of}
 use Rattle.desk_model.proofs.OneEachFacts.{opened-apart}
 use Rattle.desk_model.proofs.PlainFacts.{reads_are}
 use Rattle.version_store.specs.declared.store.KeptTable.{KeptTable}
-use Rattle.sql_tree.specs.Trees.{Tree}
+use Rattle.sql_text.specs.Trees.{Tree}
 use Rattle.version_store.specs.Desks.{Begins, GoesOn, Seen}
 use Rattle.version_store.specs.Events.{Happens}
 use Rattle.version_store.specs.Stored.{AreCounted, AreKept, IsNew, IsOpenAt, Open, Opens, constraints_in, held_at, probes_in, rows_in, seen_in, share_in, state_in, table_in}

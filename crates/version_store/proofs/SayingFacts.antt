@@ -19,8 +19,8 @@ use Rattle.catalogue.specs.Database.{Database, rows_at, schema_of}
 use Rattle.catalogue.specs.Schema.{SchemaIsSound}
 use Rattle.kept_facts.specs.Frames.{SameForQuery, SameOn}
 use Rattle.kept_facts.proofs.PartFacts.{parts_keep}
-use Rattle.open_queries.specs.Held.{HasPart, cursor_of, has_atom, has_part, names}
-use Rattle.open_queries.proofs.WorldFacts.{held_still, kept_still}
+use Rattle.version_store.specs.Held.{HasPart, cursor_of, has_atom, has_part, names}
+use Rattle.version_store.proofs.WorldFacts.{held_still, kept_still}
 use Rattle.outside.specs.Seen.{Seen as Files}
 use Rattle.beas_core.specs.declared.errors.NoMemory.{NoMemory}
 use Rattle.report.specs.declared.reports.Report.{Report}
@@ -29,7 +29,7 @@ use Rattle.session.specs.Applying.{IsApplied, MayLoad}
 use Rattle.session.specs.Effects.{Action, Does, Loads, Settings, action_of}
 use Rattle.session.specs.Statements.{StatementIsWellFormed}
 use Rattle.session.specs.Turns.{turn_of}
-use Rattle.sql_tree.specs.declared.tree.Statement.{Statement}
+use Rattle.sql_text.specs.declared.tree.Statement.{Statement}
 use Rattle.desk_model.specs.Changes.{changes}
 use Rattle.desk_model.specs.Desks.{OneEach, State}
 use Rattle.desk_model.proofs.ChangeFacts.{keeps}

@@ -13,10 +13,8 @@
 --     ProbesOnce session before after ..    exactly one due probe of the session's query was made, and it counted its share
 --     Finishes session before after ..      no probe was made: all had been made, and had counted the query's reads
 --     GoesOn event report before after ..   what becomes of the probes and the shares
---     Completes session report before ..    the session's query came to its answer: what was left of its reads was counted, and it was closed
 --     desk_wanting event seen               what want of memory leaves
 --     MayCost, MayTake event seen ..        how many reads may have been counted before memory ran out
---     MaySpend session seen ..              the same, where the session's query was to come to its answer
 --     waits_for_file action, MayLoad action ..      whether the action waits for a file; how many files may have been loaded
 --     EventIsWellFormed event, session_in event     its statement is well formed; its session
 use Rattle.std.specs.Prelude.{◌≡◌, ◌+◌, ◌<◌, ◌≤◌, ◌⊎◌, ◌++◌, ℕ, Bool, true, false, List, [], ◌∷◌, length, sum, sum_by, remove, slice_index_or, slice_set, Contains, Option, Some, None}
@@ -28,17 +26,17 @@ use Rattle.catalogue.specs.Database.{schema_of}
 use Rattle.catalogue.specs.Schema.{SchemaIsSound}
 use Rattle.report.specs.declared.reports.Report.{Report}
 use Rattle.report.specs.declared.reports.Report.TheVariants.{Opened, Probed, Answered}
-use Rattle.sql_tree.specs.declared.tree.Statement.TheVariants.{Select}
+use Rattle.sql_text.specs.declared.tree.Statement.TheVariants.{Select}
 use Rattle.session.specs.declared.loading.LoadOutcome.{LoadOutcome}
 use Rattle.session.specs.Effects.{Settings}
 use Rattle.session.specs.Statements.{StatementIsWellFormed}
 use Rattle.session.specs.Ties.{AreTied}
 use Rattle.session.specs.Turns.{FileLoad}
 use Rattle.kept_facts.specs.OpenQueries.{OpenQuery, probes_of, reads_of, share_of}
-use Rattle.desk_model.specs.declared.event.Event.{Event}
-use Rattle.desk_model.specs.declared.event.Event.TheVariants.{Said, Stepped}
+use Rattle.piece_reader.specs.declared.event.Event.{Event}
+use Rattle.piece_reader.specs.declared.event.Event.TheVariants.{Said, Stepped}
 use Rattle.desk_model.specs.Answers.{effect_by}
-use Rattle.desk_model.specs.Desks.{DeskAction, AtOnce, ByLoad, OneEach, State, answered_effect, lost, place_of, query_of, said_action}
+use Rattle.desk_model.specs.Desks.{DeskAction, AtOnce, ByLoad, OneEach, State, lost, place_of, query_of, said_action}
 
 -- `shares` and `probes` are in the order of the open queries. Of a query that memory ran out for they are 0 and none
 pub record Seen : Type 0 where
@@ -142,19 +140,6 @@ GoesOn (Stepped session) (Probed k) before after s t = ProbesOnce session before
 GoesOn (Stepped session) (Answered bound plan header rows reads) before after s t = Finishes session before after s t
 GoesOn (Stepped session) report before after s t = Stays before after × (t ≡ s)
 
--- a session's query came to its answer, and was closed, with all reads that were left
-pub record Completes (session : ℕ) (report : Report) (before after : Seen) (s t : ℕ) : Type 0 where
-  pub query : OpenQuery
-  pub is : query_of session before.state ≡ Some query
-  pub report_is : report ≡ (answered_effect before.state session query).report
-  pub state_is : after.state ≡ (answered_effect before.state session query).state
-  pub settings_stay : after.settings ≡ before.settings
-  pub probes : after.probes ≡ remove before.probes (place_in session before)
-  pub shares : after.shares ≡ remove before.shares (place_in session before)
-  -- what its probes had counted before isn't counted again
-  pub steps : t + share_at session before ≡ s + reads_of query
-  pub counts : t + sum before.shares ≡ s + (answered_effect before.state session query).cost + sum after.shares
-
 -- ---- out of memory
 
 -- a statement leaves the desk as it was; an event that goes on with a query loses that query, and leaves all else as it was
@@ -187,12 +172,6 @@ abbrev pub MayTake : Event → Seen → ℕ → ℕ → Type 0
 MayTake (Said session statement) before s t =
     MayCost (said_action before.settings before.state session (query_of session before.state) statement) s t
 MayTake (Stepped session) before s t = (t ≡ s) ⊎ SpendsOne session before s t
-
--- with what its probes had counted before, no more than the query's reads
-pub record MaySpend (session : ℕ) (before : Seen) (s t : ℕ) : Type 0 where
-  pub query : OpenQuery
-  pub is : query_of session before.state ≡ Some query
-  pub within : t + share_at session before ≤ s + reads_of query
 
 -- ---- files
 

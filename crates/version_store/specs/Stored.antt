@@ -20,14 +20,14 @@ use Rattle.catalogue.specs.Database.{Database, rows_at, schema_of}
 use Rattle.catalogue.specs.Schema.{SchemaIsSound}
 use Rattle.cursor_executor.specs.Fetching.{Seen as CursorSeen, probed, reads_fetched}
 use Rattle.kept_facts.specs.OpenQueries.{OpenQuery, reads_of}
-use Rattle.open_queries.specs.declared.open.OpenQuery.{OpenQuery as Stored}
+use Rattle.version_store.specs.declared.open.OpenQuery.{OpenQuery as Stored}
 use Rattle.block_walk.specs.Worlds.{World}
-use Rattle.open_queries.specs.Held.{IsOpen, held_of, world_of}
+use Rattle.version_store.specs.Held.{IsOpen, held_of, world_of}
 use Rattle.session.specs.declared.session.Session.{Session}
 use Rattle.session.specs.Applying.{database_of, settings_of}
 use Rattle.session.specs.Effects.{plan_shown}
-use Rattle.word_guard.specs.Freezing.{part_in}
-use Rattle.word_guard.specs.Parts.{rows_in as rows_of_part}
+use Rattle.word_index.specs.Freezing.{part_in}
+use Rattle.word_index.specs.Parts.{rows_in as rows_of_part}
 use Rattle.desk_model.specs.Desks.{OneEach, State}
 use Rattle.version_store.specs.declared.store.KeptTable.{KeptTable}
 use Rattle.version_store.specs.Desks.{Seen}

@@ -1,19 +1,18 @@
 // A desk.
-ghost use Rattle.std.specs.Prelude.{◌≡◌, ◌≤◌, [], false, IfOk, IsSome, IsSomeAnd, OnErr, is_some};
+ghost use Rattle.std.specs.Prelude.{◌≡◌, ◌≤◌, [], false, IfOk, OnErr};
 ghost use Rattle.outside.specs.Seen.{IsLater};
-ghost use Rattle.desk_model.specs.Desks.{action_of_event, query_of};
-ghost use Rattle.desk_model.specs.declared.event.Event.TheVariants.{Stepped};
+ghost use Rattle.desk_model.specs.Desks.{action_of_event};
 ghost use Rattle.session.specs.Applying.{database_of, settings_of};
 ghost use Rattle.session.specs.Turns.{IsWithin};
-ghost use Rattle.version_store.specs.Desks.{Completes, EventIsWellFormed, GoesOn, IsDesk, MayLoad, MaySpend, MayTake, TakesSome, desk_wanting, session_in, waits_for_file};
+ghost use Rattle.version_store.specs.Desks.{EventIsWellFormed, GoesOn, IsDesk, MayLoad, MayTake, TakesSome, desk_wanting, session_in, waits_for_file};
 
-use crate::going::{finish, place_of, step};
+use crate::going::step;
+use crate::open::OpenQuery;
 use crate::saying::say;
 use crate::store::KeptTable;
 use beas_core::{NoMemory, Steps};
-use desk_model::Event;
-use open_queries::OpenQuery;
 use outside::Files;
+use piece_reader::Event;
 use report::Report;
 use session::Session;
 use std::alloc::Global;
@@ -63,14 +62,6 @@ impl Desk {
             session,
             queries: Vec::new(alloc),
         }
-    }
-
-    /// Whether a session has an open query. It takes no memory.
-    pub fn has_open(&self, session: u32) -> bool
-        ensures open { result ≡ is_some (query_of session self.now.state) }
-        ensures told { IsDesk self.now }
-    {
-        place_of(&self.queries, session).is_some()
     }
 
     /// Does what an event asks for, and reports it. A statement of a session whose query is open is refused, and so is a
@@ -125,36 +116,29 @@ impl Desk {
         }
     }
 
-    /// Goes on with a session's open query to its answer in one call: it counts exactly the reads that were left, and the query
-    /// is answered over the rows of its opening, and closed. Which probes it made isn't told, as it is of a turn. Who calls this
-    /// knows that the session has an open query which memory didn't run out for.
-    ///
-    /// Out of memory that query is lost, as in a turn by `event`, and all else is as it was.
-    pub fn answer<L: Ledger>(
-        &mut self,
-        alloc: Global,
-        session: u32,
-        steps: &mut Steps<L>,
-    ) -> Result<Report, NoMemory>
-        requires { IsSomeAnd (query_of session self.old.state) (λ query. IsSome query.made) }
-        ensures did { IfOk result (λ report. Completes session report self.old self.new steps.old steps.new) }
-        ensures within { IfOk result IsWithin }
-        ensures told { IsDesk self.old × IsDesk self.new }
-        ensures settings { self.new.settings ≡ self.old.settings }
-
-        // Out of memory.
-        ensures err { OnErr result (self.new ≡ desk_wanting (Stepped session) self.old) }
-        ensures at_most { OnErr result (MaySpend session self.old steps.old steps.new) }
-        ensures no_fewer { steps.old ≤ steps.new }
-    {
-        finish(alloc, &self.session, &mut self.queries, session, steps)
-    }
-
     /// The session as it stands. The open queries are dropped. It takes no memory.
     pub fn close(self) -> Session
         ensures db { database_of result ≡ self.state.db }
         ensures settings { settings_of result ≡ self.settings }
     {
         self.session
+    }
+}
+
+/// A desk and its open queries have these fields and no others: with a further one, such as the rows that one run leaves to
+/// the next, this wouldn't compile. `cursor_executor::cursor_fields` says so of their cursors.
+pub fn desk_fields(desk: &Desk) {
+    let Desk {
+        session: _session,
+        queries,
+    } = desk;
+    if let Some(query) = queries.first() {
+        let OpenQuery {
+            session: _number,
+            cursor: _cursor,
+            header: _header,
+            plan: _plan,
+            parts: _parts,
+        } = query;
     }
 }

@@ -1,22 +1,22 @@
-// How an open query goes on: by one probe, or to its answer.
-ghost use Rattle.std.specs.Prelude.{◌≡◌, ◌≤◌, ◌==◌, false, true, IfOk, IsErr, IsSome, IsSomeAnd, IsTrue, List, None, OnErr, OnOk, Some, is_some, position};
+// How an open query goes on: by one probe, or by its answer.
+ghost use Rattle.std.specs.Prelude.{◌≡◌, ◌≤◌, ◌==◌, true, IfOk, IsErr, IsTrue, List, None, OnErr, Some, is_some, position};
 ghost use Rattle.beas_core.specs.Types.{Row as Values};
 ghost use Rattle.cursor_executor.specs.Turns.{QuerySpent, TurnIs};
 ghost use Rattle.desk_model.specs.Desks.{query_of, stepped_effect};
-ghost use Rattle.desk_model.specs.declared.event.Event.TheVariants.{Stepped};
-ghost use Rattle.open_queries.specs.Held.{world_of};
-ghost use Rattle.open_queries.specs.Turns.{Goes, IsCompleted, SpendsWithin};
+ghost use Rattle.piece_reader.specs.declared.event.Event.TheVariants.{Stepped};
+ghost use Rattle.version_store.specs.Turns.{Goes};
 ghost use Rattle.report.specs.declared.reports.Report.TheVariants.{Answered};
 ghost use Rattle.session.specs.Applying.{database_of};
 ghost use Rattle.session.specs.Turns.{IsWithin};
-ghost use Rattle.version_store.specs.Desks.{Completes, GoesOn, MaySpend, MayTake, desk_wanting};
+ghost use Rattle.version_store.specs.Desks.{GoesOn, MayTake, desk_wanting};
 ghost use Rattle.version_store.specs.Events.{HappensSome};
 ghost use Rattle.version_store.specs.Stored.{AreKept, IsOpenAt, held_at, seen_in, state_in, world_at};
 
+use crate::open::OpenQuery;
 use crate::store::{CurrentStore, KeptTable};
+use crate::turns::turn;
 use beas_core::{NoMemory, Refusal, Steps};
 use cursor_executor::Turn;
-use open_queries::{OpenQuery, complete, turn};
 use report::Report;
 use session::Session;
 use std::alloc::Global;
@@ -55,36 +55,6 @@ fn turn_over<L: Ledger>(
         store: &session.guarded,
     };
     turn(alloc, &store, query, steps)
-}
-
-// All turns of an open query that are left before its answer.
-fn complete_over<L: Ledger>(
-    alloc: Global,
-    session: &Session,
-    query: &mut OpenQuery<KeptTable>,
-    steps: &mut Steps<L>,
-) -> Result<(), NoMemory>
-    requires kept { IsOpenAt (database_of session.now) query.old }
-    requires going { query.old.cursor.failed ≡ false }
-    ensures session { query.new.session ≡ query.old.session }
-    ensures header { query.new.header ≡ query.new.cursor.prepared.header }
-    ensures sees { held_at (database_of session.now) query.new ≡ record (held_at (database_of session.now) query.old)
-        { made = (held_at (database_of session.now) query.new).made } }
-    ensures completed { OnOk result (IsCompleted (held_at (database_of session.now) query.old)
-        query.old.cursor query.new.cursor steps.old steps.new) }
-    ensures kept { OnErr result (IsOpenAt (database_of session.now) query.new) }
-    ensures lost { OnErr result (held_at (database_of session.now) query.new
-        ≡ record (held_at (database_of session.now) query.old) { made = None }) }
-    ensures spent { OnErr result (SpendsWithin (held_at (database_of session.now) query.old)
-        query.old.cursor steps.old steps.new) }
-    ensures no_fewer { steps.old ≤ steps.new }
-{
-    // The constraints aren't used: the call's own clauses tell that the catalogue is sound.
-    let _accesses = session.guarded.catalogue.accesses();
-    let store = CurrentStore {
-        store: &session.guarded,
-    };
-    complete(alloc, &store, query, steps)
 }
 
 // The answer of a query whose probes have all been made.
@@ -139,28 +109,4 @@ pub fn step<L: Ledger>(
         Turn::Probed => Ok(Report::Probed { session: number }),
         Turn::Done => Ok(answer(queries.remove(place))),
     }
-}
-
-/// Goes on with the session's open query to its answer, with which it is closed. Out of memory that query is lost.
-pub fn finish<L: Ledger>(
-    alloc: Global,
-    session: &Session,
-    queries: &mut Vec<OpenQuery<KeptTable>>,
-    number: u32,
-    steps: &mut Steps<L>,
-) -> Result<Report, NoMemory>
-    requires kept { AreKept (database_of session.now) queries.old.items }
-    requires going { IsSomeAnd (query_of number (state_in session.now queries.old.items)) (λ query. IsSome query.made) }
-    ensures kept { AreKept (database_of session.now) queries.new.items }
-    ensures did { IfOk result (λ report. Completes number report
-        (seen_in session.now queries.old.items) (seen_in session.now queries.new.items) steps.old steps.new) }
-    ensures within { IfOk result IsWithin }
-    ensures err { OnErr result (seen_in session.now queries.new.items
-        ≡ desk_wanting (Stepped number) (seen_in session.now queries.old.items)) }
-    ensures at_most { OnErr result (MaySpend number (seen_in session.now queries.old.items) steps.old steps.new) }
-    ensures no_fewer { steps.old ≤ steps.new }
-{
-    let place = place_of(queries.as_slice(), number).unwrap();
-    complete_over(alloc, session, &mut queries[place], steps)?;
-    Ok(answer(queries.remove(place)))
 }

@@ -6,10 +6,14 @@
 #![tactic(auto)]
 
 mod desk;
+mod freezing;
 mod going;
+mod open;
 mod opening;
+mod port;
 mod saying;
 mod store;
+mod turns;
 
-pub use desk::Desk;
-pub use desk_model::Event;
+pub use desk::{Desk, desk_fields};
+pub use piece_reader::Event;

@@ -4,26 +4,26 @@ ghost use Rattle.beas_core.specs.Fits.{Fits};
 ghost use Rattle.catalogue.specs.Database.{rows_at, schema_of};
 ghost use Rattle.desk_model.specs.Desks.{opened_effect, query_of};
 ghost use Rattle.report.specs.declared.reports.Report.TheVariants.{Opened};
-ghost use Rattle.desk_model.specs.declared.event.Event.TheVariants.{Said};
+ghost use Rattle.piece_reader.specs.declared.event.Event.TheVariants.{Said};
 ghost use Rattle.session.specs.Announced.{announcement};
 ghost use Rattle.session.specs.Applying.{database_of};
 ghost use Rattle.session.specs.Carrying.{reported};
 ghost use Rattle.session.specs.Effects.{reads_in};
 ghost use Rattle.session.specs.Statements.{TreeIsWellFormed};
 ghost use Rattle.session.specs.Turns.{IsWithin};
-ghost use Rattle.sql_tree.specs.declared.tree.Statement.TheVariants.{Select};
+ghost use Rattle.sql_text.specs.declared.tree.Statement.TheVariants.{Select};
 ghost use Rattle.version_store.specs.Desks.{GoesOn};
 ghost use Rattle.version_store.specs.Events.{Happens};
 ghost use Rattle.version_store.specs.Stored.{AreKept, IsNew, Opens, seen_in, state_in};
 
+use crate::open::OpenQuery;
 use crate::store::KeptTable;
 use beas_core::{Duplicate, Fail, NoMemory, Prepared};
 use cursor_executor::Cursor;
-use open_queries::OpenQuery;
-use plan_executor::ask_for_all;
+use plan_ops::ask_for_all;
 use report::Report;
 use session::{Session, plan_shown};
-use sql_tree::SelectTree;
+use sql_text::SelectTree;
 use std::alloc::Global;
 
 // A query that is announced, before its first turn.

@@ -4,8 +4,8 @@ ghost use Rattle.beas_core.specs.declared.schema.TableId.{TableId as Number};
 ghost use Rattle.catalogue.specs.Database.{schema_of};
 ghost use Rattle.desk_model.specs.Changes.{changes};
 ghost use Rattle.desk_model.specs.Desks.{query_of, said_action, statement_action};
-ghost use Rattle.desk_model.specs.declared.event.Event.TheVariants.{Said};
-ghost use Rattle.open_queries.specs.Held.{HasPart, cursor_of};
+ghost use Rattle.piece_reader.specs.declared.event.Event.TheVariants.{Said};
+ghost use Rattle.version_store.specs.Held.{HasPart, cursor_of};
 ghost use Rattle.outside.specs.Seen.{IsLater};
 ghost use Rattle.session.specs.Applying.{IsApplied, MayCost, MayLoad, database_of, settings_of};
 ghost use Rattle.session.specs.Effects.{Does, Effect, action_of};
@@ -15,16 +15,17 @@ ghost use Rattle.version_store.specs.Desks.{GoesOn, MayCost as MayTakeOf, MayLoa
 ghost use Rattle.version_store.specs.Events.{changed_table, table_of_named};
 ghost use Rattle.version_store.specs.Stored.{AreKept, IsOpenAt, held_at, seen_in, state_in, table_in};
 
+use crate::freezing::freeze_for;
 use crate::going::place_of;
+use crate::open::OpenQuery;
 use crate::opening::open;
 use crate::store::{CurrentStore, KeptTable};
 use beas_core::{Name, NoMemory, Refusal, Steps, TableId};
 use catalogue::Catalogue;
-use open_queries::{OpenQuery, freeze_for};
 use outside::Files;
 use report::Report;
 use session::Session;
-use sql_tree::Statement;
+use sql_text::Statement;
 use std::alloc::Global;
 use std::sync::ledger::Ledger;
 

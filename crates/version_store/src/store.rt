@@ -1,14 +1,12 @@
 // The store as open queries see it: a port whose tables can be kept as they are.
 ghost use Rattle.catalogue.specs.Schema.{SchemaIsSound};
 
-use beas_core::{
-    Access, AccessId, AccessPort, ColumnId, Hits, NoMemory, Steps, TableId, Value, ValueRef,
-};
-use kept_port::Part;
-use open_queries::Freezes;
+use crate::open::Freezes;
+use beas_core::{Access, AccessId, AccessPort, ColumnId, Hits, NoMemory, Steps, TableId, Value};
+use kept_facts::Part;
 use std::alloc::Global;
 use std::sync::ledger::Ledger;
-use word_guard::{Frozen, WordGuarded};
+use word_index::{Frozen, WordGuarded};
 
 /// A table as it was, with its constraints.
 #[derive(Drop)]
@@ -24,8 +22,8 @@ pub struct CurrentStore<'a> {
 }
 
 impl AccessPort for KeptTable {
-    ghost use Rattle.word_guard.specs.Freezing.{members_in, part_in, stands_in};
-    ghost use Rattle.word_guard.specs.Parts.{rows_in};
+    ghost use Rattle.word_index.specs.Freezing.{members_in, part_in, stands_in};
+    ghost use Rattle.word_index.specs.Parts.{rows_in};
 
     ghost rows = { λ k. rows_in (part_in k.frozen) };
 
@@ -43,7 +41,7 @@ impl AccessPort for KeptTable {
         self.frozen.probe(id, key, steps)
     }
 
-    fn value(&self, hits: &Hits, i: u32, column: ColumnId) -> ValueRef<'_> {
+    fn value(&self, hits: &Hits, i: u32, column: ColumnId) -> &Value {
         self.frozen.value(hits, i, column)
     }
 }
@@ -66,7 +64,7 @@ impl Part for KeptTable {
 
 impl AccessPort for CurrentStore<'_> {
     ghost use Rattle.catalogue.specs.Database.{rows_at};
-    ghost use Rattle.word_guard.specs.Stored.{database_in, members_of, stands_in};
+    ghost use Rattle.word_index.specs.Stored.{database_in, members_of, stands_in};
 
     ghost rows = { λ c. rows_at (database_in c.store.now) };
 
@@ -84,7 +82,7 @@ impl AccessPort for CurrentStore<'_> {
         self.store.probe(id, key, steps)
     }
 
-    fn value(&self, hits: &Hits, i: u32, column: ColumnId) -> ValueRef<'_> {
+    fn value(&self, hits: &Hits, i: u32, column: ColumnId) -> &Value {
         self.store.value(hits, i, column)
     }
 }
@@ -92,7 +90,7 @@ impl AccessPort for CurrentStore<'_> {
 impl Freezes<KeptTable> for CurrentStore<'_> {
     ghost use Rattle.std.specs.Prelude.{◌<◌, length};
     ghost use Rattle.std.proofs.Math.Nat.{ne_of_lt};
-    ghost use Rattle.word_guard.specs.Stored.{database_in};
+    ghost use Rattle.word_index.specs.Stored.{database_in};
 
     ghost has_table = { λ c t. t.0 < length (database_in c.store.now).tables };
 

@@ -7,7 +7,7 @@ use Rattle.catalogue.specs.Database.{rows_at}
 use Rattle.catalogue.specs.Queries.{RowsAreWide}
 use Rattle.partial_plan.specs.declared.plan.ScanPlan.{ScanPlan}
 use Rattle.partial_plan.specs.ScanPlans.{ScanPlanFits}
-use Rattle.scan_port.specs.Scans.{rows_of_tables}
+use Rattle.partial_plan.specs.Scans.{rows_of_tables}
 use Rattle.session.specs.Announced.{scan_announcement}
 use Rattle.session.specs.Effects.{sizes_in}
 use Rattle.session.specs.Stores.{database_in}

@@ -3,7 +3,7 @@ use Rattle.std.proofs.lemmas.Result.{err_from_is_err_and}
 use Rattle.beas_core.specs.declared.errors.Fail.TheVariants.{Refused}
 use Rattle.partial_plan.specs.declared.plan.ScanPlan.{ScanPlan}
 use Rattle.partial_plan.specs.ScanPlans.{ScanPlanFits}
-use Rattle.scan_port.specs.Scans.{sizes_of_tables}
+use Rattle.partial_plan.specs.Scans.{sizes_of_tables}
 use Rattle.session.proofs.CarryFacts.{failed}
 use Rattle.session.proofs.ScanFacts.{scans_announced, scans_same, scans_unbound, scans_unprepared}
 use Rattle.session.proofs.scanning.scan_announcement.Goals as goal

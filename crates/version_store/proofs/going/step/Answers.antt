@@ -2,7 +2,7 @@ use Rattle.std.proofs.Common.{refl, subst, sym}
 use Rattle.std.proofs.lemmas.Result.{err_from_is_err_and}
 use Rattle.beas_core.specs.declared.refusal.Refusal.TheVariants.{SessionIdle}
 use Rattle.cursor_executor.specs.Turns.{TurnIs}
-use Rattle.desk_model.specs.declared.event.Event.TheVariants.{Stepped}
+use Rattle.piece_reader.specs.declared.event.Event.TheVariants.{Stepped}
 use Rattle.desk_model.specs.Desks.{query_of, stepped_effect}
 use Rattle.session.specs.Applying.{database_of}
 use Rattle.version_store.specs.Desks.{Finishes, GoesOn}

@@ -2,14 +2,14 @@ use Rattle.std.proofs.Common.{◌∙◌, Result, ap, subst, sym}
 use Rattle.std.specs.Prelude.{IfOk}
 use Rattle.beas_core.specs.declared.errors.NoMemory.{NoMemory}
 use Rattle.catalogue.specs.Database.{schema_of}
-use Rattle.desk_model.specs.declared.event.Event.TheVariants.{Said}
+use Rattle.piece_reader.specs.declared.event.Event.TheVariants.{Said}
 use Rattle.desk_model.specs.Desks.{opened_effect}
 use Rattle.report.specs.declared.reports.Report.{Report}
 use Rattle.session.specs.Announced.{announcement}
 use Rattle.session.specs.Applying.{database_of}
 use Rattle.session.specs.Turns.{IsWithin}
 use Rattle.session.proofs.StoreFacts.{schema_is_catalogue}
-use Rattle.sql_tree.specs.declared.tree.Statement.TheVariants.{Select}
+use Rattle.sql_text.specs.declared.tree.Statement.TheVariants.{Select}
 use Rattle.version_store.specs.Desks.{GoesOn}
 use Rattle.version_store.specs.Events.{Happens}
 use Rattle.version_store.specs.Stored.{seen_in, state_in}

@@ -4,7 +4,7 @@ use Rattle.beas_core.specs.declared.schema.TableId.{TableId}
 use Rattle.catalogue.specs.Database.{schema_of}
 use Rattle.catalogue.specs.Schema.{SchemaIsSound}
 use Rattle.desk_model.specs.Changes.{changes}
-use Rattle.open_queries.specs.Held.{HasPart}
+use Rattle.version_store.specs.Held.{HasPart}
 use Rattle.session.specs.Applying.{database_of}
 use Rattle.session.proofs.StoreFacts.{as_many_tables, schema_is_catalogue}
 use Rattle.version_store.specs.Events.{changed_table}

@@ -2,14 +2,14 @@ use Rattle.std.proofs.Common.{◌≡◌, ◌∙◌, Some, refl, ap, subst, sym, 
 use Rattle.std.specs.Prelude.{IfOk}
 use Rattle.std.proofs.lemmas.Result.{IfOk-weaker, on_err_weaker}
 use Rattle.catalogue.specs.Database.{schema_of}
-use Rattle.desk_model.specs.declared.event.Event.TheVariants.{Said}
+use Rattle.piece_reader.specs.declared.event.Event.TheVariants.{Said}
 use Rattle.desk_model.specs.Desks.{DeskAction, at_desk, opened_effect, statement_action}
 use Rattle.session.specs.Announced.{announcement}
 use Rattle.session.specs.Applying.{IsApplied, database_of, settings_of}
 use Rattle.session.specs.Effects.{action_of}
 use Rattle.session.proofs.AppliedFacts.{later_same}
-use Rattle.sql_tree.specs.declared.tree.Statement.{Statement}
-use Rattle.sql_tree.specs.declared.tree.Statement.TheVariants.{Select}
+use Rattle.sql_text.specs.declared.tree.Statement.{Statement}
+use Rattle.sql_text.specs.declared.tree.Statement.TheVariants.{Select}
 use Rattle.version_store.specs.Desks.{GoesOn, MayCost, MayLoad, Takes, waits_for_file}
 use Rattle.version_store.specs.Events.{Happens}
 use Rattle.version_store.specs.Stored.{seen_in, state_in}

@@ -7,8 +7,8 @@ untold : (r : Result (List ℕ) FilesError) → IfOk r (λ bytes. false ≡ true
 untold (Ok bytes) = λ told. cc
 untold (Err why) = tt
 
-pub load-tells : goal.load-tells
-load-tells g c = record {
+pub read-tells : goal.read-tells
+read-tells g c = record {
   later = record { told = refl; content = refl; faults = λ name. c.ensures.rise; taken = c.ensures.least };
   counted = c.ensures.loads;
   ok = untold c.result;

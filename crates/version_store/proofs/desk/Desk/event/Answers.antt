@@ -1,7 +1,7 @@
 use Rattle.std.proofs.Common.{◌≡◌, false, refl, subst, sym}
 use Rattle.std.specs.Prelude.{IfOk, OnErr}
-use Rattle.desk_model.specs.declared.event.Event.{Event}
-use Rattle.desk_model.specs.declared.event.Event.TheVariants.{Said}
+use Rattle.piece_reader.specs.declared.event.Event.{Event}
+use Rattle.piece_reader.specs.declared.event.Event.TheVariants.{Said}
 use Rattle.desk_model.specs.Desks.{action_of_event, query_of, stepped_effect}
 use Rattle.session.proofs.AppliedFacts.{later_same}
 use Rattle.version_store.specs.Desks.{EventIsWellFormed, GoesOn, IsDesk, MayLoad, MayTake, Seen, TakesSome, desk_wanting, waits_for_file}

@@ -1,4 +1,0 @@
-pub mod WorldFacts
-pub mod TurnFacts
-pub mod FreezingFacts
-pub mod LoopFacts
