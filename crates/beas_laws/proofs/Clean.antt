@@ -2,8 +2,8 @@
 use Rattle.std.proofs.Common.{ℕ, List, [], ◌∷◌, ◌++◌}
 use Rattle.std.specs.Prelude.{codes, map}
 use Rattle.std.specs.Char.{to_ascii_lowercase}
-use Rattle.sql_tree.specs.Canonical.{Lexeme, keyword, name, digits, content, sign}
-use Rattle.sql_tree.specs.Symbols.{Symbol, word, number, quoted, mark}
+use Rattle.sql_text.specs.Canonical.{Lexeme, keyword, name, digits, content, sign}
+use Rattle.sql_text.specs.Symbols.{Symbol, word, number, quoted, mark}
 use Rattle.beas_laws.proofs.Lexicals.{IsWordText, IsNameText, IsDigitText}
 
 abbrev pub symbol : Lexeme → Symbol

@@ -6,11 +6,11 @@ use Rattle.std.specs.Char.{is_ascii_digit, is_ascii_whitespace, to_ascii_lowerca
 use Rattle.std.proofs.lemmas.Bool.{cases_Bool, cond-false, and_parts, eqb-true, le-ltb}
 use Rattle.std.proofs.lemmas.Bool.Decides.{nat_tests}
 use Rattle.std.proofs.lemmas.List.Sums.{take_while-cons}
-use Rattle.sql_text.specs.declared.token.TokenKind.TheVariants.{Word, Number, Quoted, Bad}
+use Rattle.sql_tokens.specs.declared.token.TokenKind.TheVariants.{Word, Number, Quoted, Bad}
 use Rattle.beas_core.specs.Spelling.{begins_word, continues_word}
-use Rattle.sql_text.specs.Tokens.{lead, plain, word as word_lead, in_quotes, with_quotes_doubled, quoted_text, quoted_or_bad, longest_word, quote}
-use Rattle.sql_text.specs.Tokens.Lead.{Lexeme}
-use Rattle.sql_text.proofs.Leads.{lead-word, lead-number, lead-quoted, digit-no_word}
+use Rattle.sql_tokens.specs.Tokens.{lead, plain, word as word_lead, in_quotes, with_quotes_doubled, quoted_text, quoted_or_bad, longest_word, quote}
+use Rattle.sql_tokens.specs.Tokens.Lead.{Lexeme}
+use Rattle.sql_tokens.proofs.Leads.{lead-word, lead-number, lead-quoted, digit-no_word}
 use Rattle.beas_laws.proofs.Lexicals.{IsWordText, IsDigitText, run_first}
 
 -- nothing, or a space, a closing parenthesis, a comma or a point

@@ -8,12 +8,12 @@ use Rattle.std.proofs.lemmas.Bool.{cond_both, and_from, and_parts, cond-true, lt
 use Rattle.std.proofs.lemmas.Bool.Decides.{nat_tests}
 use Rattle.std.proofs.lemmas.List.Elements.{All-contains, All-weaker, All-from_recursion, recursion_from_All}
 use Rattle.std.proofs.lemmas.List.Sums.{take_while-cons}
-use Rattle.sql_text.specs.declared.token.Token.{Token}
-use Rattle.sql_text.specs.declared.token.TokenKind.TheVariants.{Word, Bad}
+use Rattle.sql_tokens.specs.declared.token.Token.{Token}
+use Rattle.sql_tokens.specs.declared.token.TokenKind.TheVariants.{Word, Bad}
 use Rattle.beas_core.specs.Spelling.{begins_word, continues_word}
-use Rattle.sql_text.specs.Tokens.{lead, plain, word as word_lead, quoted_or_bad, mark_or_bad, first_then, tokens_from, tokens_of, longest_word, quoted_text, quote, marks, continues_char, Lead}
-use Rattle.sql_text.specs.Tokens.Lead.{Gap, Lexeme}
-use Rattle.sql_tree.specs.Symbols.{Symbol, word, number, quoted, mark, bad, symbol_of, symbols}
+use Rattle.sql_tokens.specs.Tokens.{lead, plain, word as word_lead, quoted_or_bad, mark_or_bad, first_then, tokens_from, tokens_of, longest_word, quoted_text, quote, marks, continues_char, Lead}
+use Rattle.sql_tokens.specs.Tokens.Lead.{Gap, Lexeme}
+use Rattle.sql_text.specs.Symbols.{Symbol, word, number, quoted, mark, bad, symbol_of, symbols}
 
 -- a word of letters, digits and underscores that begins with no digit and isn't too long
 pub record IsWordText (text : List ℕ) : Type 0 where

@@ -1,10 +1,10 @@
 -- The tokens of a statement's canonical text spell it.
 use Rattle.std.proofs.Common.{◌≡◌, true, sym, subst}
-use Rattle.sql_text.specs.Tokens.{tokens_of}
-use Rattle.sql_tree.specs.declared.tree.Statement.{Statement}
-use Rattle.sql_tree.specs.Canonical.{canonical_text}
-use Rattle.sql_tree.specs.Grammar.{Spells}
-use Rattle.sql_tree.specs.Symbols.{symbols}
+use Rattle.sql_tokens.specs.Tokens.{tokens_of}
+use Rattle.sql_text.specs.declared.tree.Statement.{Statement}
+use Rattle.sql_text.specs.Canonical.{canonical_text}
+use Rattle.sql_text.specs.Grammar.{Spells}
+use Rattle.sql_text.specs.Symbols.{symbols}
 use Rattle.sql_parser.proofs.StatementIsRead.{one_statement}
 use Rattle.beas_laws.specs.Spelled.{IsSpelledByTokens}
 use Rattle.beas_laws.proofs.Lexicals.{lexical_from_tokens}

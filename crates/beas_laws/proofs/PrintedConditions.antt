@@ -4,12 +4,12 @@ use Rattle.std.specs.Prelude.{codes, map}
 use Rattle.std.specs.List.{AllByRecursion as Each}
 use Rattle.std.proofs.lemmas.List.{append-nil, map-append}
 use Rattle.beas_core.specs.declared.query.Sign.{Sign}
-use Rattle.sql_tree.specs.declared.tree.Cond.{Cond}
-use Rattle.sql_tree.specs.declared.tree.Cond.TheVariants.{Compare, Between}
-use Rattle.sql_tree.specs.Canonical.{Lexeme, keyword, sign, parts_with, sign_text, condition_of, where_of, side_of, ref_of}
-use Rattle.sql_tree.specs.Symbols.{Symbol, mark}
-use Rattle.sql_tree.specs.Grammar.{IsSign, equal, differs, not_equal, less, at_most, more, at_least, IsCondition, comparison, range, parentheses, IsConditions, last_condition, conjunction, IsWhere, no_where, where_}
-use Rattle.sql_tree.specs.Words.{AND, BETWEEN, CLOSE}
+use Rattle.sql_text.specs.declared.tree.Cond.{Cond}
+use Rattle.sql_text.specs.declared.tree.Cond.TheVariants.{Compare, Between}
+use Rattle.sql_text.specs.Canonical.{Lexeme, keyword, sign, parts_with, sign_text, condition_of, where_of, side_of, ref_of}
+use Rattle.sql_text.specs.Symbols.{Symbol, mark}
+use Rattle.sql_text.specs.Grammar.{IsSign, equal, differs, not_equal, less, at_most, more, at_least, IsCondition, comparison, range, parentheses, IsConditions, last_condition, conjunction, IsWhere, no_where, where_}
+use Rattle.sql_text.specs.Words.{AND, BETWEEN, CLOSE}
 use Rattle.beas_laws.proofs.Clean.{symbol, IsMarkText, equal_mark, differs_mark, less_mark, at_most_mark, more_mark, at_least_mark, none, sign_then, clean-append}
 use Rattle.beas_laws.proofs.Lexicals.{IsLexical, AreLexical, front, back}
 use Rattle.beas_laws.proofs.PrintedParts.{Again, clean-keyword, ref-again, side-again}

@@ -7,15 +7,15 @@ use Rattle.std.proofs.lemmas.Bool.{and_parts, cases_Bool, leb-true}
 use Rattle.std.proofs.lemmas.List.{append-nil, map-append}
 use Rattle.beas_core.specs.declared.schema.Column.{Column}
 use Rattle.beas_core.specs.Spelling.{begins_word, continues_word}
-use Rattle.sql_text.specs.Tokens.{longest_word}
-use Rattle.sql_tree.specs.declared.tree.Literal.{Literal}
-use Rattle.sql_tree.specs.declared.tree.Literal.TheVariants.{Number}
-use Rattle.sql_tree.specs.declared.tree.ColumnRef.{ColumnRef}
-use Rattle.sql_tree.specs.declared.tree.Side.{Side}
-use Rattle.sql_tree.specs.Canonical.{Lexeme, keyword, name, sign, comma_list, names_of, in_parentheses, column_of, literal_of, tuple_of, ref_of, side_of}
-use Rattle.sql_tree.specs.Symbols.{Symbol, number}
-use Rattle.sql_tree.specs.Grammar.{Commas, last, comma, IsId, id, IsMaybeIds, no_ids, ids, IsColumn, integer, int, text, significant_digits, IsLiteral, plain, positive, negative, between_quotes, IsTuple, tuple, IsRef, bare, dotted, IsSide, placed, written}
-use Rattle.sql_tree.specs.Words.{CLOSE, COMMA, MINUS, OPEN}
+use Rattle.sql_tokens.specs.Tokens.{longest_word}
+use Rattle.sql_text.specs.declared.tree.Literal.{Literal}
+use Rattle.sql_text.specs.declared.tree.Literal.TheVariants.{Number}
+use Rattle.sql_text.specs.declared.tree.ColumnRef.{ColumnRef}
+use Rattle.sql_text.specs.declared.tree.Side.{Side}
+use Rattle.sql_text.specs.Canonical.{Lexeme, keyword, name, sign, comma_list, names_of, in_parentheses, column_of, literal_of, tuple_of, ref_of, side_of}
+use Rattle.sql_text.specs.Symbols.{Symbol, number}
+use Rattle.sql_text.specs.Grammar.{Commas, last, comma, IsId, id, IsMaybeIds, no_ids, ids, IsColumn, integer, int, text, significant_digits, IsLiteral, plain, positive, negative, between_quotes, IsTuple, tuple, IsRef, bare, dotted, IsSide, placed, written}
+use Rattle.sql_text.specs.Words.{CLOSE, COMMA, MINUS, OPEN}
 use Rattle.beas_laws.proofs.Clean.{symbol, open_mark, close_mark, comma_mark, point_mark, AreClean, none, keyword_then, name_then, digits_then, minus_then, content_then, sign_then, clean-append}
 use Rattle.beas_laws.proofs.Lexicals.{IsWordText, IsDigitText, IsLexical, AreLexical, front, back}
 

@@ -6,15 +6,15 @@ use Rattle.std.proofs.lemmas.Bool.{cases_Bool}
 use Rattle.std.proofs.lemmas.List.{append-nil, map-append}
 use Rattle.std.proofs.lemmas.Slice.Eq.{bytes_eq-Decides}
 use Rattle.beas_core.specs.Spelling.{is_name}
-use Rattle.sql_tree.specs.declared.tree.ColumnRef.{ColumnRef}
-use Rattle.sql_tree.specs.declared.tree.Cond.{Cond}
-use Rattle.sql_tree.specs.declared.tree.FromItem.{FromItem}
-use Rattle.sql_tree.specs.declared.tree.BlockTree.{BlockTree}
-use Rattle.sql_tree.specs.Trees.{Tree, Block, Union, Except}
-use Rattle.sql_tree.specs.Canonical.{Lexeme, keyword, sign, comma_list, where_of, item_of, output_of, distinct_of, head_of, body_of, block_of as block_lexemes, operand_of, tree_lexemes}
-use Rattle.sql_tree.specs.Symbols.{Symbol, word, mark}
-use Rattle.sql_tree.specs.Grammar.{Commas, last, comma, id, IsItem, alone, alias, as_alias, IsJoins, no_join, join, inner_join, cross_join, Source, IsSource, joined_source, IsDistinct, all_rows, distinct_rows, IsOutput, all_columns, columns, Body, body_of as joined_body, IsBody, from_sources, IsHead, select_output, IsBlock, select_block, IsTerm, single, nested, IsQuery, term, union, except}
-use Rattle.sql_tree.specs.Words.{CLOSE, COMMA, EXCEPT, FROM, JOIN, ON, SELECT, UNION}
+use Rattle.sql_text.specs.declared.tree.ColumnRef.{ColumnRef}
+use Rattle.sql_text.specs.declared.tree.Cond.{Cond}
+use Rattle.sql_text.specs.declared.tree.FromItem.{FromItem}
+use Rattle.sql_text.specs.declared.tree.BlockTree.{BlockTree}
+use Rattle.sql_text.specs.Trees.{Tree, Block, Union, Except}
+use Rattle.sql_text.specs.Canonical.{Lexeme, keyword, sign, comma_list, where_of, item_of, output_of, distinct_of, head_of, body_of, block_of as block_lexemes, operand_of, tree_lexemes}
+use Rattle.sql_text.specs.Symbols.{Symbol, word, mark}
+use Rattle.sql_text.specs.Grammar.{Commas, last, comma, id, IsItem, alone, alias, as_alias, IsJoins, no_join, join, inner_join, cross_join, Source, IsSource, joined_source, IsDistinct, all_rows, distinct_rows, IsOutput, all_columns, columns, Body, body_of as joined_body, IsBody, from_sources, IsHead, select_output, IsBlock, select_block, IsTerm, single, nested, IsQuery, term, union, except}
+use Rattle.sql_text.specs.Words.{CLOSE, COMMA, EXCEPT, FROM, JOIN, ON, SELECT, UNION}
 use Rattle.beas_laws.proofs.Clean.{symbol, star_mark, none, name_then, sign_then, clean-append}
 use Rattle.beas_laws.proofs.Lexicals.{IsNameText, IsLexical, AreLexical, front, back}
 use Rattle.beas_laws.proofs.PrintedParts.{Again, clean-keyword, closed, clean-closed, listed_again, commas-again, ref-again}

@@ -4,18 +4,18 @@ use Rattle.std.specs.Prelude.{codes, map}
 use Rattle.std.proofs.lemmas.List.{map-append}
 use Rattle.beas_core.specs.declared.schema.AccessSpec.{AccessSpec}
 use Rattle.beas_core.specs.declared.schema.Column.{Column}
-use Rattle.sql_tree.specs.declared.tree.ColumnRef.{ColumnRef}
-use Rattle.sql_tree.specs.declared.tree.GroupItem.{GroupItem}
-use Rattle.sql_tree.specs.declared.tree.GroupItem.TheVariants.{Count, Sum, Least, Greatest}
-use Rattle.sql_tree.specs.declared.tree.Literal.{Literal}
-use Rattle.sql_tree.specs.declared.tree.Statement.{Statement}
-use Rattle.sql_tree.specs.declared.tree.Statement.TheVariants.{CreateTable, CreateAccess, Insert, DiscoverGroup, Grouped}
-use Rattle.sql_tree.specs.Canonical.{Lexeme, keyword, sign, names_of, comma_list, in_parentheses, column_of, tuple_of, ref_of, group_item_of, limit_of, lexemes_of}
-use Rattle.sql_tree.specs.Symbols.{Symbol, word, number}
-use Rattle.sql_tree.specs.Trees.{Tree, Block}
-use Rattle.sql_tree.specs.Grouping.{grouped_block}
-use Rattle.sql_tree.specs.Grammar.{Commas, IsId, id, IsMaybeIds, IsColumn, IsTuple, IsRef, Body, IsBody, IsGroupItem, shared, counted, summed, least, greatest, Spells, create_table, create_access, drop_access, load, insert, delete, discover_group, discover_pairs, grouped, over_query, IsOverQuery, select, explain, scan_ok, specialise, wants_distinct}
-use Rattle.sql_tree.specs.Words.{ACCESS, BY, CLOSE, COUNT, CREATE, DISCOVER, DISTINCT, FETCH, GROUP, LIMIT, MAX, MIN, ON, OPEN, SELECT, SUM, TABLE}
+use Rattle.sql_text.specs.declared.tree.ColumnRef.{ColumnRef}
+use Rattle.sql_text.specs.declared.tree.GroupItem.{GroupItem}
+use Rattle.sql_text.specs.declared.tree.GroupItem.TheVariants.{Count, Sum, Least, Greatest}
+use Rattle.sql_text.specs.declared.tree.Literal.{Literal}
+use Rattle.sql_text.specs.declared.tree.Statement.{Statement}
+use Rattle.sql_text.specs.declared.tree.Statement.TheVariants.{CreateTable, CreateAccess, Insert, DiscoverGroup, Grouped}
+use Rattle.sql_text.specs.Canonical.{Lexeme, keyword, sign, names_of, comma_list, in_parentheses, column_of, tuple_of, ref_of, group_item_of, limit_of, lexemes_of}
+use Rattle.sql_text.specs.Symbols.{Symbol, word, number}
+use Rattle.sql_text.specs.Trees.{Tree, Block}
+use Rattle.sql_text.specs.Grouping.{grouped_block}
+use Rattle.sql_text.specs.Grammar.{Commas, IsId, id, IsMaybeIds, IsColumn, IsTuple, IsRef, Body, IsBody, IsGroupItem, shared, counted, summed, least, greatest, Spells, create_table, create_access, drop_access, load, insert, delete, discover_group, discover_pairs, grouped, over_query, IsOverQuery, select, explain, scan_ok, specialise, wants_distinct}
+use Rattle.sql_text.specs.Words.{ACCESS, BY, CLOSE, COUNT, CREATE, DISCOVER, DISTINCT, FETCH, GROUP, LIMIT, MAX, MIN, ON, OPEN, SELECT, SUM, TABLE}
 use Rattle.beas_laws.proofs.Clean.{symbol, AreClean, none, name_then, digits_then, content_then, clean-append}
 use Rattle.beas_laws.proofs.Lexicals.{IsNameText, IsDigitText, IsLexical, AreLexical, front, back}
 use Rattle.beas_laws.proofs.PrintedParts.{Again, clean-keyword, closed, clean-closed, commas-again, ids-again, maybe_ids-again, column-again, tuple-again, ref-again}

@@ -4,13 +4,13 @@ use Rattle.std.specs.Prelude.{codes, eqb, ◌||◌, ◌==◌, map}
 use Rattle.std.specs.Char.{to_ascii_lowercase}
 use Rattle.std.proofs.lemmas.Bool.{false≢true}
 use Rattle.std.proofs.lemmas.Bool.Decides.{nat_tests}
-use Rattle.sql_text.specs.declared.token.Token.{Token}
-use Rattle.sql_text.specs.declared.token.TokenKind.{TokenKind}
-use Rattle.sql_text.specs.declared.token.TokenKind.TheVariants.{Word, Number, Quoted, Mark}
-use Rattle.sql_text.specs.Tokens.{lead, in_quotes as quoted_bytes, quote, with_quotes_doubled, first_then, tokens_from, tokens_of, Lead}
-use Rattle.sql_text.specs.Tokens.Lead.{Gap, Lexeme as Found}
-use Rattle.sql_tree.specs.Canonical.{Lexeme, sign, holds_left, holds_right, gap, text_of_lexemes}
-use Rattle.sql_tree.specs.Symbols.{Symbol, word, number, quoted, mark, symbol_of, symbols}
+use Rattle.sql_tokens.specs.declared.token.Token.{Token}
+use Rattle.sql_tokens.specs.declared.token.TokenKind.{TokenKind}
+use Rattle.sql_tokens.specs.declared.token.TokenKind.TheVariants.{Word, Number, Quoted, Mark}
+use Rattle.sql_tokens.specs.Tokens.{lead, in_quotes as quoted_bytes, quote, with_quotes_doubled, first_then, tokens_from, tokens_of, Lead}
+use Rattle.sql_tokens.specs.Tokens.Lead.{Gap, Lexeme as Found}
+use Rattle.sql_text.specs.Canonical.{Lexeme, sign, holds_left, holds_right, gap, text_of_lexemes}
+use Rattle.sql_text.specs.Symbols.{Symbol, word, number, quoted, mark, symbol_of, symbols}
 use Rattle.beas_laws.proofs.Clean.{symbol, IsMarkText, open_mark, close_mark, comma_mark, point_mark, star_mark, equal_mark, differs_mark, less_mark, at_most_mark, more_mark, at_least_mark, AreClean, none, keyword_then, name_then, digits_then, minus_then, content_then, sign_then}
 use Rattle.beas_laws.proofs.Leading.{ends, lead-of_word, lead-of_number, lead-of_quoted, digit-no_minus}
 use Rattle.beas_laws.proofs.Lexicals.{IsWordText, IsDigitText}

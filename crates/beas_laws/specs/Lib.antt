@@ -1,2 +1,4 @@
 pub mod Kept
 pub mod Spelled
+pub mod Unreadable
+pub mod Loads

@@ -1,10 +1,10 @@
 -- Statements that a text can have.
 use Rattle.std.specs.Prelude.{ℕ, List, All, Contains}
-use Rattle.sql_text.specs.declared.token.Token.{Token}
-use Rattle.sql_text.specs.Tokens.{tokens_of}
-use Rattle.sql_tree.specs.declared.tree.Statement.{Statement}
-use Rattle.sql_tree.specs.Grammar.{Spells}
-use Rattle.sql_tree.specs.Symbols.{symbols}
+use Rattle.sql_tokens.specs.declared.token.Token.{Token}
+use Rattle.sql_tokens.specs.Tokens.{tokens_of}
+use Rattle.sql_text.specs.declared.tree.Statement.{Statement}
+use Rattle.sql_text.specs.Grammar.{Spells}
+use Rattle.sql_text.specs.Symbols.{symbols}
 
 -- a token of some text
 abbrev pub IsToken : Token → Type 0

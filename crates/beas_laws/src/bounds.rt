@@ -8,7 +8,7 @@ ghost use Rattle.evaluation_facts.specs.Fronts.{FrontsAreBounded};
 ghost use Rattle.evaluation_facts.specs.Guides.{BlockStart, StartFits};
 
 use beas_core::{Access, AccessPort, DStep, Derivation, List, Normal, Prepared, Query};
-use plan_executor::ask_for_all;
+use plan_ops::ask_for_all;
 
 /// Where the constraints hold, the valuations after each front of the steps are at most its last size; and the reads
 /// of each front, with what the next step may read, are at most the announced number, as are those of all steps.

@@ -1,13 +1,13 @@
 // The law of printing, on text.
 ghost use Rattle.std.specs.Prelude.{◌≡◌};
-ghost use Rattle.sql_text.specs.Tokens.{tokens_of};
-ghost use Rattle.sql_tree.specs.declared.tree.Statement.{Statement};
-ghost use Rattle.sql_tree.specs.Symbols.{symbols};
-ghost use Rattle.sql_tree.specs.Grammar.{Spells};
-ghost use Rattle.sql_tree.specs.Canonical.{canonical_text};
+ghost use Rattle.sql_tokens.specs.Tokens.{tokens_of};
+ghost use Rattle.sql_text.specs.declared.tree.Statement.{Statement};
+ghost use Rattle.sql_text.specs.Symbols.{symbols};
+ghost use Rattle.sql_text.specs.Grammar.{Spells};
+ghost use Rattle.sql_text.specs.Canonical.{canonical_text};
 ghost use Rattle.beas_laws.specs.Spelled.{IsSpelledByTokens};
 
-use sql_tree::Statement;
+use sql_text::Statement;
 
 /// Where some tokens spell a statement, the tokens of its canonical text spell it, and no other.
 pub fn law_printed(statement: &Statement)

@@ -1,16 +1,16 @@
 // The canonical text of a statement, from any of its spellings.
 ghost use Rattle.std.specs.Prelude.{◌≡◌, ◌≤◌, ℕ, List, Ok, Err, length, IfOk, IsErrOf};
 ghost use Rattle.beas_core.specs.declared.refusal.Refusal.{Refusal};
-ghost use Rattle.sql_text.specs.Tokens.{tokens_of};
-ghost use Rattle.sql_tree.specs.declared.tree.Statement.{Statement};
-ghost use Rattle.sql_tree.specs.Symbols.{symbols};
-ghost use Rattle.sql_tree.specs.Canonical.{canonical_text};
+ghost use Rattle.sql_tokens.specs.Tokens.{tokens_of};
+ghost use Rattle.sql_text.specs.declared.tree.Statement.{Statement};
+ghost use Rattle.sql_text.specs.Symbols.{symbols};
+ghost use Rattle.sql_text.specs.Canonical.{canonical_text};
 ghost use Rattle.sql_parser.specs.Outcome.{Parses};
 
 use beas_core::{Fail, Text};
 use sql_parser::parse;
-use sql_text::lex;
-use sql_tree::print;
+use sql_text::print;
+use sql_tokens::lex;
 use std::alloc::Global;
 
 /// The canonical text of the statement that a source of at most 16,777,216 bytes spells. A source that spells none

@@ -1,24 +1,24 @@
--- How a query of session 0 that was opened comes to its answer: at once, and as so many events of its session would bring it there.
-use Rattle.std.proofs.Common.{◌≡◌, ◌≤◌, ◌+◌, ◌∙◌, ap, subst, sym, refl, ℕ, zero, suc, Bool, true, false, not, cond, List, [], ◌∷◌, Option, None, Some, Result, Ok, Err, arith, find, length, remove, set}
-use Rattle.std.specs.Prelude.{if◌then◌else◌, nat_lt, is_some, sum, IfOk, IsSome, IsSomeAnd, OnErr}
+-- How a query of session 0 that was opened comes to its answer, event by event.
+use Rattle.std.proofs.Common.{◌≡◌, ◌≤◌, ◌<◌, ◌+◌, ◌-◌, ◌∙◌, ap, subst, sym, refl, ℕ, zero, suc, Bool, true, false, not, cond, List, [], ◌∷◌, Option, None, Some, arith, find, length, remove, set}
+use Rattle.std.specs.Prelude.{if◌then◌else◌, nat_lt, sum, unwrap_or, IsSomeAnd, option_map}
 use Rattle.std.specs.List.{position_or_len}
 use Rattle.std.specs.Option.{option_map_or}
-use Rattle.std.proofs.lemmas.Bool.{lt-ltb, le-ltb}
-use Rattle.beas_core.specs.declared.errors.NoMemory.{NoMemory as Out}
+use Rattle.std.proofs.lemmas.Bool.{lt-ltb, le-ltb, ltb-true}
+use Rattle.outside.specs.Seen.{Seen}
 use Rattle.kept_facts.specs.OpenQueries.{OpenQuery, answer_of, probes_of, reads_of}
 use Rattle.report.specs.declared.reports.Report.{Report}
 use Rattle.report.specs.declared.reports.Report.TheVariants.{Answered}
-use Rattle.desk_model.specs.declared.event.Event.TheVariants.{Stepped}
-use Rattle.desk_model.specs.Desks.{DeskEffect, State, answered_effect, is_of, probed_effect, query_effect, query_of, stepped_effect, with_query}
+use Rattle.piece_reader.specs.declared.event.Event.TheVariants.{Stepped}
+use Rattle.desk_model.specs.Desks.{AtOnce, DeskEffect, State, action_of_event, answered_effect, is_of, probed_effect, query_effect, query_of, stepped_effect, with_query}
 use Rattle.desk_model.specs.Pieces.{after_cost, and_step, and_steps, probes_due}
 use Rattle.desk_model.proofs.Places.{find_passes}
-use Rattle.version_store.specs.Desks.{Completes, IsDesk, MaySpend, Seen as DeskSeen, desk_wanting}
+use Rattle.version_store.specs.Desks.{IsDesk, MayTake, Seen as DeskSeen, Takes, TakesSome, desk_wanting}
 use Rattle.version_store.proofs.Places.{remove-set}
-use Rattle.beas_run.specs.Pieces.{Reaches, answered_from}
+use Rattle.beas_run.specs.Pieces.{Reaches, answered_from, is_probed}
 use Rattle.beas_run.specs.Shares.{open_reads}
-use Rattle.beas_run.proofs.FoundFacts.{find-set-found}
+use Rattle.beas_run.proofs.FoundFacts.{find-set-found, sum_by-set-found}
 use Rattle.beas_run.proofs.LeftFacts.{wanting_db}
-use Rattle.beas_run.proofs.ShareFacts.{may_spend, shares_fit}
+use Rattle.beas_run.proofs.ShareFacts.{may_take, shares_fit}
 
 -- the first that passes stands where it stood if another that passes takes its place
 place-set-found : {X : Type 0} (p : X → Bool) (xs : List X) (x y : X) → find p xs ≡ Some x → p y ≡ true
@@ -42,13 +42,18 @@ remove-set-found p xs x y h own =
 
 -- ---- event by event
 
+stepped_is : (state : State) (k : ℕ) (q : OpenQuery) (made : ℕ) → query_of k state ≡ Some q → q.made ≡ Some made → (b : Bool)
+    → nat_lt made (length (probes_of q)) ≡ b
+    → stepped_effect state k (query_of k state) ≡ Some (if b then probed_effect state k q made else answered_effect state k q)
+stepped_is state k q made is was b e =
+    ap (stepped_effect state k) is ∙ ap (query_effect state k q) was
+    ∙ ap (λ c. Some (if c then probed_effect state k q made else answered_effect state k q)) e
+
 step_is : (k : ℕ) (effect : DeskEffect) (q : OpenQuery) (made : ℕ) → query_of k effect.state ≡ Some q → q.made ≡ Some made → (b : Bool)
     → nat_lt made (length (probes_of q)) ≡ b
     → and_step k effect ≡ after_cost effect.cost (if b then probed_effect effect.state k q made else answered_effect effect.state k q)
 step_is k effect q made is was b e =
-    ap (λ o. option_map_or (after_cost effect.cost) o effect)
-    (ap (stepped_effect effect.state k) is ∙ ap (query_effect effect.state k q) was
-    ∙ ap (λ c. Some (if c then probed_effect effect.state k q made else answered_effect effect.state k q)) e)
+    ap (λ o. option_map_or (after_cost effect.cost) o effect) (stepped_is effect.state k q made is was b e)
 
 -- a probe more leaves the answer as it is
 answer_stays : (state : State) (k : ℕ) (q : OpenQuery) (made : Option ℕ) → query_of k state ≡ Some q
@@ -76,45 +81,157 @@ reached (suc left) k effect q made is was e =
     ∙ ap (λ n. after_cost n (answered_effect one.state k next)) free
     ∙ ap (after_cost effect.cost) (answer_stays effect.state k q (Some (made + 1)) is)
 
--- ---- at once
+-- ---- the events of a query that was opened
 
-pub goes_on : (o : Option OpenQuery) → IsSomeAnd o (λ query. query.made ≡ Some 0) → IsSomeAnd o (λ query. IsSome query.made)
-goes_on None new = new
-goes_on (Some q) new = ap is_some new
+-- how many of its probes haven't been made
+abbrev pub probes_left : State → ℕ
+probes_left state = option_map_or (λ (query : OpenQuery). length (probes_of query) - unwrap_or query.made 0) (query_of 0 state) 0
 
-module _ (start after : DeskSeen) (s t : ℕ) where
-  is_answered : (report : Report) → IsSomeAnd (query_of 0 start.state) (λ query. query.made ≡ Some 0) → IsDesk after → Completes 0 report start after s t
-      → (first : DeskEffect) → first.state ≡ start.state → first.cost ≡ 0 → Reaches (answered_from first) report start after s t
-  is_answered report new told h first same free =
-      let q = h.query in
-      let is : query_of 0 first.state ≡ Some q = ap (λ st. query_of 0 st) same ∙ h.is in
-      let was : q.made ≡ Some 0 = subst (λ o. IsSomeAnd o (λ (query : OpenQuery). query.made ≡ Some 0)) h.is new in
-      let due : probes_due 0 first.state ≡ length (probes_of q) = ap (λ o. option_map_or (λ (r : OpenQuery). length (probes_of r)) o 0) is in
-      let one : probes_due 0 first.state + 1 ≡ suc (length (probes_of q)) = omega (arith, due) in
-      let last : answered_from first ≡ after_cost first.cost (answered_effect start.state 0 q) =
-      ap (λ n. and_steps 0 n first) one ∙ reached (length (probes_of q)) 0 first q 0 is was (omega arith)
-      ∙ ap (λ st. after_cost first.cost (answered_effect st 0 q)) same in
-      let cost : (answered_from first).cost ≡ first.cost + reads_of q = ap (λ (e : DeskEffect). e.cost) last in
-      let counts = h.counts in
-      record {
-        report_is = h.report_is ∙ sym (ap (λ (e : DeskEffect). e.report) last);
-        state_is = h.state_is ∙ sym (ap (λ (e : DeskEffect). e.state) last);
-        shares = λ _. shares_fit after told;
-        counts = omega (arith, counts, cost, free);
-      }
+-- so it stands between two events: some of its probes were made, and its answer is what it was where it was opened
+pub record OnTheWay (start now : DeskSeen) (s t : ℕ) : Type 0 where
+  pub opened : OpenQuery
+  pub was : query_of 0 start.state ≡ Some opened
+  pub query : OpenQuery
+  pub is : query_of 0 now.state ≡ Some query
+  pub made : ℕ
+  pub how_far : query.made ≡ Some made
+  pub few : made ≤ length (probes_of query)
+  pub last : answered_effect now.state 0 query ≡ answered_effect start.state 0 opened
+  pub reads : open_reads now.state ≡ open_reads start.state
+  pub db : now.state.db ≡ start.state.db
+  pub settings : now.settings ≡ start.settings
+  pub counts : t + sum start.shares ≡ s + sum now.shares
+  pub later : s ≤ t
 
-  pub answered : (r : Result Report Out) → IsSomeAnd (query_of 0 start.state) (λ query. query.made ≡ Some 0) → IsDesk after
-      → IfOk r (λ report. Completes 0 report start after s t)
-      → IfOk r (λ report. (first : DeskEffect) → first.state ≡ start.state → first.cost ≡ 0 → Reaches (answered_from first) report start after s t)
-  answered (Ok report) new told h = is_answered report new told h
-  answered (Err why) new told h = tt
+pub on_the_way : (desk : DeskSeen) (s : ℕ) → IsSomeAnd (query_of 0 desk.state) (λ query. query.made ≡ Some 0) → OnTheWay desk desk s s
+on_the_way desk s new = by (query_of 0 desk.state) refl new
+  where
+    by : (o : Option OpenQuery) → query_of 0 desk.state ≡ o → IsSomeAnd o (λ (query : OpenQuery). query.made ≡ Some 0) → OnTheWay desk desk s s
+    by None is new = absurd new
+    by (Some q) is new = record {
+      opened = q;
+      was = is;
+      query = q;
+      is = is;
+      made = 0;
+      how_far = new;
+      few = omega arith;
+      last = refl;
+      reads = refl;
+      db = refl;
+      settings = refl;
+      counts = refl;
+      later = omega arith;
+    }
 
-  -- out of memory
-  pub lost_db : (r : Result Report Out) → OnErr r (after ≡ desk_wanting (Stepped 0) start) → OnErr r (after.state.db ≡ start.state.db)
-  lost_db (Ok report) e = tt
-  lost_db (Err why) e = wanting_db 0 start after e
+-- one event more
+module _ (start now after : DeskSeen) (s t u : ℕ) (x y : Seen) (way : OnTheWay start now s t) (report : Report)
+    (took : TakesSome now.settings.limits.file (action_of_event now.settings now.state (Stepped 0)) report now after t u x y) where
+  abbrev q : OpenQuery
+  q = way.query
 
-  pub lost_reads : (r : Result Report Out) → IsDesk start → s ≤ t → OnErr r (MaySpend 0 start s t)
-      → OnErr r (t + sum start.shares ≤ s + open_reads start.state)
-  lost_reads (Ok report) told later may = tt
-  lost_reads (Err why) told later may = may_spend 0 start s t told later may
+  abbrev n : ℕ
+  n = length (probes_of q)
+
+  taken_as : (b : Bool) → nat_lt way.made n ≡ b
+      → Takes now.settings.limits.file (AtOnce (if b then probed_effect now.state 0 q way.made else answered_effect now.state 0 q)) report
+      now after t u x y
+  taken_as b e = subst (λ o. TakesSome now.settings.limits.file (option_map AtOnce o) report now after t u x y)
+      (stepped_is now.state 0 q way.made way.is way.how_far b e) took
+
+  -- a probe was made
+  module _ (probed : is_probed report ≡ true) where
+    due : nat_lt way.made n ≡ true
+    due = by (nat_lt way.made n) refl
+      where
+        by : (b : Bool) → nat_lt way.made n ≡ b → nat_lt way.made n ≡ true
+        by true e = e
+        by false e = let other : true ≡ false = sym probed ∙ ap is_probed (taken_as false e).report_is in cc
+
+    took_one : Takes now.settings.limits.file (AtOnce (probed_effect now.state 0 q way.made)) report now after t u x y
+    took_one = taken_as true due
+
+    abbrev further : OpenQuery
+    further = record q { made = Some (way.made + 1) }
+
+    there : query_of 0 after.state ≡ Some further
+    there = ap (λ st. query_of 0 st) took_one.state_is
+        ∙ find-set-found (is_of 0) now.state.queries q further way.is (find_passes (is_of 0) now.state.queries q way.is)
+
+    pub goes_on : after.settings ≡ now.settings → t ≤ u → OnTheWay start after s u
+    goes_on settings later =
+        let less = ltb-true way.made n due in
+        let counted : u + sum now.shares ≡ t + 0 + sum after.shares = took_one.counts in
+        let before = way.counts in
+        let begun = way.later in
+        record {
+          opened = way.opened;
+          was = way.was;
+          query = further;
+          is = there;
+          made = way.made + 1;
+          how_far = refl;
+          few = omega (arith, less);
+          last = ap (λ st. answered_effect st 0 further) took_one.state_is ∙ answer_stays now.state 0 q (Some (way.made + 1)) way.is ∙ way.last;
+          reads = ap open_reads took_one.state_is ∙ sum_by-set-found (is_of 0) reads_of now.state.queries q further way.is refl ∙ way.reads;
+          db = ap (λ (st : State). st.db) took_one.state_is ∙ way.db;
+          settings = settings ∙ way.settings;
+          counts = omega (arith, counted, before);
+          later = omega (arith, begun, later);
+        }
+
+    pub fewer_left : probes_left after.state < probes_left now.state
+    fewer_left =
+        let less = ltb-true way.made n due in
+        let after_it : probes_left after.state ≡ n - (way.made + 1) =
+        ap (λ o. option_map_or (λ (query : OpenQuery). length (probes_of query) - unwrap_or query.made 0) o 0) there in
+        let before_it : probes_left now.state ≡ n - way.made =
+        ap (λ o. option_map_or (λ (query : OpenQuery). length (probes_of query) - unwrap_or query.made 0) o 0) way.is
+        ∙ ap (λ o. n - unwrap_or o 0) way.how_far in
+        omega (arith, less, after_it, before_it)
+
+  -- it was answered
+  module _ (ended : is_probed report ≡ false) where
+    none_due : nat_lt way.made n ≡ false
+    none_due = by (nat_lt way.made n) refl
+      where
+        by : (b : Bool) → nat_lt way.made n ≡ b → nat_lt way.made n ≡ false
+        by true e = let other : true ≡ false = sym (ap is_probed (taken_as true e).report_is) ∙ ended in cc
+        by false e = e
+
+    took_last : Takes now.settings.limits.file (AtOnce (answered_effect now.state 0 q)) report now after t u x y
+    took_last = taken_as false none_due
+
+    pub answered : IsSomeAnd (query_of 0 start.state) (λ query. query.made ≡ Some 0) → IsDesk after
+        → (first : DeskEffect) → first.state ≡ start.state → first.cost ≡ 0 → Reaches (answered_from first) report start after s u
+    answered new told first same free =
+        let o = way.opened in
+        let is : query_of 0 first.state ≡ Some o = ap (λ st. query_of 0 st) same ∙ way.was in
+        let made : o.made ≡ Some 0 = subst (λ p. IsSomeAnd p (λ (query : OpenQuery). query.made ≡ Some 0)) way.was new in
+        let due : probes_due 0 first.state ≡ length (probes_of o) = ap (λ p. option_map_or (λ (r : OpenQuery). length (probes_of r)) p 0) is in
+        let one : probes_due 0 first.state + 1 ≡ suc (length (probes_of o)) = omega (arith, due) in
+        let last : answered_from first ≡ after_cost first.cost (answered_effect start.state 0 o) =
+        ap (λ m. and_steps 0 m first) one ∙ reached (length (probes_of o)) 0 first o 0 is made (omega arith)
+        ∙ ap (λ st. after_cost first.cost (answered_effect st 0 o)) same in
+        let cost : (answered_from first).cost ≡ first.cost + reads_of o = ap (λ (e : DeskEffect). e.cost) last in
+        let counted : u + sum now.shares ≡ t + reads_of q + sum after.shares = took_last.counts in
+        let same_reads : reads_of q ≡ reads_of o = ap (λ (e : DeskEffect). e.cost) way.last in
+        let before = way.counts in
+        record {
+          report_is = took_last.report_is ∙ ap (λ (e : DeskEffect). e.report) way.last ∙ sym (ap (λ (e : DeskEffect). e.report) last);
+          state_is = took_last.state_is ∙ ap (λ (e : DeskEffect). e.state) way.last ∙ sym (ap (λ (e : DeskEffect). e.state) last);
+          shares = λ _. shares_fit after told;
+          counts = omega (arith, counted, same_reads, before, cost, free);
+        }
+
+-- out of memory in one of them
+pub lost_db : (start now after : DeskSeen) (s t : ℕ) → OnTheWay start now s t → after ≡ desk_wanting (Stepped 0) now → after.state.db ≡ start.state.db
+lost_db start now after s t way e = wanting_db 0 now after e ∙ way.db
+
+pub lost_reads : (start now : DeskSeen) (s t u : ℕ) → OnTheWay start now s t → IsDesk now → MayTake (Stepped 0) now t u
+    → u + sum start.shares ≤ s + open_reads start.state
+lost_reads start now s t u way told may =
+    let most = may_take 0 now t u told may in
+    let before = way.counts in
+    let same = way.reads in
+    omega (arith, most, before, same)

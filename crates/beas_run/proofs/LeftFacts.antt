@@ -1,5 +1,5 @@
 -- What is left of a piece that memory ran out for.
-use Rattle.std.proofs.Common.{◌≡◌, ◌≤◌, ◌+◌, ◌⊎◌, ◌∙◌, inl, inr, ap, subst, sym, refl, ℕ, [], Option, None, Some, Result, Ok, Err, arith}
+use Rattle.std.proofs.Common.{◌≡◌, ◌≤◌, ◌+◌, ◌⊎◌, ◌∙◌, inl, inr, ap, subst, sym, refl, ℕ, zero, suc, [], Option, None, Some, Result, Ok, Err, arith}
 use Rattle.std.specs.Prelude.{OnErr, option_map, sum}
 use Rattle.std.proofs.lemmas.List.Sums.{sum_by_push}
 use Rattle.beas_core.specs.declared.errors.NoMemory.{NoMemory as Out}
@@ -9,15 +9,14 @@ use Rattle.kept_facts.specs.OpenQueries.{OpenQuery, reads_of}
 use Rattle.report.specs.declared.reports.Report.{Report}
 use Rattle.session.specs.declared.loading.LoadOutcome.TheVariants.{Failed}
 use Rattle.session.specs.Effects.{Settings}
-use Rattle.sql_tree.specs.declared.tree.Statement.{Statement}
-use Rattle.desk_model.specs.declared.event.Event.TheVariants.{Said, Stepped}
+use Rattle.sql_text.specs.declared.tree.Statement.{Statement}
+use Rattle.piece_reader.specs.declared.event.Event.TheVariants.{Said, Stepped}
 use Rattle.desk_model.specs.Desks.{DeskAction, AtOnce, ByLoad, DeskEffect, State, action_of_event, lost, new_query, opened_effect, query_of, said_action, stepped_effect}
-use Rattle.desk_model.specs.Pieces.{next, with_answer}
-use Rattle.piece_reader.specs.declared.saying.Saying.TheVariants as saying
+use Rattle.desk_model.specs.Pieces.{next, piece_action, with_answer}
 use Rattle.piece_reader.specs.Sayings.{Reading}
 use Rattle.version_store.specs.Desks.{IsDesk, MayCost, MayLoad, MayTake, Seen as DeskSeen, desk_wanting}
 use Rattle.beas_run.specs.Pieces.{IsLeft, reads_by}
-use Rattle.beas_run.specs.Shares.{open_reads}
+use Rattle.beas_run.specs.Shares.{AreShares, open_reads}
 use Rattle.beas_run.proofs.ReadsFacts.{alone_grows, answered_reads, same_reads, stepped_reads}
 use Rattle.beas_run.proofs.SaidFacts.{SaidIs, said_is}
 use Rattle.beas_run.proofs.ShareFacts.{may_take, shares_fit, shares_within}
@@ -90,11 +89,30 @@ lost_db state k (Some query) = refl
 pub wanting_db : (k : ℕ) (before after : DeskSeen) → after ≡ desk_wanting (Stepped k) before → after.state.db ≡ before.state.db
 wanting_db k before after e = ap (λ (d : DeskSeen). d.state.db) e ∙ lost_db before.state k (query_of k before.state)
 
+-- what is left where the action comes next
+pub record LeftBy (o : Option DeskAction) (before after : DeskSeen) (m n : ℕ) (x y : Seen) : Type 0 where
+  pub no_fewer : m ≤ n
+  pub at_most : AreShares before.state.queries before.shares → n + sum before.shares ≤ m + reads_by before.state (next o [])
+  pub loaded : (y.loads ≡ x.loads) ⊎ ((next o [] ≡ None) × (y.loads ≡ raised 1 x.loads))
+  pub db : after.state.db ≡ before.state.db
+
+-- so it is of the piece whose action it is
+left_piece : (s : Settings) (reading : Reading) (before after : DeskSeen) (m n : ℕ) (x y : Seen)
+    → LeftBy (piece_action s before.state reading) before after m n x y → IsLeft s reading before after m n x y
+left_piece s reading before after m n x y left =
+    record { no_fewer = left.no_fewer; at_most = left.at_most; loaded = left.loaded; db = left.db }
+
+-- a statement of a session that has a name is the piece's one event
+pub named_piece : (s : Settings) (state : State) (k : ℕ) (statement : Statement) → (k ≡ 0 → ⊥)
+    → piece_action s state (Ok (Said k statement)) ≡ action_of_event s state (Said k statement)
+named_piece s state zero statement named = absurd (named refl)
+named_piece s state (suc k) statement named = refl
+
 pub left_by_statement : (s : Settings) (k : ℕ) (statement : Statement) (before after : DeskSeen) (m n : ℕ) (x y : Seen)
     → before.settings ≡ s → IsDesk before
     → after ≡ desk_wanting (Said k statement) before → MayTake (Said k statement) before m n → m ≤ n
     → MayLoad (action_of_event s before.state (Said k statement)) x y
-    → IsLeft s (Ok (saying.Said k statement)) before after m n x y
+    → LeftBy (action_of_event s before.state (Said k statement)) before after m n x y
 left_by_statement s k statement before after m n x y same told e may no_fewer loaded =
     let action = said_action s before.state k (query_of k before.state) statement in
     let cost : MayCost action m n = subst (λ (t : Settings). MayCost (said_action t before.state k (query_of k before.state) statement) m n) same may in
@@ -109,7 +127,7 @@ left_by_statement s k statement before after m n x y same told e may no_fewer lo
 pub left_by_step : (s : Settings) (k : ℕ) (before after : DeskSeen) (m n : ℕ) (x y : Seen) → IsDesk before
     → after ≡ desk_wanting (Stepped k) before → MayTake (Stepped k) before m n → m ≤ n
     → MayLoad (action_of_event s before.state (Stepped k)) x y
-    → IsLeft s (Ok (saying.Stepped k)) before after m n x y
+    → IsLeft s (Ok (Stepped k)) before after m n x y
 left_by_step s k before after m n x y told e may no_fewer loaded =
     let le = may_take k before m n told may in
     let same = stepped_by s before.state k (stepped_effect before.state k (query_of k before.state)) refl in
@@ -123,17 +141,19 @@ left_by_step s k before after m n x y told e may no_fewer loaded =
 -- ---- whatever the event answers
 
 pub event_left_said : (s : Settings) (k : ℕ) (statement : Statement) (r : Result Report Out) (before after : DeskSeen) (m n : ℕ) (x y : Seen)
-    → before.settings ≡ s → IsDesk before
+    → (k ≡ 0 → ⊥) → before.settings ≡ s → IsDesk before
     → OnErr r (after ≡ desk_wanting (Said k statement) before) → OnErr r (MayTake (Said k statement) before m n) → m ≤ n
     → MayLoad (action_of_event s before.state (Said k statement)) x y
-    → OnErr r (IsLeft s (Ok (saying.Said k statement)) before after m n x y)
-event_left_said s k statement (Ok report) before after m n x y same told e may no_fewer loaded = tt
-event_left_said s k statement (Err none) before after m n x y same told e may no_fewer loaded =
-    left_by_statement s k statement before after m n x y same told e may no_fewer loaded
+    → OnErr r (IsLeft s (Ok (Said k statement)) before after m n x y)
+event_left_said s k statement (Ok report) before after m n x y named same told e may no_fewer loaded = tt
+event_left_said s k statement (Err none) before after m n x y named same told e may no_fewer loaded =
+    left_piece s (Ok (Said k statement)) before after m n x y
+    (subst (λ o. LeftBy o before after m n x y) (sym (named_piece s before.state k statement named))
+    (left_by_statement s k statement before after m n x y same told e may no_fewer loaded))
 
 pub event_left_step : (s : Settings) (k : ℕ) (r : Result Report Out) (before after : DeskSeen) (m n : ℕ) (x y : Seen) → IsDesk before
     → OnErr r (after ≡ desk_wanting (Stepped k) before) → OnErr r (MayTake (Stepped k) before m n) → m ≤ n
     → MayLoad (action_of_event s before.state (Stepped k)) x y
-    → OnErr r (IsLeft s (Ok (saying.Stepped k)) before after m n x y)
+    → OnErr r (IsLeft s (Ok (Stepped k)) before after m n x y)
 event_left_step s k (Ok report) before after m n x y told e may no_fewer loaded = tt
 event_left_step s k (Err none) before after m n x y told e may no_fewer loaded = left_by_step s k before after m n x y told e may no_fewer loaded

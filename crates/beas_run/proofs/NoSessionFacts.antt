@@ -6,12 +6,12 @@ use Rattle.std.specs.List.{AllZip, onto_first, slice_split}
 use Rattle.std.proofs.lemmas.List.Elements.{All-cons, All-filter, All-nil, All-weaker}
 use Rattle.catalogue.specs.Database.{schema_of}
 use Rattle.catalogue.specs.Schema.{SchemaIsSound}
-use Rattle.sql_text.specs.declared.token.Token.{Token}
-use Rattle.sql_text.specs.Pieces.{is_semicolon}
-use Rattle.sql_text.specs.Tokens.{tokens_of}
-use Rattle.sql_text.proofs.Spans.{length-tokens_of}
-use Rattle.sql_tree.specs.declared.tree.Statement.{Statement}
-use Rattle.sql_tree.specs.Symbols.{symbols}
+use Rattle.sql_tokens.specs.declared.token.Token.{Token}
+use Rattle.sql_tokens.specs.Pieces.{is_semicolon}
+use Rattle.sql_tokens.specs.Tokens.{tokens_of}
+use Rattle.sql_tokens.proofs.Spans.{length-tokens_of}
+use Rattle.sql_text.specs.declared.tree.Statement.{Statement}
+use Rattle.sql_text.specs.Symbols.{symbols}
 use Rattle.sql_parser.specs.Outcome.{Parses, Reading as StatementReading, found_reading}
 use Rattle.sql_parser.proofs.Parsing.{parsed-parses}
 use Rattle.session.specs.declared.loading.LoadOutcome.{LoadOutcome}

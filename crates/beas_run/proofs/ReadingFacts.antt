@@ -1,10 +1,10 @@
 -- The readings of a script's pieces.
 use Rattle.std.proofs.Common.{◌≡◌, ◌≤◌, List, [], ◌∷◌, ℕ, ap, length, map}
 use Rattle.std.specs.List.{AllZip}
-use Rattle.sql_text.specs.declared.token.Token.{Token}
-use Rattle.sql_text.specs.Pieces.{statements_of, tokens_past}
-use Rattle.sql_text.proofs.Steps.{tokens_past-end}
-use Rattle.sql_tree.specs.Symbols.{symbols}
+use Rattle.sql_tokens.specs.declared.token.Token.{Token}
+use Rattle.sql_tokens.specs.Pieces.{statements_of, tokens_past}
+use Rattle.sql_tokens.proofs.Steps.{tokens_past-end}
+use Rattle.sql_text.specs.Symbols.{symbols}
 use Rattle.piece_reader.specs.Sayings.{IsReadAs, reading_of}
 use Rattle.piece_reader.proofs.SayingFacts.{found-says}
 use Rattle.beas_run.specs.Readings.{Readings, pieces, readings_of, readings_past}

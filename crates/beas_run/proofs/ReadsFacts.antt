@@ -12,7 +12,7 @@ use Rattle.kept_facts.specs.OpenQueries.{OpenQuery, probes_of, reads_of}
 use Rattle.desk_model.specs.Answers.{effect_by}
 use Rattle.desk_model.specs.Desks.{DeskAction, AtOnce, ByLoad, DeskEffect, State, answered_effect, is_of, new_query, probed_effect, query_effect, query_of, refused, said_action, stepped_effect, with_query}
 use Rattle.desk_model.specs.Pieces.{DeskTurn, Next, after_cost, and_step, and_steps, answered_if_opened, next, opens, piece_action, probes_due, seen_turn, seen_turns, turns, with_answer}
-use Rattle.piece_reader.specs.declared.saying.Saying.TheVariants.{Plain, Said, Stepped}
+use Rattle.piece_reader.specs.declared.event.Event.TheVariants.{Said, Stepped}
 use Rattle.piece_reader.specs.Sayings.{Reading}
 use Rattle.beas_run.specs.Pieces.{reads_by, turn_alone}
 use Rattle.beas_run.specs.Shares.{greatest_cost, open_reads}
@@ -106,13 +106,13 @@ stepped_grows state k (Some effect) is action e =
 
 piece_grows : (s : Settings) (state : State) (reading : Reading) (action : DeskAction) → piece_action s state reading ≡ Some action → Grows state action
 piece_grows s state (Err why) action e = the_action state _ action e (λ outcome. omega arith)
-piece_grows s state (Ok (Plain statement)) action e =
+piece_grows s state (Ok (Said zero statement)) action e =
     let said = said_action s state 0 (query_of 0 state) statement in
     the_action state (with_answer state said) action e
     (answer_grows state said (said_grows s.explain state 0 said (said_is s state 0 statement)))
-piece_grows s state (Ok (Said k statement)) action e =
-    let said = said_action s state k (query_of k state) statement in
-    the_action state said action e (said_grows s.explain state k said (said_is s state k statement))
+piece_grows s state (Ok (Said (suc k) statement)) action e =
+    let said = said_action s state (suc k) (query_of (suc k) state) statement in
+    the_action state said action e (said_grows s.explain state (suc k) said (said_is s state (suc k) statement))
 piece_grows s state (Ok (Stepped k)) action e = stepped_grows state k (stepped_effect state k (query_of k state)) refl action e
 
 -- ---- a list of turns

@@ -1,10 +1,10 @@
 -- The shares of the queries that are open at a desk.
-use Rattle.std.proofs.Common.{◌≡◌, ◌≤◌, ◌+◌, ◌-◌, inl, inr, subst, sym, refl, ℕ, List, [], ◌∷◌, Option, None, Some, arith, get_or, length}
+use Rattle.std.proofs.Common.{◌≡◌, ◌≤◌, ◌+◌, inl, inr, subst, sym, refl, ℕ, List, [], ◌∷◌, Option, None, Some, arith, get_or, length}
 use Rattle.std.specs.Prelude.{sum, unwrap_or}
 use Rattle.kept_facts.specs.OpenQueries.{OpenQuery, reads_of, share_of}
-use Rattle.desk_model.specs.declared.event.Event.TheVariants.{Stepped}
+use Rattle.piece_reader.specs.declared.event.Event.TheVariants.{Stepped}
 use Rattle.desk_model.specs.Desks.{State, is_of}
-use Rattle.version_store.specs.Desks.{IsDesk, MaySpend, MayTake, Seen as DeskSeen}
+use Rattle.version_store.specs.Desks.{IsDesk, MayTake, Seen as DeskSeen}
 use Rattle.beas_run.specs.Shares.{AreShares, IsShare, open_reads}
 use Rattle.beas_run.proofs.FoundFacts.{Within, all_zip, sum-within, sum-within-more}
 
@@ -40,11 +40,3 @@ may_take k desk m n told (inr spends) =
     let more = share_of spends.query spends.probe in
     let h = sum-within-more reads_of (is_of k) desk.state.queries desk.shares spends.query more w spends.is spends.within in
     omega (arith, h, steps)
-
--- up to its answer
-pub may_spend : (k : ℕ) (desk : DeskSeen) (m n : ℕ) → IsDesk desk → m ≤ n → MaySpend k desk m n → n + sum desk.shares ≤ m + open_reads desk.state
-may_spend k desk m n told later spends =
-    let w = within_reads desk.state.queries desk.shares (shares_fit desk told) in
-    let most = spends.within in
-    let h = sum-within-more reads_of (is_of k) desk.state.queries desk.shares spends.query (n - m) w spends.is (omega (arith, most, later)) in
-    omega (arith, h, later)

@@ -12,7 +12,7 @@ use Rattle.demo_gen.specs.Demo.{demo_text}
 use Rattle.demo_gen.proofs.Lengths.{length-demo}
 use Rattle.outside.specs.Counts.{raised}
 use Rattle.outside.specs.Parts.{SentPart}
-use Rattle.sql_text.specs.Tokens.{tokens_from}
+use Rattle.sql_tokens.specs.Tokens.{tokens_from}
 use Rattle.session.specs.Effects.{Settings}
 use Rattle.outside.specs.Seen.{Seen, IsLater}
 use Rattle.piece_reader.specs.Sayings.{Reading}

@@ -4,14 +4,14 @@ use Rattle.std.specs.Prelude.{◌==◌, All, nat_lt, slice_range}
 use Rattle.std.specs.List.{onto_first, slice_split}
 use Rattle.std.proofs.lemmas.Bool.{false≢true}
 use Rattle.std.proofs.lemmas.List.Elements.{All-cons, All-filter, All-nil, All-weaker}
-use Rattle.sql_text.specs.declared.token.Token.{Token}
-use Rattle.sql_text.specs.declared.token.TokenKind.{TokenKind}
-use Rattle.sql_text.specs.declared.token.TokenKind.TheVariants.{Word, Number, Quoted, Mark, Bad}
-use Rattle.sql_text.specs.Pieces.{is_semicolon}
-use Rattle.sql_text.specs.Spans.{IsSpelled, Spells}
-use Rattle.sql_text.specs.Tokens.{tokens_of}
-use Rattle.sql_text.proofs.Spans.{tokens_of-spelled}
-use Rattle.sql_tree.specs.Symbols.{mark, symbol_of, symbols}
+use Rattle.sql_tokens.specs.declared.token.Token.{Token}
+use Rattle.sql_tokens.specs.declared.token.TokenKind.{TokenKind}
+use Rattle.sql_tokens.specs.declared.token.TokenKind.TheVariants.{Word, Number, Quoted, Mark, Bad}
+use Rattle.sql_tokens.specs.Pieces.{is_semicolon}
+use Rattle.sql_tokens.specs.Spans.{IsSpelled, Spells}
+use Rattle.sql_tokens.specs.Tokens.{tokens_of}
+use Rattle.sql_tokens.proofs.Spans.{tokens_of-spelled}
+use Rattle.sql_text.specs.Symbols.{mark, symbol_of, symbols}
 use Rattle.piece_reader.specs.Sayings.{BeginsWithAt}
 use Rattle.beas_run.specs.NoSessions.{NamesNoSession}
 use Rattle.beas_run.specs.Readings.{pieces}

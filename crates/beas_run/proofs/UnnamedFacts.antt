@@ -10,27 +10,27 @@ use Rattle.report.specs.declared.reports.Report.{Report}
 use Rattle.session.specs.declared.loading.LoadOutcome.{LoadOutcome}
 use Rattle.session.specs.Effects.{Settings}
 use Rattle.session.specs.Turns.{IsWithin}
-use Rattle.sql_tree.specs.declared.tree.Statement.{Statement}
+use Rattle.sql_text.specs.declared.tree.Statement.{Statement}
 use Rattle.desk_model.specs.Answers.{effect_by}
 use Rattle.desk_model.specs.Desks.{DeskAction, AtOnce, ByLoad, DeskEffect, State, is_of, new_query, opened_effect, query_of, said_action}
 use Rattle.desk_model.specs.Pieces.{next, opens, piece_action, with_answer}
-use Rattle.piece_reader.specs.declared.saying.Saying.TheVariants as saying
+use Rattle.piece_reader.specs.declared.event.Event.TheVariants.{Said}
 use Rattle.version_store.specs.Desks.{IsDesk, Seen as DeskSeen, Takes}
-use Rattle.beas_run.specs.Pieces.{IsDone, IsLeft, Reaches, answered_from, reads_by, turn_alone}
+use Rattle.beas_run.specs.Pieces.{IsDone, IsLeft, Reaches, answered_from, is_opened, reads_by, turn_alone}
 use Rattle.beas_run.specs.Shares.{open_reads}
 use Rattle.desk_model.proofs.Places.{find-last}
 use Rattle.beas_run.proofs.SaidFacts.{SaidIs, said_is}
 use Rattle.beas_run.proofs.ShareFacts.{shares_fit}
 use Rattle.beas_run.proofs.DoneFacts.{done_by_action}
-use Rattle.beas_run.proofs.LeftFacts.{answer_none, answer_reads}
+use Rattle.beas_run.proofs.LeftFacts.{LeftBy, answer_none, answer_reads}
 
 module _ (s : Settings) (statement : Statement) (before : DeskSeen) where
   abbrev said : DeskAction
   said = said_action s before.state 0 (query_of 0 before.state) statement
 
-  -- as a statement of session 0 it was left, so it was left as a piece that names none
-  pub left_unnamed : (after : DeskSeen) (m n : ℕ) (x y : Seen) → IsLeft s (Ok (saying.Said 0 statement)) before after m n x y
-      → IsLeft s (Ok (saying.Plain statement)) before after m n x y
+  -- as an event of session 0 it was left, so it was left as a piece
+  pub left_unnamed : (after : DeskSeen) (m n : ℕ) (x y : Seen) → LeftBy (Some said) before after m n x y
+      → IsLeft s (Ok (Said 0 statement)) before after m n x y
   left_unnamed after m n x y left = record {
     no_fewer = left.no_fewer;
     at_most = λ fit. let same = answer_reads s before.state said in let most = left.at_most fit in omega (arith, most, same);
@@ -43,6 +43,10 @@ module _ (s : Settings) (statement : Statement) (before : DeskSeen) where
       by (inl same) = inl same
       by (inr more) = inr (answer_none s before.state said more.0, more.1)
 
+  never : (b : Bool) → (b && not b) ≡ false
+  never true = refl
+  never false = refl
+
   -- no query was opened
   not_answered : (action : DeskAction) (outcome : LoadOutcome) → opens 0 before.state (effect_by action outcome).state ≡ false
       → with_answer before.state action ≡ action
@@ -50,25 +54,19 @@ module _ (s : Settings) (statement : Statement) (before : DeskSeen) where
   not_answered (ByLoad name effect) outcome none = refl
 
   pub done_unopened : (report : Report) (after : DeskSeen) (m n : ℕ) (x y : Seen)
-      → opens 0 before.state after.state ≡ false → IsDesk after → IsWithin report
-      → Takes s.limits.file said report before after m n x y → IsDone s (Ok (saying.Plain statement)) report before after m n x y
+      → is_opened report ≡ false → IsDesk after → IsWithin report
+      → Takes s.limits.file said report before after m n x y → IsDone s (Ok (Said 0 statement)) report before after m n x y
   done_unopened report after m n x y none told within took =
-      let still : opens 0 before.state (effect_by said took.outcome).state ≡ false =
-      ap (λ (st : State). opens 0 before.state st) (sym took.state_is) ∙ none in
-      done_by_action s (Ok (saying.Plain statement)) said report before after m n x y
-      (ap (λ a. Some a) (not_answered said took.outcome still)) told within took
+      done_by_action s (Ok (Said 0 statement)) said report before after m n x y
+      (ap (λ a. Some a) (not_answered said took.outcome (by (said_is s before.state 0 statement)))) told within took
+    where
+      by : SaidIs s.explain before.state 0 said → opens 0 before.state (effect_by said took.outcome).state ≡ false
+      by (inl keeps) = ap (λ qs. is_some (find (is_of 0) qs) && not (is_some (query_of 0 before.state))) (keeps.queries took.outcome)
+          ∙ never (is_some (query_of 0 before.state))
+      by (inr opens) =
+          let other : true ≡ false = ap (λ a. is_opened (effect_by a took.outcome).report) (sym opens.is) ∙ ap is_opened (sym took.report_is) ∙ none in cc
 
-pub none_after : (before after : State) → is_some (query_of 0 after) ≡ false → opens 0 before after ≡ false
-none_after before after none = ap (λ b. b && not (is_some (query_of 0 before))) none
-
-pub one_before : (before after : State) → is_some (query_of 0 before) ≡ true → opens 0 before after ≡ false
-one_before before after one = ap (λ b. is_some (query_of 0 after) && not b) one ∙ by (is_some (query_of 0 after))
-  where
-    by : (b : Bool) → (b && not true) ≡ false
-    by true = refl
-    by false = refl
-
--- what is opened where a query is open afterwards, and none was before
+-- what a statement opens where it reports so
 pub record HasOpened (s : Settings) (statement : Statement) (before after : DeskSeen) : Type 0 where
   pub first : DeskEffect
   pub is : said s statement before ≡ AtOnce first
@@ -78,16 +76,12 @@ pub record HasOpened (s : Settings) (statement : Statement) (before after : Desk
   pub db : after.state.db ≡ before.state.db
   pub opened : opens 0 before.state first.state ≡ true
 
-module _ (s : Settings) (statement : Statement) (before after : DeskSeen) (none : is_some (query_of 0 before.state) ≡ false)
-    (some : is_some (query_of 0 after.state) ≡ true) where
+module _ (s : Settings) (statement : Statement) (before after : DeskSeen) where
   opened_by : (report : Report) (m n : ℕ) (x y : Seen) → Takes s.limits.file (said s statement before) report before after m n x y
-      → SaidIs s.explain before.state 0 (said s statement before) → HasOpened s statement before after
-  opened_by report m n x y took (inl keeps) =
-      let same : after.state.queries ≡ before.state.queries = ap (λ (st : State). st.queries) took.state_is ∙ keeps.queries took.outcome in
-      let still : query_of 0 after.state ≡ query_of 0 before.state = ap (λ qs. find (is_of 0) qs) same in
-      let other : true ≡ false = sym some ∙ ap (λ o. is_some o) still ∙ none in
-      cc
-  opened_by report m n x y took (inr opens) =
+      → is_opened report ≡ true → SaidIs s.explain before.state 0 (said s statement before) → HasOpened s statement before after
+  opened_by report m n x y took reported (inl keeps) =
+      let other : true ≡ false = sym reported ∙ ap is_opened took.report_is ∙ keeps.report took.outcome in cc
+  opened_by report m n x y took reported (inr opens) =
       let new : OpenQuery = new_query s.explain before.state.db 0 opens.prepared in
       let first : DeskEffect = opened_effect s.explain before.state 0 (Ok opens.prepared) in
       let state : after.state ≡ first.state = took.state_is ∙ ap (λ a. (effect_by a took.outcome).state) opens.is in
@@ -99,23 +93,23 @@ module _ (s : Settings) (statement : Statement) (before after : DeskSeen) (none 
         free = refl;
         new = subst (λ o. IsSomeAnd o (λ (q : OpenQuery). q.made ≡ Some 0)) (sym (ap (λ st. query_of 0 st) state ∙ there)) refl;
         db = ap (λ (st : State). st.db) state;
-        opened = ap (λ o. is_some o && not (is_some (query_of 0 before.state))) there ∙ ap (λ b. not b) none;
+        opened = ap (λ o. is_some o && not (is_some (query_of 0 before.state))) there ∙ ap (λ o. not (is_some o)) opens.idle;
       }
 
   pub has_opened : (report : Report) (m n : ℕ) (x y : Seen) → Takes s.limits.file (said s statement before) report before after m n x y
-      → HasOpened s statement before after
-  has_opened report m n x y took = opened_by report m n x y took (said_is s before.state 0 statement)
+      → is_opened report ≡ true → HasOpened s statement before after
+  has_opened report m n x y took reported = opened_by report m n x y took reported (said_is s before.state 0 statement)
 
 -- it was opened, and then answered
 module _ (s : Settings) (statement : Statement) (before mid after : DeskSeen) (o : HasOpened s statement before mid) (m l n : ℕ) (x y : Seen) where
   at_once : DeskAction
   at_once = AtOnce o.first
 
-  action_is : piece_action s before.state (Ok (saying.Plain statement)) ≡ Some (AtOnce (answered_from o.first))
+  action_is : piece_action s before.state (Ok (Said 0 statement)) ≡ Some (AtOnce (answered_from o.first))
   action_is = ap (λ a. Some (with_answer before.state a)) o.is ∙ ap (λ b. Some (AtOnce (if b then answered_from o.first else o.first))) o.opened
 
   pub done_answered : (earlier report : Report) → Takes s.limits.file (said s statement before) earlier before mid m l x y → IsDesk mid → IsWithin report
-      → Reaches (answered_from o.first) report mid after l n → IsDone s (Ok (saying.Plain statement)) report before after m n x y
+      → Reaches (answered_from o.first) report mid after l n → IsDone s (Ok (Said 0 statement)) report before after m n x y
   done_answered earlier report took told within reached =
       let first : Takes s.limits.file (AtOnce o.first) earlier before mid m l x y =
       subst (λ a. Takes s.limits.file a earlier before mid m l x y) o.is took in
@@ -135,11 +129,11 @@ module _ (s : Settings) (statement : Statement) (before mid after : DeskSeen) (o
       }
 
   pub left_answered : (earlier : Report) → Takes s.limits.file (said s statement before) earlier before mid m l x y → m ≤ l → l ≤ n
-      → n + sum mid.shares ≤ l + open_reads mid.state → after.state.db ≡ mid.state.db → IsLeft s (Ok (saying.Plain statement)) before after m n x y
+      → n + sum mid.shares ≤ l + open_reads mid.state → after.state.db ≡ mid.state.db → IsLeft s (Ok (Said 0 statement)) before after m n x y
   left_answered earlier took begun later most db =
       let first : Takes s.limits.file (AtOnce o.first) earlier before mid m l x y =
       subst (λ a. Takes s.limits.file a earlier before mid m l x y) o.is took in
-      let reads : reads_by before.state (turn_alone s before.state (Ok (saying.Plain statement))) ≡ o.first.cost + open_reads o.first.state =
+      let reads : reads_by before.state (turn_alone s before.state (Ok (Said 0 statement))) ≡ o.first.cost + open_reads o.first.state =
       answer_reads s before.state (said s statement before) ∙ ap (λ a. reads_by before.state (next (Some a) [])) o.is in
       let open_then : open_reads mid.state ≡ open_reads o.first.state = ap open_reads o.state in
       record {
@@ -152,13 +146,13 @@ module _ (s : Settings) (statement : Statement) (before mid after : DeskSeen) (o
   -- whatever its last event answers
   pub answer_done : (earlier : Report) (r : Result Report Out) → Takes s.limits.file (said s statement before) earlier before mid m l x y → IsDesk mid
       → IfOk r IsWithin → IfOk r (λ report. (first : DeskEffect) → first.state ≡ mid.state → first.cost ≡ 0 → Reaches (answered_from first) report mid after l n)
-      → IfOk r (λ report. IsDone s (Ok (saying.Plain statement)) report before after m n x y)
+      → IfOk r (λ report. IsDone s (Ok (Said 0 statement)) report before after m n x y)
   answer_done earlier (Ok report) took told within reached =
       done_answered earlier report took told within (reached o.first (sym o.state) o.free)
   answer_done earlier (Err e) took told within reached = tt
 
   pub answer_left : (earlier : Report) (r : Result Report Out) → Takes s.limits.file (said s statement before) earlier before mid m l x y → m ≤ l → l ≤ n
       → OnErr r (n + sum mid.shares ≤ l + open_reads mid.state) → OnErr r (after.state.db ≡ mid.state.db)
-      → OnErr r (IsLeft s (Ok (saying.Plain statement)) before after m n x y)
+      → OnErr r (IsLeft s (Ok (Said 0 statement)) before after m n x y)
   answer_left earlier (Ok report) took begun later most db = tt
   answer_left earlier (Err e) took begun later most db = left_answered earlier took begun later most db

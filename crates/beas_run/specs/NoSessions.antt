@@ -5,7 +5,7 @@
 --                                            after one of them, so nothing is read but what they cost
 use Rattle.std.specs.Prelude.{◌≡◌, ◌+◌, ℕ, List, [], All, map, take}
 use Rattle.sql_parser.specs.Outcome.{Reading, found_reading}
-use Rattle.sql_tree.specs.Symbols.{symbols}
+use Rattle.sql_text.specs.Symbols.{symbols}
 use Rattle.session.specs.Turns.{Turn, cost_of, database_after}
 use Rattle.desk_model.specs.Pieces.{DeskTurn, seen_turns}
 use Rattle.desk_model.specs.PlainScripts.{beside}

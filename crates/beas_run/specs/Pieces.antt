@@ -1,8 +1,8 @@
 -- What was done at a desk for one piece of a script.
 --     Scene                             a desk, the steps, the output and the files; scene makes one
 --     moment_of scene                   what a run comes to that ends there
---     SayingIsWellFormed saying         its session has a number of at most 64, and its statement is well formed
 --     answered_from first               the effect of going on, to its answer, with a query of session 0 that was opened
+--     is_opened report                  the event opened a query, by its report; is_probed: it made a probe
 --     IsTaken event result ..           what a desk tells of an event that was to be done there
 --     Reaches last report ..            what was done came to this effect
 --     IsTurn settings reading turn ..   the piece was carried out in this turn
@@ -13,24 +13,22 @@
 --     reads_by state turn               what is read at most for all that was opened, where this turn comes next
 --     IsLeft settings reading ..        out of memory the piece wasn't carried out, and the database is as it was
 --     IsUndone ..                       the same, and nothing was sent
-use Rattle.std.specs.Prelude.{◌≡◌, ◌≤◌, ◌+◌, ◌++◌, ◌⊎◌, ℕ, Bool, true, List, [], ◌∷◌, length, sum, Option, None, Some, Result, IfOk, OnErr}
+use Rattle.std.specs.Prelude.{◌≡◌, ◌≤◌, ◌+◌, ◌++◌, ◌⊎◌, ℕ, Bool, true, false, List, [], ◌∷◌, length, sum, Option, None, Some, Result, IfOk, OnErr}
 use Rattle.std.specs.Option.{option_map_or}
 use Rattle.beas_core.specs.declared.errors.NoMemory.{NoMemory}
 use Rattle.outside.specs.Counts.{raised}
 use Rattle.outside.specs.Parts.{SentPart}
 use Rattle.outside.specs.Seen.{IsLater, Seen, Sent}
 use Rattle.report.specs.declared.reports.Report.{Report}
+use Rattle.report.specs.declared.reports.Report.TheVariants.{Opened, Probed}
 use Rattle.report.specs.Reports.{report_text}
 use Rattle.session.specs.declared.loading.LoadOutcome.{LoadOutcome}
 use Rattle.session.specs.Effects.{Settings}
 use Rattle.session.specs.Ties.{AreTied}
 use Rattle.session.specs.Turns.{loads_of, is_refusal, IsWithin}
-use Rattle.session.specs.Statements.{StatementIsWellFormed}
-use Rattle.desk_model.specs.declared.event.Event.{Event}
+use Rattle.piece_reader.specs.declared.event.Event.{Event}
 use Rattle.desk_model.specs.Desks.{DeskEffect, State, action_of_event}
 use Rattle.desk_model.specs.Pieces.{DeskTurn, Next, and_steps, next, piece_action, probes_due, seen_turn}
-use Rattle.piece_reader.specs.declared.saying.Saying.{Saying}
-use Rattle.piece_reader.specs.declared.saying.Saying.TheVariants as saying
 use Rattle.piece_reader.specs.Sayings.{Reading}
 use Rattle.version_store.specs.Desks.{IsDesk, MayLoad, MayTake, Seen as DeskSeen, TakesSome, desk_wanting}
 use Rattle.beas_run.specs.declared.ending.Ending.{Ending}
@@ -52,13 +50,16 @@ abbrev pub moment_of : Scene → Moment
 moment_of scene =
     record { state = record { db = scene.desk.state.db; queries = [] }; steps = scene.steps; out = scene.out; files = scene.files }
 
-abbrev pub SayingIsWellFormed : Saying → Type 0
-SayingIsWellFormed (saying.Plain statement) = StatementIsWellFormed statement
-SayingIsWellFormed (saying.Said session statement) = (session ≤ 64) × StatementIsWellFormed statement
-SayingIsWellFormed (saying.Stepped session) = session ≤ 64
-
 abbrev pub answered_from : DeskEffect → DeskEffect
 answered_from first = and_steps 0 (probes_due 0 first.state + 1) first
+
+abbrev pub is_opened : Report → Bool
+is_opened (Opened session bound) = true
+is_opened _ = false
+
+abbrev pub is_probed : Report → Bool
+is_probed (Probed session) = true
+is_probed _ = false
 
 -- what a desk tells of an event, whatever it answers
 pub record IsTaken (event : Event) (result : Result Report NoMemory) (before after : DeskSeen) (steps_before steps_after : ℕ)

@@ -5,9 +5,9 @@
 --     readings_past at script       those of the pieces from a place on
 use Rattle.std.specs.Prelude.{ℕ, List, map}
 use Rattle.std.specs.List.{AllZip}
-use Rattle.sql_text.specs.declared.token.Token.{Token}
-use Rattle.sql_text.specs.Tokens.{tokens_of}
-use Rattle.sql_text.specs.Pieces.{statements_of, tokens_past}
+use Rattle.sql_tokens.specs.declared.token.Token.{Token}
+use Rattle.sql_tokens.specs.Tokens.{tokens_of}
+use Rattle.sql_tokens.specs.Pieces.{statements_of, tokens_past}
 use Rattle.piece_reader.specs.Sayings.{Reading, IsReadAs, reading_of}
 
 abbrev pub pieces : List ℕ → List (List Token)

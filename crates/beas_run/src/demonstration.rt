@@ -27,7 +27,7 @@ struct EmptyFiles;
 impl Files for EmptyFiles {
     ghost seen = { λ _. empty_files };
 
-    fn load(&mut self, alloc: Global, _name: &str, _limit: u64) -> Result<Bytes, FilesError> {
+    fn read(&mut self, alloc: Global, _name: &str, _limit: u64) -> Result<Bytes, FilesError> {
         Ok(Bytes::from_vec(Vec::new(alloc)))
     }
 }

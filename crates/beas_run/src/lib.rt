@@ -12,5 +12,6 @@ mod script;
 mod script_source;
 mod whole_run;
 
+pub use command_words::{Args, Usage, args};
 pub use laws::law_no_sessions;
 pub use whole_run::run;

@@ -5,16 +5,16 @@ ghost use Rattle.desk_model.specs.Desks.{DeskEffect, query_of};
 ghost use Rattle.piece_reader.specs.Sayings.{reading_of};
 ghost use Rattle.session.specs.Statements.{StatementIsWellFormed};
 ghost use Rattle.session.specs.Turns.{IsWithin};
-ghost use Rattle.beas_run.specs.Pieces.{IsDone, IsLeft, IsTaken, Reaches, SayingIsWellFormed, answered_from};
+ghost use Rattle.beas_run.specs.Pieces.{IsDone, IsLeft, IsTaken, Reaches, answered_from, is_opened, is_probed};
 ghost use Rattle.beas_run.specs.Shares.{open_reads};
+ghost use Rattle.version_store.specs.Desks.{EventIsWellFormed, session_in};
 
 use beas_core::{Fail, NoMemory, Steps};
-use desk_model::Event;
 use outside::Files;
-use piece_reader::{Saying, read_piece};
+use piece_reader::{Event, read_piece};
 use report::Report;
-use sql_text::Token;
-use sql_tree::Statement;
+use sql_text::Statement;
+use sql_tokens::Token;
 use std::alloc::Global;
 use std::sync::ledger::Ledger;
 use version_store::Desk;
@@ -58,10 +58,26 @@ fn step<F: Files, L: Ledger>(
     desk.event(alloc, files, &Event::Stepped { session }, steps)
 }
 
-/// Goes on with the query that the pieces without a session have opened, to its answer.
-fn answer<L: Ledger>(
+/// Whether an event has opened a query, by its report.
+fn is_opened(report: &Report) -> bool
+    ensures { result ≡ is_opened report.now }
+{
+    matches!(report, Report::Opened { .. })
+}
+
+/// Whether an event has made a probe, by its report.
+fn is_probed(report: &Report) -> bool
+    ensures { result ≡ is_probed report.now }
+{
+    matches!(report, Report::Probed { .. })
+}
+
+/// Goes on with the query that the pieces without a session have opened, event by event, until it is answered. There is one
+/// event for each probe that is due, and one more, which answers.
+fn answer<F: Files, L: Ledger>(
     alloc: Global,
     desk: &mut Desk,
+    files: &mut F,
     steps: &mut Steps<L>,
 ) -> Result<Report, NoMemory>
     requires { IsSomeAnd (query_of 0 desk.old.state) (λ query. query.made ≡ Some 0) }
@@ -72,8 +88,15 @@ fn answer<L: Ledger>(
     ensures at_most { OnErr result (steps.new + sum desk.old.shares ≤ steps.old + open_reads desk.old.state) }
     ensures no_fewer { steps.old ≤ steps.new }
     ensures settings { desk.new.settings ≡ desk.old.settings }
+    ensures unread { files.new ≡ files.old }
 {
-    desk.answer(alloc, UNNAMED, steps)
+    'probes: loop {
+        let report = step(alloc, desk, UNNAMED, files, steps)?;
+        if !is_probed(&report) {
+            return Ok(report);
+        }
+        discard(report);
+    }
 }
 
 /// Carries out a statement that names no session. A query that it opens is answered before anything else is done.
@@ -85,45 +108,48 @@ fn carry_out_statement<F: Files, L: Ledger>(
     steps: &mut Steps<L>,
 ) -> Result<Report, NoMemory>
     requires { StatementIsWellFormed statement }
-    ensures done { IfOk result (λ report. IsDone desk.old.settings (Ok (Saying.Plain statement)) report
+    ensures done { IfOk result (λ report. IsDone desk.old.settings (Ok (Event.Said 0 statement)) report
         desk.old desk.new steps.old steps.new (F.seen files.old) (F.seen files.new)) }
-    ensures left { OnErr result (IsLeft desk.old.settings (Ok (Saying.Plain statement))
+    ensures left { OnErr result (IsLeft desk.old.settings (Ok (Event.Said 0 statement))
         desk.old desk.new steps.old steps.new (F.seen files.old) (F.seen files.new)) }
     ensures settings { desk.new.settings ≡ desk.old.settings }
     ensures later { IsLater (F.seen files.old) (F.seen files.new) }
 {
-    let was_open = desk.has_open(UNNAMED);
     let report = say(alloc, desk, UNNAMED, statement, files, steps)?;
-    if !was_open && desk.has_open(UNNAMED) {
+    if is_opened(&report) {
         discard(report);
-        answer(alloc, desk, steps)
+        answer(alloc, desk, files, steps)
     } else {
         Ok(report)
     }
 }
 
 /// Does what a piece says. The report is that of its last event.
-fn carry_out_saying<F: Files, L: Ledger>(
+fn carry_out_event<F: Files, L: Ledger>(
     alloc: Global,
     desk: &mut Desk,
-    saying: Saying,
+    event: Event,
     files: &mut F,
     steps: &mut Steps<L>,
 ) -> Result<Report, NoMemory>
-    requires { SayingIsWellFormed saying }
-    ensures done { IfOk result (λ report. IsDone desk.old.settings (Ok saying) report
+    requires session { session_in event ≤ 64 }
+    requires well_formed { EventIsWellFormed event }
+    ensures done { IfOk result (λ report. IsDone desk.old.settings (Ok event) report
         desk.old desk.new steps.old steps.new (F.seen files.old) (F.seen files.new)) }
-    ensures left { OnErr result (IsLeft desk.old.settings (Ok saying)
+    ensures left { OnErr result (IsLeft desk.old.settings (Ok event)
         desk.old desk.new steps.old steps.new (F.seen files.old) (F.seen files.new)) }
     ensures settings { desk.new.settings ≡ desk.old.settings }
     ensures later { IsLater (F.seen files.old) (F.seen files.new) }
 {
-    match saying {
-        Saying::Plain { statement } => { carry_out_statement(alloc, desk, statement, files, steps) }
-        Saying::Said { session, statement } => {
-            say(alloc, desk, session, statement, files, steps)
+    match event {
+        Event::Said { session, statement } => {
+            if session == UNNAMED {
+                carry_out_statement(alloc, desk, statement, files, steps)
+            } else {
+                say(alloc, desk, session, statement, files, steps)
+            }
         }
-        Saying::Stepped { session } => step(alloc, desk, session, files, steps),
+        Event::Stepped { session } => step(alloc, desk, session, files, steps),
     }
 }
 
@@ -144,7 +170,7 @@ pub fn report_on<F: Files, L: Ledger>(
     ensures later { IsLater (F.seen files.old) (F.seen files.new) }
 {
     match read_piece(alloc, tokens) {
-        Ok(saying) => carry_out_saying(alloc, desk, saying, files, steps),
+        Ok(event) => carry_out_event(alloc, desk, event, files, steps),
         Err(Fail::Refused(why)) => Ok(Report::Refused { why }),
         Err(Fail::NoMemory) => Err(NoMemory),
     }

@@ -18,7 +18,7 @@ use beas_core::{Limits, List, Steps};
 use outside::{Files, Sink};
 use report::Report;
 use session::Session;
-use sql_text::{Token, lex_piece};
+use sql_tokens::{Token, lex_piece};
 use std::alloc::Global;
 use std::mem::replace;
 use std::sync::ledger::Ledger;

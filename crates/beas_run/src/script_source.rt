@@ -40,7 +40,7 @@ fn load_named<F: Files>(alloc: Global, name: &str, files: &mut F) -> Result<Text
     ensures loaded { (F.seen files.new).loads ≡ raised 1 (F.seen files.old).loads }
     ensures later { IsLater (F.seen files.old) (F.seen files.new) }
 {
-    match files.load(alloc, name, LONGEST_SCRIPT) {
+    match files.read(alloc, name, LONGEST_SCRIPT) {
         Ok(bytes) => require_text(bytes),
         Err(FilesError::Failed) => Err(NoScript::Unread),
         Err(FilesError::TooLong { .. }) => Err(NoScript::TooLong),

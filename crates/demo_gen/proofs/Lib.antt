@@ -1,4 +1,5 @@
 pub mod Lengths
 pub mod Rows
 pub mod States
+pub mod Totals
 pub mod Written

@@ -23,7 +23,8 @@ one_row row (suc n) = ap with_commas (map-range_with_len_more row 0 (suc n) (suc
     ∙ spaced-more (row 0) (map row (range_with_len 1 n)) (row (suc n))
 
 -- a loop that has written n rows writes one more
-pub row_written : (row : ℕ → List ℕ) (n : ℕ) (start before after item : List ℕ) → before ≡ start ++ rows_text row n
-    → after ≡ before ++ (separator n ++ item) → item ≡ row n → after ≡ start ++ rows_text row (n + 1)
-row_written row n start before after item so_far added same =
-    rw (added, so_far, same, one_row row n) (append_assoc start (rows_text row n) (separator n ++ row n))
+pub row_written : (row : ℕ → List ℕ) (n : ℕ) (start before between after item : List ℕ) → before ≡ start ++ rows_text row n
+    → between ≡ before ++ separator n → after ≡ between ++ item → item ≡ row n → after ≡ start ++ rows_text row (n + 1)
+row_written row n start before between after item so_far apart added same =
+    rw (added, apart, so_far, same, one_row row n)
+    (append_assoc (start ++ rows_text row n) (separator n) (row n) ∙ append_assoc start (rows_text row n) (separator n ++ row n))

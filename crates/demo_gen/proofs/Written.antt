@@ -93,3 +93,12 @@ script_made seed s0 s1 s2 s3 t0 t1 t2 t3 t4 t5 t6 t7 t8 e0 f0 e1 e2 f1 e3 e4 f2 
     e3 ∙ ap (λ (t : List ℕ). t ++ codes ";\nINSERT INTO friend VALUES ") (
     e2 ∙ ap₂ (λ (t : List ℕ) (s : ℕ). t ++ rows_text (cafe_at s) 500) (
     e1 ∙ ap (λ (t : List ℕ). t ++ codes "INSERT INTO cafe VALUES ") e0) f0)) cafes)) friends)) meals)
+
+-- a query and a deletion, piece by piece
+pub query_line : (text start person between month before city quote end : List ℕ)
+    → (((((((text ++ start) ++ person) ++ between) ++ month) ++ before) ++ city) ++ quote) ++ end
+    ≡ text ++ ((start ++ (person ++ (between ++ (month ++ (before ++ (city ++ quote)))))) ++ end)
+query_line text start person between month before city quote end = simp append_assoc refl
+
+pub deletion_line : (text start person end : List ℕ) → ((text ++ start) ++ person) ++ end ≡ text ++ ((start ++ person) ++ end)
+deletion_line text start person end = simp append_assoc refl

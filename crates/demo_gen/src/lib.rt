@@ -6,7 +6,6 @@ mod inserts;
 mod queries;
 mod script;
 mod summary;
-mod texts;
 
 pub use script::demo;
 pub use summary::{Outcome, Summary};

@@ -27,12 +27,12 @@ pub fn demo(alloc: Global, seed: u32) -> Result<Text, NoMemory>
         state: u64::from(seed),
     };
     text.push_str("INSERT INTO cafe VALUES ")?;
-    push_cafes(alloc, &mut text, &mut draws, 500)?;
+    push_cafes(&mut text, &mut draws, 500)?;
     text.push_str(";\nINSERT INTO friend VALUES ")?;
-    push_friends(alloc, &mut text, &mut draws, 20_000)?;
+    push_friends(&mut text, &mut draws, 20_000)?;
     text.push_str(";\nINSERT INTO dine VALUES ")?;
-    push_meals(alloc, &mut text, &mut draws, 10_000)?;
+    push_meals(&mut text, &mut draws, 10_000)?;
     text.push_str(";\n")?;
-    push_rounds(alloc, &mut text, &mut draws, 10)?;
+    push_rounds(&mut text, &mut draws, 10)?;
     Ok(text)
 }

@@ -3,8 +3,8 @@ ghost use Rattle.std.specs.Prelude.{◌≡◌, ◌+◌, ◌<◌, ◌^◌, ◌∷
 ghost use Rattle.demo_gen.specs.declared.summary.Outcome.{Outcome};
 ghost use Rattle.demo_gen.specs.Summaries.{summary_text, totals_of};
 
-use crate::texts::text;
 use beas_core::{NoMemory, Text};
+use itoa::Buffer;
 use std::alloc::Global;
 use std::marker::Model;
 
@@ -85,7 +85,17 @@ impl Summary {
     pub fn text(&self, alloc: Global) -> Result<Text, NoMemory>
         ensures { IfOk result (λ text. text ≡ summary_text self.now) }
     {
-        text!(in alloc; "statements {} refused {} rows {} reads {} greatest bound {}\n",
-            self.statements, self.refused, self.rows, self.reads, self.bound)
+        let mut text = Text::from_str(alloc, "statements ")?;
+        text.push_str(Buffer::new().format(self.statements))?;
+        text.push_str(" refused ")?;
+        text.push_str(Buffer::new().format(self.refused))?;
+        text.push_str(" rows ")?;
+        text.push_str(Buffer::new().format(self.rows))?;
+        text.push_str(" reads ")?;
+        text.push_str(Buffer::new().format(self.reads))?;
+        text.push_str(" greatest bound ")?;
+        text.push_str(Buffer::new().format(self.bound))?;
+        text.push_str("\n")?;
+        Ok(text)
     }
 }

@@ -1,20 +1,34 @@
-use Rattle.desk_model.specs.Desks.{query_of}
-use Rattle.beas_run.proofs.AnswerFacts.{answered, goes_on, lost_db, lost_reads}
+use Rattle.std.proofs.Common.{◌∙◌, refl, sym}
+use Rattle.beas_run.proofs.AnswerFacts.{answered, fewer_left, goes_on, lost_db, lost_reads, on_the_way}
+use Rattle.beas_run.proofs.DoneFacts.{on_error}
 use Rattle.beas_run.proofs.pieces.answer.Goals as goal
 
-pub answer-requires : goal.answer-requires
-answer-requires g c = goes_on (query_of 0 c.args.desk.now.state) c.requires
+pub probes-init : goal.probes-init
+probes-init g c = record { way = on_the_way c.args.desk.now c.args.steps.now c.requires; unread = refl }
 
-pub returns-clause-answered : goal.returns-clause-answered
-returns-clause-answered g c =
-    let e = c.answer.ensures in
-    answered c.args.desk.now c.answer.new.self c.args.steps.now c.answer.new.steps c.answer.result c.requires e.told.1 e.did
+pub probes-preserved : goal.probes-preserved
+probes-preserved g c =
+    let e = c.in_ok-report.ensures.taken in
+    record {
+      way = goes_on _ _ _ _ _ _ _ _ c.probes.invariant.way c.in_ok-report.report e.did (sym c.is_probed.ensures ∙ c.if-not-is_probed.false) e.settings e.no_fewer;
+      unread = c.in_ok-report.ensures.unread ∙ c.probes.invariant.unread;
+    }
 
-pub returns-clause-db : goal.returns-clause-db
-returns-clause-db g c =
-    lost_db c.args.desk.now c.answer.new.self c.args.steps.now c.answer.new.steps c.answer.result c.answer.ensures.err
+pub probes-smaller : goal.probes-smaller
+probes-smaller g c =
+    let e = c.in_ok-report.ensures.taken in
+    fewer_left _ _ _ _ _ _ _ _ c.probes.invariant.way c.in_ok-report.report e.did (sym c.is_probed.ensures ∙ c.if-not-is_probed.false)
 
-pub returns-clause-at_most : goal.returns-clause-at_most
-returns-clause-at_most g c =
-    let e = c.answer.ensures in
-    lost_reads c.args.desk.now c.answer.new.self c.args.steps.now c.answer.new.steps c.answer.result e.told.0 e.no_fewer e.at_most
+pub returns-in_err-report-clause-db : goal.returns-in_err-report-clause-db
+returns-in_err-report-clause-db g c =
+    on_error c.from_residual.result (lost_db _ _ _ _ _ c.probes.invariant.way c.in_err-report.ensures.taken.err)
+
+pub returns-in_err-report-clause-at_most : goal.returns-in_err-report-clause-at_most
+returns-in_err-report-clause-at_most g c =
+    let e = c.in_err-report.ensures.taken in
+    on_error c.from_residual.result (lost_reads _ _ _ _ _ c.probes.invariant.way e.is_desk.0 e.at_most)
+
+pub returns-then-not-is_probed-clause-answered : goal.returns-then-not-is_probed-clause-answered
+returns-then-not-is_probed-clause-answered g c =
+    let e = c.in_ok-report.ensures.taken in
+    answered _ _ _ _ _ _ _ _ c.probes.invariant.way c.in_ok-report.report e.did (sym c.is_probed.ensures ∙ c.if-not-is_probed.true) c.requires e.is_desk.1

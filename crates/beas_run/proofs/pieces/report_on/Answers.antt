@@ -1,10 +1,13 @@
 use Rattle.beas_run.proofs.DoneFacts.{refused_done}
 use Rattle.beas_run.proofs.LeftFacts.{left_alone}
-use Rattle.beas_run.proofs.SayingFacts.{saying_fits}
+use Rattle.beas_run.proofs.SayingFacts.{event_fits, session_of_piece}
 use Rattle.beas_run.proofs.pieces.report_on.Goals as goal
 
-pub carry_out_saying-requires : goal.carry_out_saying-requires
-carry_out_saying-requires g c = saying_fits _ _ c.in-Ok.ensures.said c.requires
+pub carry_out_event-requires-clause-session : goal.carry_out_event-requires-clause-session
+carry_out_event-requires-clause-session g c = session_of_piece _ _ c.in-Ok.ensures.said
+
+pub carry_out_event-requires-clause-well_formed : goal.carry_out_event-requires-clause-well_formed
+carry_out_event-requires-clause-well_formed g c = event_fits _ _ c.in-Ok.ensures.said c.requires
 
 pub returns-in-Err-Refused-clause-done : goal.returns-in-Err-Refused-clause-done
 returns-in-Err-Refused-clause-done g c =

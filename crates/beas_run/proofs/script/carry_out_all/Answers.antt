@@ -3,8 +3,8 @@ use Rattle.std.proofs.lemmas.Bool.{false≢true}
 use Rattle.std.proofs.lemmas.Result.{err_from_is_err_and}
 use Rattle.std.proofs.lemmas.Str.{IsCharBoundary-start}
 use Rattle.report.specs.declared.reports.Report.{Report}
-use Rattle.sql_text.specs.declared.token.Token.{Token}
-use Rattle.sql_text.specs.Pieces.{statements_of, tokens_past}
+use Rattle.sql_tokens.specs.declared.token.Token.{Token}
+use Rattle.sql_tokens.specs.Pieces.{statements_of, tokens_past}
 use Rattle.session.specs.Effects.{Settings}
 use Rattle.beas_run.specs.Endings.{status_of}
 use Rattle.piece_reader.specs.Sayings.{Reading, reading_of}

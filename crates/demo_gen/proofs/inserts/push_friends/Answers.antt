@@ -1,4 +1,4 @@
-use Rattle.std.proofs.Common.{◌∙◌, ◌/◌, ap, append-nil, sym}
+use Rattle.std.proofs.Common.{◌/◌, ap, append-nil, sym}
 use Rattle.demo_gen.specs.Demo.{friend_at, friend_row}
 use Rattle.demo_gen.proofs.Rows.{no_rows, row_written}
 use Rattle.demo_gen.proofs.States.{draw_is, no_draw, state_is}
@@ -11,7 +11,7 @@ pub loop-place-preserved : goal.loop-place-preserved
 loop-place-preserved c =
     let first = c.args.draws.now.state in
     let drew = draw_is first c.loop-place.place 2000 _ c.below.result c.loop-place.invariant.1 c.below.ensures.number in (
-      row_written (friend_at first) c.loop-place.place c.args.text.now c.loop-place.text _ _ c.loop-place.invariant.0 c.in_ok-push_row.ensures
-          (c.as_str.ensures ∙ c.in_ok-row.ensures ∙ ap (friend_row (c.loop-place.place / 10)) drew),
+      row_written (friend_at first) c.loop-place.place c.args.text.now c.loop-place.text _ _ _ c.loop-place.invariant.0 c.in_ok-push_separator.ensures
+          c.in_ok-push_friend.ensures (ap (friend_row (c.loop-place.place / 10)) drew),
       state_is first c.loop-place.place _ _ c.loop-place.invariant.1 c.below.ensures.state,
     )

@@ -15,7 +15,7 @@ loop-place-preserved c =
     let cid = draw_is first (2 * n) 500 _ c.below-cid.result c.loop-place.invariant.1 c.below-cid.ensures.number in
     let between = state_is first (2 * n) _ _ c.loop-place.invariant.1 c.below-cid.ensures.state in
     let month = draw_is first (2 * n + 1) 12 _ c.below-month.result between c.below-month.ensures.number in (
-      row_written (dine_at first) n c.args.text.now c.loop-place.text _ _ c.loop-place.invariant.0 c.in_ok-push_row.ensures
-          (c.as_str.ensures ∙ c.in_ok-row.ensures ∙ ap₂ (λ (d m : ℕ). dine_row (n / 5) d (1 + m)) cid month),
+      row_written (dine_at first) n c.args.text.now c.loop-place.text _ _ _ c.loop-place.invariant.0 c.in_ok-push_separator.ensures
+          c.in_ok-push_meal.ensures (ap₂ (λ (d m : ℕ). dine_row (n / 5) d (1 + m)) cid month),
       state_is first (2 * n + 1) _ _ between c.below-month.ensures.state ∙ ap (state_after first) (omega arith),
     )

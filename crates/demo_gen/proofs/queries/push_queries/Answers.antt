@@ -18,7 +18,6 @@ loop-query-preserved c =
     let month = draw_is first (3 * n + 1) 12 _ c.below-month.result once c.below-month.ensures.number in
     let twice = state_is first (3 * n + 1) _ _ once c.below-month.ensures.state ∙ ap (state_after first) two in
     let city = draw_is first (3 * n + 2) 10 _ c.below-city.result twice c.below-city.ensures.number in (
-      query_written first n c.args.text.now c.loop-query.text _ _ c.loop-query.invariant.0 c.in_ok-push_statement.ensures
-          (c.as_str.ensures ∙ c.in_ok-query.ensures ∙ rw (person, month, city) refl),
+      query_written first n c.args.text.now c.loop-query.text _ _ c.loop-query.invariant.0 c.in_ok-push_query.ensures (rw (person, month, city) refl),
       state_is first (3 * n + 2) _ _ twice c.below-city.ensures.state ∙ ap (state_after first) three,
     )

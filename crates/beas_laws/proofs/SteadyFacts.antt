@@ -1,0 +1,48 @@
+-- What never fails has no fault.
+use Rattle.std.proofs.Common.{◌≡◌, ℕ, All, List, Option, Some, None, arith, refl}
+use Rattle.std.specs.Prelude.{IsSomeAnd}
+use Rattle.command_words.specs.declared.arguments.Args.{Args}
+use Rattle.command_words.specs.declared.arguments.Args.TheVariants.{Script, Demo}
+use Rattle.outside.specs.Counts.{Rose, RoseBy}
+use Rattle.session.specs.Effects.{Settings}
+use Rattle.session.specs.Ties.{failures}
+use Rattle.session.specs.Turns.{loads_of}
+use Rattle.piece_reader.specs.Sayings.{Reading}
+use Rattle.desk_model.specs.Pieces.{seen_turns, turns}
+use Rattle.beas_laws.specs.Unreadable.{NamesNone}
+use Rattle.beas_laws.proofs.FailureFacts.{none_named}
+use Rattle.beas_laws.proofs.TurnFacts.{script_tells}
+use Rattle.beas_run.specs.Readings.{Readings, pieces}
+use Rattle.beas_run.specs.Runs.{WalkedFor, outcomes_in}
+use Rattle.beas_run.specs.Walks.{Moment}
+
+pub none_rose : Rose 0 0 → ⊥
+none_rose h = omega arith
+
+pub no_fault : (named : Option (List ℕ)) → IsSomeAnd named (λ n. Rose 0 0) → ⊥
+no_fault None h = h
+no_fault (Some n) h = none_rose h
+
+none_rose_by : (n before now : ℕ) → now ≡ 0 → RoseBy n before now → n ≡ 0
+none_rose_by n before now zero h = omega arith
+
+-- whatever is asked for, no load of a name failed whose count of faults stands at 0
+pub walked_failures : (asked : Option Args) (s : Settings) (readings : List Reading) (status : ℕ) (before after : Moment)
+    (walked : WalkedFor asked s readings status before after) (name : List ℕ) → after.files.faults name ≡ 0
+    → failures name (loads_of (seen_turns (turns s before.state readings (outcomes_in asked s readings status before after walked)))) ≡ 0
+walked_failures None s readings status before after walked name zero =
+    none_rose_by _ _ _ zero (walked.follows.tied.failed name)
+walked_failures (Some (Script path budget explain)) s readings status before after walked name zero =
+    none_rose_by _ _ _ zero (walked.follows.tied.failed name)
+walked_failures (Some (Demo seed budget explain)) s readings status before after walked name zero =
+    none_rose_by _ _ _ refl (walked.walked.follows.tied.failed name)
+
+-- so of its script's turns none names a file as unreadable
+pub walked_readable : (asked : Option Args) (s : Settings) (script : List ℕ) (readings : List Reading) (status : ℕ) (before after : Moment)
+    (walked : WalkedFor asked s readings status before after) → Readings script readings
+    → ((name : List ℕ) → after.files.faults name ≡ 0)
+    → All NamesNone (seen_turns (turns s before.state readings (outcomes_in asked s readings status before after walked)))
+walked_readable asked s script readings status before after walked read zero =
+    let outcomes = outcomes_in asked s readings status before after walked in
+    none_named (seen_turns (turns s before.state readings outcomes)) (script_tells s before.state (pieces script) readings outcomes read)
+    (λ name. walked_failures asked s readings status before after walked name (zero name))

@@ -1,0 +1,43 @@
+-- Runs over files that never fail.
+--     steady files           what is known of them
+--     steady_out out         what is known of an output that never fails
+--     turns_of .. run        the turns of a run's script
+--     NoneFailed ..          a run in which no load of a file failed, and no report says of a file that it can't be read
+use Rattle.std.specs.Prelude.{◌≡◌, ℕ, true, All, List, [], Some, unwrap_or}
+use Rattle.beas_core.specs.declared.limits.Limits.{Limits}
+use Rattle.outside.specs.declared.memory_files.SteadyFiles.{SteadyFiles}
+use Rattle.outside.specs.Contents.{content_of}
+use Rattle.outside.specs.declared.memory_sink.SteadySink.{SteadySink}
+use Rattle.outside.specs.Seen.{Seen, Sent}
+use Rattle.session.specs.Ties.{failures}
+use Rattle.session.specs.Turns.{Turn, loads_of}
+use Rattle.command_words.specs.Words.{args_of}
+use Rattle.desk_model.specs.Pieces.{seen_turns, turns}
+use Rattle.beas_laws.specs.Unreadable.{NamesNone}
+use Rattle.beas_run.specs.Runs.{HasRun, outcomes_in, settings_of_words, with_files}
+use Rattle.beas_run.specs.Walks.{Moment}
+
+abbrev pub steady : SteadyFiles → Seen
+steady files = record {
+  told = true;
+  content = λ name. Some (unwrap_or (content_of files.shelf name) []);
+  faults = λ _. 0;
+  taken = 0;
+  loads = files.loads;
+}
+
+abbrev pub steady_out : SteadySink → Sent
+steady_out out = record { told = true; bytes = out.sent.items; faults = 0; puts = out.puts }
+
+abbrev pub turns_of : (limits : Limits) (words : List (List ℕ)) (status : ℕ) (before after : Moment)
+    → HasRun limits words status before after → List Turn
+turns_of limits words status before after run =
+    let settings = settings_of_words limits words in
+    seen_turns (turns settings before.state run.readings
+    (outcomes_in (args_of words) settings run.readings status (with_files before run.begun) after run.walked))
+
+pub record NoneFailed (limits : Limits) (words : List (List ℕ)) (status : ℕ) (before after : Moment) : Type 0 where
+  pub run : HasRun limits words status before after
+  pub none : (name : List ℕ) → failures name (loads_of (turns_of limits words status before after run)) ≡ 0
+  -- a report of some other refusal may stand there, but none of a file that can't be read
+  pub readable : All NamesNone (turns_of limits words status before after run)
