@@ -7,7 +7,7 @@ ghost use Rattle.session.specs.Stores.{database_in};
 use crate::statements::statement_of;
 use beas_core::{Fail, Prepared, Refusal};
 use session::Session;
-use sql_tree::Statement;
+use sql_text::Statement;
 use std::alloc::Global;
 
 /// The query that a text spells, as a session announces it. A statement that is none is refused as 1.

@@ -6,7 +6,7 @@ use crate::statements::statement_of;
 use beas_core::{Fail, Limits, Query, Refusal};
 use binder::bind;
 use catalogue::Catalogue;
-use sql_tree::Statement;
+use sql_text::Statement;
 use std::alloc::Global;
 
 /// The query that a text spells, over the tables of a catalogue. A statement that is none is refused as 1.

@@ -3,14 +3,15 @@
 //!
 //! What is drawn depends on a seed alone, so that it is the same in each run. A `Twin` draws updates and carries them
 //! out on a plain list of rows by scans; a `Batch` has them as a script, with what a session is to report of it.
-//! `reports` has a session carry out such a script, and `fill_scene` one that makes a drawn scene. `draw_query` draws the
-//! text of a query, `statement_of` reads it, `bound_query` binds it, `announced_query` and `report_by` have a session
-//! announce it and carry it out, and `refusal_of_block` is its refusal where a block isn't covered. Beside them stands
-//! what such programs need of their words and of folders of files.
+//! `reports` has a session carry out such a script, and `fill_scene` one that makes a drawn scene. `draw_query` draws
+//! the text of a query, `statement_of` reads it, `bound_query` binds it, `announced_query` and `report_by` have a
+//! session announce it and carry it out, and `refusal_of_block` is its refusal where a block isn't covered.
+//! `try_scenes` tries a `Trial` over many sessions, each with a scene of its own. Beside them stands what such programs
+//! need of their arguments and of folders of files.
 //!
 //! It promises nothing but safety, and of `statement_of` that a statement has what a session asks for, of `bound_query`
-//! that a query is well-formed, of `announced_query` that it fits the session's store: what is drawn can be seen by what
-//! is printed of it.
+//! that a query is well-formed, of `announced_query` that it fits the session's store: what is drawn can be seen by
+//! what is printed of it.
 #![tactic(auto)]
 
 mod announced;
@@ -24,6 +25,7 @@ mod refusals;
 mod scenes;
 mod statements;
 mod tables;
+mod trials;
 mod updates;
 mod words;
 
@@ -37,5 +39,6 @@ pub use queries::draw_query;
 pub use refusals::refusal_of_block;
 pub use statements::{fill_scene, report_by, reports, reports_over, statement_of};
 pub use tables::{Fact, Shape, TABLES, column_name, table_name, value};
+pub use trials::{Trial, try_scenes};
 pub use updates::{Batch, Twin, Update, creations, script_of};
 pub use words::{number_at, out_of_memory, word_at};

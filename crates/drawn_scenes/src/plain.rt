@@ -127,8 +127,8 @@ impl Plain {
         self.rules.iter().any(|other| other.name.as_str() == name)
     }
 
-    /// What is reported of a constraint that isn't taken: a name that is live, a limit of zero, or a limit that is below a
-    /// group.
+    /// What is reported of a constraint that isn't taken: a name that is live, a limit of zero, or a limit that is
+    /// below a group.
     fn refusal_of_rule(&self, alloc: Global, rule: &Rule) -> Result<Option<String>, NoMemory> {
         let name = rule.name.as_str();
         let limit = rule.bound;

@@ -29,9 +29,9 @@ fn add_constraints(
     Ok(())
 }
 
-/// Statements that add a few drawn rows and constraints to the tables of `creations`, some of which are refused. In most
-/// scenes a constraint without a key has all of r, and those on s and t have a key, so that a block over r guides one
-/// over s or t. Each statement is to be reported under the number 0.
+/// Statements that add a few drawn rows and constraints to the tables of `creations`, some of which are refused. In
+/// most scenes a constraint without a key has all of r, and those on s and t have a key, so that a block over r guides
+/// one over s or t. Each statement is to be reported under the number 0.
 pub fn draw_scene(alloc: Global, twin: &mut Twin) -> Result<Batch, NoMemory> {
     let mut batch = Batch::new(alloc);
     let with_key = twin.draws.below(8) > 0;

@@ -10,8 +10,8 @@ use outside::MemoryFiles;
 use report::{Report, text};
 use session::Session;
 use sql_parser::parse;
-use sql_text::{Piece, Token, lex, split};
-use sql_tree::Statement;
+use sql_text::Statement;
+use sql_tokens::{Piece, Token, lex, split};
 use std::alloc::Global;
 use std::sync::ledger::Ledger;
 

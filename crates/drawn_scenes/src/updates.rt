@@ -21,7 +21,8 @@ pub struct Twin {
     pub shape: Shape,
 }
 
-/// Statements, each by itself and as a script, with the lines that are to be reported of them, and how many are refused.
+/// Statements, each by itself and as a script, with the lines that are to be reported of them, and how many are
+/// refused.
 #[derive(Drop)]
 pub struct Batch {
     pub statements: Vec<Text>,
@@ -201,8 +202,8 @@ impl Twin {
         Ok(Update { source, report })
     }
 
-    /// Adds a constraint with this name whose limit is below `most`, and which fetches fewer columns than `wide`, or one.
-    /// Where it is to have a key it has one, but on r it needn't.
+    /// Adds a constraint with this name whose limit is below `most`, and which fetches fewer columns than `wide`, or
+    /// one. Where it is to have a key it has one, but on r it needn't.
     pub fn create(
         &mut self,
         alloc: Global,

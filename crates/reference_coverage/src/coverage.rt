@@ -6,8 +6,8 @@ ghost use Rattle.beas_core.specs.Coverage.{holds_classes, key_classes, fetched_c
 ghost use Rattle.beas_core.specs.Groups.{has_column, member_columns};
 
 use crate::access_uses::{AccessUse, uses};
-use crate::classes::{class_at, class_of, has_class};
-use beas_core::{Access, ColumnId, List, NoMemory, Normal, NotCovered, Place};
+use beas_core::{Access, ColumnId, List, NoMemory, Normal, NotCovered, Place, class_at};
+use reference_normal_form::{class_of, has_class};
 use std::alloc::Global;
 
 /// Whether a set holds the classes of some columns of an atom.

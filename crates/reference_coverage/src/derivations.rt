@@ -8,10 +8,10 @@ ghost use Rattle.beas_core.specs.Groups.{member_columns};
 ghost use Rattle.reference_coverage.specs.Turns.{serving_choice};
 
 use crate::access_uses::{AccessUse, access_with, member_columns, uses};
-use crate::classes::{classes_at, with_classes};
 use crate::coverage::{atoms_of, columns_hold_needed, holds_columns, is_covered, serves_atom};
 use crate::lists::{append, with_first};
 use beas_core::{Access, AccessId, ColumnId, DStep, List, NoMemory, Normal};
+use reference_normal_form::{classes_at, with_classes};
 use std::alloc::Global;
 
 /// The key columns of the constraint with this id and then its fetched ones, none where there is no such constraint.

@@ -6,7 +6,6 @@
 #![tactic(auto)]
 
 mod access_uses;
-mod classes;
 mod coverage;
 mod derivations;
 mod lists;
@@ -16,9 +15,6 @@ mod sizes;
 mod tasks;
 
 pub use access_uses::{AccessUse, access_with};
-pub use classes::{
-    class_at, classes_at, classes_in, constant_classes, has_class, output_classes, start_classes,
-};
 pub use coverage::{covered_set, is_covered, reason};
 pub use derivations::{bound_after, columns_of, greedy_steps};
 pub use lists::{append, with_first};

@@ -7,14 +7,13 @@ ghost use Rattle.beas_core.specs.Trees.{blocks_of};
 ghost use Rattle.reference_coverage.specs.Tasks.{BlocksHaveFewPlaces, HasFewAtoms, tasks_with};
 ghost use Rattle.reference_normal_form.specs.Few.{HasFewPlaces};
 
-use crate::classes::{constant_classes, start_classes};
 use crate::coverage::{covered_set, is_covered, reason};
 use crate::lists::append;
 use crate::pruning::derivation;
 use beas_core::{
     Access, Block, DStep, Derivation, List, NoMemory, Normal, NotCovered, Query, QueryNode,
 };
-use reference_normal_form::{has_few_places, normal_of};
+use reference_normal_form::{constant_classes, has_few_places, normal_of, start_classes};
 use std::alloc::Global;
 use std::marker::Model;
 

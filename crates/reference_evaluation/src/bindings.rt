@@ -13,12 +13,10 @@ use crate::full::sign_holds;
 use crate::rows::{copy_of_value, distinct_rows, rows_of};
 use beas_core::{
     Access, ColumnId, Comparison, DStep, Duplicate, List, NoMemory, Normal, Operand, Row, TableId,
-    Value,
+    Value, class_at,
 };
-use reference_coverage::{
-    append, bound_after, class_at, classes_in, columns_of, has_class, output_classes,
-    start_classes, with_first,
-};
+use reference_coverage::{append, bound_after, columns_of, with_first};
+use reference_normal_form::{classes_in, has_class, output_classes, start_classes};
 use std::alloc::Global;
 
 /// Classes with their values.

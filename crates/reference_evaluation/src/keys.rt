@@ -8,7 +8,8 @@ use crate::bindings::{bindings_between, values_of};
 use crate::block_on_tables::BlockOnTables;
 use crate::rows::distinct_rows;
 use beas_core::{Access, AccessId, ColumnId, DStep, List, NoMemory, Row, Value};
-use reference_coverage::{access_with, classes_at, classes_in};
+use reference_coverage::access_with;
+use reference_normal_form::{classes_at, classes_in};
 use std::alloc::Global;
 
 /// The key columns of the constraint with this id, none where there is no such constraint.

@@ -1,6 +1,6 @@
 // What guided blocks find.
-use beas_core::{Access, ColumnId, List, Normal, Place, Row, Value};
-use reference_coverage::{Task, access_with, class_at, is_guided, steps_of};
+use beas_core::{Access, ColumnId, List, Normal, Place, Row, Value, class_at};
+use reference_coverage::{Task, access_with, is_guided, steps_of};
 use reference_evaluation::{BlockProbe, PlansOnTables};
 
 /// How many blocks have a guide, and how many of them

@@ -6,8 +6,9 @@ ghost use Rattle.reference_coverage.specs.Tasks.{HasFewAtoms};
 use beas_core::{Access, Derivation, List, NoMemory, Query};
 use reference_coverage::{
     BlockPlans, Task, Uncovered, block_tasks, blocks_have_few_places, first_uncovered,
-    greedy_steps, guided_flags, is_guided, plans_of, query_bound, start_classes, steps_of,
+    greedy_steps, guided_flags, is_guided, plans_of, query_bound, steps_of,
 };
+use reference_normal_form::start_classes;
 use std::alloc::Global;
 
 /// Of each block of a query whether it is guided, and its derivation; how many derivations lost steps that may go; and

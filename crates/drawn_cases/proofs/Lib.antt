@@ -1,0 +1,4 @@
+mod Alone
+mod BlockFacts
+mod Members
+pub mod Stores

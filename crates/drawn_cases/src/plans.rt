@@ -1,0 +1,142 @@
+// Drawn queries, prepared over small drawn tables and executed after more constraints were made.
+ghost use Rattle.beas_core.specs.Fits.{Fits};
+ghost use Rattle.catalogue.specs.Database.{rows_at};
+ghost use Rattle.session.specs.Stores.{database_in};
+
+use crate::additions::add_constraints;
+use crate::announced::{is_canonical, is_prepared_so, is_refused_so};
+use crate::constraints::draw_constraints;
+use crate::outcomes::outcome_of;
+use crate::tallies::{BUDGET, Tally};
+use beas_core::{AccessSpec, Fail, List, NoMemory, Prepared, Row, Steps};
+use drawn_scenes::{Trial, Twin, announced_query, bound_query, draw_query, try_scenes};
+use reference_queries::{Planned, plan_query};
+use session::{Session, Store};
+use std::alloc::Global;
+use std::sync::ledger::Ledger;
+
+/// So many queries are drawn for one session.
+const QUERIES: u32 = 14;
+
+/// How many derivations lost steps in what the reference programs plan.
+fn shortened_in(wanted: &Planned) -> u32 {
+    match wanted {
+        Planned::Covered(plans) => plans.shortened,
+        _ => 0,
+    }
+}
+
+/// Executes a prepared query after some constraints were made. It is to be prepared as the reference programs planned
+/// it before they were.
+fn executed<L: Ledger>(
+    alloc: Global,
+    guarded: &mut Store,
+    specs: &[AccessSpec],
+    tables: &[List<Row>],
+    prepared: &Prepared,
+    wanted: &Planned,
+    steps: &mut Steps<L>,
+) -> Result<Tally, NoMemory>
+    requires { Fits guarded.old.catalogue.accesses (rows_at (database_in guarded.old)) prepared.now }
+{
+    let made = add_constraints(alloc, guarded, specs, prepared, steps)?;
+    let outcome = outcome_of(alloc, guarded, tables, prepared, steps)?;
+    let accesses = guarded.catalogue.accesses().as_slice();
+    let is_other = made > 0 && !is_canonical(alloc, accesses, prepared)?;
+    let is_wanted = outcome.is_wanted && is_prepared_so(prepared, wanted);
+    Ok(Tally {
+        drawn: 1,
+        executed: 1,
+        other: u32::from(is_other),
+        shortened: shortened_in(wanted),
+        guided: outcome.guided,
+        differing: u32::from(!is_wanted),
+    })
+}
+
+/// What the reference programs plan for the query that a text spells, over the constraints as they are.
+fn planned_query(alloc: Global, guarded: &Store, spelled: &str) -> Result<Planned, Fail> {
+    let query = bound_query(alloc, &guarded.catalogue, spelled)?;
+    let accesses = guarded.catalogue.accesses().as_slice();
+    Ok(plan_query(alloc, accesses, &query)?)
+}
+
+fn try_query<L: Ledger>(
+    alloc: Global,
+    session: &mut Session,
+    specs: &[AccessSpec],
+    tables: &[List<Row>],
+    spelled: &str,
+    steps: &mut Steps<L>,
+) -> Result<Tally, Fail> {
+    let wanted = planned_query(alloc, &session.guarded, spelled)?;
+    match announced_query(alloc, session, spelled) {
+        Ok(prepared) => {
+            let guarded = &mut session.guarded;
+            Ok(executed(alloc, guarded, specs, tables, &prepared, &wanted, steps)?)
+        }
+        Err(Fail::Refused(why)) => Ok(Tally::refused(is_refused_so(&why, &wanted, BUDGET))),
+        Err(Fail::NoMemory) => Err(Fail::NoMemory),
+    }
+}
+
+/// Tries a drawn query over a session with these rows, half of the time with one to three constraints that are made in
+/// between, named by the numbers from `first` on.
+fn try_with<L: Ledger>(
+    alloc: Global,
+    session: &mut Session,
+    twin: &mut Twin,
+    tables: &[List<Row>],
+    spelled: &str,
+    first: u32,
+    steps: &mut Steps<L>,
+) -> Result<Tally, NoMemory> {
+    let count = twin.draws.below(6).saturating_sub(2);
+    let specs = draw_constraints(alloc, twin, first, count)?;
+    match try_query(alloc, session, specs.as_slice(), tables, spelled, steps) {
+        Ok(tally) => Ok(tally),
+        Err(Fail::Refused(_)) => Ok(Tally::refused(false)),
+        Err(Fail::NoMemory) => Err(NoMemory),
+    }
+}
+
+/// Tries drawn queries over a session with these rows.
+fn try_drawn<L: Ledger>(
+    alloc: Global,
+    session: &mut Session,
+    twin: &mut Twin,
+    tables: &[List<Row>],
+    before: Tally,
+    steps: &mut Steps<L>,
+) -> Result<Tally, NoMemory> {
+    let mut tally = before;
+    for nth in 0..QUERIES {
+        let query = draw_query(alloc, &mut twin.draws)?;
+        let spelled = query.as_str();
+        tally = tally.with(try_with(alloc, session, twin, tables, spelled, 100 + 3 * nth, steps)?);
+    }
+    Ok(tally)
+}
+
+impl Trial for Tally {
+    fn with_session<L: Ledger>(
+        self,
+        alloc: Global,
+        session: &mut Session,
+        twin: &mut Twin,
+        tables: &[List<Row>],
+        steps: &mut Steps<L>,
+    ) -> Result<Tally, NoMemory> {
+        try_drawn(alloc, session, twin, tables, self, steps)
+    }
+}
+
+/// Tries drawn queries over so many sessions, and says what came of them and what differed.
+pub fn try_plans<L: Ledger>(
+    alloc: Global,
+    sessions: u32,
+    steps: &mut Steps<L>,
+) -> Result<String, NoMemory> {
+    let tally = try_scenes(alloc, sessions, Some(BUDGET), Tally::none(), steps)?;
+    tally.said(alloc)
+}

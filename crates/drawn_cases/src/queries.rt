@@ -1,0 +1,230 @@
+// Drawn queries over small drawn tables.
+use crate::answers::{Scene, Wanted, wanted_of};
+use beas_core::{Fail, List, NoMemory, Row, Steps, Text};
+use drawn_scenes::{Draws, Trial, Twin, draw_query, reports, try_scenes};
+use full_meaning::plain_store;
+use reference_queries::GuidedBlocks;
+use report::{Report, text};
+use session::{Session, Store};
+use std::alloc::Global;
+use std::sync::ledger::Ledger;
+
+/// So many queries are drawn for one session.
+const QUERIES: u32 = 25;
+
+const BUDGET: u64 = 1000;
+
+/// How many queries are answered, not covered and above the budget; what the guided blocks find of those that are
+/// answered; and how many scripts of queries weren't reported so.
+#[derive(Clone, Copy)]
+struct Tally {
+    answered: u32,
+    open: u32,
+    above: u32,
+    guided: GuidedBlocks,
+    differing: u32,
+}
+
+/// The number of a report's refusal, and 0 where it is none.
+fn number_of(report: &Report) -> u32 {
+    match report {
+        Report::Refused { why } => why.number(),
+        _ => 0,
+    }
+}
+
+impl Tally {
+    fn with(self, wanted: &Wanted) -> Tally {
+        let number = number_of(&wanted.report);
+        Tally {
+            answered: self.answered.saturating_add(u32::from(number == 0)),
+            open: self.open.saturating_add(u32::from(number == 19)),
+            above: self.above.saturating_add(u32::from(number == 21)),
+            guided: self.guided.with(wanted.guided),
+            differing: self
+                .differing
+                .saturating_add(u32::from(!matches!(number, 0 | 19 | 21))),
+        }
+    }
+}
+
+impl Tally {
+    fn said(self, alloc: Global, sessions: u32) -> Result<String, NoMemory> {
+        let Tally {
+            answered,
+            open,
+            above,
+            differing,
+            ..
+        } = self;
+        let GuidedBlocks {
+            guided,
+            finding,
+            ..
+        } = self.guided;
+        Ok(format!(in alloc;
+            "{sessions} sessions with {QUERIES} queries each: {answered} answered, {open} not covered, {above} above the budget, {guided} guided blocks of which {finding} find something, {differing} differences"
+        )?)
+    }
+}
+
+/// What is to be reported of a query. One that the reference programs don't agree on is refused as 1.
+fn wanted_report<L: Ledger>(
+    alloc: Global,
+    scene: Scene<'_>,
+    spelled: &str,
+    steps: &mut Steps<L>,
+) -> Result<Wanted, NoMemory> {
+    match wanted_of(alloc, scene, spelled, BUDGET, steps) {
+        Ok(wanted) => Ok(wanted),
+        Err(Fail::Refused(why)) => Ok(Wanted {
+            report: Report::Refused { why },
+            guided: GuidedBlocks::none(),
+        }),
+        Err(Fail::NoMemory) => Err(NoMemory),
+    }
+}
+
+/// Queries as a script, with what is to be reported of them.
+#[derive(Drop)]
+struct Queries {
+    script: Text,
+    wanted: Text,
+    tally: Tally,
+}
+
+impl Queries {
+    /// Adds a query as the statement with this number.
+    fn add(
+        &mut self,
+        alloc: Global,
+        number: u32,
+        query: &Text,
+        wanted: &Wanted,
+    ) -> Result<(), NoMemory> {
+        self.tally = self.tally.with(wanted);
+        self.script.push_str(query.as_str())?;
+        self.script.push_str(";")?;
+        let report = text(alloc, number, &wanted.report)?;
+        self.wanted.push_str(report.as_str())
+    }
+
+    /// Adds a drawn query.
+    fn draw<L: Ledger>(
+        &mut self,
+        alloc: Global,
+        number: u32,
+        scene: Scene<'_>,
+        draws: &mut Draws,
+        steps: &mut Steps<L>,
+    ) -> Result<(), NoMemory> {
+        let query = draw_query(alloc, draws)?;
+        let wanted = wanted_report(alloc, scene, query.as_str(), steps)?;
+        self.add(alloc, number, &query, &wanted)
+    }
+}
+
+/// Drawn queries over a scene.
+fn draw_queries<L: Ledger>(
+    alloc: Global,
+    scene: Scene<'_>,
+    draws: &mut Draws,
+    tally: Tally,
+    steps: &mut Steps<L>,
+) -> Result<Queries, NoMemory> {
+    let mut queries = Queries {
+        script: Text::new(alloc),
+        wanted: Text::new(alloc),
+        tally,
+    };
+    for nth in 1..=QUERIES {
+        queries.draw(alloc, nth, scene, draws, steps)?;
+    }
+    Ok(queries)
+}
+
+/// Whether a session reports of queries what is wanted.
+fn are_answered<L: Ledger>(
+    alloc: Global,
+    session: &mut Session,
+    queries: &Queries,
+    steps: &mut Steps<L>,
+) -> Result<bool, NoMemory> {
+    let said = reports(alloc, session, queries.script.as_str(), steps)?;
+    Ok(said.as_str() == queries.wanted.as_str())
+}
+
+/// Drawn queries over the rows that a session has. Where its store can't be made anew there are none.
+fn queries_over<L: Ledger>(
+    alloc: Global,
+    store: &Store,
+    draws: &mut Draws,
+    tables: &[List<Row>],
+    tally: Tally,
+    steps: &mut Steps<L>,
+) -> Result<Queries, NoMemory> {
+    match plain_store(alloc, &store.catalogue, store.rows.as_slice(), steps)? {
+        Some(plain) => {
+            let scene = Scene {
+                catalogue: &store.catalogue,
+                plain: &plain,
+                tables,
+            };
+            let queries = draw_queries(alloc, scene, draws, tally, steps);
+            plain.discard();
+            queries
+        }
+        None => Ok(Queries {
+            script: Text::new(alloc),
+            wanted: Text::from_str(alloc, "a store that is made anew")?,
+            tally,
+        }),
+    }
+}
+
+/// Has drawn queries answered by a session whose tables have these rows.
+fn try_drawn<L: Ledger>(
+    alloc: Global,
+    session: &mut Session,
+    draws: &mut Draws,
+    tables: &[List<Row>],
+    tally: Tally,
+    steps: &mut Steps<L>,
+) -> Result<Tally, NoMemory> {
+    let queries = queries_over(alloc, &session.guarded, draws, tables, tally, steps)?;
+    let is_same = are_answered(alloc, session, &queries, steps)?;
+    Ok(Tally {
+        differing: queries.tally.differing.saturating_add(u32::from(!is_same)),
+        ..queries.tally
+    })
+}
+
+impl Trial for Tally {
+    fn with_session<L: Ledger>(
+        self,
+        alloc: Global,
+        session: &mut Session,
+        twin: &mut Twin,
+        tables: &[List<Row>],
+        steps: &mut Steps<L>,
+    ) -> Result<Tally, NoMemory> {
+        try_drawn(alloc, session, &mut twin.draws, tables, self, steps)
+    }
+}
+
+/// Has drawn queries answered by so many sessions, and says what came of them and what differed.
+pub fn try_queries<L: Ledger>(
+    alloc: Global,
+    sessions: u32,
+    steps: &mut Steps<L>,
+) -> Result<String, NoMemory> {
+    let none = Tally {
+        answered: 0,
+        open: 0,
+        above: 0,
+        guided: GuidedBlocks::none(),
+        differing: 0,
+    };
+    let tally = try_scenes(alloc, sessions, Some(BUDGET), none, steps)?;
+    tally.said(alloc, sessions)
+}

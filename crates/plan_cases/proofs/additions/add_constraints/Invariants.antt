@@ -1,5 +1,0 @@
-use Rattle.plan_cases.proofs.Stores.{FitsStore}
-use Rattle.plan_cases.proofs.additions.add_constraints.Given as goal
-
-abbrev pub invariant-loop-spec : goal.invariant-loop-spec
-invariant-loop-spec g l = FitsStore l.guarded l.prepared

@@ -1,0 +1,113 @@
+// Command lines and demonstrations, one a line.
+use crate::lines::print_answer;
+use beas_core::NoMemory;
+use command_words::{Args, Usage, args};
+use demo_gen::demo;
+use std::alloc::Global;
+use std::io;
+
+const LONG: u32 = 70_000;
+
+// A word as it is spelled.
+fn word_of(alloc: Global, spelled: &str) -> Result<String, NoMemory> {
+    let mut word = String::new(alloc);
+    if spelled == "*" {
+        for _ in 0..LONG {
+            word.push_str("a")?;
+        }
+    } else {
+        word.push_str(spelled)?;
+    }
+    Ok(word)
+}
+
+fn words_of(alloc: Global, line: &str) -> Result<Vec<String>, NoMemory> {
+    let mut words = Vec::new(alloc);
+    for spelled in line.split('|').skip(1) {
+        words.push(word_of(alloc, spelled)?)?;
+    }
+    Ok(words)
+}
+
+// A path, or its length where it is long.
+fn path_text(alloc: Global, path: &str) -> Result<String, NoMemory> {
+    if path.len() > 100 {
+        let length = path.len();
+        Ok(format!(in alloc; "of {length} bytes")?)
+    } else {
+        Ok(format!(in alloc; "\"{path}\"")?)
+    }
+}
+
+fn options_text(alloc: Global, budget: Option<u64>, explain: bool) -> Result<String, NoMemory> {
+    let flag = if explain { " explained" } else { "" };
+    match budget {
+        Some(budget) => Ok(format!(in alloc; " budget {budget}{flag}")?),
+        None => Ok(format!(in alloc; "{flag}")?),
+    }
+}
+
+fn answer_to_words(alloc: Global, line: &str) -> Result<String, NoMemory> {
+    let words = words_of(alloc, line)?;
+    match args(alloc, words.as_slice()) {
+        Ok(
+            Args::Script {
+                path,
+                budget,
+                explain,
+            },
+        ) => {
+            let path = path_text(alloc, path.as_str())?;
+            let options = options_text(alloc, budget, explain)?;
+            Ok(format!(in alloc; "script {path}{options}")?)
+        }
+        Ok(
+            Args::Demo {
+                seed,
+                budget,
+                explain,
+            },
+        ) => {
+            let options = options_text(alloc, budget, explain)?;
+            Ok(format!(in alloc; "demo {seed}{options}")?)
+        }
+        Err(Usage::Refused) => Ok(String::from_str(alloc, "refused")?),
+        Err(Usage::NoMemory) => Err(NoMemory),
+    }
+}
+
+fn checksum(bytes: &[u8]) -> u64 {
+    bytes.iter().fold(0xcbf2_9ce4_8422_2325, |sum: u64, byte| {
+        (sum ^ u64::from(*byte)).wrapping_mul(0x100_0000_01b3)
+    })
+}
+
+fn answer_to_seed(alloc: Global, line: &str) -> Result<String, NoMemory> {
+    let digits = line.get(1..).unwrap_or("");
+    let seed = digits.parse::<u32>().unwrap_or(0);
+    let text = demo(alloc, seed)?;
+    let bytes = text.as_str().as_bytes();
+    let length = bytes.len();
+    let sum = checksum(bytes);
+    let seventh = text.as_str().lines().nth(6).unwrap_or("");
+    let start = seventh.get(..60).unwrap_or(seventh);
+    Ok(format!(in alloc; "{length} bytes, checksum {sum}: {start}")?)
+}
+
+// What is written for one line.
+fn answer(alloc: Global, line: &str) -> Result<String, NoMemory> {
+    match line.as_bytes() {
+        [b'@', ..] => answer_to_seed(alloc, line),
+        _ => answer_to_words(alloc, line),
+    }
+}
+
+/// Prints what each line of a text asks for.
+pub fn try_arguments(rt: &HostRuntime, text: &str) -> io::Result<()> {
+    for line in text.lines() {
+        if !line.starts_with('#') {
+            print_answer(rt, answer(rt.alloc(), line))?;
+        }
+    }
+    Ok(())
+}

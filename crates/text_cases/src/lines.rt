@@ -1,0 +1,27 @@
+// Files of cases, their lines and the words of a line.
+use beas_core::NoMemory;
+use std::{fs, io};
+
+/// The text of a file of cases.
+pub fn text_in(rt: &HostRuntime, folder: &str, file: &str) -> io::Result<String> {
+    let path = format!(in rt.alloc(); "{folder}/{file}")?;
+    fs::read_to_string(rt, path.as_str())
+}
+
+/// Prints what came of a case.
+pub fn print_answer(rt: &HostRuntime, answer: Result<String, NoMemory>) -> io::Result<()> {
+    match answer {
+        Ok(said) => println!(rt; "{said}"),
+        Err(NoMemory) => println!(rt; "out of memory"),
+    }
+}
+
+/// The text up to the first space, and what comes after it.
+pub fn first_word(text: &str) -> (&str, &str) {
+    text.split_once(' ').unwrap_or((text, ""))
+}
+
+/// A number, 0 where a word is none.
+pub fn number_of(word: &str) -> u32 {
+    word.parse::<u32>().unwrap_or(0)
+}

@@ -1,0 +1,94 @@
+// What texts are read as, in words.
+use beas_core::{Fail, Name, NoMemory};
+use beas_laws::canonical;
+use sql_tokens::{Piece, Token, lex, split};
+use std::alloc::Global;
+
+/// The most bytes of a text.
+pub const LONGEST: usize = 16_777_216;
+
+// A refusal that a text alone can have, by its number.
+fn words_of_number(number: u32) -> &'static str {
+    match number {
+        1 => "refused: no statement",
+        2 => "refused: nested too deep",
+        23 => "refused: lacks DISTINCT",
+        _ => "refused for another reason",
+    }
+}
+
+fn refusal_words(why: &Fail) -> Result<&'static str, NoMemory> {
+    match why {
+        Fail::Refused(why) => Ok(words_of_number(why.number())),
+        Fail::NoMemory => Err(NoMemory),
+    }
+}
+
+// The canonical text of the statement that a text spells, or its refusal. No text here is too long.
+fn canonical_in(alloc: Global, text: &str) -> Result<String, NoMemory> {
+    if text.len() > LONGEST {
+        return Err(NoMemory);
+    }
+    match canonical(alloc, text) {
+        Ok(text) => Ok(String::from_str(alloc, text.as_str())?),
+        Err(why) => Ok(String::from_str(alloc, refusal_words(&why)?)?),
+    }
+}
+
+/// The canonical text of the statement that a text spells, with what that is read as where it isn't itself; or the
+/// refusal.
+pub fn statement_in(alloc: Global, text: &str) -> Result<String, NoMemory> {
+    let words = canonical_in(alloc, text)?;
+    if words.as_str().starts_with("refused") {
+        return Ok(words);
+    }
+    let again = canonical_in(alloc, words.as_str())?;
+    if again.as_str() != words.as_str() {
+        return Ok(format!(in alloc; "{words}\nwhich is read as\n{again}")?);
+    }
+    Ok(words)
+}
+
+/// The lines below each other, or `nothing` where there is none.
+pub fn lines_or_nothing(alloc: Global, lines: &[String]) -> Result<String, NoMemory> {
+    if lines.is_empty() {
+        return Ok(String::from_str(alloc, "nothing")?);
+    }
+    Ok(lines.join(alloc, "\n")?)
+}
+
+// The part of a script that the tokens of a piece spell.
+fn piece_text<'a>(script: &'a str, tokens: &[Token], piece: Piece) -> &'a str {
+    let first = tokens.get(piece.from as usize);
+    let last = tokens.get((piece.to as usize).saturating_sub(1));
+    match (first, last) {
+        (Some(first), Some(last)) => script
+            .get(first.from as usize..last.to as usize)
+            .unwrap_or(""),
+        _ => "",
+    }
+}
+
+/// The canonical text or the refusal of each piece of a script, one a line.
+pub fn pieces_in(alloc: Global, script: &str) -> Result<String, NoMemory> {
+    if script.len() > LONGEST {
+        return Err(NoMemory);
+    }
+    let tokens = lex(alloc, script)?;
+    let mut lines = Vec::new(alloc);
+    for piece in split(alloc, &tokens)?.as_slice() {
+        let text = piece_text(script, tokens.as_slice(), *piece);
+        lines.push(statement_in(alloc, text)?)?;
+    }
+    lines_or_nothing(alloc, lines.as_slice())
+}
+
+/// The name that a text spells.
+pub fn name_in(alloc: Global, text: &str) -> Result<String, NoMemory> {
+    let mut words = String::new(alloc);
+    match Name::of(alloc, text)? {
+        Some(name) => words.push_str(name.as_str())?,
+        None => words.push_str("no name")?,
+    }
+    Ok(words)
+}

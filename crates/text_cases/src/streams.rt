@@ -1,0 +1,27 @@
+// Readers and writers that act as a line tells them to.
+use crate::lines::{first_word, number_of};
+use crate::reads::{read_endless, read_file, read_text};
+use crate::writes::write_piece;
+use std::io;
+
+fn try_line(rt: &HostRuntime, line: &str) -> io::Result<()> {
+    let (call, rest) = first_word(line);
+    let (first, others) = first_word(rest);
+    match call {
+        "read" => read_text(rt, number_of(first), others),
+        "endless" => read_endless(rt, number_of(first)),
+        "file" => read_file(rt, number_of(first), others),
+        "write" => write_piece(rt, first, others),
+        _ => println!(rt; "no such call"),
+    }
+}
+
+/// Prints what comes of the reader or the writer of each line of a text.
+pub fn try_streams(rt: &HostRuntime, text: &str) -> io::Result<()> {
+    for line in text.lines() {
+        if !line.starts_with('#') {
+            try_line(rt, line)?;
+        }
+    }
+    Ok(())
+}
