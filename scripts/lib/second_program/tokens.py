@@ -1,12 +1,13 @@
 """Tokens and pieces of a script."""
 import re
+from collections.abc import Iterator
 from typing import NamedTuple
 
 
 class Refused(Exception):
     """What a statement is refused for: the number of the refusal and its text."""
 
-    def __init__(self, number, text):
+    def __init__(self, number: int, text: str) -> None:
         super().__init__(f"refused {number} {text}")
 
 
@@ -32,13 +33,13 @@ class Token(NamedTuple):
     text: str
 
 
-def token_of(kind, spelling):
+def token_of(kind: str, spelling: str) -> Token:
     if kind == "word":
         return Token("word" if len(spelling) <= MOST_OF_A_WORD else "bad", spelling.lower())
     return Token(kind, spelling[1:-1].replace("''", "'") if kind == "text" else spelling)
 
 
-def next_token(script, place):
+def next_token(script: str, place: int) -> tuple[Token, int]:
     """The token at a place that is no space, and the place after it."""
     for kind, pattern in PARTS:
         found = pattern.match(script, place)
@@ -47,7 +48,7 @@ def next_token(script, place):
     raise AssertionError("the last pattern fits any character")
 
 
-def tokens_of(script):
+def tokens_of(script: str) -> Iterator[Token]:
     place = 0
     while True:
         space = SPACE.match(script, place)
@@ -58,9 +59,9 @@ def tokens_of(script):
         yield token
 
 
-def pieces_of(script):
+def pieces_of(script: str) -> Iterator[list[Token]]:
     """The lists of tokens between semicolons, those without a token left out."""
-    piece = []
+    piece: list[Token] = []
     for token in tokens_of(script):
         if token != ("mark", ";"):
             piece.append(token)
@@ -71,7 +72,7 @@ def pieces_of(script):
         yield piece
 
 
-def depth_of(tokens):
+def depth_of(tokens: list[Token]) -> int:
     """The greatest depth of a walk: parentheses that are open, and each UNION or EXCEPT past the 1,024th."""
     depth = most = signs = 0
     for token in tokens:

@@ -1,42 +1,42 @@
 """Tables, rows and constraints: the updates and their refusals."""
-import csv
-import re
+from collections.abc import Callable, Iterable, Sequence
+from typing import Any
 
-from second_program.tokens import Refused
+from .tokens import Refused
 
 MOST = {"tables": 1024, "columns": 64, "constraints": 65536, "atoms": 16, "blocks": 64, "outputs": 1024, "rows": 2**24}
 MOST_OF_A_TEXT = 65535
-MOST_OF_A_FILE = 2**26
 MOST_OF_A_BOUND = 2**32 - 1
 INTEGERS = range(-(2**63), 2**63)
-csv.field_size_limit(2**30)
+Value = int | str
+Row = tuple[Value, ...]
 
 
-def limited(what, count):
+def limited(what: str, count: int) -> None:
     if count > MOST[what]:
         raise Refused(22, f"too many {what}, limit {MOST[what]}")
 
 
-def quoted(text):
+def quoted(text: str) -> str:
     return "'" + text.replace("'", "''") + "'"
 
 
-def shown(value):
+def shown(value: Value) -> str:
     return quoted(value) if isinstance(value, str) else str(value)
 
 
-def repeated(names):
+def repeated(names: Sequence[str]) -> str | None:
     """The first that stood before in the same list."""
     return next((name for place, name in enumerate(names) if name in names[:place]), None)
 
 
-def refuse_repeated(names):
+def refuse_repeated(names: Sequence[str]) -> None:
     name = repeated(names)
     if name is not None:
         raise Refused(7, f"duplicate name {name}")
 
 
-def bound_of(digits):
+def bound_of(digits: str) -> int:
     bound = int(digits)
     if not 1 <= bound <= MOST_OF_A_BOUND:
         raise Refused(10, f"limit {digits} not between 1 and {MOST_OF_A_BOUND}")
@@ -46,57 +46,59 @@ def bound_of(digits):
 class Table:
     """Its columns, each a name and a type, and its rows. The list of rows is never changed, but another one takes its place."""
 
-    def __init__(self, name, columns, rows=()):
+    def __init__(self, name: str, columns: list[tuple[str, type]], rows: Iterable[Row] = ()) -> None:
         self.name, self.columns, self.rows = name, columns, list(rows)
         self.names = [name for name, _ in columns]
 
-    def place_of(self, column):
+    def place_of(self, column: str) -> int:
         if column not in self.names:
             raise Refused(5, f"unknown column {column}")
         return self.names.index(column)
 
 
-def projected(row, columns):
+def projected(row: Row, columns: Iterable[int]) -> Row:
     return tuple(row[column] for column in columns)
 
 
 class Constraint:
     """Each key of a table comes with at most so many different values of the fetched columns."""
 
-    def __init__(self, name, table, key, fetched, bound):
+    def __init__(self, name: str, table: str, key: list[int], fetched: list[int], bound: int) -> None:
         self.name, self.table, self.key, self.fetched, self.bound = name, table, key, fetched, bound
         self.columns = key + fetched
 
-    def group(self, rows, key):
+    def group(self, rows: Iterable[Row], key: Row) -> set[Row]:
         """The projections of the rows that have a key."""
         return {projected(row, self.columns) for row in rows if projected(row, self.key) == key}
 
-    def groups(self, rows):
-        groups = {}
+    def groups(self, rows: Iterable[Row]) -> dict[Row, set[Row]]:
+        groups: dict[Row, set[Row]] = {}
         for row in rows:
             groups.setdefault(projected(row, self.key), set()).add(projected(row, self.columns))
         return groups
 
-    def greatest(self, rows):
+    def greatest(self, rows: Iterable[Row]) -> int:
         return max(map(len, self.groups(rows).values()), default=0)
 
 
 class Database:
-    def __init__(self):
-        self.tables, self.constraints, self.made = {}, [], 0
+    def __init__(self) -> None:
+        self.tables: dict[str, Table] = {}
+        self.constraints: list[Constraint] = []
+        self.made = 0
 
-    def copy(self):
+    def copy(self) -> "Database":
         other = Database()
         other.tables = {name: Table(name, table.columns, table.rows) for name, table in self.tables.items()}
         other.constraints, other.made = list(self.constraints), self.made
         return other
 
-    def table(self, name):
+    def table(self, name: str) -> Table:
         if name not in self.tables:
             raise Refused(4, f"unknown table {name}")
         return self.tables[name]
 
-    def create_table(self, name, columns):
+    def create_table(self, name: str, columns: list[tuple[str, type]]) -> None:
         if name in self.tables:
             raise Refused(3, f"table {name} exists")
         refuse_repeated([column for column, _ in columns])
@@ -104,7 +106,7 @@ class Database:
         limited("columns", len(columns))
         self.tables[name] = Table(name, columns)
 
-    def places(self, statement, name=None):
+    def places(self, statement: Any, name: str | None = None) -> list[list[int]]:
         """The columns of the key and of the fetched columns, where a constraint of this name may have them."""
         table = self.table(statement.table)
         places = [[table.place_of(column) for column in columns] for columns in (statement.key, statement.fetched)]
@@ -114,7 +116,7 @@ class Database:
         refuse_repeated(statement.fetched)
         return places
 
-    def create_access(self, spec):
+    def create_access(self, spec: Any) -> None:
         one = Constraint(spec.name, spec.table, *self.places(spec, spec.name), bound_of(spec.digits))
         limited("constraints", self.made + 1)
         greatest = one.greatest(self.tables[spec.table].rows)
@@ -123,12 +125,12 @@ class Database:
         self.constraints.append(one)
         self.made += 1
 
-    def drop_access(self, name):
+    def drop_access(self, name: str) -> None:
         if all(one.name != name for one in self.constraints):
             raise Refused(25, f"unknown constraint {name}")
         self.constraints = [one for one in self.constraints if one.name != name]
 
-    def insert(self, name, rows):
+    def insert(self, name: str, rows: list[Row]) -> None:
         """All rows, or none where one, after those before it, makes a constraint fail."""
         table = self.table(name)
         limited("rows", len(table.rows) + len(rows))
@@ -137,7 +139,7 @@ class Database:
             refuse_breaking(checks, number, row)
         table.rows = table.rows + rows
 
-    def delete(self, name, meets):
+    def delete(self, name: str, meets: Callable[[Row], bool]) -> int:
         """How many rows went."""
         table = self.table(name)
         kept = [row for row in table.rows if not meets(row)]
@@ -146,7 +148,7 @@ class Database:
         return gone
 
 
-def refuse_breaking(checks, number, row):
+def refuse_breaking(checks: list[tuple[Constraint, dict[Row, set[Row]]]], number: int, row: Row) -> None:
     """Puts a row into the groups of each constraint, of which the first that doesn't hold then is the refusal."""
     for one, groups in checks:
         key = projected(row, one.key)
@@ -154,54 +156,3 @@ def refuse_breaking(checks, number, row):
         group.add(projected(row, one.columns))
         if len(group) > one.bound:
             raise Refused(12, f"row {number} breaks {one.name} at key ({', '.join(map(shown, key))})")
-
-
-# ---- files
-
-
-def records_of(content):
-    """The records of a CSV file, their fields as bytes."""
-    content = content.removeprefix(b"\xef\xbb\xbf").decode("latin-1")
-    return [[field.encode("latin-1") for field in record] for record in csv.reader(lines_of(content)) if record]
-
-
-def lines_of(content):
-    """Lines with their ends, of which a carriage return by itself is one."""
-    return re.findall("[^\r\n]*(?:\r\n|\r|\n)|[^\r\n]+", content)
-
-
-def field_value(field, kind):
-    """The value of a field, or nothing where it isn't one of this type."""
-    if kind is int:
-        well = re.fullmatch(rb"[+-]?[0-9]+", field) and int(field) in INTEGERS
-        return int(field) if well else None
-    try:
-        return field.decode() if len(field) <= MOST_OF_A_TEXT else None
-    except UnicodeDecodeError:
-        return None
-
-
-def header_places(table, header):
-    """For each field of a header the column that it names."""
-    names = [bytes(field).lower() for field in header]
-    if sorted(names) != sorted(name.encode() for name in table.names):
-        raise Refused(18, "header mismatch")
-    return [table.names.index(name.decode()) for name in names]
-
-
-def rows_of(content, table):
-    """The rows of a file, or the first refusal."""
-    records = records_of(content)
-    places = header_places(table, records[0] if records else [])
-    return [row_of(number, record, places, table.columns) for number, record in enumerate(records[1:], 1)]
-
-
-def row_of(number, record, places, columns):
-    if len(record) != len(places):
-        raise Refused(17, f"record {number} has {len(record)} fields, {len(places)} wanted")
-    row = [None] * len(columns)
-    for field, place in zip(record, places):
-        row[place] = field_value(field, columns[place][1])
-        if row[place] is None:
-            raise Refused(16, f"record {number} column {columns[place][0]} bad field")
-    return tuple(row)

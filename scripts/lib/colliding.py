@@ -1,0 +1,80 @@
+"""Values whose hashes collide, by the fixed functions of hashing of the program and its library.
+
+A word is taken into the state by a folded multiplication: the two halves of the product are put together by exclusive or. So a second word
+can be found for each first one that leads to a state that was chosen. Where the program hashes otherwise, nothing collides."""
+from collections.abc import Iterator
+from itertools import count
+
+WORD = 2**64 - 1
+FACTOR, SEED = 0x9E3779B97F4A7C15, 0x243F6A8885A308D3
+# codes of values, which an index hashes, are above it
+OWN = 2**63
+CHOSEN = 0x0123456789ABCDEF
+LETTERS = b"abcdefghijklmnopqrstuvwxyz0123456789_"
+
+
+def folded(one: int, other: int) -> int:
+    product = (one & WORD) * (other & WORD)
+    return (product ^ product >> 64) & WORD
+
+
+def spelled(number: int, length: int, letters: bytes = LETTERS) -> bytes:
+    """A number's own text of so many letters."""
+    digits = []
+    for _ in range(length):
+        number, digit = divmod(number, len(letters))
+        digits.append(letters[digit])
+    return bytes(digits)
+
+
+def pairs_of_a_key(size: int) -> Iterator[tuple[int, int]]:
+    """Two integers that are a key of an index."""
+    state, found = folded(SEED ^ 2, FACTOR), 0
+    for first in count(1):
+        if found == size:
+            return
+        second = folded(state ^ (OWN + first), FACTOR) ^ CHOSEN
+        if second >= OWN:
+            found += 1
+            yield first, second - OWN
+
+
+def pairs_of_a_step(size: int) -> Iterator[tuple[int, int]]:
+    """Two integers that are the key of a query's second step."""
+    state, found = folded(1, FACTOR), 0
+    for first in count(1):
+        if found == size:
+            return
+        second = folded(state ^ first, FACTOR) ^ CHOSEN
+        if second < OWN:
+            found += 1
+            yield first, second
+
+
+def texts_of_32_bytes(size: int) -> Iterator[str]:
+    """Texts of ASCII signs alone, the third eight of which lead to a chosen state."""
+    tail, found, wanted = b"aaaaaaaa", 0, None
+    for number in count():
+        if found == size:
+            return
+        head = spelled(number, 16, LETTERS[:26])
+        first, second = int.from_bytes(head[:8], "little"), int.from_bytes(head[8:], "little")
+        state = folded(first ^ (SEED + 32), second ^ FACTOR)
+        wanted = state ^ CHOSEN & 0x7F7F7F7F7F7F7F7F if wanted is None else wanted
+        third = state ^ wanted
+        if third & 0x8080808080808080 == 0 and 0 not in (text := third.to_bytes(8, "little")):
+            found += 1
+            yield (head + text + tail).decode("ascii")
+
+
+def names_in_one_slot(size: int) -> Iterator[str]:
+    """Names whose hashes end alike, so that they share a slot of a table of their number."""
+    mask, found = (1 << (size.bit_length() - 1)) - 1, 0
+    for number in count():
+        if found == size:
+            return
+        name = b"q" + spelled(number, 7)
+        state = folded(folded(SEED ^ int.from_bytes(name, "little"), FACTOR ^ 16) ^ 0xFFFFFF, FACTOR ^ 2)
+        if (state ^ state >> 32) & mask == 7 & mask:
+            found += 1
+            yield name.decode("ascii")

@@ -1,0 +1,29 @@
+"""Where things stand in the repository, and the environment in which a program is measured."""
+import os
+import sys
+from pathlib import Path
+
+TOP = Path(__file__).resolve().parents[2]
+# folders of scripts with what is to be written for each
+CASES = TOP / "crates/session_cases/data/scripts"
+PROVED = TOP / "crates/beas_shell/out/beas_shell"
+LAUNCHED = TOP / "out/beas"
+# as the launcher asks: large pages, and freed blocks at hand for the next query
+TUNABLES = "glibc.malloc.hugetlb=1:glibc.malloc.tcache_count=500"
+
+
+def program_at_hand() -> str:
+    """The program that ./beas builds, and else what rt ci left."""
+    return str(LAUNCHED if LAUNCHED.exists() or not PROVED.exists() else PROVED)
+
+
+def start_in_large_pages() -> None:
+    """Starts this script once more in that environment, unless it is given: the C library reads it when a process starts."""
+    if "GLIBC_TUNABLES" not in os.environ:
+        os.environ["GLIBC_TUNABLES"] = TUNABLES
+        os.execv(sys.executable, [sys.executable, *sys.argv])
+
+
+def read(path: str | Path) -> str:
+    """A file of the repository; an odd byte of it is replaced."""
+    return (TOP / path).read_text(encoding="utf-8", errors="replace")

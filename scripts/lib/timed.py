@@ -1,0 +1,79 @@
+"""What statements take beyond those that prepare them, in beas and in SQLite, and what their files hold."""
+import random
+import resource
+import sqlite3
+import subprocess
+import sys
+import time
+from collections.abc import Iterable, Sequence
+from typing import Any, TypeVar
+
+from .place import TOP
+
+sys.path.insert(0, str(TOP / "examples"))
+from read_reports import reports_in
+
+MILLION = 1_000_000
+RUNS = 5
+EMPTY_KEY = "CREATE TABLE r (a INTEGER, b INTEGER); CREATE ACCESS all_rows ON r () FETCH (a, b) LIMIT 2000000;\n"
+SMALL_GROUPS = "CREATE TABLE r (a INTEGER, b INTEGER); CREATE ACCESS ab ON r (a) FETCH (b) LIMIT 100;\n"
+Kind = TypeVar("Kind")
+Row = tuple[Any, ...]
+# processor seconds, refused statements, and what SQLite took, where it does the same
+Timed = tuple[float, int] | tuple[float, int, float]
+
+
+def written(name: str, lines: Iterable[str]) -> None:
+    with open(name, "w", encoding="utf-8") as file:
+        file.writelines(lines)
+
+
+def rows_of(name: str, rows: Iterable[tuple[int, int]]) -> None:
+    written(name, ["a,b\n", *(f"{a},{b}\n" for a, b in rows)])
+
+
+def shuffled(items: Iterable[Kind]) -> list[Kind]:
+    mixed = list(items)
+    random.Random(1).shuffle(mixed)
+    return mixed
+
+
+def seconds_of(program: str, script: str) -> float:
+    """Processor seconds of a run. What it writes goes nowhere, as SQLite's rows are fetched and not written: a pipe and whoever reads it
+    would be measured too."""
+    before = resource.getrusage(resource.RUSAGE_CHILDREN)
+    subprocess.run([program, script], stdout=subprocess.DEVNULL, check=False)
+    after = resource.getrusage(resource.RUSAGE_CHILDREN)
+    return after.ru_utime + after.ru_stime - before.ru_utime - before.ru_stime
+
+
+def refusals_of(program: str, script: str) -> int:
+    """How many statements of a run were refused."""
+    out = subprocess.run([program, script], stdout=subprocess.PIPE, check=False).stdout
+    return sum(it.outcome == "refused" for it in reports_in(out.decode()))
+
+
+def beyond(program: str, prepared: list[str], script: list[str]) -> tuple[float, int]:
+    """Processor seconds of a script beyond those of its first part, each the best of its runs, and how many statements were refused."""
+    written("first.beas", prepared)
+    written("whole.beas", [*prepared, *script])
+    runs = [(seconds_of(program, "first.beas"), seconds_of(program, "whole.beas")) for _ in range(RUNS)]
+    return min(whole for _, whole in runs) - min(first for first, _ in runs), refusals_of(program, "whole.beas")
+
+
+def sqlite_seconds(tables: list[str], indexes: list[str], fill: list[tuple[str, Sequence[Row]]], queries: list[tuple[str, Row]]) -> float:
+    """Processor seconds that SQLite takes for queries, each a text with the values of its parameters, rows fetched."""
+    base = sqlite3.connect(":memory:")
+    for statement in tables:
+        base.execute(statement)
+    for statement, rows in fill:
+        base.executemany(statement, rows)
+    for statement in indexes:
+        base.execute(statement)
+    best = float("inf")
+    for _ in range(RUNS):
+        began = time.process_time()
+        for query, values in queries:
+            base.execute(query, values).fetchall()
+        best = min(best, time.process_time() - began)
+    return best
