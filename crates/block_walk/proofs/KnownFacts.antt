@@ -3,16 +3,17 @@
 --     hash_at known place             the hash of the entry at a place
 --     Searched known hash probe at    no entry at the places that were looked at is that of the probe, and `at` is the next place to look at
 --     places_left at                  a bound on the places that are left to look at
-use Rattle.std.proofs.Common.{◌≡◌, ◌<◌, ◌≤◌, ◌+◌, ◌*◌, ◌++◌, ◌∷◌, [], ℕ, zero, suc, Bool, List, Option, Some, None, length, inl, inr, take, drop, map, get_or, slice_index_or, refl, ap, sym, subst, ◌∙◌, arith}
+use Rattle.std.proofs.Common.{◌≡◌, ◌<◌, ◌≤◌, ◌+◌, ◌*◌, ◌++◌, ◌∷◌, [], ℕ, zero, suc, Bool, List, Option, Some, None, IfSome, length, inl, inr, take, drop, map, set, get_or, slice_index_or, refl, ap, sym, subst, ◌∙◌, arith}
 use Rattle.std.specs.Ordering.{eq_by_cmp, is_eq}
 use Rattle.std.specs.Bool.{Decides}
 use Rattle.std.specs.List.{All}
 use Rattle.std.specs.Cmp.Lexicographic.{pointwise}
-use Rattle.std.proofs.lemmas.Bool.{cases_lt}
+use Rattle.std.proofs.lemmas.Bool.{cases_eq, cases_lt}
 use Rattle.std.proofs.lemmas.Cmp.{tied_itself}
 use Rattle.std.proofs.lemmas.Slice.Eq.{slice_eq-Decides}
-use Rattle.std.proofs.lemmas.List.{append_assoc, drop-append-le, drop-drop, drop_at, get_or-map, get_or_default, length-append, length-drop, length-map, map-append, take-append-drop, take-append-le, take-take, take_all}
-use Rattle.std.proofs.lemmas.List.Elements.{All-head, All-tail, All-weaker, All-push}
+use Rattle.std.proofs.lemmas.List.{append_assoc, drop-append-le, drop-drop, drop_at, get_or-map, get_or_default, length-append, length-drop, length-map, map-append, take-append-drop, length-set, length_push, get_or_push, get_or_append_left, get_or-set_same, get_or-set_other, take-append-le, take-take, take_all}
+use Rattle.std.proofs.lemmas.List.Elements.{All-head, All-set, All-tail, All-weaker, All-push}
+use Rattle.std.proofs.Math.Seq.{map-set_same}
 use Rattle.beas_core.proofs.Sets.{Has, Contains-from_has}
 use Rattle.beas_core.specs.declared.value.Value.{Value}
 use Rattle.beas_core.specs.Hashing.{equal_from}
@@ -21,12 +22,13 @@ use Rattle.beas_core.specs.Telling.{value_cmp_tells}
 use Rattle.beas_core.specs.Types.{Row}
 use Rattle.plan_ops.specs.Fetched.{rows_in}
 use Rattle.plan_ops.proofs.FetchedFacts.{length-rows_in, row_at, row_within}
-use Rattle.block_walk.specs.Chains.{IsLast}
-use Rattle.block_walk.specs.Hashing.{hash_of}
+use Rattle.plan_ops.specs.Chains.{IsLast}
+use Rattle.plan_ops.specs.Hashing.{hash_of}
 use Rattle.block_walk.specs.Kept.{Entry, part}
-use Rattle.block_walk.specs.Entries.{IsKnown, IsSpot, entries_in, entry_at, entry_of, key_alone}
+use Rattle.block_walk.specs.Entries.{IsIndex, IsIndexed, IsKnown, IsSpot, entries_in, entry_at, entry_of, key_alone}
 use Rattle.block_walk.specs.declared.known.Known.{Known}
 use Rattle.block_walk.specs.declared.known.Spot.{Spot}
+use Rattle.block_walk.specs.declared.known.TupleIndex.{TupleIndex}
 
 -- ---- an entry and its spot
 
@@ -143,6 +145,7 @@ pub record Added (old : Known) (found : List Value) (key : Row) (s : Spot) (valu
   pub begin : All (λ tuple. take (length key) tuple ≡ key) (rows_in s.width s.count found)
   pub values_are : values ≡ (old.values.items ++ found) ++ key_alone s.count key
   pub spots_are : spots ≡ old.spots.items ++ s ∷ []
+  pub plain : s.index ≡ None
 
 module _ (old : Known) (is : IsKnown old) (found : List Value) (key : Row) (s : Spot) (values : List Value) (spots : List Spot)
     (added : Added old found key s values spots) where
@@ -191,8 +194,32 @@ module _ (old : Known) (is : IsKnown old) (found : List Value) (key : Row) (s : 
       (entries-append front alone old.spots.items (spots-append old.values.items found old.spots.items is.spots)
       ∙ entries-append old.values.items found old.spots.items is.spots)
 
-  pub known_added : (new : Known) → new.values.items ≡ values → new.spots.items ≡ spots → new.chains ≡ old.chains ++ hash_of s.step key ∷ [] → IsKnown new
-  known_added new v p h =
+  -- each index that was there stays, and the new entry has none
+  indexes_kept : (new : Known) → new.spots.items ≡ old.spots.items ++ s ∷ [] → (e : Entry) → entries_in new ≡ entries_in old ++ e ∷ []
+      → new.indexes.items ≡ old.indexes.items → (i : ℕ) (d : Spot) → i < length new.spots.items
+      → IfSome (get_or new.spots.items i d).index (IsIndexed (entry_of new i).1 new.indexes.items)
+  indexes_kept new p e entries same i d l = elim (cases_lt i (length old.spots.items)) [
+    | inl before ↦ (
+        let n = length-entries_in old in
+        let spot : get_or new.spots.items i d ≡ get_or old.spots.items i d =
+        ap (λ ss. get_or ss i d) p ∙ get_or_append_left old.spots.items (s ∷ []) d i before in
+        let entry : entry_of new i ≡ entry_of old i =
+        ap (λ es. get_or es i ((0, []), [])) entries ∙ get_or_append_left (entries_in old) (e ∷ []) ((0, []), []) i (omega (arith, before, n)) in
+        subst (λ t. IfSome t.index (IsIndexed (entry_of new i).1 new.indexes.items)) (sym spot)
+        (subst (λ (x : Entry). IfSome (get_or old.spots.items i d).index (IsIndexed x.1 new.indexes.items)) (sym entry)
+        (subst (λ xs. IfSome (get_or old.spots.items i d).index (IsIndexed (entry_of old i).1 xs)) (sym same) (is.indexes i d before))))
+    | inr past ↦ (
+        let n = ap length p in
+        let m = length_push old.spots.items s in
+        let spot : get_or new.spots.items i d ≡ s =
+        ap (λ ss. get_or ss i d) p ∙ get_or_push old.spots.items s d i (omega (arith, l, past, n, m)) in
+        subst (λ t. IfSome t.index (IsIndexed (entry_of new i).1 new.indexes.items)) (sym spot)
+        (subst (λ o. IfSome o (IsIndexed (entry_of new i).1 new.indexes.items)) (sym added.plain) tt))
+  ]
+
+  pub known_added : (new : Known) → new.values.items ≡ values → new.spots.items ≡ spots → new.chains ≡ old.chains ++ hash_of s.step key ∷ []
+      → new.indexes.items ≡ old.indexes.items → IsKnown new
+  known_added new v p h x =
       let hash : Entry → ℕ = λ e. hash_of e.0.0 e.0.1 in
       let added_entry : Entry = ((s.step, key), rows_in s.width s.count found) in
       let entries : entries_in new ≡ entries_in old ++ added_entry ∷ [] =
@@ -201,7 +228,83 @@ module _ (old : Known) (is : IsKnown old) (found : List Value) (key : Row) (s : 
         spots = subst (λ vs. All (IsSpot vs) new.spots.items) (sym (v ∙ added.values_are))
             (subst (All (IsSpot (front ++ alone))) (sym (p ∙ added.spots_are)) spots_added);
         hashes = h ∙ ap (λ hs. hs ++ hash_of s.step key ∷ []) is.hashes ∙ sym (ap (map hash) entries ∙ map-append hash (entries_in old) (added_entry ∷ []));
+        indexes = indexes_kept new (p ∙ added.spots_are) added_entry entries x;
       }
+
+-- ---- an entry gets an index
+
+module _ (old : Known) (is : IsKnown old) (place : ℕ) (l : place < length (entries_in old)) (s t : Spot) (was : s ≡ get_or old.spots.items place s)
+    (index : TupleIndex) (good : IsIndex (entry_of old place).1 index) (t_is : t ≡ record s { index = Some (length old.indexes.items) })
+    (new : Known) (values : new.values.items ≡ old.values.items) (spots : new.spots.items ≡ set old.spots.items place t) (chains : new.chains ≡ old.chains)
+    (indexes : new.indexes.items ≡ old.indexes.items ++ index ∷ []) where
+  there : place < length old.spots.items
+  there = let n = length-entries_in old in omega (arith, l, n)
+
+  -- an entry doesn't depend on its index
+  same_entry : entry_at old.values.items t ≡ entry_at old.values.items (get_or old.spots.items place s)
+  same_entry = ap (entry_at old.values.items) t_is ∙ ap (entry_at old.values.items) was
+
+  pub same_entries : entries_in new ≡ entries_in old
+  same_entries = ap (λ vs. map (entry_at vs) new.spots.items) values ∙ ap (map (entry_at old.values.items)) spots
+      ∙ map-set_same (entry_at old.values.items) old.spots.items place t s same_entry
+
+  spot_stays : IsSpot old.values.items t
+  spot_stays =
+      let spot : IsSpot old.values.items s = subst (IsSpot old.values.items) (sym was) (is.spots place s there) in
+      subst (IsSpot old.values.items) (sym t_is) (record { key = spot.key; tuples = spot.tuples })
+
+  longer : (tuples : List Row) (k : ℕ) → IsIndexed tuples old.indexes.items k → IsIndexed tuples new.indexes.items k
+  longer tuples k at =
+      let n = length_push old.indexes.items index in
+      let b = at.there in
+      subst (λ xs. IsIndexed tuples xs k) (sym indexes) (record {
+        there = omega (arith, b, n);
+        is = λ d. subst (IsIndex tuples) (sym (get_or_append_left old.indexes.items (index ∷ []) d k b)) (at.is d);
+      })
+
+  all_longer : (tuples : List Row) (o : Option ℕ) → IfSome o (IsIndexed tuples old.indexes.items) → IfSome o (IsIndexed tuples new.indexes.items)
+  all_longer tuples None h = h
+  all_longer tuples (Some k) h = longer tuples k h
+
+  indexes_stay : (i : ℕ) (d : Spot) → i < length new.spots.items
+      → IfSome (get_or new.spots.items i d).index (IsIndexed (entry_of new i).1 new.indexes.items)
+  indexes_stay i d m =
+      let n = ap length spots ∙ length-set old.spots.items place t in
+      subst (λ (es : List Entry). IfSome (get_or new.spots.items i d).index (IsIndexed (get_or es i ((0, []), [])).1 new.indexes.items)) (sym same_entries)
+      (elim (cases_eq i place) [
+        | inl e ↦ (
+            let spot : get_or new.spots.items i d ≡ record s { index = Some (length old.indexes.items) } =
+            ap (λ ss. get_or ss i d) spots ∙ ap (λ j. get_or (set old.spots.items place t) j d) e
+            ∙ get_or-set_same old.spots.items place t d there ∙ t_is in
+            let many = length_push old.indexes.items index in
+            subst (λ (x : Spot). IfSome x.index (IsIndexed (entry_of old i).1 new.indexes.items)) (sym spot)
+            (subst (λ xs. IsIndexed (entry_of old i).1 xs (length old.indexes.items)) (sym indexes) (record {
+              there = omega (arith, many);
+              is = λ x. subst (IsIndex (entry_of old i).1) (sym (get_or_push old.indexes.items index x (length old.indexes.items) refl))
+                  (subst (λ j. IsIndex (entry_of old j).1 index) (sym e) good);
+            })))
+        | inr ne ↦ (
+            let spot : get_or new.spots.items i d ≡ get_or old.spots.items i d =
+            ap (λ ss. get_or ss i d) spots ∙ get_or-set_other old.spots.items place i t d ne in
+            subst (λ (x : Spot). IfSome x.index (IsIndexed (entry_of old i).1 new.indexes.items)) (sym spot)
+            (all_longer (entry_of old i).1 (get_or old.spots.items i d).index (is.indexes i d (omega (arith, m, n)))))
+      ])
+
+  pub known_indexed : IsKnown new
+  known_indexed = record {
+    spots = subst (λ vs. All (IsSpot vs) new.spots.items) (sym values)
+        (subst (All (IsSpot old.values.items)) (sym spots) (All-set (IsSpot old.values.items) old.spots.items place t spot_stays is.spots));
+    hashes = chains ∙ is.hashes ∙ ap (map (λ (e : Entry). hash_of e.0.0 e.0.1)) (sym same_entries);
+    indexes = indexes_stay;
+  }
+
+-- the hashes that the index of an entry has, where it is at these places
+pub index_read : (known : Known) → IsKnown known → (place : ℕ) (s : Spot) → place < length (entries_in known) → s ≡ get_or known.spots.items place s
+    → (k : ℕ) → s.index ≡ Some k → IsIndexed (entry_of known place).1 known.indexes.items k
+index_read known is place s l was k e =
+    let n = length-entries_in known in
+    subst (λ o. IfSome o (IsIndexed (entry_of known place).1 known.indexes.items)) e
+    (subst (λ (x : Spot). IfSome x.index (IsIndexed (entry_of known place).1 known.indexes.items)) (sym was) (is.indexes place s (omega (arith, l, n))))
 
 -- ---- equal values
 

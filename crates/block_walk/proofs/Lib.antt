@@ -2,6 +2,7 @@ mod ChildFacts
 pub mod DescentFacts
 mod DueFacts
 mod FindFacts
+mod FittingFacts
 mod KnownFacts
 pub mod LoopFacts
 mod OrderFacts
@@ -13,5 +14,3 @@ pub mod SumFacts
 mod VisitFacts
 mod WalkFacts
 mod WorldFacts
-pub mod Linking
-pub mod Search

@@ -1,12 +1,9 @@
 pub mod Descents
 pub mod Entries
 pub mod Finding
-pub mod Hashing
 pub mod Kept
 pub mod Routes
 pub mod Stacks
 pub mod Turns
 pub mod Walks
 pub mod Worlds
-pub mod Buckets
-pub mod Chains

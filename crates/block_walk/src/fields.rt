@@ -18,6 +18,7 @@ pub fn walk_fields(walk: &Walk) {
         values: _values,
         spots: _spots,
         chains: _chains,
+        indexes: _indexes,
     } = known;
     let Stack {
         values: _left,

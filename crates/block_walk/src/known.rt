@@ -5,14 +5,13 @@ ghost use Rattle.beas_core.specs.Groups.{group_of, member_columns};
 ghost use Rattle.beas_core.specs.Reads.{probe_reads};
 ghost use Rattle.beas_core.proofs.Sets.{Has};
 ghost use Rattle.block_walk.specs.Kept.{Entry};
-ghost use Rattle.block_walk.specs.Entries.{IsKnown, entries_in, entry_of, key_alone};
-ghost use Rattle.block_walk.specs.Hashing.{hash_of, word_of};
+ghost use Rattle.block_walk.specs.Entries.{IsIndex, IsKnown, entries_in, entry_of, key_alone};
+ghost use Rattle.plan_ops.specs.Hashing.{hash_of};
+ghost use Rattle.plan_ops.specs.Matching.{hashes_back};
 
-use crate::chains::PlaceChains;
-use beas_core::{AccessId, AccessPort, ColumnId, NoMemory, Steps, Value, mixed};
-use plan_ops::fetch;
+use beas_core::{AccessId, AccessPort, ColumnId, NoMemory, Steps, Value};
+use plan_ops::{PlaceChains, fetch, hash_at};
 use std::alloc::Global;
-use std::hash::{FoldHasher, Hash, Hasher};
 use std::sync::ledger::Ledger;
 
 /// Where the values of an entry stand: its tuples one after another from a place on. Each begins with the key; where there is
@@ -24,6 +23,16 @@ pub struct Spot {
     pub width: usize,
     pub count: usize,
     pub key_width: usize,
+    /// Which of the indexes is that of its tuples, if they have one.
+    pub index: Option<usize>,
+}
+
+/// The hashes of an entry's tuples at some places, from the last tuple to the first: so a chain of them is read in the order of the
+/// tuples.
+#[derive(Drop)]
+pub struct TupleIndex {
+    pub places: Vec<usize>,
+    pub hashes: PlaceChains,
 }
 
 /// What the probes of a walk found, each with its step and key, in the order in which they were made. A step and a key are found
@@ -35,6 +44,7 @@ pub struct Known {
     pub spots: Vec<Spot>,
     /// The hash of each entry's step and key.
     pub chains: PlaceChains,
+    pub indexes: Vec<TupleIndex>,
 }
 
 // For so many values and entries there is room from the start, so that a small query's walk seldom moves them.
@@ -42,31 +52,8 @@ const VALUES: usize = 96;
 
 const ENTRIES: usize = 24;
 
-// The word that stands for a value.
-fn word_of(value: &Value) -> u64
-    ensures { result ≡ word_of value.now }
-{
-    match value {
-        Value::Int(number) => number.cast_unsigned(),
-        Value::Str(text) => {
-            let mut hasher = FoldHasher::default();
-            text.hash(&mut hasher);
-            hasher.finish()
-        }
-    }
-}
-
-/// The hash of a step and a key.
-pub fn hash_of(step: usize, key: &[Value]) -> u64
-    ensures { result ≡ hash_of step key.now }
-{
-    // The step is mixed in first, so that equal numbers of different steps have hashes of their own.
-    let mut hash = mixed(step as u64, 0);
-    for value in key {
-        hash = mixed(hash, word_of(value));
-    }
-    hash
-}
+// Fewer tuples are soon read one after another.
+const MANY: usize = 32;
 
 // Empties a key. Its values are kept where it found nothing, behind those that were kept; tuples that it found begin with them.
 #[inline(always)]
@@ -92,6 +79,7 @@ impl Known {
             values: Vec::with_capacity(alloc, VALUES)?,
             spots: Vec::with_capacity(alloc, ENTRIES)?,
             chains: PlaceChains::new(alloc),
+            indexes: Vec::new(alloc),
         })
     }
 
@@ -144,6 +132,90 @@ impl Known {
         &self.values[from..from + spot.width]
     }
 
+    // The hashes of an entry's tuples at some places, from the last tuple to the first.
+    fn hashes_of(
+        &self,
+        alloc: Global,
+        place: usize,
+        places: &[usize],
+    ) -> Result<PlaceChains, NoMemory>
+        requires known { IsKnown self.now }
+        requires place { place < length (entries_in self.now) }
+        ensures { IfOk result (λ hashes. hashes ≡ hashes_back places.now (entry_of self.now place).1) }
+    {
+        let mut hashes = PlaceChains::new(alloc);
+        let count = self.count(place);
+        for i in 0..count {
+            let tuple = self.tuple(place, count - 1 - i);
+            hashes.push(alloc, hash_at(places, tuple))?;
+        }
+        Ok(hashes)
+    }
+
+    // The index of an entry's tuples at some places.
+    fn index_of(
+        &self,
+        alloc: Global,
+        place: usize,
+        places: &[usize],
+    ) -> Result<TupleIndex, NoMemory>
+        requires known { IsKnown self.now }
+        requires place { place < length (entries_in self.now) }
+        ensures { IfOk result (IsIndex (entry_of self.now place).1) }
+    {
+        let hashes = self.hashes_of(alloc, place, places)?;
+        let places = places.to_vec(alloc)?;
+        Ok(TupleIndex { places, hashes })
+    }
+
+    // Makes the index of an entry's tuples at some places.
+    fn make_index(&mut self, alloc: Global, place: usize, places: &[usize]) -> Result<(), NoMemory>
+        requires known { IsKnown self.old }
+        requires place { place < length (entries_in self.old) }
+        ensures known { OnOk result (IsKnown self.new) }
+        ensures entries { OnOk result (entries_in self.new ≡ entries_in self.old) }
+    {
+        let index = self.index_of(alloc, place, places)?;
+        let at = self.indexes.len();
+        self.indexes.push(index)?;
+        self.spots[place].index = Some(at);
+        Ok(())
+    }
+
+    /// Makes an index of an entry's tuples at some places, if there are places, the tuples are many and have none.
+    #[inline(always)]
+    pub fn index(&mut self, alloc: Global, place: usize, places: &[usize]) -> Result<(), NoMemory>
+        requires known { IsKnown self.old }
+        requires place { place < length (entries_in self.old) }
+        ensures known { OnOk result (IsKnown self.new) }
+        ensures entries { OnOk result (entries_in self.new ≡ entries_in self.old) }
+    {
+        if places.is_empty() {
+            return Ok(());
+        }
+        let spot = self.spots[place];
+        if spot.count < MANY || spot.index.is_some() {
+            return Ok(());
+        }
+        self.make_index(alloc, place, places)
+    }
+
+    /// The hashes of an entry's tuples at some places, from the last tuple to the first, if there is an index of these places.
+    #[inline(always)]
+    pub fn hashes(&self, place: usize, places: &[usize]) -> Option<&PlaceChains>
+        requires known { IsKnown self.now }
+        requires place { place < length (entries_in self.now) }
+        ensures { IfSome result (λ hashes. hashes.now ≡ hashes_back places.now (entry_of self.now place).1) }
+    {
+        let at = self.spots[place].index?;
+        let index = &self.indexes[at];
+        if index.places.as_slice() == places {
+            Some(&index.hashes)
+        } else {
+            None
+        }
+    }
+
     /// Probes a key, whose hash with the step is given, and keeps what it finds, as the last entry. No value is left in `key`. It
     /// counts the greater of 1 and the number of the tuples, out of memory too. Where a piece of memory is full all that was kept
     /// may move.
@@ -183,6 +255,7 @@ impl Known {
             width: columns.len(),
             count,
             key_width,
+            index: None,
         })?;
         self.chains.push(alloc, hash)?;
         Ok(place)

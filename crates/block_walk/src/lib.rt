@@ -1,11 +1,9 @@
 //! The walk of one block through its derivation, depth first, one probe a turn.
 #![tactic(auto)]
 
-mod chains;
 mod fields;
 mod known;
 mod laws;
-mod links;
 mod stack;
 mod walking;
 

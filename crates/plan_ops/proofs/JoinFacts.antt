@@ -106,7 +106,7 @@ module _ (normal : Normal) (ranges : ClassesInRange normal) (u : Use) (classes :
   known = length classes + length u.access.key
 
   check_from : (k : ℕ) (d : ℕ × ℕ) → k < length (checks_of known joined)
-      → (i : ℕ) × (i < length joined) × (get_or (checks_of known joined) k d ≡ (i, place_of joined (get_or joined i 0)))
+      → (i : ℕ) × (known ≤ i) × (i < length joined) × (get_or (checks_of known joined) k d ≡ (i, place_of joined (get_or joined i 0)))
   check_from k d l =
       let pair : ℕ → ℕ × ℕ = λ i. (i, place_of joined (get_or joined i 0)) in
       let f = Has-from_filter (λ (c : ℕ × ℕ). not (c.0 == c.1)) (map pair (range_with_len known (length joined - known))) (get_or (checks_of known joined) k d)
@@ -114,15 +114,23 @@ module _ (normal : Normal) (ranges : ClassesInRange normal) (u : Use) (classes :
       let m = Has-from_map pair (range_with_len known (length joined - known)) (get_or (checks_of known joined) k d) f.0 in
       let r = from_range (length joined - known) known m.0 m.1 in
       let a = range_least (length joined - known) known m.0 m.1 in
-      (m.0, omega (arith, r, a), m.2)
+      (m.0, a, omega (arith, r, a), m.2)
+
+  -- the first place of a check is a tuple's
+  pub left_behind : All (λ c. length classes ≤ c.0) (checks_of (length classes + length u.access.key) (joined_classes normal u classes))
+  left_behind k d l =
+      let r = check_from k d l in
+      let i = r.1 in
+      let e = ap (λ (c : ℕ × ℕ). c.0) r.3 in
+      omega (arith, i, e)
 
   pub left_within : All (λ c. c.0 < length classes + length (member_columns u.access)) (checks_of (length classes + length u.access.key)
       (joined_classes normal u classes))
   left_within k d l =
       let r = check_from k d l in
       let n = joined_length in
-      let i = r.1 in
-      let e = ap (λ (c : ℕ × ℕ). c.0) r.2 in
+      let i = r.2 in
+      let e = ap (λ (c : ℕ × ℕ). c.0) r.3 in
       omega (arith, n, i, e)
 
   pub right_within : All (λ c. c.1 < length classes + length (member_columns u.access)) (checks_of (length classes + length u.access.key)
@@ -130,8 +138,8 @@ module _ (normal : Normal) (ranges : ClassesInRange normal) (u : Use) (classes :
   right_within k d l =
       let r = check_from k d l in
       let n = joined_length in
-      let p = place-in joined (get_or joined r.0 0) (Has-get_or joined r.0 0 r.1) in
-      let e = ap (λ (c : ℕ × ℕ). c.1) r.2 in
+      let p = place-in joined (get_or joined r.0 0) (Has-get_or joined r.0 0 r.2) in
+      let e = ap (λ (c : ℕ × ℕ). c.1) r.3 in
       omega (arith, n, p, e)
 
   pub is_within : (join : Join) → join.sources.items ≡ map (place_of (joined_classes normal u classes)) (classes_in (set_of normal (joined_classes

@@ -21,15 +21,18 @@ use Rattle.beas_core.specs.Valuations.{agrees, as_bindings, classes_in, comparis
 use Rattle.beas_core.proofs.Sets.{Has, Contains-from_has}
 use Rattle.evaluation_facts.specs.Extensions.{meets_bound}
 use Rattle.evaluation_facts.proofs.ClassSetFacts.{length-with}
+use Rattle.evaluation_facts.proofs.MemberTests.{and_left}
 use Rattle.evaluation_facts.proofs.UseFacts.{same_number}
 use Rattle.plan_ops.specs.declared.joining.Join.{Join}
 use Rattle.plan_ops.specs.declared.stages.Stage.{Stage}
 use Rattle.plan_ops.specs.Joins.{IsJoin, IsTuple, IsWithin, at_place, fits_by, joined_by, joined_classes}
+use Rattle.plan_ops.specs.Matching.{hash_at}
 use Rattle.plan_ops.specs.Over.{set_of}
 use Rattle.plan_ops.specs.Places.{place_of}
 use Rattle.plan_ops.specs.Stages.{key_by, bound_with, joined_bindings, joined_row, leads_to, use_at, set_before, IsStage, IsPair}
 use Rattle.plan_ops.proofs.BoundSets.{counted, set_again}
 use Rattle.plan_ops.proofs.ExtendFacts.{fits_are, rows_are}
+use Rattle.plan_ops.proofs.MatchFacts.{shared_agree}
 use Rattle.plan_ops.proofs.MeetFacts.{fixed_side, left_open, pair_side, picked_values, right_open}
 use Rattle.plan_ops.proofs.ProbeFacts.{group_tuples, group_begins}
 
@@ -166,6 +169,11 @@ module _ (normal : Normal) (stage : Stage) (is : IsStage normal stage) where
     pub led : fits_by stage.join.checks.items v t ≡ true
         → meets_bound normal (set_of normal stage.join.classes) (joined_by stage.join.sources.items v t) ≡ leads_to normal u set v t
     led e = pair_met ∙ ap (λ b. b && meets_bound normal after (joined_row normal u set v t)) (sym e ∙ pair_joined.0)
+
+    -- the values that a tuple shares with the valuation, where it leads on
+    pub pair_shares : leads_to normal u set v t ≡ true → hash_at stage.join.shared.tuple.items t ≡ hash_at stage.join.shared.row.items v
+    pair_shares e = shared_agree stage.join.checks.items stage.join.shared (length stage.from.value) is.join_is.shared_are is.join_is.behind v t pair.wide
+        (pair_joined.0 ∙ and_left (agrees (joined_bindings normal u set v t)) (meets_bound normal after (joined_row normal u set v t)) e)
 
     pub output_made : project stage.picked.1 (joined_by stage.join.sources.items v t) ≡ output_row normal after (joined_row normal u set v t)
     output_made =

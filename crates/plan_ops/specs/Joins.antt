@@ -6,7 +6,7 @@
 --     fits_by checks row tuple        the joined row has equal values at each of these pairs of places
 --     joins ..                        the rows that a valuation joins with some tuples
 --     checks_of known classes         each place from `known` on whose class stands at an earlier place too, with that first place
-use Rattle.std.specs.Prelude.{◌≡◌, ◌==◌, ◌<◌, ◌+◌, ◌++◌, ℕ, pos, Bool, not, List, length, map, filter, slice_index_or, IsTrue, All, ◌-◌}
+use Rattle.std.specs.Prelude.{◌≡◌, ◌==◌, ◌<◌, ◌≤◌, ◌+◌, ◌++◌, ℕ, pos, Bool, not, List, length, map, filter, slice_index_or, IsTrue, All, ◌-◌}
 use Rattle.std.specs.List.{list_all, range_with_len}
 use Rattle.beas_core.specs.declared.value.Value.{Value}
 use Rattle.beas_core.specs.declared.value.Value.TheVariants.{Int}
@@ -22,6 +22,7 @@ use Rattle.beas_core.specs.Coverage.{with_classes}
 use Rattle.beas_core.specs.Derivations.{access_in, is_live, member_classes}
 use Rattle.beas_core.specs.Valuations.{classes_in}
 use Rattle.plan_ops.specs.declared.joining.Join.{Join}
+use Rattle.plan_ops.specs.Matching.{IsShared}
 use Rattle.plan_ops.specs.Over.{set_of}
 use Rattle.plan_ops.specs.Places.{place_of}
 
@@ -77,3 +78,5 @@ pub record IsJoin (normal : Normal) (u : Use) (classes : List ℕ) (join : Join)
   pub sources_are : join.sources.items ≡ map (place_of (joined_classes normal u classes)) join.classes
   pub checks_are : join.checks.items ≡ checks_of (length classes + length u.access.key) (joined_classes normal u classes)
   pub within : IsWithin (length classes + length (member_columns u.access)) join
+  pub behind : All (λ c. length classes ≤ c.0) join.checks.items
+  pub shared_are : IsShared (length classes) join.checks.items join.shared

@@ -1,7 +1,11 @@
 pub mod Asked
+pub mod Buckets
+pub mod Chains
 pub mod Fetched
+pub mod Hashing
 pub mod Held
 pub mod Joins
+pub mod Matching
 pub mod Merging
 pub mod Over
 pub mod Places

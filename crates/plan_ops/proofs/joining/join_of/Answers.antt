@@ -1,14 +1,15 @@
 use Rattle.std.proofs.lemmas.List.{length-append}
 use Rattle.std.specs.List.{filter}
-use Rattle.std.proofs.Common.{ltb, ◌≡◌, ◌-◌, ◌<◌, ◌++◌, ◌∙◌, false, ap, sym, subst, map, replicate, All, ◌+◌, length, arith}
+use Rattle.std.proofs.Common.{ltb, ◌≡◌, ◌-◌, ◌<◌, ◌≤◌, ◌++◌, ◌∙◌, false, ap, sym, subst, map, replicate, All, ◌+◌, length, arith}
 use Rattle.beas_core.specs.Types.{Use}
 use Rattle.beas_core.specs.Coverage.{class_at}
 use Rattle.beas_core.specs.Derivations.{member_classes}
 use Rattle.beas_core.specs.Valuations.{classes_in}
 use Rattle.plan_ops.specs.Joins.{checks_of, joined_classes}
+use Rattle.plan_ops.specs.Matching.{IsShared}
 use Rattle.plan_ops.specs.Over.{set_of}
 use Rattle.plan_ops.specs.Places.{place_of, places_in}
-use Rattle.plan_ops.proofs.JoinFacts.{joined_length, joined_small, is_within, with-append}
+use Rattle.plan_ops.proofs.JoinFacts.{joined_length, joined_small, is_within, left_behind, with-append}
 use Rattle.plan_ops.proofs.TableFacts.{places_of_classes}
 use Rattle.plan_ops.proofs.joining.join_of.Goals as goal
 
@@ -25,6 +26,22 @@ checks_of-requires-clause-classes c =
     let is = c.with_columns-joined.ensures
     ∙ ap (λ cs. c.args.classes.now ++ map (class_at c.args.block.now c.args.atom) cs) (c.deref.ensures.value ∙ c.in_ok-columns.ensures) in
     subst (All (λ class. class < c.args.block.now.count)) (sym is) (joined_small c.args.block.now c.requires.ranges u c.args.classes.now c.requires.classes)
+
+pub shared_of-requires : goal.shared_of-requires
+shared_of-requires c =
+    let u : Use = record { atom = c.args.atom; access = c.args.access.now } in
+    let normal = c.args.block.now in
+    let is = c.with_columns-joined.ensures
+    ∙ ap (λ cs. c.args.classes.now ++ map (class_at c.args.block.now c.args.atom) cs) (c.deref.ensures.value ∙ c.in_ok-columns.ensures) in
+    let width = c.len-width.ensures ∙ ap length is in
+    let whole = joined_length normal c.requires.ranges u c.args.classes.now c.requires.classes in
+    let parts = length-append c.args.access.now.key c.args.access.now.fetched in
+    let known : c.len-width.result - c.len.result ≡ length c.args.classes.now + length c.args.access.now.key =
+    omega (arith, whole, parts, width, c.len.ensures) in
+    let checks = c.in_ok-checks.ensures ∙ ap (λ n. checks_of n c.with_columns-joined.result) known
+    ∙ ap (checks_of (length c.args.classes.now + length c.args.access.now.key)) is in
+    subst (All (λ k. length c.args.classes.now ≤ k.0)) (sym (c.deref-3.ensures.value ∙ checks))
+    (left_behind normal c.requires.ranges u c.args.classes.now c.requires.classes)
 
 pub classes_of-requires-clause-classes : goal.classes_of-requires-clause-classes
 classes_of-requires-clause-classes c =
@@ -58,4 +75,7 @@ returns c =
       sources_are = sources ∙ ap (map (place_of joined)) (sym classes);
       checks_are = checks;
       within = is_within normal c.requires.ranges u c.args.classes.now c.requires.classes _ sources checks;
+      behind = subst (All (λ k. length c.args.classes.now ≤ k.0)) (sym checks)
+          (left_behind normal c.requires.ranges u c.args.classes.now c.requires.classes);
+      shared_are = subst (λ ks. IsShared (length c.args.classes.now) ks c.in_ok-shared.shared) c.deref-3.ensures.value c.in_ok-shared.ensures;
     }

@@ -1,4 +1,4 @@
-use Rattle.std.proofs.Common.{◌≡◌, ◌∙◌, ◌++◌, ◌∷◌, [], All, length, take, drop, arith, ap, refl, sym, subst}
+use Rattle.std.proofs.Common.{◌≡◌, ◌∙◌, ◌++◌, ◌∷◌, [], None, All, length, take, drop, arith, ap, refl, sym, subst}
 use Rattle.std.proofs.lemmas.List.{length-append, length-drop}
 use Rattle.std.proofs.lemmas.Grind.{common_steps}
 use Rattle.beas_core.specs.Derivations.{access_in}
@@ -17,6 +17,7 @@ spot_of g c = record {
   width = length c.args.columns.now;
   count = c.in_ok-count.count;
   key_width = c.len-key_width.result;
+  index = None;
 }
 
 added : (g : Given.Over) (c : goal.In_ok-push-2 g)
@@ -39,6 +40,7 @@ added g c =
       values_are = values_behind old fetched (key_alone c.in_ok-count.count c.args.key.now.items) c.keep_key.new.values.items
           c.in_ok-count.ensures.front c.in_ok-keep_key.ensures.values;
       spots_are = c.in_ok-push.ensures.items;
+      plain = refl;
     }
 
 pub returns-clause-known : goal.returns-clause-known
@@ -47,8 +49,8 @@ returns-clause-known g c =
     let found = drop (length known.values.items) c.fetch.new.values.items in
     let key = c.args.key.now.items in
     known_added known c.requires.known found key (spot_of g c) c.keep_key.new.values.items c.push.new.self.items (added g c)
-    (record { values = c.keep_key.new.values; spots = c.push.new.self; chains = c.push-2.new.self }) refl refl
-    (c.in_ok-push-2.ensures.ok ∙ ap (λ h. known.chains ++ h ∷ []) c.requires.hash)
+    (record { values = c.keep_key.new.values; spots = c.push.new.self; chains = c.push-2.new.self; indexes = c.args.self.now.indexes }) refl refl
+    (c.in_ok-push-2.ensures.ok ∙ ap (λ h. known.chains ++ h ∷ []) c.requires.hash) refl
 
 pub returns-clause-entries : goal.returns-clause-entries
 returns-clause-entries g c =

@@ -1,4 +1,4 @@
-use Rattle.block_walk.specs.Hashing.{hash_of}
+use Rattle.plan_ops.specs.Hashing.{hash_of}
 use Rattle.block_walk.proofs.KnownFacts.{Searched, places_left}
 use Rattle.block_walk.proofs.known.Known.find.Given as goal
 

@@ -1,0 +1,18 @@
+use Rattle.std.proofs.Common.{◌≡◌, ◌==◌, ◌∙◌, ap, sym, Some}
+use Rattle.std.proofs.lemmas.Bool.Decides.{Decides-eqb}
+use Rattle.std.proofs.lemmas.Slice.Eq.{slice_eq-Decides}
+use Rattle.plan_ops.specs.Matching.{hashes_back}
+use Rattle.block_walk.specs.declared.known.TupleIndex.{TupleIndex}
+use Rattle.block_walk.specs.Entries.{entry_of}
+use Rattle.block_walk.proofs.KnownFacts.{index_read}
+use Rattle.block_walk.proofs.known.Known.hashes.Goals as goal
+
+pub returns-then-eq : goal.returns-then-eq
+returns-then-eq c =
+    let known = c.args.self.now in
+    let tuples = (entry_of known c.args.place).1 in
+    let s = c.index.result.now in
+    let index = c.index-index.result.now in
+    let indexed = index_read known c.requires.known c.args.place s c.requires.place c.index.ensures c.in_ok-at.at c.in_ok-at.was in
+    let same = slice_eq-Decides {E = ◌==◌} Decides-eqb c.as_slice.result.now c.args.places.now c.eq.result c.eq.ensures in
+    ap (λ (i : TupleIndex). i.hashes) c.index-index.ensures ∙ indexed.is index ∙ ap (λ ps. hashes_back ps tuples) (ap (λ (i : TupleIndex). i.places.items) (sym c.index-index.ensures) ∙ sym c.as_slice.ensures.value ∙ same.0 c.if-eq.true)

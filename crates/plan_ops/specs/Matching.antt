@@ -1,0 +1,27 @@
+-- How the tuples that fit a valuation are found by the values that they share.
+--     values_at places row            the row's values at these places
+--     hash_at places row              the hash of these values
+--     hashes_back places tuples       the hash of each tuple, from the last one to the first
+--     shared_in width checks          the checks that compare a tuple with a valuation of this width, and not with itself
+--     IsShared width checks shared    the places of these checks in the valuation, and those in the tuple
+use Rattle.std.specs.Prelude.{◌≡◌, ◌-◌, ℕ, pos, List, map, filter, reverse, nat_lt, slice_index_or}
+use Rattle.beas_core.specs.declared.value.Value.TheVariants.{Int}
+use Rattle.beas_core.specs.Types.{Row}
+use Rattle.plan_ops.specs.declared.joining.Shared.{Shared}
+use Rattle.plan_ops.specs.Hashing.{hash_of}
+
+abbrev pub values_at : List ℕ → Row → Row
+values_at places row = map (λ place. slice_index_or row place (Int (pos 0))) places
+
+abbrev pub hash_at : List ℕ → Row → ℕ
+hash_at places row = hash_of 0 (values_at places row)
+
+abbrev pub hashes_back : List ℕ → List Row → List ℕ
+hashes_back places tuples = map (hash_at places) (reverse tuples)
+
+abbrev pub shared_in : ℕ → List (ℕ × ℕ) → List (ℕ × ℕ)
+shared_in width checks = filter (λ c. nat_lt c.1 width) checks
+
+pub record IsShared (width : ℕ) (checks : List (ℕ × ℕ)) (shared : Shared) : Type 0 where
+  pub rows_are : shared.row.items ≡ map (λ c. c.1) (shared_in width checks)
+  pub tuples_are : shared.tuple.items ≡ map (λ c. c.0 - width) (shared_in width checks)
