@@ -1,4 +1,4 @@
-use Rattle.std.proofs.Common.{rules, ◌≡◌, ◌<◌, ◌+◌, ◌-◌, ◌++◌, ◌∷◌, ◌∙◌, [], List, Some, None, length, ap, sym, subst, map, arith, append-nil, refl}
+use Rattle.std.proofs.Common.{◌≡◌, ◌+◌, ◌++◌, ◌∷◌, ◌∙◌, [], List, ap, sym, subst, map, append-nil, refl}
 use Rattle.beas_core.specs.Types.{Row}
 use Rattle.plan_ops.specs.Matching.{hash_at}
 use Rattle.plan_ops.specs.Stages.{joined_row, leads_to, set_before, use_at}
@@ -8,7 +8,7 @@ use Rattle.block_walk.specs.Entries.{entry_of}
 use Rattle.block_walk.specs.Kept.{Pending, pending_at}
 use Rattle.block_walk.specs.Stacks.{IsInside, IsStack, pending_in, pending_of, row_of}
 use Rattle.block_walk.specs.Walks.{children}
-use Rattle.block_walk.proofs.FittingFacts.{fitting_all, fitting_left, fitting_none, fitting_place, fitting_taken, seam}
+use Rattle.block_walk.proofs.FittingFacts.{fitting_all, fitting_left, fitting_none, fitting_taken, seam}
 use Rattle.block_walk.proofs.walking.push_fitting_children.Goals.{then-leads+in_ok-push_child, else-leads}
 use Rattle.block_walk.proofs.walking.push_fitting_children.Goals as goal
 

@@ -1,4 +1,4 @@
-use Rattle.std.proofs.Common.{rules, ◌≡◌, ◌<◌, ◌+◌, ◌-◌, ◌++◌, ◌∷◌, ◌∙◌, [], List, Some, None, length, ap, sym, subst, map, arith, append-nil}
+use Rattle.std.proofs.Common.{◌++◌, ◌∙◌, [], List, ap, sym, subst, map, append-nil}
 use Rattle.beas_core.specs.Types.{Row}
 use Rattle.beas_core.specs.Valuations.{output_row}
 use Rattle.beas_core.proofs.Sets.{SameMembers}
@@ -6,7 +6,7 @@ use Rattle.plan_ops.specs.Matching.{hash_at}
 use Rattle.plan_ops.specs.Stages.{bound_with, joined_row, leads_to, set_before, use_at}
 use Rattle.plan_ops.proofs.MatchFacts.{Walked}
 use Rattle.block_walk.specs.Entries.{entry_of}
-use Rattle.block_walk.proofs.FittingFacts.{fitting_all, fitting_left, fitting_none, fitting_place, fitting_taken, seam}
+use Rattle.block_walk.proofs.FittingFacts.{fitting_all, fitting_left, fitting_none, fitting_taken, seam}
 use Rattle.block_walk.proofs.SameFacts.{same_equal, same_more}
 use Rattle.block_walk.proofs.walking.push_fitting_outputs.Goals.{then-leads+in_ok-push_output_once, else-leads}
 use Rattle.block_walk.proofs.walking.push_fitting_outputs.Goals as goal

@@ -1,4 +1,4 @@
-use Rattle.std.proofs.Common.{◌≡◌, ◌<◌, ◌-◌, ◌++◌, ◌∷◌, ◌∙◌, [], ℕ, List, length, map, take, reverse, ap, sym, arith, get_or}
+use Rattle.std.proofs.Common.{◌<◌, ◌-◌, ◌++◌, ◌∷◌, ◌∙◌, [], ℕ, List, length, map, take, reverse, ap, sym, arith, get_or}
 use Rattle.plan_ops.specs.Matching.{hash_at}
 use Rattle.plan_ops.proofs.MatchFacts.{back_all, back_more}
 use Rattle.block_walk.specs.Entries.{entry_of}
