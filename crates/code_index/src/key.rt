@@ -9,34 +9,34 @@ use crate::words::{column_at, word_at};
 use beas_core::{Access, ColumnId, Value};
 use std::marker::Model;
 
-/// The words of a whole tuple, by which a map is asked. They lie in place and take no memory.
+/// The words of a whole tuple, up to `N` of them, by which a map is asked. They lie in place and take no memory.
 #[derive(Drop)]
-pub struct KeyWords {
-    words: [u64; 64],
+pub struct KeyWords<const N: usize> {
+    words: [u64; N],
     len: usize,
 }
 
-impl Model for KeyWords {
+impl<const N: usize> Model for KeyWords<N> {
     ghost use Rattle.std.specs.Prelude.{◌≡◌, ◌≤◌, List, ℕ, length, take};
 
     ghost Value = { List ℕ };
 
     ghost view = { λ s. take s.len s.words };
 
-    ghost invariant = { λ s. (s.len ≤ 64) × (length s.words ≡ 64) };
+    ghost invariant = { λ s. (s.len ≤ N) × (length s.words ≡ N) };
 }
 
-impl KeyWords {
-    /// The words of a row's tuple, or none where it has more than 64.
+impl<const N: usize> KeyWords<N> {
+    /// The words of a row's tuple, or none where it has more than `N`.
     #[tactic(auto, using(crate::proofs::Members::members_long))]
-    pub fn tuple(access: &Access, words: &[u64]) -> Option<KeyWords>
+    pub fn tuple(access: &Access, words: &[u64]) -> Option<KeyWords<N>>
         ensures { IfSome result (λ tuple. tuple ≡ pick (member_columns access.now) words.now) }
     {
         let len = access.key.len().saturating_add(access.fetched.len());
-        if len > 64 {
+        if len > N {
             return None;
         }
-        let mut tuple = [0; 64];
+        let mut tuple = [0; N];
         for i in 0..len {
             tuple[i] = word_at(words, column_at(access, i));
         }

@@ -20,6 +20,12 @@ use std::marker::Model;
 /// A short group has as many tuples at most.
 const SHORT: usize = 512;
 
+/// A tuple has mostly as many words at most, since a table has 64 columns.
+const FEW: usize = 64;
+
+/// No tuple has more words: 64 of a key, and 64 of fetched columns.
+const MANY: usize = 128;
+
 /// The tuples of one key in an order that only the writer knows, each with how many rows have it.
 #[derive(Drop)]
 pub struct Group {
@@ -136,6 +142,24 @@ impl Group {
         None
     }
 
+    /// Where a row's tuple of more than `FEW` words is, as where a key and the fetched columns overlap. Of a table's 64
+    /// columns a constraint has each at most once in its key and once among those that it fetches.
+    #[inline(never)]
+    fn wide_position_of(&self, access: &Access, words: &[u64]) -> Option<usize>
+        ensures { MatchOption result
+            (AllByRecursion (λ (tuple : Coded). tuple.words ≢ pick (member_columns access.now) words.now) self.now)
+            (λ at. (at < length self.now)
+            × ((d : Coded) → (slice_index_or self.now at d).words ≡ pick (member_columns access.now) words.now)) }
+    {
+        match &self.form {
+            Form::Short(_) => self.scan(access, words),
+            Form::Marked(tuples) => match KeyWords::<MANY>::tuple(access, words) {
+                Some(tuple) => tuples.position_of(tuple.as_slice()),
+                None => self.scan(access, words),
+            },
+        }
+    }
+
     /// Where a row's tuple is by its words alone: in a short group by a look at each tuple's words, in a long one by its
     /// mark. It takes no memory.
     pub fn position_of(&self, access: &Access, words: &[u64]) -> Option<usize>
@@ -146,10 +170,9 @@ impl Group {
     {
         match &self.form {
             Form::Short(_) => self.scan(access, words),
-            Form::Marked(tuples) => match KeyWords::tuple(access, words) {
+            Form::Marked(tuples) => match KeyWords::<FEW>::tuple(access, words) {
                 Some(tuple) => tuples.position_of(tuple.as_slice()),
-                // More than 64 words, as where a key and the fetched columns overlap.
-                None => self.scan(access, words),
+                None => self.wide_position_of(access, words),
             },
         }
     }

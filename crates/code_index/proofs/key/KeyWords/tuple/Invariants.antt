@@ -4,7 +4,7 @@ use Rattle.code_index.specs.Reading.{pick}
 use Rattle.code_index.proofs.key.KeyWords.tuple.Given as goal
 
 abbrev pub invariant-loop-i : goal.invariant-loop-i
-invariant-loop-i l = record {
+invariant-loop-i g l = record {
   same : take l.i l.tuple ≡ take l.i (pick (member_columns l.access) l.words);
-  len : length l.tuple ≡ 64;
+  len : length l.tuple ≡ g.row.N;
 }
