@@ -5,6 +5,9 @@ pub mod Drops
 pub mod FrontFacts
 pub mod Extras
 pub mod Needed
+pub mod FewFacts
+pub mod FewLists
+pub mod FewTasks
 pub mod PreparationFacts
 pub mod SetFacts
 pub mod Turns

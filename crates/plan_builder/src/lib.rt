@@ -6,6 +6,7 @@ mod candidates;
 mod choices;
 mod derivations;
 mod fronts;
+mod own;
 mod preparation;
 mod pruning;
 mod sets;

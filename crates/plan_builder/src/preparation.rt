@@ -17,6 +17,7 @@ ghost use Rattle.plan_builder.specs.Preparation.{IsWellFormedIn, block_header, c
 
 use crate::blocks::{BlockAt, count_blocks, joined, joined_all, lend, push_blocks};
 use crate::derivations::{FEW_CLASSES, derive_from, steps_if_covered, why_none};
+use crate::own::{are_few, own_accesses};
 use crate::sets::guided_start;
 use attribute_closure::{add_constants, constant_classes};
 use beas_core::{
@@ -225,6 +226,32 @@ fn plan_over(
     plan_normal(alloc, &all, normal, has_guide)
 }
 
+// The derivation of a block. Where the constraints on its tables are few among the live ones, it looks at no others.
+fn plan_among(
+    alloc: Global,
+    catalogue: &Catalogue,
+    at: BlockAt<'_>,
+    normal: &Normal,
+) -> Result<Result<TaskPlan, NotCovered>, NoMemory>
+    requires over { BlockIsOver catalogue.now at.block.now }
+    requires normal { normal.now ≡ normal_of at.block.now }
+    requires ranges { ClassesInRange normal.now }
+    requires atoms { length normal.now.atoms < 65536 }
+    requires needed { length normal.now.needed ≤ 65536 }
+    requires ids { EachIdOnce (catalogue.now.accesses ++ at.extra.now) }
+    ensures { IfOk result (λ found. MatchResult found
+        (λ plan. (plan.guided ≡ is_guided_task (task_at catalogue.now.accesses at.entry))
+        × (task_steps (task_at catalogue.now.accesses at.entry) ≡ Some plan.derivation.steps)
+        × (task_reason (task_at catalogue.now.accesses at.entry) ≡ None))
+        (λ why. task_reason (task_at catalogue.now.accesses at.entry) ≡ Some why)) }
+{
+    if !are_few(catalogue, at.block, at.extra) {
+        return plan_over(alloc, catalogue.accesses(), at.extra, normal, at.has_guide);
+    }
+    let own = own_accesses(alloc, catalogue, at.block)?;
+    plan_normal(alloc, &own, normal, at.has_guide)
+}
+
 // The normal form of the block with this number, and its derivation.
 fn plan_block(
     alloc: Global,
@@ -244,7 +271,7 @@ fn plan_block(
         ≡ task_steps (task_at catalogue.now.accesses at.entry)) }
 {
     let normal = normalise(alloc, at.block)?;
-    match plan_over(alloc, catalogue.accesses(), at.extra, &normal, at.has_guide)? {
+    match plan_among(alloc, catalogue, at, &normal)? {
         Ok(plan) => Ok((normal, plan)),
         Err(why) => Err(Fail::Refused(not_covered(alloc, catalogue, number, at, why)?)),
     }
