@@ -9,3 +9,4 @@ pub mod Serving
 pub mod Tried
 pub mod Outcomes
 pub mod Values
+pub mod Repeated

@@ -1,6 +1,7 @@
 //! Which columns, given as constants, would make a block covered.
 #![tactic(auto)]
 
+mod alike;
 mod candidates;
 mod laws;
 mod rules;
@@ -15,6 +16,7 @@ ghost use Rattle.beas_core.specs.Results.{Gives};
 ghost use Rattle.beas_core.specs.Shapes.{BlockIsWellFormed};
 ghost use Rattle.specialise.specs.Specialised.{specialised};
 
+use crate::alike::without_alike;
 use crate::candidates::candidates_of;
 pub use crate::laws::law_values;
 use crate::trial::trial_of;
@@ -25,6 +27,9 @@ use std::alloc::Global;
 
 /// How many candidates there may be: each set of them is tried.
 const LIMIT: usize = 16;
+
+/// Of so many constraints none is left out.
+const FEW_ACCESSES: usize = 64;
 
 fn too_many(found: usize, classes: u16) -> Refusal
     requires { found ≤ classes }
@@ -68,14 +73,9 @@ fn search(
     Ok(trial.search(alloc, cover)?)
 }
 
-/// The columns of a block that make it covered, once each is equated with a constant: the first places of the first set of
-/// candidates that does it, in ascending order, and nothing where no set does. Sets stand by size, and those of one size as
-/// lists. The candidates are the classes that the constraints don't cover, and of which a place is needed, or stands in the key of
-/// a constraint on its table; a class gets its constant at its first place, which makes that column needed. For a block that is
-/// covered the list is empty. More than 16 candidates are refused, unless the block is covered. Out of memory is the only other
-/// error.
+// What is answered of a block, whose sets of candidates are tried against each of the constraints.
 #[tactic(auto, using(coverage_check::proofs::NormalFacts::in_range, coverage_check::proofs::NormalFacts::few_atoms, coverage_check::proofs::NormalFacts::few_needed))]
-pub fn specialise(
+fn specialise_over(
     alloc: Global,
     accesses: &List<Access>,
     block: &Block,
@@ -89,4 +89,25 @@ pub fn specialise(
         None => Ok(Some(List::new(alloc))),
         Some(_) => search(alloc, accesses, block, &normal, cover.as_slice()),
     }
+}
+
+/// The columns of a block that make it covered, once each is equated with a constant: the first places of the first set of
+/// candidates that does it, in ascending order, and nothing where no set does. Sets stand by size, and those of one size as
+/// lists. The candidates are the classes that the constraints don't cover, and of which a place is needed, or stands in the key of
+/// a constraint on its table; a class gets its constant at its first place, which makes that column needed. For a block that is
+/// covered the list is empty. More than 16 candidates are refused, unless the block is covered. Out of memory is the only other
+/// error.
+pub fn specialise(
+    alloc: Global,
+    accesses: &List<Access>,
+    block: &Block,
+) -> Result<Option<List<Place>>, Fail>
+    requires { BlockIsWellFormed block.now }
+    ensures { Gives result (specialised accesses.now block.now) }
+{
+    if accesses.len() <= FEW_ACCESSES {
+        return specialise_over(alloc, accesses, block);
+    }
+    let few = without_alike(alloc, accesses.as_slice())?;
+    specialise_over(alloc, &few, block)
 }
