@@ -1,11 +1,11 @@
 mod AnswerFacts
 mod CompleteFacts
 mod DemoFacts
-mod DoneFacts
+pub mod DoneFacts
 mod FoundFacts
 mod LeftFacts
 mod NoSessionFacts
-mod ReachedFacts
+pub mod ReachedFacts
 mod ReadingFacts
 mod ReadsFacts
 mod SaidFacts
@@ -17,4 +17,4 @@ mod TieFacts
 mod TurnFacts
 mod UnmarkedFacts
 mod UnnamedFacts
-mod WalkFacts
+pub mod WalkFacts

@@ -14,4 +14,5 @@ mod whole_run;
 
 pub use command_words::{Args, Usage, args};
 pub use laws::law_no_sessions;
+pub use pieces::report_on;
 pub use whole_run::run;

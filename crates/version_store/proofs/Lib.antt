@@ -10,3 +10,5 @@ pub mod WorldFacts
 pub mod TurnFacts
 pub mod FreezingFacts
 pub mod LoopFacts
+pub mod DropFacts
+pub mod PricingFacts

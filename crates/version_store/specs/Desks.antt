@@ -14,6 +14,7 @@
 --     Finishes session before after ..      no probe was made: all had been made, and had counted the query's reads
 --     GoesOn event report before after ..   what becomes of the probes and the shares
 --     desk_wanting event seen               what want of memory leaves
+--     without_query_of session seen         what dropping a session's query leaves: all else
 --     MayCost, MayTake event seen ..        how many reads may have been counted before memory ran out
 --     waits_for_file action, MayLoad action ..      whether the action waits for a file; how many files may have been loaded
 --     EventIsWellFormed event, session_in event     its statement is well formed; its session
@@ -36,7 +37,7 @@ use Rattle.kept_facts.specs.OpenQueries.{OpenQuery, probes_of, reads_of, share_o
 use Rattle.piece_reader.specs.declared.event.Event.{Event}
 use Rattle.piece_reader.specs.declared.event.Event.TheVariants.{Said, Stepped}
 use Rattle.desk_model.specs.Answers.{effect_by}
-use Rattle.desk_model.specs.Desks.{DeskAction, AtOnce, ByLoad, OneEach, State, lost, place_of, query_of, said_action}
+use Rattle.desk_model.specs.Desks.{DeskAction, AtOnce, ByLoad, OneEach, State, lost, place_of, query_of, said_action, without_query}
 
 -- `shares` and `probes` are in the order of the open queries. Of a query that memory ran out for they are 0 and none
 pub record Seen : Type 0 where
@@ -150,6 +151,17 @@ desk_wanting (Stepped session) seen = record {
   state = lost seen.state session (query_of session seen.state);
   shares = slice_set seen.shares (place_in session seen) 0;
   probes = slice_set seen.probes (place_in session seen) [];
+}
+
+-- ---- a query is dropped
+
+-- with its share and its probes. Where the session has none, its place is past the last, and this is the same desk
+abbrev pub without_query_of : ℕ → Seen → Seen
+without_query_of session seen = record {
+  settings = seen.settings;
+  state = without_query session seen.state;
+  shares = remove seen.shares (place_in session seen);
+  probes = remove seen.probes (place_in session seen);
 }
 
 -- one due probe was made before memory ran out. With those made before it, it counted no more than the query's reads

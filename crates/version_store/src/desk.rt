@@ -1,13 +1,16 @@
 // A desk.
-ghost use Rattle.std.specs.Prelude.{◌≡◌, ◌≤◌, [], false, IfOk, OnErr};
+ghost use Rattle.std.specs.Prelude.{◌≡◌, ◌≤◌, [], None, false, IfOk, OnErr};
 ghost use Rattle.outside.specs.Seen.{IsLater};
-ghost use Rattle.desk_model.specs.Desks.{action_of_event};
+ghost use Rattle.desk_model.specs.Desks.{action_of_event, query_of};
+ghost use Rattle.session.specs.Effects.{explain_effect};
+ghost use Rattle.session.specs.Statements.{TreeIsWellFormed};
 ghost use Rattle.session.specs.Applying.{database_of, settings_of};
 ghost use Rattle.session.specs.Turns.{IsWithin};
-ghost use Rattle.version_store.specs.Desks.{EventIsWellFormed, GoesOn, IsDesk, MayLoad, MayTake, TakesSome, desk_wanting, session_in, waits_for_file};
+ghost use Rattle.version_store.specs.Desks.{EventIsWellFormed, GoesOn, IsDesk, MayLoad, MayTake, TakesSome, desk_wanting, session_in, waits_for_file, without_query_of};
 
-use crate::going::step;
+use crate::going::{drop_query, step};
 use crate::open::OpenQuery;
+use crate::pricing::price;
 use crate::saying::say;
 use crate::store::KeptTable;
 use beas_core::{NoMemory, Steps};
@@ -15,6 +18,7 @@ use outside::Files;
 use piece_reader::Event;
 use report::Report;
 use session::Session;
+use sql_text::SelectTree;
 use std::alloc::Global;
 use std::marker::Model;
 use std::sync::ledger::Ledger;
@@ -114,6 +118,35 @@ impl Desk {
                 step(alloc, &self.session, &mut self.queries, *session, steps)
             }
         }
+    }
+
+    /// What EXPLAIN would report of a query if there were no budget: the number that it announces and its plan lines, or its
+    /// refusal. It reads no row, and whether a session's query is open doesn't matter.
+    pub fn announce(&self, alloc: Global, tree: &SelectTree) -> Result<Report, NoMemory>
+        requires { TreeIsWellFormed tree.now }
+        ensures announced { IfOk result (λ report. report
+            ≡ (explain_effect self.now.settings.limits None self.now.state.db tree.now).report) }
+    {
+        price(alloc, &self.session, tree)
+    }
+
+    /// Changes the budget, and whether reports of queries show their plans. The queries that are open keep the plans that they
+    /// were opened with.
+    pub fn set(&mut self, budget: Option<u64>, explain: bool)
+        ensures { self.new ≡ record self.old {
+          settings = record { limits = self.old.settings.limits; budget = budget; explain = explain };
+        } }
+    {
+        self.session.budget = budget;
+        self.session.explain = explain;
+    }
+
+    /// Drops the open query of a session, where it has one, without a report.
+    pub fn drop_query(&mut self, session: u32)
+        ensures dropped { self.new ≡ without_query_of session self.old }
+        ensures idle { query_of session self.new.state ≡ None }
+    {
+        drop_query(&self.session, &mut self.queries, session);
     }
 
     /// The session as it stands. The open queries are dropped. It takes no memory.

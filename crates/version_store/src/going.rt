@@ -8,7 +8,7 @@ ghost use Rattle.version_store.specs.Turns.{Goes};
 ghost use Rattle.report.specs.declared.reports.Report.TheVariants.{Answered};
 ghost use Rattle.session.specs.Applying.{database_of};
 ghost use Rattle.session.specs.Turns.{IsWithin};
-ghost use Rattle.version_store.specs.Desks.{GoesOn, MayTake, desk_wanting};
+ghost use Rattle.version_store.specs.Desks.{GoesOn, MayTake, desk_wanting, without_query_of};
 ghost use Rattle.version_store.specs.Events.{HappensSome};
 ghost use Rattle.version_store.specs.Stored.{AreKept, IsOpenAt, held_at, seen_in, state_in, world_at};
 
@@ -108,5 +108,17 @@ pub fn step<L: Ledger>(
     match turn_over(alloc, session, &mut queries[place], steps)? {
         Turn::Probed => Ok(Report::Probed { session: number }),
         Turn::Done => Ok(answer(queries.remove(place))),
+    }
+}
+
+/// Drops the open query of a session, where it has one.
+pub fn drop_query(session: &Session, queries: &mut Vec<OpenQuery<KeptTable>>, number: u32)
+    requires kept { AreKept (database_of session.now) queries.old.items }
+    ensures kept { AreKept (database_of session.now) queries.new.items }
+    ensures dropped { seen_in session.now queries.new.items
+        ≡ without_query_of number (seen_in session.now queries.old.items) }
+{
+    if let Some(place) = place_of(queries.as_slice(), number) {
+        drop(queries.remove(place));
     }
 }

@@ -11,6 +11,7 @@ mod going;
 mod open;
 mod opening;
 mod port;
+mod pricing;
 mod saying;
 mod store;
 mod turns;
