@@ -2,6 +2,7 @@
 ghost use Rattle.std.specs.Prelude.{◌≡◌, ℕ, List, [], Some, map, unwrap_or};
 ghost use Rattle.std.specs.String.{string_bytes};
 ghost use Rattle.outside.specs.Contents.{content_of};
+ghost use Rattle.session.specs.Applying.{settings_of};
 ghost use Rattle.beas_laws.specs.Loads.{NoneFailed, steady, steady_out};
 ghost use Rattle.beas_run.specs.Runs.{script_name, Completes, CompletesWithout};
 ghost use Rattle.beas_run.specs.Walks.{moment};
@@ -29,7 +30,7 @@ pub fn run_steady<L: Ledger>(
         → Completes (unwrap_or (content_of files.old.shelf name) []) result }
     ensures complete_without { (name : List ℕ) → script_name (map string_bytes words.now) ≡ Some name
         → CompletesWithout (unwrap_or (content_of files.old.shelf name) []) result }
-    ensures loads { NoneFailed session.old.limits (map string_bytes words.now) result
+    ensures loads { NoneFailed (map string_bytes words.now) result (settings_of session.old) (settings_of session.new)
         (moment session.old steps.old (steady_out out.old) (steady files.old))
         (moment session.new steps.new (steady_out out.new) (steady files.new)) }
 {

@@ -1,4 +1,4 @@
--- Which script a run has. Without one, nothing is sent to its output and nothing is read.
+-- What a run does over its script, and how it ends. Without one, nothing is sent to its output and nothing is read.
 use Rattle.std.proofs.Common.{◌≡◌, ◌≢◌, ◌≤◌, ◌<◌, ◌⊎◌, ◌++◌, ◌∷◌, ◌∙◌, ap, false, [], List, ℕ, Bool, true, Option, Some, None, refl, length, arith, inl, inr, subst, sym, append-nil}
 use Rattle.std.specs.Prelude.{option_and_then}
 use Rattle.std.specs.Option.{option_map_or}
@@ -10,21 +10,22 @@ use Rattle.command_words.specs.declared.arguments.Args.TheVariants.{Script, Demo
 use Rattle.command_words.specs.Words.{args_of}
 use Rattle.demo_gen.specs.Demo.{demo_text}
 use Rattle.demo_gen.proofs.Lengths.{length-demo}
-use Rattle.outside.specs.Counts.{raised}
+use Rattle.outside.specs.Counts.{Rose}
 use Rattle.outside.specs.Parts.{SentPart}
 use Rattle.sql_tokens.specs.Tokens.{tokens_from}
 use Rattle.session.specs.Effects.{Settings}
-use Rattle.outside.specs.Seen.{Seen, IsLater}
+use Rattle.outside.specs.Seen.{Seen, Sent, IsLater}
 use Rattle.piece_reader.specs.Sayings.{Reading}
 use Rattle.beas_run.specs.Readings.{Readings, readings_of}
 use Rattle.beas_run.specs.declared.no_script.NoScript.{NoScript}
 use Rattle.beas_run.specs.declared.no_script.NoScript.TheVariants.{Words, Unread, TooLong, NotText, NoMemory}
-use Rattle.beas_run.specs.NoScripts.{status_of}
-use Rattle.beas_run.specs.Runs.{seed_of, demo_seed, settings_for, settings_of_words, with_files, HasLoaded, HasScript, HasRun, IsContent, IsScriptOf, IsWith, IsWithout, WalkedFor, longest_script}
+use Rattle.beas_run.specs.NoScripts.{status_of, IsSaid, IsSaidWhole}
+use Rattle.beas_run.specs.Runs.{seed_of, settings_for, settings_of_words, with_files, Ended, HadNoScript, HadScript, HasLoaded, HasRun, IsScriptOf, Says, SaysNothing, Standing, WalkedFor, longest_script}
+use Rattle.beas_run.specs.Sources.{HasNoScript, LoadsScript, RanOver}
 use Rattle.beas_run.specs.Demonstrations.{Demonstrated, empty_files, summary_of, without_outside}
 use Rattle.beas_run.specs.Walks.{Moment, Walked}
 use Rattle.beas_run.proofs.ReachedFacts.{unstarted}
-use Rattle.beas_run.proofs.TieFacts.{same_later}
+use Rattle.beas_run.proofs.TieFacts.{later_twice, same_later, sink_later}
 use Rattle.beas_run.proofs.ReadingFacts.{found}
 
 pub no_readings : Readings [] []
@@ -43,15 +44,6 @@ pub early_said : (why : NoScript) (status : ℕ) → (status ≡ status_of why) 
 early_said why status (inl e) = let early = early_status why in (omega arith, omega (arith, early.1))
 early_said why status (inr e) = (omega arith, omega arith)
 
--- out of memory is said as it is
-pub said_no_memory : (status : ℕ) → (status ≡ status_of NoMemory) ⊎ (status ≡ 5) → status ≡ 5
-said_no_memory status (inl e) = e
-said_no_memory status (inr e) = e
-
-not_with : (status : ℕ) → 2 ≤ status → status ≢ 4 → IsWith status → ⊥
-not_with status early fault (inl below) = omega arith
-not_with status early fault (inr four) = fault four
-
 some≢none : (n : ℕ) → Some n ≡ None → ⊥
 some≢none n e = cc
 
@@ -60,15 +52,6 @@ none_of sent text = record { part = []; left = text; sent = sym (append-nil sent
 
 pub fits_demo : (seed : ℕ) (script : List ℕ) → script ≡ demo_text seed → length script ≤ longest_script
 fits_demo seed script e = let l = ap length e in let short = length-demo seed in omega arith
-
-has_none : (status : ℕ) (asked : Option Args) (files : Seen) → 2 ≤ status → status ≢ 4 → HasScript [] status asked files
-has_none status asked files early fault = record {
-  fits = omega arith;
-  is_text = IsUtf8-nil;
-  read = λ with. absurd (not_with status early fault with);
-  begun = inl refl;
-  without = λ _. refl;
-}
 
 -- nothing is done, whatever is asked for; where that is a demonstration, out of memory
 idle : (asked : Option Args) (s : Settings) (before after : Moment) (status : ℕ)
@@ -101,43 +84,81 @@ loaded_said (Some (Script path budget explain)) why status before after (inl e) 
 loaded_said (Some (Script path budget explain)) why status before after (inr five) (inr same) = inr (five, same.1)
 loaded_said (Some (Demo seed budget explain)) why status before after said loaded = loaded
 
--- a run without a script
-pub ran_nothing : (limits : Limits) (words : List (List ℕ)) (why : NoScript) (status : ℕ) (before after : Moment) → (status ≡ status_of why) ⊎ (status ≡ 5)
-    → (demo_seed words ≡ None) ⊎ (status ≡ 5)
-    → (before.out.told ≡ true → after.out.bytes ≡ before.out.bytes) → after.steps ≡ before.steps → after.state ≡ before.state
-    → after.out.puts ≡ before.out.puts → HasLoaded (args_of words) (status_of why) before.files after.files → IsLater before.files after.files
-    → HasRun limits words status before after
-ran_nothing limits words why status before after said none sent steps db puts loaded later =
-    let early = early_said why status said in
+-- ---- a run without a script
+
+-- what such a run leaves
+abbrev pub left : Standing → Seen → Sent → Standing
+left before files said = record { settings = before.settings; moment = with_files before.moment files; said = said }
+
+none_done : (line : List ℕ) (before : Standing) (files : Seen) (said : Sent) → Says line before.said said
+    → HadNoScript line [] files before (left before files said)
+none_done line before files said says = record {
+  no_script = refl;
+  sent = λ _. refl;
+  no_fault = refl;
+  steps = refl;
+  db = refl;
+  unread = refl;
+  settings = refl;
+  says = says;
+}
+
+ended_whole : (words : List (List ℕ)) (why : NoScript) (status : ℕ) (before : Standing) (files : Seen) (said : Sent)
+    → IsSaidWhole why status before.said said → HasNoScript (args_of words) why before.moment.files files
+    → Ended words status [] files before (left before files said)
+ended_whole words Words status before files said whole none =
+    inr (inl (whole.status_is, record { refused = none.words_alone refl; had = none_done _ before files said whole.says }))
+ended_whole words Unread status before files said whole none =
+    inr (inr (inl (whole.status_is, record { fault = none.unread refl; had = none_done _ before files said whole.says })))
+ended_whole words TooLong status before files said whole none =
+    inr (inr (inr (inr (inr (inl (whole.status_is, record { longer = none.too_long refl; had = none_done _ before files said whole.says }))))))
+ended_whole words NotText status before files said whole none =
+    inr (inr (inr (inr (inr (inr (whole.status_is, record { no_text = none.not_text refl; had = none_done _ before files said whole.says }))))))
+ended_whole words NoMemory status before files said whole none = absurd (whole.in_memory refl)
+
+ended_early : (words : List (List ℕ)) (why : NoScript) (status : ℕ) (before : Standing) (files : Seen) (said : Sent)
+    → IsSaid why status before.said said → HasNoScript (args_of words) why before.moment.files files
+    → Ended words status [] files before (left before files said)
+ended_early words why status before files said (inl whole) none = ended_whole words why status before files said whole none
+ended_early words why status before files said (inr (five, nothing)) none = inr (inr (inr (inr (inl (five, record {
+  asked = inl refl;
+  no_fault = refl;
+  settings = inl refl;
+  unasked = λ _. refl;
+  says = nothing;
+})))))
+
+pub status_said : (why : NoScript) (status : ℕ) (before after : Sent) → IsSaid why status before after → (status ≡ status_of why) ⊎ (status ≡ 5)
+status_said why status before after (inl whole) = inl whole.status_is
+status_said why status before after (inr (five, nothing)) = inr five
+
+seedless : (why : NoScript) (status : ℕ) (none : Type 0) → (status ≡ status_of why) ⊎ (status ≡ 5) → none ⊎ (why ≡ NoMemory) → none ⊎ (status ≡ 5)
+seedless why status none said (inl is) = inl is
+seedless why status none (inl said) (inr e) = inr (said ∙ ap status_of e)
+seedless why status none (inr five) (inr e) = inr five
+
+pub ran_nothing : (words : List (List ℕ)) (why : NoScript) (status : ℕ) (before : Standing) (files : Seen) (said : Sent)
+    → IsSaid why status before.said said → HasNoScript (args_of words) why before.moment.files files
+    → HasRun words status before (left before files said)
+ran_nothing words why status before files said told none =
+    let is = status_said why status before.said said told in
+    let early = early_said why status is in
     record {
       script = [];
       readings = [];
-      begun = after.files;
-      later = later;
-      loaded = loaded_said (args_of words) why status before.files after.files said loaded;
-      unread = λ _. refl;
-      has = has_none status (args_of words) before.files early.0 early.1;
+      fits = omega arith;
+      is_text = IsUtf8-nil;
       read_as = no_readings;
-      silent = λ _. sent;
-      walked = idle (args_of words) (settings_of_words limits words) (with_files before after.files) after status sent steps db puts refl
-          (same_later after.files) early.0 early.1 none;
+      begun = files;
+      loaded = loaded_said (args_of words) why status before.moment.files files is none.loaded;
+      later = none.later;
+      walked = idle (args_of words) (settings_of_words before.settings.limits words) (with_files before.moment files) (with_files before.moment files)
+          status (λ _. refl) refl refl refl refl (same_later files) early.0 early.1 (seedless why status _ is none.seedless);
+      silent = λ _ _. refl;
+      files = none.later;
+      out = sink_later _;
+      ended = ended_early words why status before files said told none;
     }
-
--- ---- a script that was read, or made
-
-pub not_without : (status : ℕ) → (status < 2) ⊎ (status ≡ 4) ⊎ (status ≡ 5) → IsWithout status → ⊥
-not_without status ended without = omega arith
-
-has_read : (script : List ℕ) (status : ℕ) (asked : Option Args) (files : Seen)
-    → length script ≤ longest_script → IsUtf8 script → IsScriptOf asked files script → (status < 2) ⊎ (status ≡ 4) ⊎ (status ≡ 5)
-    → HasScript script status asked files
-has_read script status asked files fits text is ended = record {
-  fits = fits;
-  is_text = text;
-  read = λ _. is;
-  begun = inr is;
-  without = λ without. absurd (not_without status ended without);
-}
 
 -- ---- a script of no text has no statements, so nothing is sent for it
 
@@ -166,57 +187,68 @@ some_demo : (seed : ℕ) → demo_text seed ≡ [] → ⊥
 unfolding demo_text
 some_demo seed e = cc
 
-ran : (limits : Limits) (words : List (List ℕ)) (asked : Args) (script : List ℕ) (status : ℕ) (before after : Moment) (begun : Seen)
-    → args_of words ≡ Some asked
-    → (script ≡ [] → before.out.told ≡ true → after.out.bytes ≡ before.out.bytes)
-    → HasScript script status (Some asked) before.files → HasLoaded (Some asked) status before.files begun → IsLater before.files begun → (IsWithout status → ⊥)
-    → WalkedFor (Some asked) (settings_for limits asked) (readings_of script) status (with_files before begun) after
-    → HasRun limits words status before after
-ran limits words asked script status before after begun e silent has loaded later with walked =
-    let none : Settings = record { limits = limits; budget = None; explain = false } in
-    let P : Option Args → Type 0 = λ o. WalkedFor o (option_map_or (settings_for limits) o none) (readings_of script) status (with_files before begun) after in
+silent_for : (asked : Args) (s : Settings) (files : Seen) (script : List ℕ) (status : ℕ) (before after : Moment)
+    → IsScriptOf (Some asked) files script → WalkedFor (Some asked) s (readings_of script) status before after
+    → script ≡ [] → before.out.told ≡ true → after.out.bytes ≡ before.out.bytes
+silent_for (Script path budget explain) s files script status before after is walked = silent_file s script status before after walked
+silent_for (Demo seed budget explain) s files script status before after is walked = λ none. absurd (some_demo seed (sym is ∙ none))
+
+has_loaded : (asked : Args) (status : ℕ) (before after : Seen) → LoadsScript asked before after → HasLoaded (Some asked) status before after
+has_loaded (Script path budget explain) status before after loaded = inl loaded
+has_loaded (Demo seed budget explain) status before after same = ap (λ (s : Seen). s.loads) same
+
+-- ---- how a run over a script ended
+
+no_words : (asked : Option Args) (files : Seen) (script : List ℕ) → asked ≡ None → IsScriptOf asked files script → ⊥
+no_words None files script e is = is
+no_words (Some args) files script e is = cc
+
+nothing_said : (before after : Sent) → after ≡ before → SaysNothing before after
+nothing_said before after same = rw same (record { unsaid = λ _. refl; no_fault = refl; puts = inr refl; later = sink_later before })
+
+ended_over : (words : List (List ℕ)) (status : ℕ) (script : List ℕ) (begun : Seen) (before after : Standing)
+    → HadScript words script before after → (status < 2) ⊎ (status ≡ 4) ⊎ (status ≡ 5)
+    → (status ≢ 4 → after.moment.out.faults ≡ before.moment.out.faults) → (status ≡ 4 → Rose before.moment.out.faults after.moment.out.faults)
+    → Ended words status script begun before after
+ended_over words status script begun before after had (inl below) quiet fault =
+    inl (below, record { had = had; no_fault = quiet (λ four. omega arith) })
+ended_over words status script begun before after had (inr (inl four)) quiet fault = inr (inr (inr (inl (four, record { had = had; fault = fault four }))))
+ended_over words status script begun before after had (inr (inr five)) quiet fault = inr (inr (inr (inr (inl (five, record {
+  asked = inr had.asked;
+  no_fault = quiet (λ four. omega arith);
+  settings = inr had.settings;
+  unasked = λ none. absurd (no_words (args_of words) _ _ none had.asked);
+  says = nothing_said _ _ had.said;
+})))))
+
+-- a run over the script that its words ask for, where this was loaded, or made
+pub ran_script : (words : List (List ℕ)) (asked : Args) (script : List ℕ) (status : ℕ) (before after : Standing) (begun : Seen)
+    → args_of words ≡ Some asked → length script ≤ longest_script → IsUtf8 script → IsScriptOf (Some asked) before.moment.files script
+    → LoadsScript asked before.moment.files begun → IsLater before.moment.files begun → after.said ≡ before.said
+    → RanOver asked script before.settings.limits status after.settings (with_files before.moment begun) after.moment
+    → HasRun words status before after
+ran_script words asked script status before after begun e fits text is loaded later said ran =
+    let none : Settings = record { limits = before.settings.limits; budget = None; explain = false } in
+    let P : Option Args → Type 0 =
+        λ o. WalkedFor o (option_map_or (settings_for before.settings.limits) o none) (readings_of script) status (with_files before.moment begun) after.moment in
     record {
       script = script;
       readings = readings_of script;
-      begun = begun;
-      later = later;
-      loaded = subst (λ o. HasLoaded o status before.files begun) (sym e) loaded;
-      unread = λ without. absurd (with without);
-      has = subst (λ o. HasScript script status o before.files) (sym e) has;
+      fits = fits;
+      is_text = text;
       read_as = found script;
-      silent = silent;
-      walked = subst P (sym e) walked;
+      begun = begun;
+      loaded = subst (λ o. HasLoaded o status before.moment.files begun) (sym e) (has_loaded asked status before.moment.files begun loaded);
+      later = later;
+      walked = subst P (sym e) ran.walked;
+      silent = silent_for asked (settings_for before.settings.limits asked) before.moment.files script status (with_files before.moment begun) after.moment is ran.walked;
+      files = later_twice _ _ _ later ran.files;
+      out = ran.out;
+      ended = ended_over words status script begun before after
+          (record {
+        asked = subst (λ o. IsScriptOf o before.moment.files script) (sym e) is;
+        settings = ran.settings_are ∙ ap (λ a. option_map_or (settings_for before.settings.limits) a none) (sym e);
+        said = said;
+      })
+          ran.statuses ran.no_fault ran.fault;
     }
-
--- a run over the script in the file that its words name, after the load of the file
-pub ran_file : (limits : Limits) (words : List (List ℕ)) (path : List ℕ) (budget : Option ℕ) (explain : Bool) (script : List ℕ) (status : ℕ)
-    (before after : Moment) (files : Seen)
-    → args_of words ≡ Some (Script path budget explain)
-    → length script ≤ longest_script → IsUtf8 script → IsContent before.files script path → (status < 2) ⊎ (status ≡ 4) ⊎ (status ≡ 5)
-    → files.loads ≡ raised 1 before.files.loads → IsLater before.files files
-    → Walked (record { limits = limits; budget = budget; explain = explain }) (readings_of script) status (with_files before files) after
-    → HasRun limits words status before after
-ran_file limits words path budget explain script status before after files asked fits text is ended loaded later walked =
-    let s : Settings = record { limits = limits; budget = budget; explain = explain } in
-    ran limits words (Script path budget explain) script status before after files asked
-    (silent_file s script status (with_files before files) after walked)
-    (has_read script status (Some (Script path budget explain)) before.files fits text is ended)
-    (inl loaded) later (not_without status ended) walked
-
--- a run over the text of the demonstration that its words ask for
-pub ran_demo : (limits : Limits) (words : List (List ℕ)) (seed : ℕ) (budget : Option ℕ) (explain : Bool) (script : List ℕ) (status : ℕ) (before after : Moment)
-    (files : Seen)
-    → args_of words ≡ Some (Demo seed budget explain) → script ≡ demo_text seed → IsUtf8 script → (status < 2) ⊎ (status ≡ 4) ⊎ (status ≡ 5)
-    → files ≡ before.files → IsLater before.files files
-    → Demonstrated (record { limits = limits; budget = budget; explain = explain }) (readings_of script) status (with_files before files) after
-    → HasRun limits words status before after
-ran_demo limits words seed budget explain script status before after files asked is text ended same later walked =
-    ran limits words (Demo seed budget explain) script status before after files asked
-    (λ none. absurd (some_demo seed (sym is ∙ none)))
-    (has_read script status (Some (Demo seed budget explain)) before.files (fits_demo seed script is) text is ended)
-    (ap (λ (s : Seen). s.loads) same) later (not_without status ended) walked
-
--- ---- what the words ask for
-
-pub no_seed : (words : List (List ℕ)) → args_of words ≡ None → demo_seed words ≡ None
-no_seed words e = ap (option_and_then seed_of) e

@@ -2,18 +2,14 @@
 --     script_name words      the name of the script that the words ask for, if they ask for one
 --     demo_seed words        the seed of the demonstration, if they ask for one
 --     settings_of_words ..   what the statements are then decided by
---     line status            what is said where a run has no script
---     HasScript ..           which script a run has: a file's, or a demonstration's
+--     WalkedFor ..           the turns of a file's script, or of a demonstration's, were done, or as far as the run came
 --     HasLoaded ..           whether it loaded the file of its script
---     HasRun ..              what it did: its script's turns, or as far as it came
 --     outcomes_in ..         what the loads of its files gave
---     IsTooLong, IsNoText    why it has no script
---     IsUntouched ..         and what it leaves then
---     HasCause ..            each status has its cause
+--     Standing               what a run finds, and what it leaves
+--     Ended ..               how it ended: a case for each status
+--     HasRun ..              what it did: its script's turns, or as far as it came, and how it ended
 --     IsComplete ..          which statuses are left where nothing stands in the way of a script
---     Says ..                what it says where it has no script
---     Stays ..               what stays of the session, the files and the output
-use Rattle.std.specs.Prelude.{◌≡◌, ◌≢◌, ◌==◌, ◌<◌, ◌≤◌, ◌+◌, ◌++◌, ◌⊎◌, ℕ, true, false, List, [], length, codes, if◌then◌else◌, Option, Some, None, option_and_then, IsSomeAnd}
+use Rattle.std.specs.Prelude.{◌≡◌, ◌≢◌, ◌<◌, ◌≤◌, ◌+◌, ◌++◌, ◌⊎◌, ℕ, true, false, List, [], length, codes, Option, Some, None, option_and_then, IsSomeAnd}
 use Rattle.std.specs.Option.{option_map_or}
 use Rattle.std.specs.Str.{IsUtf8}
 use Rattle.beas_core.specs.declared.limits.Limits.{Limits}
@@ -25,11 +21,13 @@ use Rattle.outside.specs.Counts.{Rose, RoseBy, raised}
 use Rattle.outside.specs.Parts.{SentPart}
 use Rattle.outside.specs.Seen.{IsLater, IsLaterSink, Seen, Sent}
 use Rattle.session.specs.declared.loading.LoadOutcome.{LoadOutcome}
+use Rattle.session.specs.declared.session.Session.{Session}
+use Rattle.session.specs.Applying.{settings_of}
 use Rattle.session.specs.Effects.{Settings}
 use Rattle.beas_run.specs.Demonstrations.{Demonstrated}
 use Rattle.piece_reader.specs.Sayings.{Reading}
 use Rattle.beas_run.specs.Readings.{Readings}
-use Rattle.beas_run.specs.Walks.{Moment, Walked}
+use Rattle.beas_run.specs.Walks.{Moment, Walked, moment}
 
 abbrev pub path_of : Args → Option (List ℕ)
 path_of (Script path budget explain) = Some path
@@ -52,21 +50,15 @@ settings_for limits (Demo seed budget explain) = record { limits = limits; budge
 abbrev pub longest_script : ℕ
 longest_script = 16777216
 
--- 2: the words are refused; 3: the script can't be read; 6: it is too long; 7: it is no text
-abbrev pub line : ℕ → List ℕ
-line status =
-    if status == 2 then usage_line
-    else (if status == 3 then codes "beas: cannot read the script\n"
-    else (if status == 6 then codes "beas: the script is longer than 16777216 bytes\n"
-    else (if status == 7 then codes "beas: the script is not UTF-8\n" else [])))
+-- what is said of a run that has no script
+abbrev pub unread_line : List ℕ
+unread_line = codes "beas: cannot read the script\n"
 
--- a run has no script at these
-abbrev pub IsWithout : ℕ → Type 0
-IsWithout status = (status ≡ 2) ⊎ (status ≡ 3) ⊎ (status ≡ 6) ⊎ (status ≡ 7)
+abbrev pub too_long_line : List ℕ
+too_long_line = codes "beas: the script is longer than 16777216 bytes\n"
 
--- a run has read its script at these; at 5 it may have
-abbrev pub IsWith : ℕ → Type 0
-IsWith status = (status < 2) ⊎ (status ≡ 4)
+abbrev pub no_text_line : List ℕ
+no_text_line = codes "beas: the script is not UTF-8\n"
 
 -- the file of this name has these bytes, where contents are told
 abbrev pub IsContent : Seen → List ℕ → List ℕ → Type 0
@@ -77,13 +69,6 @@ abbrev pub IsScriptOf : Option Args → Seen → List ℕ → Type 0
 IsScriptOf None files script = ⊥
 IsScriptOf (Some (Script path budget explain)) files script = IsContent files script path
 IsScriptOf (Some (Demo seed budget explain)) files script = script ≡ demo_text seed
-
-pub record HasScript (script : List ℕ) (status : ℕ) (asked : Option Args) (files : Seen) : Type 0 where
-  pub fits : length script ≤ longest_script
-  pub is_text : IsUtf8 script
-  pub read : IsWith status → IsScriptOf asked files script
-  pub begun : (script ≡ []) ⊎ IsScriptOf asked files script
-  pub without : IsWithout status → script ≡ []
 
 -- where the words ask for nothing there are no statements
 abbrev pub settings_of_words : Limits → List (List ℕ) → Settings
@@ -114,22 +99,6 @@ HasLoaded (Some (Demo seed budget explain)) status before after = after.loads �
 abbrev pub with_files : Moment → Seen → Moment
 with_files moment files = record moment { files = files }
 
-pub record HasRun (limits : Limits) (words : List (List ℕ)) (status : ℕ) (before after : Moment) : Type 0 where
-  pub script : List ℕ
-  pub readings : List Reading
-  -- the files where the script is there, before its first statement
-  pub begun : Seen
-  -- they tell the contents that the files told before
-  pub later : IsLater before.files begun
-  pub loaded : HasLoaded (args_of words) status before.files begun
-  -- without a script no other file is loaded
-  pub unread : IsWithout status → after.files ≡ begun
-  pub has : HasScript script status (args_of words) before.files
-  pub read_as : Readings script readings
-  -- where it ended before it had its script, not even the totals of no statements were sent
-  pub silent : script ≡ [] → before.out.told ≡ true → after.out.bytes ≡ before.out.bytes
-  pub walked : WalkedFor (args_of words) (settings_of_words limits words) readings status (with_files before begun) after
-
 -- the script is longer than a script may be; where contents aren't told, one byte more was taken
 pub record IsTooLong (before after : Seen) (name : List ℕ) : Type 0 where
   pub longer : before.told ≡ true → IsSomeAnd (before.content name) (λ bytes. longest_script < length bytes)
@@ -142,11 +111,130 @@ pub record IsNoText (before : Seen) (name : List ℕ) : Type 0 where
   pub no_text : IsUtf8 bytes → ⊥
   pub content_is : IsContent before bytes name
 
--- nothing was sent, read or changed
-pub record IsUntouched (before after : Moment) : Type 0 where
-  pub sent : before.out.told ≡ true → after.out.bytes ≡ before.out.bytes
-  pub steps : after.steps ≡ before.steps
-  pub db : after.state ≡ before.state
+-- ---- what a run finds, and what it leaves
+
+pub record Standing : Type 0 where
+  pub settings : Settings
+  pub moment : Moment
+  -- on `err`
+  pub said : Sent
+
+abbrev pub standing : Session → ℕ → Sent → Sent → Seen → Standing
+standing session steps out err files =
+    record { settings = settings_of session; moment = moment session steps out files; said = err }
+
+-- ---- what is said on `err`
+
+-- this line, by one put, unless `err` failed
+pub record Says (line : List ℕ) (before after : Sent) : Type 0 where
+  pub part : before.told ≡ true → SentPart before.bytes after.bytes line
+  pub whole : before.told ≡ true → (after.bytes ≡ before.bytes ++ line) ⊎ Rose before.faults after.faults
+  pub puts : after.puts ≡ raised 1 before.puts
+  pub later : IsLaterSink before after
+
+-- nothing, by one put or by none
+pub record SaysNothing (before after : Sent) : Type 0 where
+  pub unsaid : before.told ≡ true → after.bytes ≡ before.bytes
+  pub no_fault : after.faults ≡ before.faults
+  pub puts : (after.puts ≡ raised 1 before.puts) ⊎ (after.puts ≡ before.puts)
+  pub later : IsLaterSink before after
+
+-- ---- how a run ended
+
+-- it had the script that the words ask for: the session has their settings, and nothing was said
+pub record HadScript (words : List (List ℕ)) (script : List ℕ) (before after : Standing) : Type 0 where
+  pub asked : IsScriptOf (args_of words) before.moment.files script
+  pub settings : after.settings ≡ settings_of_words before.settings.limits words
+  pub said : after.said ≡ before.said
+
+-- it had none: nothing was sent, read or changed, and this line was said
+pub record HadNoScript (line script : List ℕ) (begun : Seen) (before after : Standing) : Type 0 where
+  pub no_script : script ≡ []
+  pub sent : before.moment.out.told ≡ true → after.moment.out.bytes ≡ before.moment.out.bytes
+  pub no_fault : after.moment.out.faults ≡ before.moment.out.faults
+  pub steps : after.moment.steps ≡ before.moment.steps
+  pub db : after.moment.state ≡ before.moment.state
+  -- no other file was loaded
+  pub unread : after.moment.files ≡ begun
+  pub settings : after.settings ≡ before.settings
+  pub says : Says line before.said after.said
+
+-- 0 and 1: all pieces were carried out, and the output took all
+pub record CarriedOut (words : List (List ℕ)) (script : List ℕ) (before after : Standing) : Type 0 where
+  pub had : HadScript words script before after
+  pub no_fault : after.moment.out.faults ≡ before.moment.out.faults
+
+-- 2: the words are refused
+pub record WordsRefused (words : List (List ℕ)) (script : List ℕ) (begun : Seen) (before after : Standing) : Type 0 where
+  pub refused : args_of words ≡ None
+  pub had : HadNoScript usage_line script begun before after
+
+-- 3: the file that the words name failed
+pub record ScriptUnread (words : List (List ℕ)) (script : List ℕ) (begun : Seen) (before after : Standing) : Type 0 where
+  pub fault : IsSomeAnd (script_name words)
+      (λ name. Rose (before.moment.files.faults name) (after.moment.files.faults name))
+  pub had : HadNoScript unread_line script begun before after
+
+-- 4: the output failed
+pub record OutputFailed (words : List (List ℕ)) (script : List ℕ) (before after : Standing) : Type 0 where
+  pub had : HadScript words script before after
+  pub fault : Rose before.moment.out.faults after.moment.out.faults
+
+-- 5: memory ran out, perhaps before there was a script
+pub record OutOfMemory (words : List (List ℕ)) (script : List ℕ) (before after : Standing) : Type 0 where
+  pub asked : (script ≡ []) ⊎ IsScriptOf (args_of words) before.moment.files script
+  pub no_fault : after.moment.out.faults ≡ before.moment.out.faults
+  pub settings : (after.settings ≡ before.settings)
+      ⊎ (after.settings ≡ settings_of_words before.settings.limits words)
+  -- words that are refused leave them
+  pub unasked : args_of words ≡ None → after.settings ≡ before.settings
+  pub says : SaysNothing before.said after.said
+
+-- 6: the file has more bytes than a script may have
+pub record ScriptTooLong (words : List (List ℕ)) (script : List ℕ) (begun : Seen) (before after : Standing) : Type 0 where
+  pub longer : IsSomeAnd (script_name words) (IsTooLong before.moment.files after.moment.files)
+  pub had : HadNoScript too_long_line script begun before after
+
+-- 7: its bytes are no text
+pub record ScriptNoText (words : List (List ℕ)) (script : List ℕ) (begun : Seen) (before after : Standing) : Type 0 where
+  pub no_text : IsSomeAnd (script_name words) (IsNoText before.moment.files)
+  pub had : HadNoScript no_text_line script begun before after
+
+-- there is no other status
+abbrev pub Ended : List (List ℕ) → ℕ → List ℕ → Seen → Standing → Standing → Type 0
+Ended words status script begun before after =
+    ((status < 2) × CarriedOut words script before after)
+    ⊎ ((status ≡ 2) × WordsRefused words script begun before after)
+    ⊎ ((status ≡ 3) × ScriptUnread words script begun before after)
+    ⊎ ((status ≡ 4) × OutputFailed words script before after)
+    ⊎ ((status ≡ 5) × OutOfMemory words script before after)
+    ⊎ ((status ≡ 6) × ScriptTooLong words script begun before after)
+    ⊎ ((status ≡ 7) × ScriptNoText words script begun before after)
+
+-- ---- what a run did
+
+pub record HasRun (words : List (List ℕ)) (status : ℕ) (before after : Standing) : Type 0 where
+  -- its script, or no text where it ended before it had one
+  pub script : List ℕ
+  pub readings : List Reading
+  pub fits : length script ≤ longest_script
+  pub is_text : IsUtf8 script
+  pub read_as : Readings script readings
+  -- the files where the script is there, before its first statement; they tell the contents that the files told before
+  pub begun : Seen
+  pub loaded : HasLoaded (args_of words) status before.moment.files begun
+  pub later : IsLater before.moment.files begun
+  -- the turns of its statements were done, or as far as it came
+  pub walked : WalkedFor (args_of words) (settings_of_words before.settings.limits words) readings status
+      (with_files before.moment begun) after.moment
+  -- without a text not even the totals of no statements were sent
+  pub silent : script ≡ [] → before.moment.out.told ≡ true → after.moment.out.bytes ≡ before.moment.out.bytes
+  -- what files and output tell stays, and no count falls
+  pub files : IsLater before.moment.files after.moment.files
+  pub out : IsLaterSink before.moment.out after.moment.out
+  pub ended : Ended words status script begun before after
+
+-- ---- which status a script has that can be read
 
 -- over a script that could be loaded
 pub record CompletesWithout (script : List ℕ) (status : ℕ) : Type 0 where
@@ -157,78 +245,23 @@ pub record CompletesWithout (script : List ℕ) (status : ℕ) : Type 0 where
 abbrev pub Completes : List ℕ → ℕ → Type 0
 Completes script status = length script ≤ longest_script → IsUtf8 script → (status < 2) ⊎ (status ≡ 5)
 
--- ---- what a run is said to do, whatever its status
-
 -- the file of this name has these bytes, and its count of faults doesn't rise
 pub record IsReadable (name script : List ℕ) (before after : Seen) : Type 0 where
   pub told : before.told ≡ true
   pub content : before.content name ≡ Some script
   pub no_fault : Rose (before.faults name) (after.faults name) → ⊥
 
--- each status has its cause
-pub record HasCause (words : List (List ℕ)) (status : ℕ) (before after : Moment) : Type 0 where
-  -- there are no others
-  pub statuses : status ≤ 7
-  -- words that are refused end with 2, unless memory runs out
-  pub refused : args_of words ≡ None → (status ≡ 2) ⊎ (status ≡ 5)
-  -- and no others do
-  pub refused_alone : status ≡ 2 → args_of words ≡ None
-  -- 3: the file that the words name failed
-  pub unread : status ≡ 3 → IsSomeAnd (script_name words)
-      (λ name. Rose (before.files.faults name) (after.files.faults name))
-  -- 4: the output failed
-  pub fault : status ≡ 4 → Rose before.out.faults after.out.faults
-  -- and at no other status did it
-  pub no_fault : status ≢ 4 → after.out.faults ≡ before.out.faults
-  -- 6: the file has more bytes than a script may have
-  pub too_long : status ≡ 6 → IsSomeAnd (script_name words) (IsTooLong before.files after.files)
-  -- 7: it is no text
-  pub not_text : status ≡ 7 → IsSomeAnd (script_name words) (IsNoText before.files)
-
 -- nothing but its own length and bytes, memory and the output keeps a script from being run
-pub record IsComplete (words : List (List ℕ)) (status : ℕ) (before after : Moment) : Type 0 where
+pub record IsComplete (words : List (List ℕ)) (status : ℕ) (before after : Standing) : Type 0 where
   -- a text that isn't too long is run whole, unless memory runs out
   pub complete : (name script : List ℕ) → script_name words ≡ Some name
-      → IsReadable name script before.files after.files
-      → (Rose before.out.faults after.out.faults → ⊥) → Completes script status
+      → IsReadable name script before.moment.files after.moment.files
+      → (Rose before.moment.out.faults after.moment.out.faults → ⊥) → Completes script status
   -- one that is too long, or is no text, has its own status
   pub complete_without : (name script : List ℕ) → script_name words ≡ Some name
-      → IsReadable name script before.files after.files → CompletesWithout script status
+      → IsReadable name script before.moment.files after.moment.files → CompletesWithout script status
   -- a demonstration needs no file
   pub complete_demo : (seed : ℕ) → demo_seed words ≡ Some seed
-      → (Rose before.out.faults after.out.faults → ⊥) → (status < 2) ⊎ (status ≡ 5)
-
--- what stands on `err`
-pub record Says (status : ℕ) (before after : Sent) : Type 0 where
-  -- at most the line that says why there is no script
-  pub part : before.told ≡ true → SentPart before.bytes after.bytes (line status)
-  -- the whole line, unless `err` failed
-  pub whole : IsWithout status → before.told ≡ true
-      → (after.bytes ≡ before.bytes ++ line status) ⊎ Rose before.faults after.faults
-  -- out of memory, nothing
-  pub unsaid : status ≡ 5 → before.told ≡ true → after.bytes ≡ before.bytes
-  pub no_fault : status ≡ 5 → after.faults ≡ before.faults
-  -- by one put; out of memory, by one or by none
-  pub puts : IsWithout status → after.puts ≡ raised 1 before.puts
-  pub puts_out_of_memory : status ≡ 5 → (after.puts ≡ raised 1 before.puts) ⊎ (after.puts ≡ before.puts)
-  -- what it tells stays, and its count doesn't fall
-  pub later : IsLaterSink before after
-
--- what stays of the session, the files and the output
-pub record Stays (words : List (List ℕ)) (status : ℕ) (settings_before settings_after : Settings)
-    (before after : Moment) : Type 0 where
-  -- without a script nothing is sent, read or changed
-  pub untouched : IsWithout status → IsUntouched before after
-  -- the limits of the session
-  pub limits : settings_after.limits ≡ settings_before.limits
-  -- its budget and its flag, unless there is a script: then they are those of the words
-  pub settings : IsWith status → settings_after ≡ settings_of_words settings_before.limits words
-  pub settings_without : IsWithout status → settings_after ≡ settings_before
-  -- words that are refused leave them too, out of memory as well
-  pub settings_unasked : args_of words ≡ None → settings_after ≡ settings_before
-  -- out of memory, one of the two
-  pub settings_out_of_memory : status ≡ 5 → (settings_after ≡ settings_before)
-      ⊎ (settings_after ≡ settings_of_words settings_before.limits words)
-  -- what files and output tell; no count falls
-  pub files : IsLater before.files after.files
-  pub out : IsLaterSink before.out after.out
+      → (Rose before.moment.out.faults after.moment.out.faults → ⊥) → (status < 2) ⊎ (status ≡ 5)
+  -- words that are refused have theirs
+  pub complete_refused : args_of words ≡ None → (status ≡ 2) ⊎ (status ≡ 5)

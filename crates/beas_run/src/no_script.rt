@@ -1,7 +1,6 @@
 // Why a run has no script, and what is said then.
-ghost use Rattle.std.specs.Prelude.{◌≡◌, ◌⊎◌};
-ghost use Rattle.beas_run.specs.NoScripts.{status_of};
-ghost use Rattle.beas_run.specs.Runs.{line, Says};
+ghost use Rattle.std.specs.Prelude.{◌≡◌};
+ghost use Rattle.beas_run.specs.NoScripts.{line_of, status_of, IsSaid};
 
 use command_words::usage_line;
 use outside::{Sink, SinkError};
@@ -36,7 +35,7 @@ fn status_of(why: NoScript) -> u8
 
 /// What is said on `err`.
 fn line_of(why: NoScript) -> &'static str
-    ensures { result.now ≡ line (status_of why) }
+    ensures { result.now ≡ line_of why }
 {
     match why {
         NoScript::Words => usage_line(),
@@ -50,8 +49,7 @@ fn line_of(why: NoScript) -> &'static str
 
 /// Says on `err` why there is no script, and gives the status. Out of memory, nothing is said.
 pub fn say<E: Sink>(why: NoScript, err: &mut E) -> u8
-    ensures status { (result ≡ status_of why) ⊎ (result ≡ 5) }
-    ensures says { Says result (E.seen err.old) (E.seen err.new) }
+    ensures { IsSaid why result (E.seen err.old) (E.seen err.new) }
 {
     if why == NoScript::NoMemory {
         return 5;

@@ -1,8 +1,8 @@
 // The whole run: from the words to the status of the program.
-ghost use Rattle.std.specs.Prelude.{◌≡◌, ◌≤◌, None, length, map};
+ghost use Rattle.std.specs.Prelude.{◌≡◌, ◌<◌, ◌≤◌, ◌⊎◌, None, length, map};
 ghost use Rattle.std.specs.String.{string_bytes};
 ghost use Rattle.session.specs.Applying.{settings_of};
-ghost use Rattle.beas_run.specs.Runs.{path_of, script_name, HasCause, HasRun, IsComplete, IsWith, IsWithout, Says, Stays};
+ghost use Rattle.beas_run.specs.Runs.{path_of, script_name, standing, HasRun, IsComplete};
 ghost use Rattle.beas_run.specs.Sources.{IsMade, RanOver};
 ghost use Rattle.beas_run.specs.Walks.{moment};
 
@@ -73,29 +73,25 @@ pub fn run<F: Files, O: Sink, E: Sink, L: Ledger>(
     steps: &mut Steps<L>,
 ) -> u8
     // What was sent, read and changed is the meaning of the script, as its pieces are read, or as far as the run came.
-    ensures ran { HasRun session.old.limits (map string_bytes words.now) result
-        (moment session.old steps.old (O.seen out.old) (F.seen files.old))
-        (moment session.new steps.new (O.seen out.new) (F.seen files.new)) }
+    // Each status has its cause, and what stays.
+    ensures ran {
+        let before = standing session.old steps.old (O.seen out.old) (E.seen err.old) (F.seen files.old) in
+        let after = standing session.new steps.new (O.seen out.new) (E.seen err.new) (F.seen files.new) in
+        HasRun (map string_bytes words.now) result before after
+    }
 
-    // Each status has its cause, and a script that can be loaded is run, as far as memory and the output let it.
-    ensures cause { HasCause (map string_bytes words.now) result
-        (moment session.old steps.old (O.seen out.old) (F.seen files.old))
-        (moment session.new steps.new (O.seen out.new) (F.seen files.new)) }
-    ensures complete { IsComplete (map string_bytes words.now) result
-        (moment session.old steps.old (O.seen out.old) (F.seen files.old))
-        (moment session.new steps.new (O.seen out.new) (F.seen files.new)) }
+    // A script that can be loaded is run, as far as memory and the output let it.
+    ensures complete {
+        let before = standing session.old steps.old (O.seen out.old) (E.seen err.old) (F.seen files.old) in
+        let after = standing session.new steps.new (O.seen out.new) (E.seen err.new) (F.seen files.new) in
+        IsComplete (map string_bytes words.now) result before after
+    }
 
-    // A run without a script says why on `err` and puts nothing to `out`; a run with one puts nothing to `err`. Where the
-    // words name no file, none is loaded.
-    ensures says { Says result (E.seen err.old) (E.seen err.new) }
-    ensures out_unused { IsWithout result → out.new ≡ out.old }
-    ensures err_unused { IsWith result → err.new ≡ err.old }
+    // A run with a script puts nothing to `err`, and one without puts nothing to `out`. Where the words name no file, none is
+    // loaded.
+    ensures err_unused { (result < 2) ⊎ (result ≡ 4) → err.new ≡ err.old }
+    ensures out_unused { (result ≡ 2) ⊎ (result ≡ 3) ⊎ (result ≡ 6) ⊎ (result ≡ 7) → out.new ≡ out.old }
     ensures files_unused { script_name (map string_bytes words.now) ≡ None → files.new ≡ files.old }
-
-    // What stays, and which settings the session has afterwards.
-    ensures stays { Stays (map string_bytes words.now) result (settings_of session.old) (settings_of session.new)
-        (moment session.old steps.old (O.seen out.old) (F.seen files.old))
-        (moment session.new steps.new (O.seen out.new) (F.seen files.new)) }
 {
     match source_of(alloc, words, files) {
         Ok(source) => {
