@@ -120,13 +120,16 @@ ended_early : (words : List (List ℕ)) (why : NoScript) (status : ℕ) (before 
     → IsSaid why status before.said said → HasNoScript (args_of words) why before.moment.files files
     → Ended words status [] files before (left before files said)
 ended_early words why status before files said (inl whole) none = ended_whole words why status before files said whole none
-ended_early words why status before files said (inr (five, nothing)) none = inr (inr (inr (inr (inl (five, record {
-  asked = inl refl;
-  no_fault = refl;
-  settings = inl refl;
-  unasked = λ _. refl;
-  says = nothing;
-})))))
+ended_early words why status before files said (inr (five, nothing)) none = inr (inr (inr (inr (inl (
+  five,
+  record {
+    asked = inl refl;
+    no_fault = refl;
+    settings = inl refl;
+    unasked = λ _. refl;
+    says = nothing;
+  },
+)))))
 
 pub status_said : (why : NoScript) (status : ℕ) (before after : Sent) → IsSaid why status before after → (status ≡ status_of why) ⊎ (status ≡ 5)
 status_said why status before after (inl whole) = inl whole.status_is
@@ -213,13 +216,16 @@ ended_over : (words : List (List ℕ)) (status : ℕ) (script : List ℕ) (begun
 ended_over words status script begun before after had (inl below) quiet fault =
     inl (below, record { had = had; no_fault = quiet (λ four. omega arith) })
 ended_over words status script begun before after had (inr (inl four)) quiet fault = inr (inr (inr (inl (four, record { had = had; fault = fault four }))))
-ended_over words status script begun before after had (inr (inr five)) quiet fault = inr (inr (inr (inr (inl (five, record {
-  asked = inr had.asked;
-  no_fault = quiet (λ four. omega arith);
-  settings = inr had.settings;
-  unasked = λ none. absurd (no_words (args_of words) _ _ none had.asked);
-  says = nothing_said _ _ had.said;
-})))))
+ended_over words status script begun before after had (inr (inr five)) quiet fault = inr (inr (inr (inr (inl (
+  five,
+  record {
+    asked = inr had.asked;
+    no_fault = quiet (λ four. omega arith);
+    settings = inr had.settings;
+    unasked = λ none. absurd (no_words (args_of words) _ _ none had.asked);
+    says = nothing_said _ _ had.said;
+  },
+)))))
 
 -- a run over the script that its words ask for, where this was loaded, or made
 pub ran_script : (words : List (List ℕ)) (asked : Args) (script : List ℕ) (status : ℕ) (before after : Standing) (begun : Seen)
@@ -230,7 +236,7 @@ pub ran_script : (words : List (List ℕ)) (asked : Args) (script : List ℕ) (s
 ran_script words asked script status before after begun e fits text is loaded later said ran =
     let none : Settings = record { limits = before.settings.limits; budget = None; explain = false } in
     let P : Option Args → Type 0 =
-        λ o. WalkedFor o (option_map_or (settings_for before.settings.limits) o none) (readings_of script) status (with_files before.moment begun) after.moment in
+    λ o. WalkedFor o (option_map_or (settings_for before.settings.limits) o none) (readings_of script) status (with_files before.moment begun) after.moment in
     record {
       script = script;
       readings = readings_of script;
@@ -246,9 +252,9 @@ ran_script words asked script status before after begun e fits text is loaded la
       out = ran.out;
       ended = ended_over words status script begun before after
           (record {
-        asked = subst (λ o. IsScriptOf o before.moment.files script) (sym e) is;
-        settings = ran.settings_are ∙ ap (λ a. option_map_or (settings_for before.settings.limits) a none) (sym e);
-        said = said;
-      })
+            asked = subst (λ o. IsScriptOf o before.moment.files script) (sym e) is;
+            settings = ran.settings_are ∙ ap (λ a. option_map_or (settings_for before.settings.limits) a none) (sym e);
+            said = said;
+          })
           ran.statuses ran.no_fault ran.fault;
     }

@@ -74,18 +74,14 @@ pub fn run<F: Files, O: Sink, E: Sink, L: Ledger>(
 ) -> u8
     // What was sent, read and changed is the meaning of the script, as its pieces are read, or as far as the run came.
     // Each status has its cause, and what stays.
-    ensures ran {
-        let before = standing session.old steps.old (O.seen out.old) (E.seen err.old) (F.seen files.old) in
+    ensures ran { let before = standing session.old steps.old (O.seen out.old) (E.seen err.old) (F.seen files.old) in
         let after = standing session.new steps.new (O.seen out.new) (E.seen err.new) (F.seen files.new) in
-        HasRun (map string_bytes words.now) result before after
-    }
+        HasRun (map string_bytes words.now) result before after }
 
     // A script that can be loaded is run, as far as memory and the output let it.
-    ensures complete {
-        let before = standing session.old steps.old (O.seen out.old) (E.seen err.old) (F.seen files.old) in
+    ensures complete { let before = standing session.old steps.old (O.seen out.old) (E.seen err.old) (F.seen files.old) in
         let after = standing session.new steps.new (O.seen out.new) (E.seen err.new) (F.seen files.new) in
-        IsComplete (map string_bytes words.now) result before after
-    }
+        IsComplete (map string_bytes words.now) result before after }
 
     // A run with a script puts nothing to `err`, and one without puts nothing to `out`. Where the words name no file, none is
     // loaded.

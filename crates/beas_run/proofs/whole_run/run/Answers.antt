@@ -18,7 +18,7 @@ returns-in-Ok g c =
     let same = c.as_str-text.ensures in
     let o = c.run_over.ensures.ran in
     let run = ran_script _ _ _ _ _ _ _ e.asked_is (subst (λ t. length t ≤ longest_script) (sym same) e.fits) c.as_str-text.utf8
-        (subst (λ t. IsScriptOf _ _ t) (sym same) e.is) e.loaded e.later refl o in
+    (subst (λ t. IsScriptOf _ _ t) (sym same) e.is) e.loaded e.later refl o in
     record {
       ran = run;
       complete = is_complete _ _ _ _ run;
