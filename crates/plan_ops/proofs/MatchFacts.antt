@@ -4,22 +4,24 @@
 use Rattle.std.proofs.Common.{ltb, ◌≡◌, ◌&&◌, ◌<◌, ◌≤◌, ◌+◌, ◌-◌, ◌++◌, ◌∷◌, [], ℕ, zero, suc, pos, Bool, true, false, cond, List, Option, Some, None, All, length, map, take, reverse, get_or, inl, inr, refl, ap, sym, subst, ◌∙◌, arith}
 use Rattle.std.specs.List.{filter, list_all}
 use Rattle.std.proofs.Math.Seq.{get_or-append_right}
-use Rattle.std.proofs.lemmas.Bool.{ltb-true}
-use Rattle.std.proofs.lemmas.List.{get_or-map, get_or-reverse, get_or_append_left, append-nil, length-map, length-reverse, map-append, take_all, take_more}
+use Rattle.std.proofs.lemmas.Bool.{cases_lt, ltb-true}
+use Rattle.std.proofs.lemmas.List.{get_or-map, get_or-reverse, get_or_append_left, append-nil, get_or_push, length_push, length-map, length-reverse, map-append, take_all, take_more}
 use Rattle.std.proofs.lemmas.List.Elements.{All-head, All-tail, filter-append}
 use Rattle.std.proofs.lemmas.List.Sums.{fold_more}
 use Rattle.beas_core.specs.declared.value.Value.{Value}
 use Rattle.beas_core.specs.declared.value.Value.TheVariants.{Int}
+use Rattle.beas_core.specs.Found.{Found}
 use Rattle.beas_core.specs.Full.{same_value}
 use Rattle.beas_core.specs.Mixing.{mixed}
 use Rattle.beas_core.specs.Types.{Row}
 use Rattle.evaluation_facts.proofs.BindingFacts.{same_from}
 use Rattle.evaluation_facts.proofs.MemberTests.{which}
+use Rattle.plan_ops.specs.declared.joining.Join.{Join}
 use Rattle.plan_ops.specs.declared.joining.Shared.{Shared}
 use Rattle.plan_ops.specs.Chains.{IsLast}
 use Rattle.plan_ops.specs.Hashing.{hash_of, word_of}
-use Rattle.plan_ops.specs.Joins.{at_place, fits_by}
-use Rattle.plan_ops.specs.Matching.{IsShared, hash_at, hashes_back, shared_in, values_at}
+use Rattle.plan_ops.specs.Joins.{IsSharing, at_place, fits_by}
+use Rattle.plan_ops.specs.Matching.{AreIndexes, IsIndexed, IsShared, hash_at, hashes_back, shared_in, values_at}
 
 -- ---- hashes
 
@@ -119,6 +121,12 @@ shared_agree checks shared width is behind row tuple wide fits =
     ap (hash_of 0) (ap (λ ps. values_at ps tuple) at_row.tuples_are ∙ sym (agree row tuple checks far fits)
     ∙ ap (λ ps. values_at ps row) (sym at_row.rows_are))
 
+pub fits_only : (join : Join) (row : Row) → IsSharing (length row) join → (tuples : List Row) (k : ℕ) → k < length tuples
+    → fits_by join.checks.items row (get_or tuples k []) ≡ true
+    → hash_at join.shared.tuple.items (get_or tuples k []) ≡ hash_at join.shared.row.items row
+fits_only join row sharing tuples k l t =
+    shared_agree join.checks.items join.shared (length row) sharing.shared_are sharing.behind row (get_or tuples k []) refl t
+
 -- ---- the chain of a hash
 
 module _ {A : Type 0} (p : A → Bool) (d : A) (tuples : List A) where
@@ -217,6 +225,10 @@ module _ (places : List ℕ) (hash : ℕ) (p : Row → Bool) (tuples : List Row)
         let xs = filter p (take (length tuples - 1 - place) tuples) in
         stepped false test (subst S (sym (append-nil xs)) (step xs (upto R place w)))
 
+    -- it was tested, and taken where it passes
+    pub walked_tested : ((xs : List Row) → R xs → S (xs ++ filter p (t ∷ []))) → Walks S at
+    walked_tested step = stepped (p t) refl (step (filter p (take (length tuples - 1 - place) tuples)) (upto R place w))
+
   -- no place is left
   pub walked_all : (R : List Row → Type 0) → Walks R None → R (filter p tuples)
   walked_all R w =
@@ -244,3 +256,39 @@ pub back_all : (places : List ℕ) (tuples : List Row) (i : ℕ) → length tupl
 back_all places tuples i end =
     let n = length-reverse tuples in
     ap (map (hash_at places)) (take_all i (reverse tuples) (omega (arith, end, n)))
+
+-- ---- one index more
+
+pub indexes_none : (places : List ℕ) (members : Found → List Row) → AreIndexes places members [] []
+indexes_none places members = record { count = refl; each = λ i d e l. absurd (omega (arith, l)) }
+
+module _ (places : List ℕ) (members : Found → List Row) where
+  pushed : (groups : List Found) (indexes : List (Option (List ℕ))) (hits : Found) (o : Option (List ℕ)) → AreIndexes places members groups indexes
+      → IsIndexed places (members hits) o → AreIndexes places members (groups ++ hits ∷ []) (indexes ++ o ∷ [])
+  pushed groups indexes hits o are is =
+      let n = length_push groups hits in
+      let m = length_push indexes o in
+      let same = are.count in
+      record {
+        count = omega (arith, n, m, same);
+        each = λ i d e l. elim (cases_lt i (length groups)) [
+          | inl before ↦ (
+              subst (λ h. IsIndexed places (members h) (get_or (indexes ++ o ∷ []) i e)) (sym (get_or_append_left groups (hits ∷ []) d i before))
+              (subst (IsIndexed places (members (get_or groups i d))) (sym (get_or_append_left indexes (o ∷ []) e i (omega (arith, before, same))))
+              (are.each i d e before)))
+          | inr past ↦ (
+              subst (λ h. IsIndexed places (members h) (get_or (indexes ++ o ∷ []) i e)) (sym (get_or_push groups hits d i (omega (arith, l, n, past))))
+              (subst (IsIndexed places (members hits)) (sym (get_or_push indexes o e i (omega (arith, l, n, past, same)))) is))
+        ];
+      }
+
+  pub indexes_more : (groups : List Found) (i : ℕ) → i < length groups → (hits : Found) → hits ≡ get_or groups i hits → (indexes : List (Option (List ℕ)))
+      → AreIndexes places members (take i groups) indexes → (o : Option (List ℕ)) → IsIndexed places (members hits) o
+      → AreIndexes places members (take (i + 1) groups) (indexes ++ o ∷ [])
+  indexes_more groups i l hits read indexes are o is =
+      subst (λ gs. AreIndexes places members gs (indexes ++ o ∷ [])) (sym (take_more groups i hits l ∙ ap (λ h. take i groups ++ h ∷ []) (sym read)))
+      (pushed (take i groups) indexes hits o are is)
+
+  pub indexes_all : (groups : List Found) (i : ℕ) → length groups ≤ i → (indexes : List (Option (List ℕ)))
+      → AreIndexes places members (take i groups) indexes → AreIndexes places members groups indexes
+  indexes_all groups i end indexes are = subst (λ gs. AreIndexes places members gs indexes) (take_all i groups end) are

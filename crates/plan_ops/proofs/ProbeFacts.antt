@@ -98,6 +98,13 @@ length-zip R [] (y ∷ ys) h = absurd h
 length-zip R (x ∷ xs) [] h = absurd h
 length-zip R (x ∷ xs) (y ∷ ys) h = ap suc (length-zip R xs ys h.1)
 
+pub zip_all : {A B : Type 0} (R : A → B → Type 0) (P : B → Type 0) → ((x : A) (y : B) → R x y → P y) → (xs : List A) (ys : List B) → AllZip R xs ys → All P ys
+zip_all R P f [] [] h i d l = absurd (omega (arith, l))
+zip_all R P f [] (y ∷ ys) h i d l = absurd h
+zip_all R P f (x ∷ xs) [] h i d l = absurd h
+zip_all R P f (x ∷ xs) (y ∷ ys) h zero d l = f x y h.0
+zip_all R P f (x ∷ xs) (y ∷ ys) h (suc i) d l = zip_all R P f xs ys h.1 i d (omega (arith, l))
+
 module _ (f : Row → ℕ) (keys : List Row) (bound i : ℕ) (l : i < length keys) where
   pub summed_more : (key : Row) → key ≡ get_or keys i key → sum_by f (take (i + 1) keys) ≡ sum_by f (take i keys) + f key
   summed_more key is =

@@ -172,7 +172,7 @@ module _ (normal : Normal) (stage : Stage) (is : IsStage normal stage) where
 
     -- the values that a tuple shares with the valuation, where it leads on
     pub pair_shares : leads_to normal u set v t ≡ true → hash_at stage.join.shared.tuple.items t ≡ hash_at stage.join.shared.row.items v
-    pair_shares e = shared_agree stage.join.checks.items stage.join.shared (length stage.from.value) is.join_is.shared_are is.join_is.behind v t pair.wide
+    pair_shares e = shared_agree stage.join.checks.items stage.join.shared (length stage.from.value) is.join_is.sharing.shared_are is.join_is.sharing.behind v t pair.wide
         (pair_joined.0 ∙ and_left (agrees (joined_bindings normal u set v t)) (meets_bound normal after (joined_row normal u set v t)) e)
 
     pub output_made : project stage.picked.1 (joined_by stage.join.sources.items v t) ≡ output_row normal after (joined_row normal u set v t)

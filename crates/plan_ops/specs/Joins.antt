@@ -72,11 +72,15 @@ pub record IsWithin (width : ℕ) (join : Join) : Type 0 where
   pub left_are : All (λ c. c.0 < width) join.checks.items
   pub right_are : All (λ c. c.1 < width) join.checks.items
 
+-- the first place of a check is a tuple's, where valuations have this width
+pub record IsSharing (width : ℕ) (join : Join) : Type 0 where
+  pub behind : All (λ c. width ≤ c.0) join.checks.items
+  pub shared_are : IsShared width join.checks.items join.shared
+
 pub record IsJoin (normal : Normal) (u : Use) (classes : List ℕ) (join : Join) : Type 0 where
   pub columns_are : join.columns.items ≡ member_columns u.access
   pub classes_are : join.classes ≡ classes_in (with_classes (set_of normal classes) (member_classes normal u))
   pub sources_are : join.sources.items ≡ map (place_of (joined_classes normal u classes)) join.classes
   pub checks_are : join.checks.items ≡ checks_of (length classes + length u.access.key) (joined_classes normal u classes)
   pub within : IsWithin (length classes + length (member_columns u.access)) join
-  pub behind : All (λ c. length classes ≤ c.0) join.checks.items
-  pub shared_are : IsShared (length classes) join.checks.items join.shared
+  pub sharing : IsSharing (length classes) join

@@ -3,11 +3,14 @@
 --     hash_at places row              the hash of these values
 --     hashes_back places tuples       the hash of each tuple, from the last one to the first
 --     shared_in width checks          the checks that compare a tuple with a valuation of this width, and not with itself
+--     IsIndexed places tuples o       where there are hashes, they are those of these tuples
+--     AreIndexes ..                   so it is of each of some groups
 --     IsShared width checks shared    the places of these checks in the valuation, and those in the tuple
-use Rattle.std.specs.Prelude.{◌≡◌, ◌-◌, ℕ, pos, List, map, filter, reverse, nat_lt, slice_index_or}
+use Rattle.std.specs.Prelude.{◌≡◌, ◌<◌, ◌-◌, ℕ, pos, List, Option, IfSome, length, map, filter, reverse, nat_lt, slice_index_or}
 use Rattle.beas_core.specs.declared.value.Value.TheVariants.{Int}
 use Rattle.beas_core.specs.Types.{Row}
 use Rattle.plan_ops.specs.declared.joining.Shared.{Shared}
+use Rattle.beas_core.specs.Found.{Found}
 use Rattle.plan_ops.specs.Hashing.{hash_of}
 
 abbrev pub values_at : List ℕ → Row → Row
@@ -25,3 +28,10 @@ shared_in width checks = filter (λ c. nat_lt c.1 width) checks
 pub record IsShared (width : ℕ) (checks : List (ℕ × ℕ)) (shared : Shared) : Type 0 where
   pub rows_are : shared.row.items ≡ map (λ c. c.1) (shared_in width checks)
   pub tuples_are : shared.tuple.items ≡ map (λ c. c.0 - width) (shared_in width checks)
+
+abbrev pub IsIndexed : List ℕ → List Row → Option (List ℕ) → Type 0
+IsIndexed places tuples o = IfSome o (λ hashes. hashes ≡ hashes_back places tuples)
+
+pub record AreIndexes (places : List ℕ) (members : Found → List Row) (groups : List Found) (indexes : List (Option (List ℕ))) : Type 0 where
+  pub count : length indexes ≡ length groups
+  pub each : (i : ℕ) (d : Found) (e : Option (List ℕ)) → i < length groups → IsIndexed places (members (slice_index_or groups i d)) (slice_index_or indexes i e)

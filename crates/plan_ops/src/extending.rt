@@ -7,7 +7,7 @@ ghost use Rattle.beas_core.specs.Order.{row_cmp};
 ghost use Rattle.beas_core.specs.Reads.{probe_reads, step_reads};
 ghost use Rattle.beas_core.specs.Sets.{distinct};
 ghost use Rattle.evaluation_facts.specs.Extensions.{extensions};
-ghost use Rattle.plan_ops.specs.Joins.{IsJoin, IsWithin, joins};
+ghost use Rattle.plan_ops.specs.Joins.{IsJoin, IsSharing, IsWithin, joins};
 ghost use Rattle.plan_ops.specs.Over.{Counts, IsOver, bound_set};
 ghost use Rattle.plan_ops.specs.Places.{column_of};
 
@@ -73,6 +73,7 @@ fn rows_by_keys<P: AccessPort, L: Ledger>(
     requires room { reads.old + length keys.now * (access_in (P.accesses port.now) id).bound < 2 ^ 128 }
     requires columns { join.now.columns.items ≡ member_columns (access_in (P.accesses port.now) id) }
     requires within { All (λ row. IsWithin (length row + length join.now.columns.items) join.now) rows.now }
+    requires sharing { All (λ row. IsSharing (length row) join.now) rows.now }
     requires bound { All (λ row. All (λ column. column.0 < length row) key.now) rows.now }
     requires keys { keys.now ≡ distinct row_cmp (map (project key.now) rows.now) }
 
@@ -105,6 +106,7 @@ fn rows_by_key<P: AccessPort, L: Ledger>(
     requires room { reads.old + length rows.now * (access_in (P.accesses port.now) id).bound < 2 ^ 128 }
     requires columns { join.now.columns.items ≡ member_columns (access_in (P.accesses port.now) id) }
     requires within { All (λ row. IsWithin (length row + length join.now.columns.items) join.now) rows.now }
+    requires sharing { All (λ row. IsSharing (length row) join.now) rows.now }
     requires bound { All (λ row. All (λ column. column.0 < length row) key.now) rows.now }
 
     ensures rows { let access = access_in (P.accesses port.now) id in

@@ -11,6 +11,7 @@ mod copying;
 mod extending;
 mod fetching;
 mod hashing;
+mod indexing;
 mod joining;
 mod keeping;
 mod links;

@@ -6,8 +6,11 @@ ghost use Rattle.beas_core.specs.Full.{same_value};
 ghost use Rattle.beas_core.specs.Groups.{group_of, member_columns, project};
 ghost use Rattle.beas_core.specs.Order.{row_cmp};
 ghost use Rattle.beas_core.specs.Sets.{distinct};
-ghost use Rattle.plan_ops.specs.Joins.{HitsAre, IsGroup, IsWithin, at_place, fits_by, joined_by, joins};
+ghost use Rattle.plan_ops.specs.Joins.{HitsAre, IsGroup, IsSharing, IsWithin, at_place, fits_by, joined_by, joins};
+ghost use Rattle.plan_ops.specs.Matching.{AreIndexes};
 
+use crate::chains::PlaceChains;
+use crate::indexing::{indexes_of, push_from_group};
 use crate::joining::Join;
 use crate::probing::place_of_key;
 use beas_core::{AccessId, AccessPort, ColumnId, Duplicate, Hits, List, NoMemory, Row, Value};
@@ -56,8 +59,8 @@ fn is_same<P: AccessPort>(
     *left == *right
 }
 
-// Whether a tuple fits the valuation.
-fn fits<P: AccessPort>(port: &P, join: &Join, row: &[Value], hits: &Hits, i: u32) -> bool
+/// Whether a tuple fits the valuation.
+pub fn fits<P: AccessPort>(port: &P, join: &Join, row: &[Value], hits: &Hits, i: u32) -> bool
     requires hits { HitsAre (P.accesses port.now) (P.stands port.now) (P.members port.now) hits.now }
     requires columns { join.now.columns.items ≡ member_columns (access_in (P.accesses port.now) hits.now.access) }
     requires member { i < hits.now.len }
@@ -72,8 +75,8 @@ fn fits<P: AccessPort>(port: &P, join: &Join, row: &[Value], hits: &Hits, i: u32
     true
 }
 
-// The valuation with a tuple's values.
-fn joined_row<P: AccessPort>(
+/// The valuation with a tuple's values.
+pub fn joined_row<P: AccessPort>(
     alloc: Global,
     port: &P,
     join: &Join,
@@ -96,8 +99,8 @@ fn joined_row<P: AccessPort>(
     Ok(List::from_vec(joined))
 }
 
-// Adds the valuation with each tuple that fits it.
-fn push_joined<P: AccessPort>(
+/// Adds the valuation with each tuple that fits it.
+pub fn push_joined<P: AccessPort>(
     alloc: Global,
     port: &P,
     join: &Join,
@@ -119,6 +122,47 @@ fn push_joined<P: AccessPort>(
     Ok(())
 }
 
+// Each valuation with each tuple of its key's group that fits it, by indexes of the groups.
+fn rows_from_groups<P: AccessPort>(
+    alloc: Global,
+    port: &P,
+    id: AccessId,
+    join: &Join,
+    key: &[ColumnId],
+    keys: &[Row],
+    groups: &[Hits],
+    indexes: &[Option<PlaceChains>],
+    rows: &[Row],
+) -> Result<Vec<Row>, NoMemory>
+    requires columns { join.now.columns.items ≡ member_columns (access_in (P.accesses port.now) id) }
+    requires within { All (λ row. IsWithin (length row + length join.now.columns.items) join.now) rows.now }
+    requires sharing { All (λ row. IsSharing (length row) join.now) rows.now }
+    requires bound { All (λ row. All (λ column. column.0 < length row) key.now) rows.now }
+    requires keys { keys.now ≡ distinct row_cmp (map (project key.now) rows.now) }
+    requires groups { AllZip
+        (IsGroup (P.rows port.now) (P.accesses port.now) (P.stands port.now) (P.members port.now) id)
+        keys.now groups.now }
+    requires indexes { AreIndexes join.now.shared.tuple.items (P.members port.now) groups.now indexes.now }
+    ensures { let access = access_in (P.accesses port.now) id in
+        IfOk result (λ found. found.items ≡ flat_map (λ row. joins join.now.sources.items join.now.checks.items row
+        (group_of (P.rows port.now access.table) access (project key.now row))) rows.now) }
+{
+    let mut found = Vec::with_capacity(alloc, rows.len())?;
+    for row in rows {
+        let at = place_of_key(keys, key, row.as_slice());
+        push_from_group(
+            alloc,
+            port,
+            join,
+            row.as_slice(),
+            &groups[at],
+            &indexes[at],
+            &mut found,
+        )?;
+    }
+    Ok(found)
+}
+
 /// Each valuation with each tuple of its key's group that fits it.
 pub fn joined_rows<P: AccessPort>(
     alloc: Global,
@@ -132,6 +176,7 @@ pub fn joined_rows<P: AccessPort>(
 ) -> Result<Vec<Row>, NoMemory>
     requires columns { join.now.columns.items ≡ member_columns (access_in (P.accesses port.now) id) }
     requires within { All (λ row. IsWithin (length row + length join.now.columns.items) join.now) rows.now }
+    requires sharing { All (λ row. IsSharing (length row) join.now) rows.now }
     requires bound { All (λ row. All (λ column. column.0 < length row) key.now) rows.now }
     requires keys { keys.now ≡ distinct row_cmp (map (project key.now) rows.now) }
     requires groups { AllZip
@@ -141,10 +186,9 @@ pub fn joined_rows<P: AccessPort>(
         IfOk result (λ found. found.items ≡ flat_map (λ row. joins join.now.sources.items join.now.checks.items row
         (group_of (P.rows port.now access.table) access (project key.now row))) rows.now) }
 {
-    let mut found = Vec::with_capacity(alloc, rows.len())?;
-    for row in rows {
-        let at = place_of_key(keys, key, row.as_slice());
-        push_joined(alloc, port, join, row.as_slice(), &groups[at], &mut found)?;
-    }
-    Ok(found)
+    // Where several valuations give one key.
+    let shared = rows.len() > keys.len();
+    let (columns, places) = (&join.columns, &join.shared.tuple);
+    let indexes = indexes_of(alloc, port, columns, places, groups, shared)?;
+    rows_from_groups(alloc, port, id, join, key, keys, groups, &indexes, rows)
 }

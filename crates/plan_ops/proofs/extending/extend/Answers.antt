@@ -7,7 +7,7 @@ use Rattle.beas_core.specs.Order.{row_cmp}
 use Rattle.beas_core.specs.Sets.{distinct}
 use Rattle.beas_core.specs.Coverage.{class_at}
 use Rattle.beas_core.specs.Derivations.{access_in, use_of}
-use Rattle.plan_ops.specs.Joins.{IsJoin}
+use Rattle.plan_ops.specs.Joins.{IsJoin, IsSharing}
 use Rattle.plan_ops.specs.Places.{column_of}
 use Rattle.plan_ops.proofs.ExtendFacts.{share_is, found_are, key_bound, extensions_are, extensions_wide}
 use Rattle.plan_ops.proofs.ProbeFacts.{counts_err}
@@ -51,6 +51,19 @@ rows_by_key-requires-clause-bound g c =
     subst (λ (rs : List Row). All (λ (row : Row). All (λ (column : ColumnId). column.0 < length row) c.deref.result.now) rs) (sym c.as_slice-rows.ensures)
     (subst (λ (k : List ColumnId). All (λ (row : Row). All (λ (column : ColumnId). column.0 < length row) k) from.rows) (sym c.deref.ensures.value)
     (key_bound block accesses s from.classes c.requires.over.classes_are join is rows key keyed from.rows c.requires.over.widths c.requires.key))
+
+pub rows_by_key-requires-clause-sharing : goal.rows_by_key-requires-clause-sharing
+rows_by_key-requires-clause-sharing g c =
+    let block = c.args.block.now in
+    let from = c.args.from.now in
+    let s = c.args.step.now in
+    let accesses = g.P.AccessPort.accesses c.args.port.now in
+    let join = c.in_ok-join.join in
+    let is : IsJoin block (use_of accesses s) from.classes join =
+    subst (λ (a : Access). let u : Use = record { atom = s.atom; access = a } in IsJoin block u from.classes join) c.access-access.ensures.access
+    c.in_ok-join.ensures in
+    subst (All (λ (row : Row). IsSharing (length row) join)) (sym c.as_slice-rows.ensures)
+    (λ i d l. subst (λ n. IsSharing n join) (sym (c.requires.over.widths i d l)) is.sharing)
 
 pub returns-in_err-found-clause-reads : goal.returns-in_err-found-clause-reads
 returns-in_err-found-clause-reads g c =

@@ -75,7 +75,9 @@ returns c =
       sources_are = sources ∙ ap (map (place_of joined)) (sym classes);
       checks_are = checks;
       within = is_within normal c.requires.ranges u c.args.classes.now c.requires.classes _ sources checks;
-      behind = subst (All (λ k. length c.args.classes.now ≤ k.0)) (sym checks)
-          (left_behind normal c.requires.ranges u c.args.classes.now c.requires.classes);
-      shared_are = subst (λ ks. IsShared (length c.args.classes.now) ks c.in_ok-shared.shared) c.deref-3.ensures.value c.in_ok-shared.ensures;
+      sharing = record {
+        behind = subst (All (λ k. length c.args.classes.now ≤ k.0)) (sym checks)
+            (left_behind normal c.requires.ranges u c.args.classes.now c.requires.classes);
+        shared_are = subst (λ ks. IsShared (length c.args.classes.now) ks c.in_ok-shared.shared) c.deref-3.ensures.value c.in_ok-shared.ensures;
+      };
     }

@@ -2,7 +2,7 @@ use Rattle.std.proofs.Common.{◌≡◌, flat_map, take}
 use Rattle.beas_core.specs.Derivations.{access_in}
 use Rattle.beas_core.specs.Groups.{group_of, project}
 use Rattle.plan_ops.specs.Joins.{joins}
-use Rattle.plan_ops.proofs.matching.joined_rows.Given as goal
+use Rattle.plan_ops.proofs.matching.rows_from_groups.Given as goal
 
 abbrev pub invariant-loop-row : goal.invariant-loop-row
 invariant-loop-row g l = l.found.items

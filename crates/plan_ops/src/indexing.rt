@@ -1,0 +1,197 @@
+// The tuples of groups, found by the values that they share with valuations.
+ghost use Rattle.std.specs.Prelude.{◌≡◌, ◌<◌, ◌≤◌, ◌+◌, ◌++◌, ◌∷◌, [], length, slice_index_or, All, IfOk, OnOk};
+ghost use Rattle.beas_core.specs.Derivations.{access_in};
+ghost use Rattle.beas_core.specs.Groups.{member_columns};
+ghost use Rattle.plan_ops.specs.Joins.{HitsAre, IsSharing, IsWithin, joins};
+ghost use Rattle.plan_ops.specs.Matching.{AreIndexes, IsIndexed, hash_at, hashes_back};
+
+use crate::chains::PlaceChains;
+use crate::hashing::{hash_at, word_of};
+use crate::joining::Join;
+use crate::matching::{fits, joined_row, push_joined};
+use beas_core::{AccessPort, ColumnId, Hits, NoMemory, Row, Value, mixed};
+use std::alloc::Global;
+
+// Fewer tuples are soon read one after another.
+const MANY: u32 = 32;
+
+// The value of a tuple at a place. One past its end is made up, since nothing reaches it.
+fn tuple_value<'a, P: AccessPort>(
+    port: &'a P,
+    columns: &[ColumnId],
+    hits: &Hits,
+    i: u32,
+    place: usize,
+    zero: &'a Value,
+) -> &'a Value
+    requires hits { HitsAre (P.accesses port.now) (P.stands port.now) (P.members port.now) hits.now }
+    requires columns { columns.now ≡ member_columns (access_in (P.accesses port.now) hits.now.access) }
+    requires member { i < hits.now.len }
+    ensures { result.now ≡ slice_index_or (slice_index_or (P.members port.now hits.now) i []) place zero.now }
+{
+    if place < columns.len() {
+        port.value(hits, i, columns[place])
+    } else {
+        zero
+    }
+}
+
+// The hash of a tuple's values at some places.
+fn tuple_hash<P: AccessPort>(
+    port: &P,
+    columns: &[ColumnId],
+    places: &[usize],
+    hits: &Hits,
+    i: u32,
+) -> u64
+    requires hits { HitsAre (P.accesses port.now) (P.stands port.now) (P.members port.now) hits.now }
+    requires columns { columns.now ≡ member_columns (access_in (P.accesses port.now) hits.now.access) }
+    requires member { i < hits.now.len }
+    ensures { result ≡ hash_at places.now (slice_index_or (P.members port.now hits.now) i []) }
+{
+    let zero = Value::Int(0);
+    let mut hash = mixed(0, 0);
+    for place in places {
+        hash = mixed(
+            hash,
+            word_of(tuple_value(port, columns, hits, i, *place, &zero)),
+        );
+    }
+    hash
+}
+
+// The hashes of a group's tuples at some places, from the last tuple to the first.
+fn hashes_of<P: AccessPort>(
+    alloc: Global,
+    port: &P,
+    columns: &[ColumnId],
+    places: &[usize],
+    hits: &Hits,
+) -> Result<PlaceChains, NoMemory>
+    requires hits { HitsAre (P.accesses port.now) (P.stands port.now) (P.members port.now) hits.now }
+    requires columns { columns.now ≡ member_columns (access_in (P.accesses port.now) hits.now.access) }
+    ensures { IfOk result (λ hashes. hashes ≡ hashes_back places.now (P.members port.now hits.now)) }
+{
+    let mut hashes = PlaceChains::new(alloc);
+    let count = hits.len();
+    for i in 0..count {
+        hashes.push(
+            alloc,
+            tuple_hash(port, columns, places, hits, count - 1 - i),
+        )?;
+    }
+    Ok(hashes)
+}
+
+// The same where they are wanted, the group has many tuples, and there are places.
+fn index_of<P: AccessPort>(
+    alloc: Global,
+    port: &P,
+    columns: &[ColumnId],
+    places: &[usize],
+    hits: &Hits,
+    wanted: bool,
+) -> Result<Option<PlaceChains>, NoMemory>
+    requires hits { HitsAre (P.accesses port.now) (P.stands port.now) (P.members port.now) hits.now }
+    requires columns { columns.now ≡ member_columns (access_in (P.accesses port.now) hits.now.access) }
+    ensures { IfOk result (IsIndexed places.now (P.members port.now hits.now)) }
+{
+    if !wanted || hits.len() < MANY || places.is_empty() {
+        return Ok(None);
+    }
+    Ok(Some(hashes_of(alloc, port, columns, places, hits)?))
+}
+
+/// For each group the hashes of its tuples at some places, where they are wanted and the tuples are many.
+pub fn indexes_of<P: AccessPort>(
+    alloc: Global,
+    port: &P,
+    columns: &[ColumnId],
+    places: &[usize],
+    groups: &[Hits],
+    wanted: bool,
+) -> Result<Vec<Option<PlaceChains>>, NoMemory>
+    requires hits { All (HitsAre (P.accesses port.now) (P.stands port.now) (P.members port.now)) groups.now }
+    requires columns { All (λ hits. columns.now ≡ member_columns (access_in (P.accesses port.now) hits.access)) groups.now }
+    ensures { IfOk result (λ indexes. AreIndexes places.now (P.members port.now) groups.now indexes.items) }
+{
+    let mut indexes = Vec::new(alloc);
+    for hits in groups {
+        indexes.push(index_of(alloc, port, columns, places, hits, wanted)?)?;
+    }
+    Ok(indexes)
+}
+
+// Adds the valuation with one tuple, where it fits.
+fn push_if_fits<P: AccessPort>(
+    alloc: Global,
+    port: &P,
+    join: &Join,
+    row: &[Value],
+    hits: &Hits,
+    i: u32,
+    found: &mut Vec<Row>,
+) -> Result<(), NoMemory>
+    requires hits { HitsAre (P.accesses port.now) (P.stands port.now) (P.members port.now) hits.now }
+    requires columns { join.now.columns.items ≡ member_columns (access_in (P.accesses port.now) hits.now.access) }
+    requires member { i < hits.now.len }
+    requires within { IsWithin (length row.now + length join.now.columns.items) join.now }
+    ensures { OnOk result (found.new.items ≡ found.old.items
+        ++ joins join.now.sources.items join.now.checks.items row.now (slice_index_or (P.members port.now hits.now) i [] ∷ [])) }
+{
+    if fits(port, join, row, hits, i) {
+        found.push(joined_row(alloc, port, join, row, hits, i)?)?;
+    }
+    Ok(())
+}
+
+// Adds the valuation with each tuple that fits it. Those alone are tried that may share its values.
+fn push_fitting<P: AccessPort>(
+    alloc: Global,
+    port: &P,
+    join: &Join,
+    row: &[Value],
+    hits: &Hits,
+    hashes: &PlaceChains,
+    found: &mut Vec<Row>,
+) -> Result<(), NoMemory>
+    requires hits { HitsAre (P.accesses port.now) (P.stands port.now) (P.members port.now) hits.now }
+    requires columns { join.now.columns.items ≡ member_columns (access_in (P.accesses port.now) hits.now.access) }
+    requires within { IsWithin (length row.now + length join.now.columns.items) join.now }
+    requires sharing { IsSharing (length row.now) join.now }
+    requires hashes { hashes.now ≡ hashes_back join.now.shared.tuple.items (P.members port.now hits.now) }
+    ensures { OnOk result (found.new.items
+        ≡ found.old.items ++ joins join.now.sources.items join.now.checks.items row.now (P.members port.now hits.now)) }
+{
+    let count = hits.len();
+    let mut next = hashes.latest(hash_at(&join.shared.row, row));
+    'tuples: while let Some(back) = next {
+        push_if_fits(alloc, port, join, row, hits, count - 1 - back as u32, found)?;
+        next = hashes.earlier(back);
+    }
+    Ok(())
+}
+
+/// Adds the valuation with each tuple that fits it, by the hashes of the tuples where there are some.
+pub fn push_from_group<P: AccessPort>(
+    alloc: Global,
+    port: &P,
+    join: &Join,
+    row: &[Value],
+    hits: &Hits,
+    index: &Option<PlaceChains>,
+    found: &mut Vec<Row>,
+) -> Result<(), NoMemory>
+    requires hits { HitsAre (P.accesses port.now) (P.stands port.now) (P.members port.now) hits.now }
+    requires columns { join.now.columns.items ≡ member_columns (access_in (P.accesses port.now) hits.now.access) }
+    requires within { IsWithin (length row.now + length join.now.columns.items) join.now }
+    requires sharing { IsSharing (length row.now) join.now }
+    requires index { IsIndexed join.now.shared.tuple.items (P.members port.now hits.now) index.now }
+    ensures { OnOk result (found.new.items
+        ≡ found.old.items ++ joins join.now.sources.items join.now.checks.items row.now (P.members port.now hits.now)) }
+{
+    match index {
+        Some(hashes) => push_fitting(alloc, port, join, row, hits, hashes, found),
+        None => push_joined(alloc, port, join, row, hits, found),
+    }
+}
