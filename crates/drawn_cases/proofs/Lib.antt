@@ -1,4 +1,4 @@
 mod Alone
 mod BlockFacts
 mod Members
-pub mod Stores
+pub mod StoreFacts

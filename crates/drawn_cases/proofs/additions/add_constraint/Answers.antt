@@ -1,7 +1,7 @@
 use Rattle.catalogue.specs.Database.{schema_of}
 use Rattle.catalogue.specs.Refusing.{new_access}
 use Rattle.session.specs.Stores.{database_in}
-use Rattle.drawn_cases.proofs.Stores.{fits_with_access}
+use Rattle.drawn_cases.proofs.StoreFacts.{fits_with_access}
 use Rattle.drawn_cases.proofs.additions.add_constraint.Goals as goal
 
 pub returns-in-Ok : goal.returns-in-Ok

@@ -1,4 +1,4 @@
-use Rattle.drawn_cases.proofs.Stores.{FitsStore}
+use Rattle.drawn_cases.proofs.StoreFacts.{FitsStore}
 use Rattle.drawn_cases.proofs.additions.add_constraints.Given as goal
 
 abbrev pub invariant-loop-spec : goal.invariant-loop-spec
