@@ -10,3 +10,4 @@ pub mod Shares
 pub mod Sources
 pub mod States
 pub mod Walks
+pub mod Prices

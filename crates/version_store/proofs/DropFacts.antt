@@ -1,5 +1,5 @@
 -- What is left of a desk where the open query of a session is dropped.
-use Rattle.std.proofs.Common.{◌≡◌, ◌≢◌, ◌<◌, ◌≤◌, ◌==◌, ◌++◌, ◌∙◌, ℕ, Bool, true, false, not, cond, nat_lt, suc, List, [], ◌∷◌, map, take, drop, length, get_or, remove, position, find, Option, Some, None, refl, ap, sym, subst, arith, append-nil}
+use Rattle.std.proofs.Common.{◌≡◌, ◌≢◌, ◌<◌, ◌≤◌, ◌==◌, ◌+◌, ◌++◌, ◌∙◌, ℕ, Bool, true, false, not, cond, nat_lt, suc, List, [], ◌∷◌, map, take, drop, length, get_or, remove, position, find, Option, Some, None, refl, ap, sym, subst, arith, append-nil}
 use Rattle.std.specs.Prelude.{All}
 use Rattle.std.specs.List.{AllPairs, position_or_len}
 use Rattle.std.proofs.lemmas.Bool.{eqb-true, ltb-false}
@@ -77,25 +77,30 @@ module _ (session : Session) (queries : List Open) (k : ℕ) where
 
 none_later : (k : ℕ) (x : OpenQuery) (ys : List OpenQuery) → x.session ≡ k → All (λ y. x.session ≢ y.session) ys → find (is_of k) ys ≡ None
 none_later k x [] same apart = refl
-none_later k x (y ∷ ys) same apart = by (y.session == k) refl
+none_later k x (y ∷ ys) same apart = by (y.session == k) refl (none_later k x ys same (λ i d l. apart (suc i) d (omega (arith, l))))
   where
-    by : (b : Bool) → (y.session == k) ≡ b → find (is_of k) (y ∷ ys) ≡ None
-    by true e = absurd (apart 0 y (omega arith) (same ∙ sym (eqb-true y.session k e)))
-    by false e = ap (λ b. cond b (Some y) (find (is_of k) ys)) e ∙ none_later k x ys same (λ i d l. apart (suc i) d (omega (arith, l)))
+    by : (b : Bool) → (y.session == k) ≡ b → find (is_of k) ys ≡ None → find (is_of k) (y ∷ ys) ≡ None
+    by true e rest = absurd (apart 0 y (omega arith) (same ∙ sym (eqb-true y.session k e)))
+    by false e rest = ap (λ b. cond b (Some y) (find (is_of k) ys)) e ∙ rest
+
+one_more : (n : ℕ) → 1 + n ≡ suc n
+one_more n = omega arith
 
 none_left : (k : ℕ) (queries : List OpenQuery) → AllPairs (λ q other. q.session ≢ other.session) queries
     → find (is_of k) (remove queries (place_of k queries)) ≡ None
 none_left k [] apart = refl
-none_left k (x ∷ xs) apart = by (x.session == k) refl
+none_left k (x ∷ xs) apart =
+    by (x.session == k) refl (none_left k xs (λ i j d less below. apart (suc i) (suc j) d (omega (arith, less)) (omega (arith, below))))
   where
-    by : (b : Bool) → (x.session == k) ≡ b → find (is_of k) (remove (x ∷ xs) (place_of k (x ∷ xs))) ≡ None
-    by true e =
-        ap (λ b. find (is_of k) (remove (x ∷ xs) (cond (not b) (suc (place_of k xs)) 0))) e
+    by : (b : Bool) → (x.session == k) ≡ b → find (is_of k) (remove xs (place_of k xs)) ≡ None
+        → find (is_of k) (remove (x ∷ xs) (place_of k (x ∷ xs))) ≡ None
+    by true e rest =
+        ap (λ b. find (is_of k) (remove (x ∷ xs) (cond (not b) (1 + place_of k xs) 0))) e
         ∙ none_later k x xs (eqb-true x.session k e) (λ j d l. apart 0 (suc j) d (omega arith) (omega (arith, l)))
-    by false e =
-        ap (λ b. find (is_of k) (remove (x ∷ xs) (cond (not b) (suc (place_of k xs)) 0))) e
-        ∙ ap (λ b. cond b (Some x) (find (is_of k) (remove xs (place_of k xs)))) e
-        ∙ none_left k xs (λ i j d less below. apart (suc i) (suc j) d (omega (arith, less)) (omega (arith, below)))
+    by false e rest =
+        ap (λ b. find (is_of k) (remove (x ∷ xs) (cond (not b) (1 + place_of k xs) 0))) e
+        ∙ ap (λ i. find (is_of k) (remove (x ∷ xs) i)) (one_more (place_of k xs))
+        ∙ ap (λ b. cond b (Some x) (find (is_of k) (remove xs (place_of k xs)))) e ∙ rest
 
 pub idle_after : (k : ℕ) (state : State) → OneEach state → query_of k (without_query k state) ≡ None
 idle_after k state apart = none_left k state.queries apart
