@@ -66,7 +66,7 @@ module _ (words : List (List ℕ)) (n : ℕ) (before after : Standing) (name scr
   completes run begun (inr (inr (inr (inl (at, failed))))) quiet fits text = absurd (quiet failed.fault)
   completes run begun (inr (inr (inr (inr (inl (five, want)))))) quiet fits text = inr five
   completes run begun (inr (inr (inr (inr (inr (inl (at, long))))))) quiet fits text = let l = six long.longer in absurd (omega arith)
-  completes run begun (inr (inr (inr (inr (inr (inr (at, no))))))) quiet fits text = absurd (seven no.no_text text)
+  completes run begun (inr (inr (inr (inr (inr (inr (at, blank))))))) quiet fits text = absurd (seven blank.no_text text)
 
   too_long : (run : List ℕ) (begun : Seen) → length run ≤ longest_script → Ended words n run begun before after
       → longest_script < length script → (n ≡ 6) ⊎ (n ≡ 5)
@@ -76,7 +76,7 @@ module _ (words : List (List ℕ)) (n : ℕ) (before after : Standing) (name scr
   too_long run begun fits (inr (inr (inr (inl (at, failed))))) longer = let same = ap length (run_is run failed.had) in absurd (omega arith)
   too_long run begun fits (inr (inr (inr (inr (inl (five, want)))))) longer = inr five
   too_long run begun fits (inr (inr (inr (inr (inr (inl (at, long))))))) longer = inl at
-  too_long run begun fits (inr (inr (inr (inr (inr (inr (at, no))))))) longer = let l = seven_is_short no.no_text in absurd (omega arith)
+  too_long run begun fits (inr (inr (inr (inr (inr (inr (at, blank))))))) longer = let l = seven_is_short blank.no_text in absurd (omega arith)
 
   no_text : (run : List ℕ) (begun : Seen) → IsUtf8 run → Ended words n run begun before after
       → length script ≤ longest_script → (IsUtf8 script → ⊥) → (n ≡ 7) ⊎ (n ≡ 5)
@@ -86,7 +86,7 @@ module _ (words : List (List ℕ)) (n : ℕ) (before after : Standing) (name scr
   no_text run begun text (inr (inr (inr (inl (at, failed))))) fits none = absurd (none (subst IsUtf8 (run_is run failed.had) text))
   no_text run begun text (inr (inr (inr (inr (inl (five, want)))))) fits none = inr five
   no_text run begun text (inr (inr (inr (inr (inr (inl (at, long))))))) fits none = let l = six long.longer in absurd (omega arith)
-  no_text run begun text (inr (inr (inr (inr (inr (inr (at, no))))))) fits none = inl at
+  no_text run begun text (inr (inr (inr (inr (inr (inr (at, blank))))))) fits none = inl at
 
   pub completes_without : (run : List ℕ) (begun : Seen) → length run ≤ longest_script → IsUtf8 run
       → Ended words n run begun before after → CompletesWithout script n
@@ -119,8 +119,8 @@ completes_demo words n before after run begun seed (inr (inr (inr (inl (at, fail
 completes_demo words n before after run begun seed (inr (inr (inr (inr (inl (five, want)))))) e quiet = inr five
 completes_demo words n before after run begun seed (inr (inr (inr (inr (inr (inl (at, long))))))) e quiet =
     absurd (no_name (script_name words) _ (named_by (args_of words) seed e) long.longer)
-completes_demo words n before after run begun seed (inr (inr (inr (inr (inr (inr (at, no))))))) e quiet =
-    absurd (no_name (script_name words) _ (named_by (args_of words) seed e) no.no_text)
+completes_demo words n before after run begun seed (inr (inr (inr (inr (inr (inr (at, blank))))))) e quiet =
+    absurd (no_name (script_name words) _ (named_by (args_of words) seed e) blank.no_text)
 
 -- words that are refused have neither a script nor a name
 unasked : (asked : Option Args) (files : Seen) (script : List ℕ) → asked ≡ None → IsScriptOf asked files script → ⊥
@@ -137,8 +137,8 @@ refused words n before after run begun (inr (inr (inr (inl (at, failed))))) e = 
 refused words n before after run begun (inr (inr (inr (inr (inl (five, want)))))) e = inr five
 refused words n before after run begun (inr (inr (inr (inr (inr (inl (at, long))))))) e =
     absurd (no_name (script_name words) _ (ap (option_and_then path_of) e) long.longer)
-refused words n before after run begun (inr (inr (inr (inr (inr (inr (at, no))))))) e =
-    absurd (no_name (script_name words) _ (ap (option_and_then path_of) e) no.no_text)
+refused words n before after run begun (inr (inr (inr (inr (inr (inr (at, blank))))))) e =
+    absurd (no_name (script_name words) _ (ap (option_and_then path_of) e) blank.no_text)
 
 pub is_complete : (words : List (List ℕ)) (n : ℕ) (before after : Standing) → HasRun words n before after → IsComplete words n before after
 is_complete words n before after run = record {

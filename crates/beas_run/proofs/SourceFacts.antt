@@ -12,7 +12,7 @@ use Rattle.beas_run.specs.declared.no_script.NoScript.{NoScript}
 use Rattle.beas_run.specs.declared.no_script.NoScript.TheVariants.{Words, Unread, TooLong, NotText, NoMemory}
 use Rattle.beas_run.specs.NoScripts.{status_of, IsSaid}
 use Rattle.beas_run.specs.NoSessions.{NamesNoSession}
-use Rattle.beas_run.specs.Runs.{path_of, seed_of, settings_for, HasLoaded, IsNoText, IsScriptOf, IsTooLong, WalkedFor}
+use Rattle.beas_run.specs.Runs.{path_of, seed_of, settings_for, longest_script, HasLoaded, IsNoText, IsScriptOf, IsTooLong, WalkedFor}
 use Rattle.beas_run.specs.Readings.{readings_of}
 use Rattle.beas_run.specs.Sources.{HasNoScript, IsMade}
 use Rattle.beas_run.specs.Walks.{Moment}
@@ -68,6 +68,15 @@ file_unread path budget explain why before after named unread too_long not_text 
   seedless = inl refl;
   later = later;
 }
+
+-- ---- the text that is run over is the one that is asked for
+
+pub same_script : (args : Args) (files : Seen) (text now : List ℕ) → IsScriptOf (Some args) files text → now ≡ text
+    → IsScriptOf (Some args) files now
+same_script args files text now is same = subst (λ (t : List ℕ). IsScriptOf (Some args) files t) (sym same) is
+
+pub same_length : (text now : List ℕ) → length text ≤ longest_script → now ≡ text → length now ≤ longest_script
+same_length text now fits same = subst (λ (t : List ℕ). length t ≤ longest_script) (sym same) fits
 
 -- ---- a demonstration is over its own text
 

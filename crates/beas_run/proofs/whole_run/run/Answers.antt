@@ -1,9 +1,7 @@
-use Rattle.std.proofs.Common.{refl, inl, inr, ap, arith, length, subst, sym, ◌∙◌}
-use Rattle.beas_run.specs.Runs.{IsScriptOf, longest_script}
-use Rattle.beas_run.specs.Sources.{IsSource}
+use Rattle.std.proofs.Common.{refl, ap, arith, length, ◌∙◌}
 use Rattle.beas_run.proofs.CompleteFacts.{is_complete}
 use Rattle.beas_run.proofs.SourcelessFacts.{ran_nothing, ran_script}
-use Rattle.beas_run.proofs.SourceFacts.{is_made, none_named, with_none, without_one}
+use Rattle.beas_run.proofs.SourceFacts.{is_made, none_named, same_length, same_script, with_none, without_one}
 use Rattle.beas_run.proofs.whole_run.run.Goals as goal
 
 pub run_over-requires-clause-short : goal.run_over-requires-clause-short
@@ -17,8 +15,7 @@ returns-in-Ok g c =
     let e = c.in-Ok.ensures.source in
     let same = c.as_str-text.ensures in
     let o = c.run_over.ensures.ran in
-    let run = ran_script _ _ _ _ _ _ _ e.asked_is (subst (λ t. length t ≤ longest_script) (sym same) e.fits) c.as_str-text.utf8
-    (subst (λ t. IsScriptOf _ _ t) (sym same) e.is) e.loaded e.later refl o in
+    let run = ran_script _ _ _ _ _ _ _ e.asked_is (same_length _ _ e.fits same) c.as_str-text.utf8 (same_script _ _ _ _ e.is same) e.loaded e.later refl o in
     record {
       ran = run;
       complete = is_complete _ _ _ _ run;
