@@ -33,6 +33,7 @@ WORDS = {
             },
             "beas_run": {"Words": "Arguments"},
             "binder": {"Words": "Text"},
+            "plan_ops": {"word_of": "number_of"},
             "marked_list": {"WordsPlace": "CodesPosition", "TupleWords": "TupleCodes", "words": "codes"},
             "word_index": {"WordIndexes": "CodeIndexes"},
             "drawn_scenes": {"word_at": "argument_at"},
@@ -78,7 +79,7 @@ WORDS = {
             "specialise": "place",
         },
         {
-            "block_walk": {"PlaceChains": "HashChains"},
+            "block_walk": {"places": "positions"},
             "blocked_list": {"place_of": "partition_point"},
             "catalogue": {"place_of_id": "position_of_id", "place": "position", "place_named": "position_named"},
             "code_index": {"place": "position", "place_of": "partition_point"},
@@ -88,7 +89,7 @@ WORDS = {
             "outside": {"place": "position"},
             "plan_ops": {
                 "place_among": "position_among", "place_of_key": "position_of_key", "place_in": "position_in",
-                "first_places": "first_positions", "places_held": "positions_held",
+                "first_places": "first_positions", "places_held": "positions_held", "PlaceChains": "HashChains",
             },
             "version_store": {"place_of": "position_of"},
             "word_index": {"copy_places": "copies_at"},
