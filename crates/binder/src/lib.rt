@@ -5,7 +5,7 @@
 //! places of each kind of refusal in their order.
 //!
 //! Scripts and sessions with lowered limits test it (`session_cases/data`), and so do drawn queries
-//! (`drawn_cases`). It doesn't promise that a query is covered, nor that the rows of an INSERT fit their table, since
+//! (`drawn_queries`). It doesn't promise that a query is covered, nor that the rows of an INSERT fit their table, since
 //! it looks at their literals alone, nor that it says `NoMemory` only where memory ran out.
 #![tactic(auto)]
 

@@ -3,7 +3,7 @@ use Rattle.std.proofs.lemmas.Result.{IfOk-weaker}
 use Rattle.beas_core.specs.declared.value.Value.{Value}
 use Rattle.binder.specs.Binding.{bound_rows}
 use Rattle.session.proofs.TupleFacts.{tuples_give_narrow}
-use Rattle.drawn_cases.proofs.stores.bound_tuples.Goals as goal
+use Rattle.drawn_updates.proofs.stores.bound_tuples.Goals as goal
 
 pub returns-clause-narrow : goal.returns-clause-narrow
 returns-clause-narrow c =

@@ -1,8 +1,8 @@
 use Rattle.catalogue.specs.Database.{schema_of}
 use Rattle.catalogue.specs.Refusing.{new_access}
 use Rattle.session.specs.Stores.{database_in}
-use Rattle.drawn_cases.proofs.StoreFacts.{fits_with_access}
-use Rattle.drawn_cases.proofs.additions.add_constraint.Goals as goal
+use Rattle.drawn_queries.proofs.StoreFacts.{fits_with_access}
+use Rattle.drawn_queries.proofs.additions.add_constraint.Goals as goal
 
 pub returns-in-Ok : goal.returns-in-Ok
 returns-in-Ok g c =

@@ -1,4 +1,4 @@
-use Rattle.drawn_cases.proofs.main.Given as goal
+use Rattle.drawn_updates.proofs.main.Given as goal
 
 -- the ledger that the counter is of
 abbrev pub ghosts-run_counted : goal.ghosts-run_counted

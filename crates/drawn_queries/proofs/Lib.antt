@@ -1,4 +1,2 @@
 mod Alone
-mod BlockFacts
-mod Members
 pub mod StoreFacts

@@ -1,7 +1,7 @@
 use Rattle.std.proofs.Common.{◌≡◌, ◌-◌, false, length}
 use Rattle.block_walk.specs.Worlds.{world}
 use Rattle.cursor_executor.specs.Fetching.{AllAgree, probes_due}
-use Rattle.drawn_cases.proofs.turns.count_probes.Given as goal
+use Rattle.drawn_turns.proofs.turns.count_probes.Given as goal
 
 abbrev pub invariant-turns : goal.invariant-turns
 invariant-turns g l = record {

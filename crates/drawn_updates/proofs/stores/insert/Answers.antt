@@ -1,6 +1,6 @@
 use Rattle.std.proofs.Common.{arith}
 use Rattle.catalogue.proofs.StoredFacts.{length-joined}
-use Rattle.drawn_cases.proofs.stores.insert.Goals as goal
+use Rattle.drawn_updates.proofs.stores.insert.Goals as goal
 
 pub insert-requires-clause-live : goal.insert-requires-clause-live
 insert-requires-clause-live c =

@@ -1,4 +1,4 @@
-//! Compares what sessions, stores and layers give of drawn queries and updates with what plain programs give.
+//! Compares what sessions and layers give of drawn queries with what plain programs give.
 //!
 //! - Queries: drawn queries over drawn rows and constraints are announced, answered and refused by sessions as by the
 //!   plain programs of `reference_coverage`, `reference_evaluation` and `full_meaning`. Those of one block are also
@@ -11,17 +11,9 @@
 //!   `reference_evaluation` and `reference_coverage` give for these plans over that list. About half of all queries get
 //!   no constraint more, so that canonical plans are tried too. The second argument is the number of sessions, of which
 //!   each has a few queries.
-//! - Cursors: they are driven turn by turn over stores that sessions have, and compared with `execute`. The third
-//!   argument is the number of sessions with drawn tables, constraints and queries. Each folder of `cursors` is a case.
-//!   It has the files `script.beas`, a script that makes a store; `queries`, a query over it on each line; and
-//!   `output`, for each query a line with how many turns made a probe, and how many rows and reads the answer has.
-//! - Updates: drawn updates are carried out on a session, on a store of plain indexes by its own calls, and on plain
-//!   lists of rows by a plain program that decides itself what is refused. Each report is compared, and now and then
-//!   each group of each index. The fourth argument is the number of updates. So many are made of narrow tables, and
-//!   then of wide ones with long keys.
 //!
-//! The counter of reads has no value when the program runs: that it rises by an answer's reads, and by each probe's
-//! share, is proved of the executor and of the cursor alone.
+//! The counter of reads has no value when the program runs: that it rises by an answer's reads is proved of the executor
+//! alone.
 #![tactic(auto)]
 
 ghost use Rattle.std.specs.Prelude.{◌≡◌, ◌<◌};
@@ -31,27 +23,18 @@ mod announced;
 mod answers;
 mod constraints;
 mod coverage;
-mod cursors;
-mod indexes;
-mod named;
 mod outcomes;
 mod plans;
 mod queries;
-mod stores;
 mod tallies;
-mod turns;
-mod updates;
 
 use beas_core::{NoMemory, Steps};
-use cursors::try_cursors;
 use drawn_scenes::{number_at, out_of_memory};
-use named::try_named;
 use plans::try_plans;
 use queries::try_queries;
 use std::io;
 use std::marker::Brand;
 use std::sync::ledger::{Blank, Ledger};
-use updates::try_updates;
 
 /// Prints what a section says, under its name.
 fn say(rt: &HostRuntime, section: &str, said: Result<String, NoMemory>) -> io::Result<()> {
@@ -72,18 +55,7 @@ fn run_counted<L: Ledger>(rt: &HostRuntime, blank: Blank) -> io::Result<()>
         "queries",
         try_queries(alloc, number_at(rt, 1)?, &mut steps),
     )?;
-    say(rt, "plans", try_plans(alloc, number_at(rt, 2)?, &mut steps))?;
-    say(
-        rt,
-        "cursors",
-        try_cursors(alloc, number_at(rt, 3)?, &mut steps),
-    )?;
-    try_named(rt, "cursors", &mut steps)?;
-    say(
-        rt,
-        "updates",
-        try_updates(alloc, number_at(rt, 4)?, &mut steps),
-    )
+    say(rt, "plans", try_plans(alloc, number_at(rt, 2)?, &mut steps))
 }
 
 fn main(rt: HostRuntime) -> io::Result<()> {

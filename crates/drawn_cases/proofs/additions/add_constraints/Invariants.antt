@@ -1,5 +1,0 @@
-use Rattle.drawn_cases.proofs.StoreFacts.{FitsStore}
-use Rattle.drawn_cases.proofs.additions.add_constraints.Given as goal
-
-abbrev pub invariant-loop-spec : goal.invariant-loop-spec
-invariant-loop-spec g l = FitsStore l.guarded l.prepared

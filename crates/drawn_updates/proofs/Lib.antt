@@ -1,0 +1,2 @@
+mod BlockFacts
+mod Members
