@@ -33,7 +33,6 @@ WORDS = {
             },
             "beas_run": {"Words": "Arguments"},
             "binder": {"Words": "Text"},
-            "plan_ops": {"word_of": "number_of"},
             "marked_list": {"WordsPlace": "CodesPosition", "TupleWords": "TupleCodes", "words": "codes"},
             "word_index": {"WordIndexes": "CodeIndexes"},
             "drawn_scenes": {"word_at": "argument_at"},

@@ -1,67 +1,45 @@
--- The tuples that a valuation goes on with, found by their hashes.
-use Rattle.std.proofs.Common.{◌≡◌, ◌-◌, ◌<◌, ◌++◌, ◌∷◌, ◌∙◌, [], ℕ, Bool, true, false, List, Option, Some, None, All, length, map, get_or, ap, sym, subst, append_assoc}
+-- The valuations that one goes on with, where its tuples are gone through by `Fitting`.
+use Rattle.std.proofs.Common.{◌≡◌, ◌<◌, ◌≤◌, ◌++◌, ◌∷◌, ◌∙◌, [], ℕ, Bool, true, false, List, Some, All, length, map, take, get_or, ap, sym, arith}
 use Rattle.std.specs.List.{filter}
-use Rattle.std.proofs.lemmas.List.{map-append}
 use Rattle.beas_core.specs.declared.plan.Normal.{Normal}
 use Rattle.beas_core.specs.Types.{Row}
+use Rattle.place_chains.specs.declared.fitting.Fitting.{Fitting}
+use Rattle.place_chains.specs.Fitting.{HasNone, IsNext}
+use Rattle.place_chains.specs.Hashing.{hash_at}
+use Rattle.place_chains.proofs.FittingFacts.{none_passes, none_passes_more}
 use Rattle.plan_ops.specs.declared.stages.Stage.{Stage}
-use Rattle.plan_ops.specs.Chains.{IsLast}
-use Rattle.plan_ops.specs.Matching.{hash_at, hashes_back}
-use Rattle.plan_ops.specs.Stages.{IsPair, IsStage, leads_to, set_before, use_at}
-use Rattle.plan_ops.proofs.MatchFacts.{Walked, length-back, walked_all, walked_left, walked_none, walked_place, walked_taken}
+use Rattle.plan_ops.specs.Stages.{IsPair, IsStage, joined_row, leads_to, next_by, set_before, use_at}
 use Rattle.plan_ops.proofs.RowFacts.{pair_shares}
+use Rattle.block_walk.proofs.ChildFacts.{child_more, no_child}
 
--- what one tuple more adds
-pub seam : {A B C : Type 0} (f : A → B) (h : B → C) (start : List C) (xs : List A) (t : A)
-    → (start ++ map h (map f xs)) ++ h (f t) ∷ [] ≡ start ++ map h (map f (xs ++ t ∷ []))
-seam f h start xs t = append_assoc start (map h (map f xs)) (h (f t) ∷ [])
-    ∙ ap (λ ys. start ++ ys) (sym (map-append h (map f xs) (f t ∷ [])))
-    ∙ ap (λ ys. start ++ map h ys) (sym (map-append f xs (t ∷ [])))
-
-module _ (normal : Normal) (stage : Stage) (is : IsStage normal stage) (v : Row) (tuples : List Row) (pairs : All (IsPair normal stage v) tuples)
-    (hashes : List ℕ) (are : hashes ≡ hashes_back stage.join.shared.tuple.items tuples) where
-  abbrev places : List ℕ
+module _ (normal : Normal) (stage : Stage) (is : IsStage normal stage) (v : Row) (tuples : List Row) (pairs : All (IsPair normal stage v) tuples) where
+  abbrev pub places : List ℕ
   places = stage.join.shared.tuple.items
 
-  abbrev hash : ℕ
+  abbrev pub hash : ℕ
   hash = hash_at stage.join.shared.row.items v
 
-  abbrev p : Row → Bool
+  abbrev pub p : Row → Bool
   p = leads_to normal (use_at stage) (set_before normal stage) v
+
+  abbrev pub f : Row → Row
+  f = joined_row normal (use_at stage) (set_before normal stage) v
+
+  abbrev pub next : List Row → List Row
+  next ts = next_by normal (use_at stage) (set_before normal stage) v ts
 
   only : (k : ℕ) → k < length tuples → p (get_or tuples k []) ≡ true → hash_at places (get_or tuples k []) ≡ hash
   only k l t = pair_shares normal stage is v (get_or tuples k []) (pairs k [] l) t
 
-  pub fitting_none : (R : List Row → Type 0) → R [] → (at : Option ℕ) → (h : ℕ) → h ≡ hash_at stage.join.shared.row.items v
-      → IsLast h hashes (length hashes) at
-      → Walked hashes (hash_at stage.join.shared.row.items v) (leads_to normal (use_at stage) (set_before normal stage) v) tuples R at
-  fitting_none R none at h e last = walked_none places hash p tuples hashes are only R none at
-      (subst (λ n. IsLast n hashes (length hashes) at) e last)
+  module _ (old new : Fitting) (i : ℕ) (comes : IsNext places tuples hash old (Some i) new) (t : Row) (read : t ≡ get_or tuples i []) where
+    upto : filter p (take i tuples) ≡ filter p (take old.from tuples)
+    upto = let l = comes.1 in none_passes p tuples places hash only old.from i comes.0 (omega (arith, l)) comes.2
 
-  pub fitting_place : (R : List Row → Type 0) (place : ℕ)
-      → Walked hashes (hash_at stage.join.shared.row.items v) (leads_to normal (use_at stage) (set_before normal stage) v) tuples R (Some place)
-      → place < length tuples
-  fitting_place R place w = walked_place places hash p tuples hashes are only R place w
+    pub next_taken : p t ≡ true → next (take new.from tuples) ≡ next (take old.from tuples) ++ f t ∷ []
+    next_taken e = ap (λ n. next (take n tuples)) comes.3 ∙ child_more f p tuples i [] t comes.1 read e ∙ ap (λ xs. map f xs ++ f t ∷ []) upto
 
-  pub fitting_length : length hashes ≡ length tuples
-  fitting_length = length-back places hash p tuples hashes are only
+    pub next_left : p t ≡ false → next (take new.from tuples) ≡ next (take old.from tuples)
+    next_left e = ap (λ n. next (take n tuples)) comes.3 ∙ no_child f p tuples i [] t comes.1 read e ∙ ap (map f) upto
 
-  module _ (R S : List Row → Type 0) (place : ℕ)
-      (w : Walked hashes (hash_at stage.join.shared.row.items v) (leads_to normal (use_at stage) (set_before normal stage) v) tuples R (Some place))
-      (at : Option ℕ) (last : IsLast (get_or hashes place 0) hashes place at) (count : ℕ) (whole : count ≡ length tuples) (t : Row)
-      (read : t ≡ get_or tuples (count - 1 - place) []) where
-    here : t ≡ get_or tuples (length tuples - 1 - place) []
-    here = read ∙ ap (λ n. get_or tuples (n - 1 - place) []) whole
-
-    pub fitting_taken : leads_to normal (use_at stage) (set_before normal stage) v t ≡ true → ((xs : List Row) → R xs → S (xs ++ t ∷ []))
-        → Walked hashes (hash_at stage.join.shared.row.items v) (leads_to normal (use_at stage) (set_before normal stage) v) tuples S at
-    fitting_taken test step = walked_taken places hash p tuples hashes are only R S place w at last t here test step
-
-    pub fitting_left : leads_to normal (use_at stage) (set_before normal stage) v t ≡ false → ((xs : List Row) → R xs → S xs)
-        → Walked hashes (hash_at stage.join.shared.row.items v) (leads_to normal (use_at stage) (set_before normal stage) v) tuples S at
-    fitting_left test step = walked_left places hash p tuples hashes are only R S place w at last t here test step
-
-  pub fitting_all : (R : List Row → Type 0)
-      → Walked hashes (hash_at stage.join.shared.row.items v) (leads_to normal (use_at stage) (set_before normal stage) v) tuples R None
-      → R (filter (leads_to normal (use_at stage) (set_before normal stage) v) tuples)
-  fitting_all R w = walked_all places hash p tuples hashes are only R w
+  pub next_all : (from : ℕ) → from ≤ length tuples → HasNone places tuples hash from (length tuples) → next (take from tuples) ≡ next tuples
+  next_all from l none = ap (map f) (sym (none_passes_more p tuples places hash only from l none))

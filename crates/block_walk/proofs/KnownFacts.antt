@@ -22,8 +22,8 @@ use Rattle.beas_core.specs.Telling.{value_cmp_tells}
 use Rattle.beas_core.specs.Types.{Row}
 use Rattle.plan_ops.specs.Fetched.{rows_in}
 use Rattle.plan_ops.proofs.FetchedFacts.{length-rows_in, row_at, row_within}
-use Rattle.plan_ops.specs.Chains.{IsLast}
-use Rattle.plan_ops.specs.Hashing.{hash_of}
+use Rattle.place_chains.specs.Chains.{IsLast}
+use Rattle.place_chains.specs.Hashing.{hash_of}
 use Rattle.block_walk.specs.Kept.{Entry, part}
 use Rattle.block_walk.specs.Entries.{IsIndex, IsIndexed, IsKnown, IsSpot, entries_in, entry_at, entry_of, key_alone}
 use Rattle.block_walk.specs.declared.known.Known.{Known}

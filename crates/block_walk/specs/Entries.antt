@@ -15,8 +15,7 @@ use Rattle.plan_ops.specs.Fetched.{rows_in}
 use Rattle.block_walk.specs.declared.known.Spot.{Spot}
 use Rattle.block_walk.specs.declared.known.TupleIndex.{TupleIndex}
 use Rattle.block_walk.specs.declared.known.Known.{Known}
-use Rattle.plan_ops.specs.Hashing.{hash_of}
-use Rattle.plan_ops.specs.Matching.{hashes_back}
+use Rattle.place_chains.specs.Hashing.{hash_of, hashes_back}
 use Rattle.block_walk.specs.Kept.{Entry, part}
 
 abbrev pub key_alone : ℕ → Row → Row

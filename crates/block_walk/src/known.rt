@@ -1,16 +1,18 @@
 // What the probes of a walk found.
 ghost use Rattle.std.specs.Prelude.{◌≡◌, ◌+◌, ◌<◌, ◌++◌, ◌∷◌, ◌↔◌, [], length, IfOk, IfSome, IfNone, IsTrue, OnOk, slice_index_or};
+ghost use Rattle.std.specs.Option.{option_copied};
 ghost use Rattle.beas_core.specs.Derivations.{access_in, is_live};
 ghost use Rattle.beas_core.specs.Groups.{group_of, member_columns};
 ghost use Rattle.beas_core.specs.Reads.{probe_reads};
 ghost use Rattle.beas_core.proofs.Sets.{Has};
 ghost use Rattle.block_walk.specs.Kept.{Entry};
 ghost use Rattle.block_walk.specs.Entries.{IsIndex, IsKnown, entries_in, entry_of, key_alone};
-ghost use Rattle.plan_ops.specs.Hashing.{hash_of};
-ghost use Rattle.plan_ops.specs.Matching.{hashes_back};
+ghost use Rattle.place_chains.specs.Fitting.{IsFitting};
+ghost use Rattle.place_chains.specs.Hashing.{hash_at, hash_of, hashes_back};
 
 use beas_core::{AccessId, AccessPort, ColumnId, NoMemory, Steps, Value};
-use plan_ops::{PlaceChains, fetch, hash_at};
+use place_chains::{Fitting, PlaceChains, hash_at, hashed_back};
+use plan_ops::{Shared, fetch};
 use std::alloc::Global;
 use std::sync::ledger::Ledger;
 
@@ -132,26 +134,6 @@ impl Known {
         &self.values[from..from + spot.width]
     }
 
-    // The hashes of an entry's tuples at some places, from the last tuple to the first.
-    fn hashes_of(
-        &self,
-        alloc: Global,
-        place: usize,
-        places: &[usize],
-    ) -> Result<PlaceChains, NoMemory>
-        requires known { IsKnown self.now }
-        requires place { place < length (entries_in self.now) }
-        ensures { IfOk result (λ hashes. hashes ≡ hashes_back places.now (entry_of self.now place).1) }
-    {
-        let mut hashes = PlaceChains::new(alloc);
-        let count = self.count(place);
-        for i in 0..count {
-            let tuple = self.tuple(place, count - 1 - i);
-            hashes.push(alloc, hash_at(places, tuple))?;
-        }
-        Ok(hashes)
-    }
-
     // The index of an entry's tuples at some places.
     fn index_of(
         &self,
@@ -163,7 +145,13 @@ impl Known {
         requires place { place < length (entries_in self.now) }
         ensures { IfOk result (IsIndex (entry_of self.now place).1) }
     {
-        let hashes = self.hashes_of(alloc, place, places)?;
+        let hash = |i: usize|
+            requires known { IsKnown self.now }
+            requires place { place < length (entries_in self.now) }
+            requires tuple { i < length (entry_of self.now place).1 }
+            ensures { result ≡ hash_at places.entry.now (slice_index_or (entry_of self.entry.now place).1 i []) }
+        { hash_at(places, self.tuple(place, i)) };
+        let hashes = hashed_back(alloc, self.count(place), hash)?;
         let places = places.to_vec(alloc)?;
         Ok(TupleIndex { places, hashes })
     }
@@ -200,12 +188,12 @@ impl Known {
         self.make_index(alloc, place, places)
     }
 
-    /// The hashes of an entry's tuples at some places, from the last tuple to the first, if there is an index of these places.
+    // The hashes of an entry's tuples at some places, from the last tuple to the first, if there is an index of these places.
     #[inline(always)]
-    pub fn hashes(&self, place: usize, places: &[usize]) -> Option<&PlaceChains>
+    fn hashes(&self, place: usize, places: &[usize]) -> Option<&PlaceChains>
         requires known { IsKnown self.now }
         requires place { place < length (entries_in self.now) }
-        ensures { IfSome result (λ hashes. hashes.now ≡ hashes_back places.now (entry_of self.now place).1) }
+        ensures { IfSome (option_copied result) (λ hashes. hashes ≡ hashes_back places.now (entry_of self.now place).1) }
     {
         let at = self.spots[place].index?;
         let index = &self.indexes[at];
@@ -214,6 +202,18 @@ impl Known {
         } else {
             None
         }
+    }
+
+    /// The tuples of an entry that may share a row's values: all, or by an index those alone whose hash says so.
+    #[inline(always)]
+    pub fn fitting(&self, place: usize, shared: &Shared, row: &[Value]) -> Fitting<'_>
+        requires known { IsKnown self.now }
+        requires place { place < length (entries_in self.now) }
+        ensures first { result.from ≡ 0 }
+        ensures fits { IsFitting shared.now.tuple.items (entry_of self.now place).1 (hash_at shared.now.row.items row.now) result }
+    {
+        let hashes = self.hashes(place, &shared.tuple);
+        Fitting::among(self.count(place), hashes, &shared.row, row)
     }
 
     /// Probes a key, whose hash with the step is given, and keeps what it finds, as the last entry. No value is left in `key`. It

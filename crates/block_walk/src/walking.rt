@@ -8,7 +8,6 @@ ghost use Rattle.beas_core.proofs.Sets.{SameMembers};
 ghost use Rattle.evaluation_facts.specs.Guides.{GuideFits};
 ghost use Rattle.plan_ops.specs.Over.{set_of};
 ghost use Rattle.plan_ops.specs.Stages.{IsPair, IsStage, bound_with, joined_row, key_by, next_by, set_before, use_at};
-ghost use Rattle.plan_ops.specs.Matching.{hashes_back};
 ghost use Rattle.block_walk.specs.Worlds.{AgreesWith, World, world};
 ghost use Rattle.block_walk.specs.Routes.{IsSoundIn, route};
 ghost use Rattle.block_walk.specs.Walks.{HasEnded, IsTidy, IsTidyForAll, Stands, StandsForAll, children, classes_at, fetched_in};
@@ -22,9 +21,9 @@ use crate::stack::{Mark, Stack};
 use beas_core::{
     AccessId, AccessPort, DStep, List, NoMemory, Normal, Row, Steps, Value, sort_distinct,
 };
+use place_chains::hash_of;
 use plan_ops::{
-    PlaceChains, Stage, hash_at, hash_of, is_joined_output, joined_output, key_into, leads,
-    output_of, stage_of, start_block,
+    Stage, is_joined_output, joined_output, key_into, leads, output_of, stage_of, start_block,
 };
 use std::alloc::Global;
 use std::mem;
@@ -68,46 +67,8 @@ pub fn begin(alloc: Global, block: &Normal, guide: Option<&List<Row>>) -> Result
     })
 }
 
-// Puts the valuations on top that one and the tuples of an entry make, which its key has found. It goes by the hashes of the
-// tuples, so that it tries those alone that may share the valuation's values.
-fn push_fitting_children(
-    alloc: Global,
-    block: &Normal,
-    stage: &Stage,
-    at: Mark,
-    known: &Known,
-    place: usize,
-    hashes: &PlaceChains,
-    pending: &mut Stack,
-) -> Result<(), NoMemory>
-    requires stage { IsStage block.now stage.now }
-    requires known { IsKnown known.now }
-    requires place { place < length (entries_in known.now) }
-    requires hashes { hashes.now ≡ hashes_back stage.now.join.shared.tuple.items (entry_of known.now place).1 }
-    requires stack { IsStack pending.old }
-    requires inside { IsInside pending.old.values.items at }
-    requires pairs { All (IsPair block.now stage.now (row_of pending.old at)) (entry_of known.now place).1 }
-    requires room { at.step + 1 < 18446744073709551616 }
-    ensures stack { OnOk result (IsStack pending.new) }
-    ensures pending { OnOk result (pending_in pending.new ≡ pending_in pending.old
-        ++ children (pending_of pending.old.values.items at)
-        (next_by block.now (use_at stage.now) (set_before block.now stage.now) (row_of pending.old at)
-        (entry_of known.now place).1)) }
-{
-    let count = known.count(place);
-    let hash = hash_at(&stage.join.shared.row, pending.row(at));
-    let mut next = hashes.latest(hash);
-    'tuples: while let Some(back) = next {
-        let tuple = known.tuple(place, count - 1 - back);
-        if leads(block, stage, pending.row(at), tuple) {
-            pending.push_child(alloc, block, stage, at, tuple)?;
-        }
-        next = hashes.earlier(back);
-    }
-    Ok(())
-}
-
-// Puts the valuations on top that one and the tuples of an entry make, which its key has found.
+// Puts the valuations on top that one and the tuples of an entry make, which its key has found. Those tuples alone are tried
+// that may share the valuation's values.
 fn push_children(
     alloc: Global,
     block: &Normal,
@@ -130,10 +91,8 @@ fn push_children(
         (next_by block.now (use_at stage.now) (set_before block.now stage.now) (row_of pending.old at)
         (entry_of known.now place).1)) }
 {
-    if let Some(hashes) = known.hashes(place, &stage.join.shared.tuple) {
-        return push_fitting_children(alloc, block, stage, at, known, place, hashes, pending);
-    }
-    for i in 0..known.count(place) {
+    let mut fitting = known.fitting(place, &stage.join.shared, pending.row(at));
+    'tuples: while let Some(i) = fitting.next() {
         let tuple = known.tuple(place, i);
         if leads(block, stage, pending.row(at), tuple) {
             pending.push_child(alloc, block, stage, at, tuple)?;
@@ -168,39 +127,6 @@ fn push_output_once(
     Ok(())
 }
 
-// Adds the outputs of the valuations after the last step that one before it and the tuples of an entry make. It goes by the hashes
-// of the tuples.
-fn push_fitting_outputs(
-    alloc: Global,
-    block: &Normal,
-    stage: &Stage,
-    row: &[Value],
-    known: &Known,
-    place: usize,
-    hashes: &PlaceChains,
-    through: &mut List<Row>,
-) -> Result<(), NoMemory>
-    requires stage { IsStage block.now stage.now }
-    requires known { IsKnown known.now }
-    requires place { place < length (entries_in known.now) }
-    requires hashes { hashes.now ≡ hashes_back stage.now.join.shared.tuple.items (entry_of known.now place).1 }
-    requires pairs { All (IsPair block.now stage.now row.now) (entry_of known.now place).1 }
-    ensures { OnOk result (SameMembers through.new (through.old
-        ++ map (output_row block.now (bound_with block.now (use_at stage.now) (set_before block.now stage.now)))
-        (next_by block.now (use_at stage.now) (set_before block.now stage.now) row.now (entry_of known.now place).1))) }
-{
-    let count = known.count(place);
-    let mut next = hashes.latest(hash_at(&stage.join.shared.row, row));
-    'tuples: while let Some(back) = next {
-        let tuple = known.tuple(place, count - 1 - back);
-        if leads(block, stage, row, tuple) {
-            push_output_once(alloc, block, stage, row, tuple, through)?;
-        }
-        next = hashes.earlier(back);
-    }
-    Ok(())
-}
-
 // Adds the outputs of the valuations after the last step that one before it and the tuples of an entry make.
 fn push_outputs(
     alloc: Global,
@@ -219,10 +145,8 @@ fn push_outputs(
         ++ map (output_row block.now (bound_with block.now (use_at stage.now) (set_before block.now stage.now)))
         (next_by block.now (use_at stage.now) (set_before block.now stage.now) row.now (entry_of known.now place).1))) }
 {
-    if let Some(hashes) = known.hashes(place, &stage.join.shared.tuple) {
-        return push_fitting_outputs(alloc, block, stage, row, known, place, hashes, through);
-    }
-    for i in 0..known.count(place) {
+    let mut fitting = known.fitting(place, &stage.join.shared, row);
+    'tuples: while let Some(i) = fitting.next() {
         let tuple = known.tuple(place, i);
         if leads(block, stage, row, tuple) {
             push_output_once(alloc, block, stage, row, tuple, through)?;

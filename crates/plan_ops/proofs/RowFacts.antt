@@ -26,7 +26,7 @@ use Rattle.evaluation_facts.proofs.UseFacts.{same_number}
 use Rattle.plan_ops.specs.declared.joining.Join.{Join}
 use Rattle.plan_ops.specs.declared.stages.Stage.{Stage}
 use Rattle.plan_ops.specs.Joins.{IsJoin, IsTuple, IsWithin, at_place, fits_by, joined_by, joined_classes}
-use Rattle.plan_ops.specs.Matching.{hash_at}
+use Rattle.place_chains.specs.Hashing.{hash_at}
 use Rattle.plan_ops.specs.Over.{set_of}
 use Rattle.plan_ops.specs.Places.{place_of}
 use Rattle.plan_ops.specs.Stages.{key_by, bound_with, joined_bindings, joined_row, leads_to, use_at, set_before, IsStage, IsPair}

@@ -1,8 +1,5 @@
 pub mod Asked
-pub mod Buckets
-pub mod Chains
 pub mod Fetched
-pub mod Hashing
 pub mod Held
 pub mod Joins
 pub mod Matching

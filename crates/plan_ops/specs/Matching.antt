@@ -1,26 +1,13 @@
 -- How the tuples that fit a valuation are found by the values that they share.
---     values_at places row            the row's values at these places
---     hash_at places row              the hash of these values
---     hashes_back places tuples       the hash of each tuple, from the last one to the first
 --     shared_in width checks          the checks that compare a tuple with a valuation of this width, and not with itself
 --     IsIndexed places tuples o       where there are hashes, they are those of these tuples
 --     AreIndexes ..                   so it is of each of some groups
 --     IsShared width checks shared    the places of these checks in the valuation, and those in the tuple
-use Rattle.std.specs.Prelude.{◌≡◌, ◌<◌, ◌-◌, ℕ, pos, List, Option, IfSome, length, map, filter, reverse, nat_lt, slice_index_or}
-use Rattle.beas_core.specs.declared.value.Value.TheVariants.{Int}
-use Rattle.beas_core.specs.Types.{Row}
-use Rattle.plan_ops.specs.declared.joining.Shared.{Shared}
+use Rattle.std.specs.Prelude.{◌≡◌, ◌<◌, ◌-◌, ℕ, List, Option, IfSome, length, map, filter, nat_lt, slice_index_or}
 use Rattle.beas_core.specs.Found.{Found}
-use Rattle.plan_ops.specs.Hashing.{hash_of}
-
-abbrev pub values_at : List ℕ → Row → Row
-values_at places row = map (λ place. slice_index_or row place (Int (pos 0))) places
-
-abbrev pub hash_at : List ℕ → Row → ℕ
-hash_at places row = hash_of 0 (values_at places row)
-
-abbrev pub hashes_back : List ℕ → List Row → List ℕ
-hashes_back places tuples = map (hash_at places) (reverse tuples)
+use Rattle.beas_core.specs.Types.{Row}
+use Rattle.place_chains.specs.Hashing.{hashes_back}
+use Rattle.plan_ops.specs.declared.joining.Shared.{Shared}
 
 abbrev pub shared_in : ℕ → List (ℕ × ℕ) → List (ℕ × ℕ)
 shared_in width checks = filter (λ c. nat_lt c.1 width) checks

@@ -2,14 +2,14 @@
 ghost use Rattle.std.specs.Prelude.{◌≡◌, ◌<◌, ◌≤◌, ◌+◌, ◌++◌, ◌∷◌, [], length, slice_index_or, All, IfOk, OnOk};
 ghost use Rattle.beas_core.specs.Derivations.{access_in};
 ghost use Rattle.beas_core.specs.Groups.{member_columns};
+ghost use Rattle.place_chains.specs.Hashing.{hash_at};
 ghost use Rattle.plan_ops.specs.Joins.{HitsAre, IsSharing, IsWithin, joins};
-ghost use Rattle.plan_ops.specs.Matching.{AreIndexes, IsIndexed, hash_at, hashes_back};
+ghost use Rattle.plan_ops.specs.Matching.{AreIndexes, IsIndexed};
 
-use crate::chains::PlaceChains;
-use crate::hashing::{hash_at, word_of};
 use crate::joining::Join;
-use crate::matching::{fits, joined_row, push_joined};
+use crate::matching::{fits, joined_row};
 use beas_core::{AccessPort, ColumnId, Hits, NoMemory, Row, Value, mixed};
+use place_chains::{Fitting, PlaceChains, hashed_back, number_of};
 use std::alloc::Global;
 
 // Fewer tuples are soon read one after another.
@@ -54,36 +54,14 @@ fn tuple_hash<P: AccessPort>(
     for place in places {
         hash = mixed(
             hash,
-            word_of(tuple_value(port, columns, hits, i, *place, &zero)),
+            number_of(tuple_value(port, columns, hits, i, *place, &zero)),
         );
     }
     hash
 }
 
-// The hashes of a group's tuples at some places, from the last tuple to the first.
-fn hashes_of<P: AccessPort>(
-    alloc: Global,
-    port: &P,
-    columns: &[ColumnId],
-    places: &[usize],
-    hits: &Hits,
-) -> Result<PlaceChains, NoMemory>
-    requires hits { HitsAre (P.accesses port.now) (P.stands port.now) (P.members port.now) hits.now }
-    requires columns { columns.now ≡ member_columns (access_in (P.accesses port.now) hits.now.access) }
-    ensures { IfOk result (λ hashes. hashes ≡ hashes_back places.now (P.members port.now hits.now)) }
-{
-    let mut hashes = PlaceChains::new(alloc);
-    let count = hits.len();
-    for i in 0..count {
-        hashes.push(
-            alloc,
-            tuple_hash(port, columns, places, hits, count - 1 - i),
-        )?;
-    }
-    Ok(hashes)
-}
-
-// The same where they are wanted, the group has many tuples, and there are places.
+// The hashes of a group's tuples at some places, from the last tuple to the first, where they are wanted, the group has
+// many tuples, and there are places.
 fn index_of<P: AccessPort>(
     alloc: Global,
     port: &P,
@@ -99,7 +77,14 @@ fn index_of<P: AccessPort>(
     if !wanted || hits.len() < MANY || places.is_empty() {
         return Ok(None);
     }
-    Ok(Some(hashes_of(alloc, port, columns, places, hits)?))
+    let hash = |i: usize|
+        requires hits { HitsAre (P.accesses port.now) (P.stands port.now) (P.members port.now) hits.now }
+        requires columns { columns.now ≡ member_columns (access_in (P.accesses port.now) hits.now.access) }
+        requires member { i < hits.now.len }
+        requires few { i < 4294967296 }
+        ensures { result ≡ hash_at places.entry.now (slice_index_or (P.members port.entry.now hits.entry.now) i []) }
+    { tuple_hash(port, columns, places, hits, i as u32) };
+    Ok(Some(hashed_back(alloc, hits.len() as usize, hash)?))
 }
 
 /// For each group the hashes of its tuples at some places, where they are wanted and the tuples are many.
@@ -145,33 +130,6 @@ fn push_if_fits<P: AccessPort>(
     Ok(())
 }
 
-// Adds the valuation with each tuple that fits it. Those alone are tried that may share its values.
-fn push_fitting<P: AccessPort>(
-    alloc: Global,
-    port: &P,
-    join: &Join,
-    row: &[Value],
-    hits: &Hits,
-    hashes: &PlaceChains,
-    found: &mut Vec<Row>,
-) -> Result<(), NoMemory>
-    requires hits { HitsAre (P.accesses port.now) (P.stands port.now) (P.members port.now) hits.now }
-    requires columns { join.now.columns.items ≡ member_columns (access_in (P.accesses port.now) hits.now.access) }
-    requires within { IsWithin (length row.now + length join.now.columns.items) join.now }
-    requires sharing { IsSharing (length row.now) join.now }
-    requires hashes { hashes.now ≡ hashes_back join.now.shared.tuple.items (P.members port.now hits.now) }
-    ensures { OnOk result (found.new.items
-        ≡ found.old.items ++ joins join.now.sources.items join.now.checks.items row.now (P.members port.now hits.now)) }
-{
-    let count = hits.len();
-    let mut next = hashes.latest(hash_at(&join.shared.row, row));
-    'tuples: while let Some(back) = next {
-        push_if_fits(alloc, port, join, row, hits, count - 1 - back as u32, found)?;
-        next = hashes.earlier(back);
-    }
-    Ok(())
-}
-
 /// Adds the valuation with each tuple that fits it, by the hashes of the tuples where there are some.
 pub fn push_from_group<P: AccessPort>(
     alloc: Global,
@@ -190,8 +148,10 @@ pub fn push_from_group<P: AccessPort>(
     ensures { OnOk result (found.new.items
         ≡ found.old.items ++ joins join.now.sources.items join.now.checks.items row.now (P.members port.now hits.now)) }
 {
-    match index {
-        Some(hashes) => push_fitting(alloc, port, join, row, hits, hashes, found),
-        None => push_joined(alloc, port, join, row, hits, found),
+    let count = hits.len() as usize;
+    let mut fitting = Fitting::among(count, index.as_ref(), &join.shared.row, row);
+    'tuples: while let Some(i) = fitting.next() {
+        push_if_fits(alloc, port, join, row, hits, i as u32, found)?;
     }
+    Ok(())
 }

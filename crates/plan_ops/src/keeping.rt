@@ -9,9 +9,10 @@ ghost use Rattle.evaluation_facts.specs.Extensions.{keep_met};
 ghost use Rattle.plan_ops.specs.Over.{IsOver, bound_set, set_of};
 ghost use Rattle.plan_ops.specs.Places.{place_of};
 
-use crate::places::{place_in, value_or};
+use crate::places::place_in;
 use crate::valuations::Valuations;
 use beas_core::{Comparison, List, Normal, Operand, Place, Row, Sign, Value, class_at, compare};
+use place_chains::value_or;
 use std::cmp::Ordering;
 
 /// Whether an order of two values is what the sign asks. It takes no memory.

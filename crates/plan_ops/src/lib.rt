@@ -6,15 +6,12 @@
 #![tactic(auto)]
 
 mod asking;
-mod chains;
 mod copying;
 mod extending;
 mod fetching;
-mod hashing;
 mod indexing;
 mod joining;
 mod keeping;
-mod links;
 mod matching;
 mod pairs;
 mod picked;
@@ -29,10 +26,8 @@ mod tables;
 mod valuations;
 
 pub use asking::ask_for_all;
-pub use chains::PlaceChains;
 pub use extending::extend;
 pub use fetching::fetch;
-pub use hashing::{hash_at, hash_of, word_of};
 pub use joining::{Join, Shared};
 pub use keeping::keep;
 pub use projecting::project;

@@ -9,11 +9,11 @@ ghost use Rattle.beas_core.specs.Sets.{distinct};
 ghost use Rattle.plan_ops.specs.Joins.{HitsAre, IsGroup, IsSharing, IsWithin, at_place, fits_by, joined_by, joins};
 ghost use Rattle.plan_ops.specs.Matching.{AreIndexes};
 
-use crate::chains::PlaceChains;
 use crate::indexing::{indexes_of, push_from_group};
 use crate::joining::Join;
 use crate::probing::place_of_key;
 use beas_core::{AccessId, AccessPort, ColumnId, Duplicate, Hits, List, NoMemory, Row, Value};
+use place_chains::PlaceChains;
 use std::alloc::Global;
 
 // The value of a joined row at a place.
@@ -97,29 +97,6 @@ pub fn joined_row<P: AccessPort>(
         joined.push_reserved(value.copy(alloc)?);
     }
     Ok(List::from_vec(joined))
-}
-
-/// Adds the valuation with each tuple that fits it.
-pub fn push_joined<P: AccessPort>(
-    alloc: Global,
-    port: &P,
-    join: &Join,
-    row: &[Value],
-    hits: &Hits,
-    found: &mut Vec<Row>,
-) -> Result<(), NoMemory>
-    requires hits { HitsAre (P.accesses port.now) (P.stands port.now) (P.members port.now) hits.now }
-    requires columns { join.now.columns.items ≡ member_columns (access_in (P.accesses port.now) hits.now.access) }
-    requires within { IsWithin (length row.now + length join.now.columns.items) join.now }
-    ensures { OnOk result (found.new.items
-        ≡ found.old.items ++ joins join.now.sources.items join.now.checks.items row.now (P.members port.now hits.now)) }
-{
-    for i in 0..hits.len() {
-        if fits(port, join, row, hits, i) {
-            found.push(joined_row(alloc, port, join, row, hits, i)?)?;
-        }
-    }
-    Ok(())
 }
 
 // Each valuation with each tuple of its key's group that fits it, by indexes of the groups.

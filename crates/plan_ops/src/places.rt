@@ -1,5 +1,5 @@
 // Where classes stand in valuations.
-ghost use Rattle.std.specs.Prelude.{◌≡◌, ◌+◌, ◌++◌, ◌≤◌, length, map, slice_index_or, vec_capacity, vec_len, IfOk};
+ghost use Rattle.std.specs.Prelude.{◌≡◌, ◌+◌, ◌++◌, ◌≤◌, length, map, vec_capacity, vec_len, IfOk};
 ghost use Rattle.std.specs.Ordering.{nat_cmp};
 ghost use Rattle.beas_core.specs.Coverage.{class_at as class_of_column, place_class};
 ghost use Rattle.beas_core.specs.Sets.{IsInOrder};
@@ -7,7 +7,7 @@ ghost use Rattle.beas_core.specs.Valuations.{classes_in};
 ghost use Rattle.plan_ops.specs.Over.{set_of};
 ghost use Rattle.plan_ops.specs.Places.{column_of, place_of};
 
-use beas_core::{ColumnId, NoMemory, Normal, Place, Value, class_at};
+use beas_core::{ColumnId, NoMemory, Normal, Place, class_at};
 use std::alloc::Global;
 
 /// Where a class stands among ascending ones, or their number where it stands nowhere. It takes no memory.
@@ -18,16 +18,6 @@ pub fn place_in(classes: &[u16], class: u16) -> usize
     match classes.binary_search(&class) {
         Ok(at) => at,
         Err(_) => classes.len(),
-    }
-}
-
-/// The value at a place of a row, and zero past its end.
-pub fn value_or<'a>(row: &'a [Value], place: usize, zero: &'a Value) -> &'a Value
-    ensures { result.now ≡ slice_index_or row.now place zero.now }
-{
-    match row.get(place) {
-        Some(value) => value,
-        None => zero,
     }
 }
 

@@ -1,4 +1,4 @@
-use Rattle.std.proofs.Common.{◌≡◌, ◌+◌, ◌++◌, ◌∷◌, [], List, Option, ℕ, take, get_or, sym, subst, ap}
+use Rattle.std.proofs.Common.{◌+◌, [], take, sym, subst}
 use Rattle.plan_ops.specs.Matching.{AreIndexes}
 use Rattle.plan_ops.proofs.MatchFacts.{indexes_all, indexes_more, indexes_none}
 use Rattle.plan_ops.proofs.indexing.indexes_of.Goals as goal

@@ -1,6 +1,5 @@
 use Rattle.std.proofs.Common.{◌≡◌, [], take, get_or}
-use Rattle.plan_ops.specs.Hashing.{hash_of}
-use Rattle.plan_ops.specs.Matching.{values_at}
+use Rattle.place_chains.specs.Hashing.{hash_of, values_at}
 use Rattle.plan_ops.proofs.indexing.tuple_hash.Given as goal
 
 abbrev pub invariant-loop-place : goal.invariant-loop-place

@@ -1,4 +1,4 @@
-use Rattle.std.proofs.Common.{◌≡◌, ◌∙◌, All, ap, sym, subst}
+use Rattle.std.proofs.Common.{◌≡◌, ◌∙◌, ap, sym}
 use Rattle.beas_core.specs.Derivations.{access_in}
 use Rattle.beas_core.specs.Found.{Found}
 use Rattle.beas_core.specs.Groups.{member_columns}

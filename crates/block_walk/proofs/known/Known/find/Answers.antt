@@ -1,5 +1,5 @@
 use Rattle.std.proofs.Common.{◌≡◌, true, false, subst}
-use Rattle.plan_ops.specs.Hashing.{hash_of}
+use Rattle.place_chains.specs.Hashing.{hash_of}
 use Rattle.block_walk.proofs.KnownFacts.{Searched, searched_all, searched_more}
 use Rattle.block_walk.proofs.known.Known.find.Goals as goal
 

@@ -1,4 +1,4 @@
-use Rattle.plan_ops.specs.Hashing.{hash_of}
+use Rattle.place_chains.specs.Hashing.{hash_of}
 use Rattle.block_walk.proofs.KnownFacts.{Searched, places_left}
 use Rattle.block_walk.proofs.known.Known.find.Given as goal
 

@@ -1,7 +1,7 @@
 use Rattle.std.proofs.Common.{◌==◌, ◌∙◌, ap, sym}
 use Rattle.std.proofs.lemmas.Bool.Decides.{Decides-eqb}
 use Rattle.std.proofs.lemmas.Slice.Eq.{slice_eq-Decides}
-use Rattle.plan_ops.specs.Matching.{hashes_back}
+use Rattle.place_chains.specs.Hashing.{hashes_back}
 use Rattle.block_walk.specs.declared.known.TupleIndex.{TupleIndex}
 use Rattle.block_walk.specs.Entries.{entry_of}
 use Rattle.block_walk.proofs.KnownFacts.{index_read}

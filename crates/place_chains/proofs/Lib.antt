@@ -1,0 +1,4 @@
+pub mod FittingFacts
+pub mod HashFacts
+mod Linking
+mod Search
