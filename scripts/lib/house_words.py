@@ -88,8 +88,9 @@ WORDS = {
             "outside": {"place": "position"},
             "plan_ops": {
                 "place_among": "position_among", "place_of_key": "position_of_key", "place_in": "position_in",
-                "first_places": "first_positions", "places_held": "positions_held", "PlaceChains": "HashChains",
+                "first_places": "first_positions", "places_held": "positions_held",
             },
+            "place_chains": {"PlaceChains": "HashChains"},
             "version_store": {"place_of": "position_of"},
             "word_index": {"copy_places": "copies_at"},
         },
