@@ -1,4 +1,5 @@
 pub mod Asked
+pub mod Comparing
 pub mod Fetched
 pub mod Held
 pub mod Joins

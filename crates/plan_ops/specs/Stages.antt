@@ -16,6 +16,7 @@ use Rattle.beas_core.specs.Derivations.{member_classes}
 use Rattle.beas_core.specs.Valuations.{value_of, agrees, classes_in, as_bindings}
 use Rattle.evaluation_facts.specs.Extensions.{meets_bound}
 use Rattle.plan_ops.specs.declared.stages.Stage.{Stage}
+use Rattle.plan_ops.specs.Comparing.{sides_at}
 use Rattle.plan_ops.specs.Joins.{IsJoin}
 use Rattle.plan_ops.specs.Over.{set_of}
 use Rattle.plan_ops.specs.Places.{column_of}
@@ -55,6 +56,7 @@ pub record IsStage (normal : Normal) (stage : Stage) : Type 0 where
   pub key_held : IsTrue (holds_classes (set_before normal stage) (key_classes normal (use_at stage)))
   pub key_is : stage.picked.0 ≡ map (λ c. column_of stage.from.value (class_at normal stage.atom c)) stage.access.value.key
   pub join_is : IsJoin normal (use_at stage) stage.from.value stage.join
+  pub sides_are : stage.sides.items ≡ map (sides_at normal stage.join.classes) normal.comparisons
   pub output_is : stage.picked.1 ≡ map (λ p. column_of stage.join.classes (place_class normal p)) normal.output
 
 -- a valuation before the step, and a tuple that its key finds

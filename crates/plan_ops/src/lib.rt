@@ -6,6 +6,7 @@
 #![tactic(auto)]
 
 mod asking;
+mod comparing;
 mod copying;
 mod extending;
 mod fetching;

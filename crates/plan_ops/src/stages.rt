@@ -1,16 +1,18 @@
 // One step from one valuation.
-ghost use Rattle.std.specs.Prelude.{◌≡◌, ◌↔◌, ◌<◌, ◌≤◌, ◌+◌, ◌++◌, length, pos, slice_index_or, take, drop, IfOk, OnOk, IsTrue};
+ghost use Rattle.std.specs.Prelude.{◌≡◌, ◌↔◌, ◌<◌, ◌≤◌, ◌+◌, ◌++◌, length, pos, slice_index_or, take, drop, map, IfOk, OnOk, IsTrue};
 ghost use Rattle.beas_core.specs.declared.value.Value.TheVariants.{Int};
 ghost use Rattle.beas_core.specs.Coverage.{ClassesInRange, holds_classes, key_classes};
 ghost use Rattle.beas_core.specs.Groups.{project, value_at};
 ghost use Rattle.beas_core.specs.Valuations.{as_bindings, classes_in, comparison_is_met, output_row};
 ghost use Rattle.evaluation_facts.specs.Extensions.{meets_bound};
+ghost use Rattle.plan_ops.specs.Comparing.{sides_at};
 ghost use Rattle.plan_ops.specs.Joins.{IsWithin, joined_by};
 ghost use Rattle.plan_ops.specs.Over.{set_of};
 ghost use Rattle.plan_ops.specs.Stages.{IsPair, IsStage, bound_with, joined_row, key_by, leads_to, set_before, use_at};
 
+use crate::comparing::{Sides, all_sides};
 use crate::joining::{Join, join_of};
-use crate::keeping::{place_among, sign_holds};
+use crate::keeping::sign_holds;
 use crate::pairs::{pair_fits, push_pair, value_in_pair};
 use crate::picked::Picked;
 use crate::picking::{push_values, values_in};
@@ -32,6 +34,8 @@ pub struct Stage {
     pub from: Snapshot<List<u16>>,
     /// How tuples of the constraint join these valuations.
     pub join: Join,
+    /// Where the sides of each of the block's comparisons stand in valuations after it.
+    pub sides: Vec<Sides>,
     /// The columns of its key in these valuations, and those of the block's output in valuations after it.
     pub picked: Picked,
 }
@@ -56,12 +60,14 @@ pub fn stage_of(
     let before = from.as_slice();
     let join = join_of(alloc, block, atom, access, before)?;
     let after = join.classes.as_slice();
+    let sides = all_sides(alloc, block, after)?;
     let picked = Picked::of(alloc, block, before, after, atom, access.key.as_slice())?;
     Ok(Stage {
         atom,
         access: Snapshot::of(access),
         from: Snapshot::of(from),
         join,
+        sides,
         picked,
     })
 }
@@ -92,49 +98,51 @@ fn joined_value<'a>(join: &Join, row: &'a [Value], tuple: &'a [Value], column: u
     value_in_pair(row, tuple, join.sources[column])
 }
 
-// Whether a valuation joined with a tuple meets a comparison, where its columns are all bound.
+// Whether a valuation joined with a tuple meets a comparison, where its columns are all bound. They are where its sides stand.
 fn pair_meets(
     block: &Normal,
     join: &Join,
     row: &[Value],
     tuple: &[Value],
     comparison: &Comparison,
+    sides: Sides,
 ) -> bool
     requires classes { join.now.classes ≡ classes_in (set_of block.now join.now.classes) }
     requires within { IsWithin (length row.now + length tuple.now) join.now }
     requires sources { length join.now.sources.items ≡ length join.now.classes }
+    requires sides { sides ≡ sides_at block.now join.now.classes comparison.now }
     ensures { result ≡ comparison_is_met block.now (set_of block.now join.now.classes)
         (as_bindings (set_of block.now join.now.classes) (joined_by join.now.sources.items row.now tuple.now)) comparison.now }
 {
-    let classes = join.classes.as_slice();
-    let left = place_among(block, classes, &comparison.left);
-    if left == classes.len() {
+    let bound = join.classes.len();
+    if sides.left == bound {
         return true;
     }
-    let value = joined_value(join, row, tuple, left);
+    let value = joined_value(join, row, tuple, sides.left);
     match &comparison.right {
         Operand::Fixed(fixed) => sign_holds(comparison.sign, compare(value, fixed)),
-        Operand::At(place) => {
-            let right = place_among(block, classes, place);
-            if right == classes.len() {
+        Operand::At(_) => {
+            if sides.right == bound {
                 return true;
             }
-            let other = joined_value(join, row, tuple, right);
+            let other = joined_value(join, row, tuple, sides.right);
             sign_holds(comparison.sign, compare(value, other))
         }
     }
 }
 
 // Whether it meets every comparison whose columns are all bound.
-fn pair_meets_all(block: &Normal, join: &Join, row: &[Value], tuple: &[Value]) -> bool
-    requires classes { join.now.classes ≡ classes_in (set_of block.now join.now.classes) }
-    requires within { IsWithin (length row.now + length tuple.now) join.now }
-    requires sources { length join.now.sources.items ≡ length join.now.classes }
-    ensures { result ≡ meets_bound block.now (set_of block.now join.now.classes)
-        (joined_by join.now.sources.items row.now tuple.now) }
+fn pair_meets_all(block: &Normal, stage: &Stage, row: &[Value], tuple: &[Value]) -> bool
+    requires classes { stage.now.join.classes ≡ classes_in (set_of block.now stage.now.join.classes) }
+    requires within { IsWithin (length row.now + length tuple.now) stage.now.join }
+    requires sources { length stage.now.join.sources.items ≡ length stage.now.join.classes }
+    requires sides { stage.now.sides.items ≡ map (sides_at block.now stage.now.join.classes) block.now.comparisons }
+    ensures { result ≡ meets_bound block.now (set_of block.now stage.now.join.classes)
+        (joined_by stage.now.join.sources.items row.now tuple.now) }
 {
-    for comparison in block.comparisons.as_slice() {
-        if !pair_meets(block, join, row, tuple, comparison) {
+    let sides = stage.sides.as_slice();
+    for (i, comparison) in block.comparisons.as_slice().iter().enumerate() {
+        if !pair_meets(block, &stage.join, row, tuple, comparison, sides[i]) {
             return false;
         }
     }
@@ -151,7 +159,7 @@ pub fn leads(block: &Normal, stage: &Stage, row: &[Value], tuple: &[Value]) -> b
     if !pair_fits(&stage.join, row, tuple) {
         return false;
     }
-    pair_meets_all(block, &stage.join, row, tuple)
+    pair_meets_all(block, stage, row, tuple)
 }
 
 /// Adds the values of the valuation that one makes with a tuple that its key finds. The one stands among these values, from

@@ -18,6 +18,9 @@ pair_meets_all-requires-clause-within c = pair_within c.args.block.now c.args.st
 pub pair_meets_all-requires-clause-sources : goal.pair_meets_all-requires-clause-sources
 pair_meets_all-requires-clause-sources c = sources_counted c.args.block.now c.args.stage.now c.requires.stage
 
+pub pair_meets_all-requires-clause-sides : goal.pair_meets_all-requires-clause-sides
+pair_meets_all-requires-clause-sides c = c.requires.stage.sides_are
+
 pub returns : goal.returns
 returns c = c.pair_meets_all.ensures ∙ led c.args.block.now c.args.stage.now c.requires.stage c.args.row.now c.args.tuple.now c.requires.pair
     (sym c.pair_fits.ensures ∙ c.if-not-pair_fits.false)
