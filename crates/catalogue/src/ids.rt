@@ -7,7 +7,8 @@ ghost use Rattle.catalogue.specs.Kept.{Ids};
 
 use beas_core::{Access, AccessId, NoMemory};
 
-/// Where the constraint with this id stands.
+/// Where the constraint with this id stands. Ids count up from 0, so until the first constraint is dropped each stands at its
+/// id, and a look there is enough.
 pub fn place_of_id(accesses: &[Access], id: AccessId) -> usize
     requires rise { AllPairs (λ a b. a.id.0 < b.id.0) accesses.now }
     requires live { IsTrue (list_any (λ a. a.id.0 == id.0) accesses.now) }
@@ -15,6 +16,10 @@ pub fn place_of_id(accesses: &[Access], id: AccessId) -> usize
     ensures found { (d : Access) → slice_index_or accesses.now result d ≡ access_with_id accesses.now id }
     ensures has_id { (access_with_id accesses.now id).id.0 ≡ id.0 }
 {
+    let guess = id.0 as usize;
+    if guess < accesses.len() && accesses[guess].id.0 == id.0 {
+        return guess;
+    }
     accesses.partition_point(|access| access.id.0 < id.0)
 }
 
