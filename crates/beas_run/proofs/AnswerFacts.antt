@@ -12,33 +12,13 @@ use Rattle.piece_reader.specs.declared.event.Event.TheVariants.{Stepped}
 use Rattle.desk_model.specs.Desks.{AtOnce, DeskEffect, State, action_of_event, answered_effect, is_of, probed_effect, query_effect, query_of, stepped_effect, with_query}
 use Rattle.desk_model.specs.Pieces.{after_cost, and_step, and_steps, probes_due}
 use Rattle.desk_model.proofs.Places.{find_passes}
-use Rattle.version_store.specs.Desks.{IsDesk, MayTake, Seen as DeskSeen, Takes, TakesSome, desk_wanting}
-use Rattle.version_store.proofs.Places.{remove-set}
+use Rattle.version_store.specs.Desks.{GoesOn, IsDesk, MayTake, Seen as DeskSeen, Takes, TakesSome, desk_wanting, without_query_of}
 use Rattle.beas_run.specs.Pieces.{Reaches, answered_from, is_probed}
 use Rattle.beas_run.specs.Shares.{open_reads}
-use Rattle.beas_run.proofs.FoundFacts.{find-set-found, sum_by-set-found}
+use Rattle.beas_run.proofs.FoundFacts.{find-set-found, remove-set-found, sum_by-set-found}
 use Rattle.beas_run.proofs.LeftFacts.{wanting_db}
+use Rattle.beas_run.proofs.SparedFacts.{spared_lost, spared_probed}
 use Rattle.beas_run.proofs.ShareFacts.{may_take, shares_fit}
-
--- the first that passes stands where it stood if another that passes takes its place
-place-set-found : {X : Type 0} (p : X → Bool) (xs : List X) (x y : X) → find p xs ≡ Some x → p y ≡ true
-    → position_or_len p (set xs (position_or_len p xs) y) ≡ position_or_len p xs
-place-set-found p [] x y h own = cc
-place-set-found p (z ∷ xs) x y h own = by (p z) refl h (λ g. place-set-found p xs x y g own)
-  where
-    by : (b : Bool) → p z ≡ b → cond b (Some z) (find p xs) ≡ Some x
-        → (find p xs ≡ Some x → position_or_len p (set xs (position_or_len p xs) y) ≡ position_or_len p xs)
-        → position_or_len p (set (z ∷ xs) (cond (not b) (1 + position_or_len p xs) 0) y) ≡ cond (not b) (1 + position_or_len p xs) 0
-    by true e g later = ap (λ b. cond (not b) (1 + position_or_len p xs) 0) own
-    by false e g later =
-        let one : 1 + position_or_len p xs ≡ suc (position_or_len p xs) = omega arith in
-        ap (λ i. position_or_len p (set (z ∷ xs) i y)) one
-        ∙ ap (λ b. cond (not b) (1 + position_or_len p (set xs (position_or_len p xs) y)) 0) e ∙ ap (λ n. 1 + n) (later g)
-
-remove-set-found : {X : Type 0} (p : X → Bool) (xs : List X) (x y : X) → find p xs ≡ Some x → p y ≡ true
-    → remove (set xs (position_or_len p xs) y) (position_or_len p (set xs (position_or_len p xs) y)) ≡ remove xs (position_or_len p xs)
-remove-set-found p xs x y h own =
-    ap (remove (set xs (position_or_len p xs) y)) (place-set-found p xs x y h own) ∙ remove-set xs (position_or_len p xs) y
 
 -- ---- event by event
 
@@ -100,6 +80,7 @@ pub record OnTheWay (start now : DeskSeen) (s t : ℕ) : Type 0 where
   pub reads : open_reads now.state ≡ open_reads start.state
   pub db : now.state.db ≡ start.state.db
   pub settings : now.settings ≡ start.settings
+  pub others : without_query_of 0 now ≡ without_query_of 0 start
   pub counts : t + sum start.shares ≡ s + sum now.shares
   pub later : s ≤ t
 
@@ -120,6 +101,7 @@ on_the_way desk s new = by (query_of 0 desk.state) refl new
       reads = refl;
       db = refl;
       settings = refl;
+      others = refl;
       counts = refl;
       later = omega arith;
     }
@@ -158,8 +140,8 @@ module _ (start now after : DeskSeen) (s t u : ℕ) (x y : Seen) (way : OnTheWay
     there = ap (λ st. query_of 0 st) took_one.state_is
         ∙ find-set-found (is_of 0) now.state.queries q further way.is (find_passes (is_of 0) now.state.queries q way.is)
 
-    pub goes_on : after.settings ≡ now.settings → t ≤ u → OnTheWay start after s u
-    goes_on settings later =
+    pub goes_on : GoesOn (Stepped 0) report now after t u → after.settings ≡ now.settings → t ≤ u → OnTheWay start after s u
+    goes_on once settings later =
         let less = ltb-true way.made n due in
         let counted : u + sum now.shares ≡ t + 0 + sum after.shares = took_one.counts in
         let before = way.counts in
@@ -176,6 +158,8 @@ module _ (start now after : DeskSeen) (s t u : ℕ) (x y : Seen) (way : OnTheWay
           reads = ap open_reads took_one.state_is ∙ sum_by-set-found (is_of 0) reads_of now.state.queries q further way.is refl ∙ way.reads;
           db = ap (λ (st : State). st.db) took_one.state_is ∙ way.db;
           settings = settings ∙ way.settings;
+          others = spared_probed 0 now q way.is after t u further (find_passes (is_of 0) now.state.queries q way.is) settings took_one.state_is
+              (subst (λ (r : Report). GoesOn (Stepped 0) r now after t u) took_one.report_is once) ∙ way.others;
           counts = omega (arith, counted, before);
           later = omega (arith, begun, later);
         }
@@ -235,3 +219,8 @@ lost_reads start now s t u way told may =
     let before = way.counts in
     let same = way.reads in
     omega (arith, most, before, same)
+
+pub lost_others : (start now after : DeskSeen) (s t : ℕ) → OnTheWay start now s t → after ≡ desk_wanting (Stepped 0) now
+    → without_query_of 0 after ≡ without_query_of 0 start
+lost_others start now after s t way e =
+    ap (without_query_of 0) e ∙ spared_lost 0 now way.query way.is (find_passes (is_of 0) now.state.queries way.query way.is) ∙ way.others

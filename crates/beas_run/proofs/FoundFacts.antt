@@ -1,8 +1,10 @@
--- The first element that passes a test: what a sum over the list is where another takes its place, or where it goes.
-use Rattle.std.proofs.Common.{◌≡◌, ◌<◌, ◌≤◌, ◌+◌, ◌∙◌, ℕ, Bool, true, false, not, cond, List, [], ◌∷◌, set, remove, find, Some, refl, ap, sym, subst, arith, suc, get_or, length}
+-- The first element that passes a test: what a sum over the list is where another takes its place, or where it goes, and where it stands.
+use Rattle.std.proofs.Common.{◌≡◌, ◌<◌, ◌≤◌, ◌+◌, ◌-◌, ◌++◌, ◌∙◌, ℕ, Bool, true, false, not, cond, List, [], ◌∷◌, set, remove, find, None, Some, refl, ap, sym, subst, arith, suc, get_or, length, append-nil}
 use Rattle.std.specs.Prelude.{sum, sum_by}
 use Rattle.std.specs.List.{AllZip, position_or_len}
+use Rattle.std.proofs.lemmas.List.Edits.{remove-append_right}
 use Rattle.std.proofs.lemmas.List.Sums.{sum_by-cons}
+use Rattle.version_store.proofs.Places.{remove-set}
 
 one_on : {X : Type 0} (p : X → Bool) (xs : List X) → 1 + position_or_len p xs ≡ suc (position_or_len p xs)
 one_on p xs = omega arith
@@ -98,3 +100,56 @@ all_zip R (x ∷ xs) (y ∷ ys) e same each = (
   each 0 x (omega arith),
   all_zip R xs ys e (omega (arith, same)) (λ k d below. each (suc k) d (omega (arith, below))),
 )
+
+-- the first that passes stands where it stood if another that passes takes its place
+pub place-set-found : {X : Type 0} (p : X → Bool) (xs : List X) (x y : X) → find p xs ≡ Some x → p y ≡ true
+    → position_or_len p (set xs (position_or_len p xs) y) ≡ position_or_len p xs
+place-set-found p [] x y h own = cc
+place-set-found p (z ∷ xs) x y h own = by (p z) refl h (λ g. place-set-found p xs x y g own)
+  where
+    by : (b : Bool) → p z ≡ b → cond b (Some z) (find p xs) ≡ Some x
+        → (find p xs ≡ Some x → position_or_len p (set xs (position_or_len p xs) y) ≡ position_or_len p xs)
+        → position_or_len p (set (z ∷ xs) (cond (not b) (1 + position_or_len p xs) 0) y) ≡ cond (not b) (1 + position_or_len p xs) 0
+    by true e g later = ap (λ b. cond (not b) (1 + position_or_len p xs) 0) own
+    by false e g later =
+        let one : 1 + position_or_len p xs ≡ suc (position_or_len p xs) = omega arith in
+        ap (λ i. position_or_len p (set (z ∷ xs) i y)) one
+        ∙ ap (λ b. cond (not b) (1 + position_or_len p (set xs (position_or_len p xs) y)) 0) e ∙ ap (λ n. 1 + n) (later g)
+
+pub remove-set-found : {X : Type 0} (p : X → Bool) (xs : List X) (x y : X) → find p xs ≡ Some x → p y ≡ true
+    → remove (set xs (position_or_len p xs) y) (position_or_len p (set xs (position_or_len p xs) y)) ≡ remove xs (position_or_len p xs)
+remove-set-found p xs x y h own =
+    ap (remove (set xs (position_or_len p xs) y)) (place-set-found p xs x y h own) ∙ remove-set xs (position_or_len p xs) y
+
+-- ---- where none passes
+
+pub place-none : {X : Type 0} (p : X → Bool) (xs : List X) → find p xs ≡ None → position_or_len p xs ≡ length xs
+place-none p [] none = refl
+place-none p (x ∷ xs) none = by (p x) refl none (λ h. place-none p xs h)
+  where
+    by : (b : Bool) → p x ≡ b → cond b (Some x) (find p xs) ≡ None → (find p xs ≡ None → position_or_len p xs ≡ length xs)
+        → position_or_len p (x ∷ xs) ≡ length (x ∷ xs)
+    by true e h later = cc
+    by false e h later = let rest = later h in ap (λ b. cond (not b) (1 + position_or_len p xs) 0) e ∙ omega (arith, rest)
+
+pub place-last : {X : Type 0} (p : X → Bool) (xs : List X) (y : X) → find p xs ≡ None → p y ≡ true
+    → position_or_len p (xs ++ y ∷ []) ≡ length xs
+place-last p [] y none own = ap (λ b. cond (not b) 1 0) own
+place-last p (x ∷ xs) y none own = by (p x) refl none (λ h. place-last p xs y h own)
+  where
+    by : (b : Bool) → p x ≡ b → cond b (Some x) (find p xs) ≡ None
+        → (find p xs ≡ None → position_or_len p (xs ++ y ∷ []) ≡ length xs)
+        → position_or_len p (x ∷ xs ++ y ∷ []) ≡ length (x ∷ xs)
+    by true e h later = cc
+    by false e h later = let rest = later h in ap (λ b. cond (not b) (1 + position_or_len p (xs ++ y ∷ [])) 0) e ∙ omega (arith, rest)
+
+pub remove-at-last : {X : Type 0} (xs : List X) (y : X) (n : ℕ) → length xs ≡ n → remove (xs ++ y ∷ []) n ≡ xs
+remove-at-last xs y n all =
+    let none : n - n ≡ 0 = omega arith in
+    remove-append_right xs (y ∷ []) n n all (omega arith) ∙ ap (λ i. xs ++ remove (y ∷ []) i) none ∙ append-nil xs
+
+pub remove-past : {X : Type 0} (xs : List X) (n : ℕ) → length xs ≡ n → remove xs n ≡ xs
+remove-past xs n all =
+    let none : n - n ≡ 0 = omega arith in
+    ap (λ l. remove l n) (sym (append-nil xs)) ∙ remove-append_right xs [] n n all (omega arith)
+    ∙ ap (λ i. xs ++ remove [] i) none ∙ append-nil xs

@@ -1,6 +1,6 @@
 -- What is left of a piece that memory ran out for.
 use Rattle.std.proofs.Common.{◌≡◌, ◌≤◌, ◌+◌, ◌⊎◌, ◌∙◌, inl, inr, ap, subst, sym, refl, ℕ, zero, suc, [], Option, None, Some, Result, Ok, Err, arith}
-use Rattle.std.specs.Prelude.{OnErr, option_map, sum}
+use Rattle.std.specs.Prelude.{IfOk, OnErr, option_map, sum}
 use Rattle.std.proofs.lemmas.List.Sums.{sum_by_push}
 use Rattle.beas_core.specs.declared.errors.NoMemory.{NoMemory as Out}
 use Rattle.outside.specs.Counts.{raised}
@@ -14,8 +14,8 @@ use Rattle.piece_reader.specs.declared.event.Event.TheVariants.{Said, Stepped}
 use Rattle.desk_model.specs.Desks.{DeskAction, AtOnce, ByLoad, DeskEffect, State, action_of_event, lost, new_query, opened_effect, query_of, said_action, stepped_effect}
 use Rattle.desk_model.specs.Pieces.{next, piece_action, with_answer}
 use Rattle.piece_reader.specs.Sayings.{Reading}
-use Rattle.version_store.specs.Desks.{IsDesk, MayCost, MayLoad, MayTake, Seen as DeskSeen, desk_wanting}
-use Rattle.beas_run.specs.Pieces.{IsLeft, reads_by}
+use Rattle.version_store.specs.Desks.{IsDesk, MayCost, MayLoad, MayTake, Seen as DeskSeen, desk_wanting, without_query_of}
+use Rattle.beas_run.specs.Pieces.{GoesOnBy, IsLeft, LeavesDesk, reads_by}
 use Rattle.beas_run.specs.Shares.{AreShares, open_reads}
 use Rattle.beas_run.proofs.ReadsFacts.{alone_grows, answered_reads, same_reads, stepped_reads}
 use Rattle.beas_run.proofs.SaidFacts.{SaidIs, said_is}
@@ -157,3 +157,20 @@ pub event_left_step : (s : Settings) (k : ℕ) (r : Result Report Out) (before a
     → OnErr r (IsLeft s (Ok (Stepped k)) before after m n x y)
 event_left_step s k (Ok report) before after m n x y told e may no_fewer loaded = tt
 event_left_step s k (Err none) before after m n x y told e may no_fewer loaded = left_by_step s k before after m n x y told e may no_fewer loaded
+
+-- ---- what is left of the desk
+
+pub desk_left_said : (k : ℕ) (statement : Statement) (r : Result Report Out) (before after : DeskSeen)
+    → OnErr r (after ≡ desk_wanting (Said k statement) before) → OnErr r (LeavesDesk (Ok (Said k statement)) before after)
+desk_left_said k statement (Ok report) before after e = tt
+desk_left_said k statement (Err none) before after e = inl (ap (without_query_of 0) e)
+
+pub desk_left_step : (k : ℕ) (r : Result Report Out) (before after : DeskSeen)
+    → OnErr r (after ≡ desk_wanting (Stepped k) before) → OnErr r (LeavesDesk (Ok (Stepped k)) before after)
+desk_left_step k (Ok report) before after e = tt
+desk_left_step k (Err none) before after e = inr e
+
+pub goes_on_said : (k : ℕ) (statement : Statement) (r : Result Report Out) (before after : DeskSeen) (m n : ℕ)
+    → IfOk r (λ report. GoesOnBy (Ok (Said k statement)) report before after m n)
+goes_on_said k statement (Ok report) before after m n = tt
+goes_on_said k statement (Err none) before after m n = tt

@@ -13,6 +13,7 @@ mod SayingFacts
 mod ShareFacts
 mod SourceFacts
 mod SourcelessFacts
+mod SparedFacts
 mod TieFacts
 mod TurnFacts
 mod UnmarkedFacts

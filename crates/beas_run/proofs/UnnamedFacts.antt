@@ -1,5 +1,5 @@
 -- What is done for a statement that names no session: it is said by session 0, and a query that it opens is answered.
-use Rattle.std.proofs.Common.{◌≡◌, ◌≤◌, ◌+◌, ◌⊎◌, ◌∙◌, inl, inr, ap, subst, sym, refl, ℕ, Bool, true, false, [], None, Some, Result, Ok, Err, arith, find}
+use Rattle.std.proofs.Common.{◌≡◌, ◌≤◌, ◌+◌, ◌++◌, ◌⊎◌, ◌∙◌, inl, inr, ap, subst, sym, refl, ℕ, Bool, true, false, [], ◌∷◌, None, Some, Result, Ok, Err, arith, find}
 use Rattle.std.specs.Prelude.{IfOk, OnErr, IsSomeAnd, if◌then◌else◌, is_some, not, sum, ◌&&◌}
 use Rattle.beas_core.specs.declared.errors.NoMemory.{NoMemory as Out}
 use Rattle.outside.specs.Counts.{raised}
@@ -7,6 +7,7 @@ use Rattle.outside.specs.Seen.{Seen}
 use Rattle.outside.proofs.Counts.{raised_none}
 use Rattle.kept_facts.specs.OpenQueries.{OpenQuery}
 use Rattle.report.specs.declared.reports.Report.{Report}
+use Rattle.report.specs.declared.reports.Report.TheVariants.{Opened}
 use Rattle.session.specs.declared.loading.LoadOutcome.{LoadOutcome}
 use Rattle.session.specs.Effects.{Settings}
 use Rattle.session.specs.Turns.{IsWithin}
@@ -15,12 +16,13 @@ use Rattle.desk_model.specs.Answers.{effect_by}
 use Rattle.desk_model.specs.Desks.{DeskAction, AtOnce, ByLoad, DeskEffect, State, is_of, new_query, opened_effect, query_of, said_action}
 use Rattle.desk_model.specs.Pieces.{next, opens, piece_action, with_answer}
 use Rattle.piece_reader.specs.declared.event.Event.TheVariants.{Said}
-use Rattle.version_store.specs.Desks.{IsDesk, Seen as DeskSeen, Takes}
-use Rattle.beas_run.specs.Pieces.{IsDone, IsLeft, Reaches, answered_from, is_opened, reads_by, turn_alone}
+use Rattle.version_store.specs.Desks.{GoesOn, IsDesk, Seen as DeskSeen, Takes, without_query_of}
+use Rattle.beas_run.specs.Pieces.{IsDone, IsLeft, LeavesDesk, Reaches, answered_from, is_opened, reads_by, turn_alone}
 use Rattle.beas_run.specs.Shares.{open_reads}
 use Rattle.desk_model.proofs.Places.{find-last}
 use Rattle.beas_run.proofs.SaidFacts.{SaidIs, said_is}
 use Rattle.beas_run.proofs.ShareFacts.{shares_fit}
+use Rattle.beas_run.proofs.SparedFacts.{spared_opened}
 use Rattle.beas_run.proofs.DoneFacts.{done_by_action}
 use Rattle.beas_run.proofs.LeftFacts.{LeftBy, answer_none, answer_reads}
 
@@ -67,7 +69,7 @@ module _ (s : Settings) (statement : Statement) (before : DeskSeen) where
           let other : true ≡ false = ap (λ a. is_opened (effect_by a took.outcome).report) (sym opens.is) ∙ ap is_opened (sym took.report_is) ∙ none in cc
 
 -- what a statement opens where it reports so
-pub record HasOpened (s : Settings) (statement : Statement) (before after : DeskSeen) : Type 0 where
+pub record HasOpened (s : Settings) (statement : Statement) (report : Report) (before after : DeskSeen) : Type 0 where
   pub first : DeskEffect
   pub is : said s statement before ≡ AtOnce first
   pub state : after.state ≡ first.state
@@ -75,10 +77,17 @@ pub record HasOpened (s : Settings) (statement : Statement) (before after : Desk
   pub new : IsSomeAnd (query_of 0 after.state) (λ query. query.made ≡ Some 0)
   pub db : after.state.db ≡ before.state.db
   pub opened : opens 0 before.state first.state ≡ true
+  -- the query, which stands after the others
+  pub idle : query_of 0 before.state ≡ None
+  pub query : OpenQuery
+  pub own : is_of 0 query ≡ true
+  pub last : after.state ≡ record before.state { queries = before.state.queries ++ query ∷ [] }
+  pub bound : ℕ
+  pub report_is : report ≡ Opened 0 bound
 
 module _ (s : Settings) (statement : Statement) (before after : DeskSeen) where
   opened_by : (report : Report) (m n : ℕ) (x y : Seen) → Takes s.limits.file (said s statement before) report before after m n x y
-      → is_opened report ≡ true → SaidIs s.explain before.state 0 (said s statement before) → HasOpened s statement before after
+      → is_opened report ≡ true → SaidIs s.explain before.state 0 (said s statement before) → HasOpened s statement report before after
   opened_by report m n x y took reported (inl keeps) =
       let other : true ≡ false = sym reported ∙ ap is_opened took.report_is ∙ keeps.report took.outcome in cc
   opened_by report m n x y took reported (inr opens) =
@@ -94,14 +103,28 @@ module _ (s : Settings) (statement : Statement) (before after : DeskSeen) where
         new = subst (λ o. IsSomeAnd o (λ (q : OpenQuery). q.made ≡ Some 0)) (sym (ap (λ st. query_of 0 st) state ∙ there)) refl;
         db = ap (λ (st : State). st.db) state;
         opened = ap (λ o. is_some o && not (is_some (query_of 0 before.state))) there ∙ ap (λ o. not (is_some o)) opens.idle;
+        idle = opens.idle;
+        query = new;
+        own = refl;
+        last = state;
+        bound = opens.prepared.bound;
+        report_is = took.report_is ∙ ap (λ a. (effect_by a took.outcome).report) opens.is;
       }
 
   pub has_opened : (report : Report) (m n : ℕ) (x y : Seen) → Takes s.limits.file (said s statement before) report before after m n x y
-      → is_opened report ≡ true → HasOpened s statement before after
+      → is_opened report ≡ true → HasOpened s statement report before after
   has_opened report m n x y took reported = opened_by report m n x y took reported (said_is s before.state 0 statement)
 
+-- but for this query the desk is as it was
+pub opened_spared : (s : Settings) (statement : Statement) (report : Report) (before mid : DeskSeen) (m l : ℕ) → HasOpened s statement report before mid
+    → IsDesk before → IsDesk mid → mid.settings ≡ before.settings → GoesOn (Said 0 statement) report before mid m l
+    → without_query_of 0 mid ≡ without_query_of 0 before
+opened_spared s statement report before mid m l o told told_mid settings h =
+    spared_opened 0 before mid o.query o.idle o.own o.last settings statement 0 o.bound m l told told_mid
+    (subst (λ r. GoesOn (Said 0 statement) r before mid m l) o.report_is h)
+
 -- it was opened, and then answered
-module _ (s : Settings) (statement : Statement) (before mid after : DeskSeen) (o : HasOpened s statement before mid) (m l n : ℕ) (x y : Seen) where
+module _ (s : Settings) (statement : Statement) (before mid after : DeskSeen) (opening : Report) (o : HasOpened s statement opening before mid) (m l n : ℕ) (x y : Seen) where
   at_once : DeskAction
   at_once = AtOnce o.first
 
@@ -156,3 +179,8 @@ module _ (s : Settings) (statement : Statement) (before mid after : DeskSeen) (o
       → OnErr r (IsLeft s (Ok (Said 0 statement)) before after m n x y)
   answer_left earlier (Ok report) took begun later most db = tt
   answer_left earlier (Err e) took begun later most db = left_answered earlier took begun later most db
+
+pub answer_spared : (statement : Statement) (before mid after : DeskSeen) (r : Result Report Out) → without_query_of 0 mid ≡ without_query_of 0 before
+    → OnErr r (without_query_of 0 after ≡ without_query_of 0 mid) → OnErr r (LeavesDesk (Ok (Said 0 statement)) before after)
+answer_spared statement before mid after (Ok report) opened e = tt
+answer_spared statement before mid after (Err none) opened e = inl (e ∙ opened)

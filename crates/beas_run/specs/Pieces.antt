@@ -13,7 +13,9 @@
 --     reads_by state turn               what is read at most for all that was opened, where this turn comes next
 --     IsLeft settings reading ..        out of memory the piece wasn't carried out, and the database is as it was
 --     IsUndone ..                       the same, and nothing was sent
-use Rattle.std.specs.Prelude.{◌≡◌, ◌≤◌, ◌+◌, ◌++◌, ◌⊎◌, ℕ, Bool, true, false, List, [], ◌∷◌, length, sum, Option, None, Some, Result, IfOk, OnErr}
+--     LeavesDesk reading before after   and the desk is as it was, but for the query of session 0; or a query is lost that it was to go on with
+--     GoesOnBy reading report ..        what becomes of the probes and the shares where the piece goes on with a query
+use Rattle.std.specs.Prelude.{◌≡◌, ◌≤◌, ◌+◌, ◌++◌, ◌⊎◌, ℕ, Bool, true, false, List, [], ◌∷◌, length, sum, Option, None, Some, Result, Ok, Err, IfOk, OnErr}
 use Rattle.std.specs.Option.{option_map_or}
 use Rattle.beas_core.specs.declared.errors.NoMemory.{NoMemory}
 use Rattle.outside.specs.Counts.{raised}
@@ -27,10 +29,11 @@ use Rattle.session.specs.Effects.{Settings}
 use Rattle.session.specs.Ties.{AreTied}
 use Rattle.session.specs.Turns.{loads_of, is_refusal, IsWithin}
 use Rattle.piece_reader.specs.declared.event.Event.{Event}
+use Rattle.piece_reader.specs.declared.event.Event.TheVariants.{Said, Stepped}
 use Rattle.desk_model.specs.Desks.{DeskEffect, State, action_of_event}
 use Rattle.desk_model.specs.Pieces.{DeskTurn, Next, and_steps, next, piece_action, probes_due, seen_turn}
 use Rattle.piece_reader.specs.Sayings.{Reading}
-use Rattle.version_store.specs.Desks.{IsDesk, MayLoad, MayTake, Seen as DeskSeen, TakesSome, desk_wanting}
+use Rattle.version_store.specs.Desks.{GoesOn, IsDesk, MayLoad, MayTake, Seen as DeskSeen, TakesSome, desk_wanting, without_query_of}
 use Rattle.beas_run.specs.declared.ending.Ending.{Ending}
 use Rattle.beas_run.specs.declared.ending.Ending.TheVariants.{NoMemory as Want}
 use Rattle.beas_run.specs.Shares.{AreShares, open_reads}
@@ -66,6 +69,7 @@ pub record IsTaken (event : Event) (result : Result Report NoMemory) (before aft
     (files_before files_after : Seen) : Type 0 where
   pub did : IfOk result (λ report. TakesSome before.settings.limits.file (action_of_event before.settings before.state event) report before after
       steps_before steps_after files_before files_after)
+  pub goes_on : IfOk result (λ report. GoesOn event report before after steps_before steps_after)
   pub within : IfOk result IsWithin
   pub is_desk : IsDesk before × IsDesk after
   pub settings : after.settings ≡ before.settings
@@ -139,3 +143,19 @@ pub record IsUndone (settings : Settings) (reading : Reading) (before after : Sc
   pub left : IsLeft settings reading before.desk after.desk before.steps after.steps before.files after.files
   pub sent : before.out.told ≡ true → after.out.bytes ≡ before.out.bytes
   pub puts : after.out.puts ≡ before.out.puts
+
+-- a STEP's query is lost, if it has one
+abbrev pub LosesQuery : Reading → DeskSeen → DeskSeen → Type 0
+LosesQuery (Ok (Stepped session)) before after = after ≡ desk_wanting (Stepped session) before
+LosesQuery (Ok (Said session statement)) before after = ⊥
+LosesQuery (Err why) before after = ⊥
+
+-- a query that a piece without a session has opened may be open still
+abbrev pub LeavesDesk : Reading → DeskSeen → DeskSeen → Type 0
+LeavesDesk reading before after =
+    (without_query_of 0 after ≡ without_query_of 0 before) ⊎ LosesQuery reading before after
+
+abbrev pub GoesOnBy : Reading → Report → DeskSeen → DeskSeen → ℕ → ℕ → Type 0
+GoesOnBy (Ok (Stepped session)) report before after s t = GoesOn (Stepped session) report before after s t
+GoesOnBy (Ok (Said session statement)) report before after s t = Unit {0}
+GoesOnBy (Err why) report before after s t = Unit {0}

@@ -5,9 +5,9 @@ ghost use Rattle.desk_model.specs.Desks.{DeskEffect, query_of};
 ghost use Rattle.piece_reader.specs.Sayings.{reading_of};
 ghost use Rattle.session.specs.Statements.{StatementIsWellFormed};
 ghost use Rattle.session.specs.Turns.{IsWithin};
-ghost use Rattle.beas_run.specs.Pieces.{IsDone, IsLeft, IsTaken, Reaches, answered_from, is_opened, is_probed};
+ghost use Rattle.beas_run.specs.Pieces.{GoesOnBy, IsDone, IsLeft, IsTaken, LeavesDesk, Reaches, answered_from, is_opened, is_probed};
 ghost use Rattle.beas_run.specs.Shares.{open_reads};
-ghost use Rattle.version_store.specs.Desks.{EventIsWellFormed, session_in};
+ghost use Rattle.version_store.specs.Desks.{EventIsWellFormed, session_in, without_query_of};
 
 use beas_core::{Fail, NoMemory, Steps};
 use outside::Files;
@@ -85,6 +85,7 @@ fn answer<F: Files, L: Ledger>(
         → Reaches (answered_from first) report desk.old desk.new steps.old steps.new) }
     ensures within { IfOk result IsWithin }
     ensures db { OnErr result (desk.new.state.db ≡ desk.old.state.db) }
+    ensures others { OnErr result (without_query_of 0 desk.new ≡ without_query_of 0 desk.old) }
     ensures at_most { OnErr result (steps.new + sum desk.old.shares ≤ steps.old + open_reads desk.old.state) }
     ensures no_fewer { steps.old ≤ steps.new }
     ensures settings { desk.new.settings ≡ desk.old.settings }
@@ -112,6 +113,7 @@ fn carry_out_statement<F: Files, L: Ledger>(
         desk.old desk.new steps.old steps.new (F.seen files.old) (F.seen files.new)) }
     ensures left { OnErr result (IsLeft desk.old.settings (Ok (Event.Said 0 statement))
         desk.old desk.new steps.old steps.new (F.seen files.old) (F.seen files.new)) }
+    ensures desk { OnErr result (LeavesDesk (Ok (Event.Said 0 statement)) desk.old desk.new) }
     ensures settings { desk.new.settings ≡ desk.old.settings }
     ensures later { IsLater (F.seen files.old) (F.seen files.new) }
 {
@@ -138,6 +140,9 @@ fn carry_out_event<F: Files, L: Ledger>(
         desk.old desk.new steps.old steps.new (F.seen files.old) (F.seen files.new)) }
     ensures left { OnErr result (IsLeft desk.old.settings (Ok event)
         desk.old desk.new steps.old steps.new (F.seen files.old) (F.seen files.new)) }
+    ensures goes_on { IfOk result (λ report. GoesOnBy (Ok event) report
+        desk.old desk.new steps.old steps.new) }
+    ensures desk { OnErr result (LeavesDesk (Ok event) desk.old desk.new) }
     ensures settings { desk.new.settings ≡ desk.old.settings }
     ensures later { IsLater (F.seen files.old) (F.seen files.new) }
 {
@@ -166,6 +171,9 @@ pub fn report_on<F: Files, L: Ledger>(
         desk.old desk.new steps.old steps.new (F.seen files.old) (F.seen files.new)) }
     ensures left { OnErr result (IsLeft desk.old.settings (reading_of tokens.now)
         desk.old desk.new steps.old steps.new (F.seen files.old) (F.seen files.new)) }
+    ensures goes_on { IfOk result (λ report. GoesOnBy (reading_of tokens.now) report
+        desk.old desk.new steps.old steps.new) }
+    ensures desk { OnErr result (LeavesDesk (reading_of tokens.now) desk.old desk.new) }
     ensures settings { desk.new.settings ≡ desk.old.settings }
     ensures later { IsLater (F.seen files.old) (F.seen files.new) }
 {

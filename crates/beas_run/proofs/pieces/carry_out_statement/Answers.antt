@@ -1,7 +1,8 @@
-use Rattle.std.proofs.Common.{◌∙◌, refl, sym}
+use Rattle.std.proofs.Common.{◌∙◌, ap, inl, refl, sym}
+use Rattle.version_store.specs.Desks.{without_query_of}
 use Rattle.beas_run.proofs.DoneFacts.{on_error}
 use Rattle.beas_run.proofs.LeftFacts.{left_by_statement}
-use Rattle.beas_run.proofs.UnnamedFacts.{HasOpened, answer_done, answer_left, done_unopened, has_opened, left_unnamed}
+use Rattle.beas_run.proofs.UnnamedFacts.{HasOpened, answer_done, answer_left, answer_spared, done_unopened, has_opened, left_unnamed, opened_spared}
 use Rattle.beas_run.proofs.pieces.carry_out_statement.Goals as goal
 
 pub returns-in_err-report-clause-left : goal.returns-in_err-report-clause-left
@@ -11,9 +12,13 @@ returns-in_err-report-clause-left g c =
     on_error c.from_residual.result
     (left_unnamed s c.args.statement _ _ _ _ _ _ (left_by_statement s 0 c.args.statement _ _ _ _ _ _ refl e.is_desk.0 e.err e.at_most e.no_fewer e.loaded))
 
+pub returns-in_err-report-clause-desk : goal.returns-in_err-report-clause-desk
+returns-in_err-report-clause-desk g c =
+    on_error c.from_residual.result (inl (ap (without_query_of 0) c.in_err-report.ensures.err))
+
 pub answer-requires : goal.answer-requires
 answer-requires g c =
-    let opened : HasOpened c.args.desk.now.settings c.args.statement c.args.desk.now c.say.new.desk =
+    let opened : HasOpened c.args.desk.now.settings c.args.statement c.in_ok-report.report c.args.desk.now c.say.new.desk =
     has_opened c.args.desk.now.settings c.args.statement c.args.desk.now c.say.new.desk _ _ _ _ _ c.in_ok-report.ensures.did
     (sym c.is_opened.ensures ∙ c.if-is_opened.true) in
     opened.new
@@ -22,23 +27,32 @@ pub returns-then-is_opened-clause-done : goal.returns-then-is_opened-clause-done
 returns-then-is_opened-clause-done g c =
     let e = c.in_ok-report.ensures in
     let a = c.answer.ensures in
-    let opened : HasOpened c.args.desk.now.settings c.args.statement c.args.desk.now c.say.new.desk =
+    let opened : HasOpened c.args.desk.now.settings c.args.statement c.in_ok-report.report c.args.desk.now c.say.new.desk =
     has_opened c.args.desk.now.settings c.args.statement c.args.desk.now c.say.new.desk _ _ _ _ _ e.did
     (sym c.is_opened.ensures ∙ c.if-is_opened.true) in
     rw a.unread
-    (answer_done c.args.desk.now.settings c.args.statement _ _ _ opened _ _ _ _ _ c.in_ok-report.report c.answer.result e.did e.is_desk.1 a.within
+    (answer_done c.args.desk.now.settings c.args.statement _ _ _ _ opened _ _ _ _ _ c.in_ok-report.report c.answer.result e.did e.is_desk.1 a.within
     a.answered)
 
 pub returns-then-is_opened-clause-left : goal.returns-then-is_opened-clause-left
 returns-then-is_opened-clause-left g c =
     let e = c.in_ok-report.ensures in
     let a = c.answer.ensures in
-    let opened : HasOpened c.args.desk.now.settings c.args.statement c.args.desk.now c.say.new.desk =
+    let opened : HasOpened c.args.desk.now.settings c.args.statement c.in_ok-report.report c.args.desk.now c.say.new.desk =
     has_opened c.args.desk.now.settings c.args.statement c.args.desk.now c.say.new.desk _ _ _ _ _ e.did
     (sym c.is_opened.ensures ∙ c.if-is_opened.true) in
     rw a.unread
-    (answer_left c.args.desk.now.settings c.args.statement _ _ _ opened _ _ _ _ _ c.in_ok-report.report c.answer.result e.did e.no_fewer a.no_fewer
+    (answer_left c.args.desk.now.settings c.args.statement _ _ _ _ opened _ _ _ _ _ c.in_ok-report.report c.answer.result e.did e.no_fewer a.no_fewer
     a.at_most a.db)
+
+pub returns-then-is_opened-clause-desk : goal.returns-then-is_opened-clause-desk
+returns-then-is_opened-clause-desk g c =
+    let e = c.in_ok-report.ensures in
+    let opened : HasOpened c.args.desk.now.settings c.args.statement c.in_ok-report.report c.args.desk.now c.say.new.desk =
+    has_opened c.args.desk.now.settings c.args.statement c.args.desk.now c.say.new.desk _ _ _ _ _ e.did
+    (sym c.is_opened.ensures ∙ c.if-is_opened.true) in
+    answer_spared c.args.statement c.args.desk.now c.say.new.desk c.answer.new.desk c.answer.result
+    (opened_spared c.args.desk.now.settings c.args.statement c.in_ok-report.report c.args.desk.now c.say.new.desk c.args.steps.now c.say.new.steps opened e.is_desk.0 e.is_desk.1 e.settings e.goes_on) c.answer.ensures.others
 
 pub returns-else-is_opened-clause-done : goal.returns-else-is_opened-clause-done
 returns-else-is_opened-clause-done g c =

@@ -1,3 +1,4 @@
+use Rattle.std.proofs.Common.{inl, refl}
 use Rattle.beas_run.proofs.DoneFacts.{refused_done}
 use Rattle.beas_run.proofs.LeftFacts.{left_alone}
 use Rattle.beas_run.proofs.SayingFacts.{event_fits, session_of_piece}
@@ -15,3 +16,6 @@ returns-in-Err-Refused-clause-done g c =
 
 pub returns-in-Err-NoMemory-clause-left : goal.returns-in-Err-NoMemory-clause-left
 returns-in-Err-NoMemory-clause-left g c = left_alone _ _ _ _ _
+
+pub returns-in-Err-NoMemory-clause-desk : goal.returns-in-Err-NoMemory-clause-desk
+returns-in-Err-NoMemory-clause-desk g c = inl refl
