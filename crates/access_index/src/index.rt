@@ -10,7 +10,7 @@ ghost use Rattle.access_index.specs.Index.{IsIndexOf, WouldHold, members_at, sta
 use crate::bucket::{Bucket, count_down, count_up, front, group_in, of_one, search};
 use crate::lending::{Lent, lend_in_order, lend_new_in_order};
 use crate::values::{Given, Picked, hash_values};
-use beas_core::{Access, ColumnId, Hits, List, NoMemory, Row, Steps, Value};
+use beas_core::{Access, AccessId, ColumnId, Hits, List, NoMemory, Row, Steps, Value};
 use indexmap::IndexMap;
 use row_store::Rows;
 use std::alloc::Global;
@@ -333,17 +333,31 @@ impl AccessIndex {
         ensures stands { stands_at self.now result }
         ensures cost { steps.new ≡ steps.old + max 1 result.len }
     {
+        self.probe_as(self.access.id, key, steps)
+    }
+
+    /// As `probe`, with hits that name another constraint: one on the same table, with the same columns, may share this
+    /// index.
+    pub fn probe_as<L: Ledger>(&self, id: AccessId, key: &[Value], steps: &mut Steps<L>) -> Hits
+        requires { length key.now ≡ length self.now.access.key }
+        ensures access { result.access ≡ id }
+        ensures members { (rows : List (List Value)) → IsIndexOf self.now rows
+            → members_at self.now result ≡ group_of rows self.now.access key.now }
+        ensures len { result.len ≡ length (members_at self.now result) }
+        ensures stands { stands_at self.now result }
+        ensures cost { steps.new ≡ steps.old + max 1 result.len }
+    {
         // Read for what its type tells: there are fewer than 2^32 rows, and so fewer buckets and fewer tuples in each,
         // whose two numbers fit one place of 64 bits.
         let _in_range = self.total;
         let wanted = Given { values: key };
         let index = match self.buckets.get_index_of(&hash_values(&wanted)) {
             Some(index) => index,
-            None => return Hits::counted(self.access.id, 0, 0, steps),
+            None => return Hits::counted(id, 0, 0, steps),
         };
         let group = group_in(&self.buckets[index], &wanted, self.access.key.len());
         let place = index as u64 * 0x1_0000_0000 + group.from as u64;
-        Hits::counted(self.access.id, place, group.len as u32, steps)
+        Hits::counted(id, place, group.len as u32, steps)
     }
 
     /// A column of a tuple that a probe found and counted, while the index is as it was. It takes no memory.

@@ -10,7 +10,7 @@ use Rattle.access_index.specs.Index.{Index, IsIndexOf, members_at, stands_at}
 use Rattle.access_index.proofs.Counting.{tuples_within}
 use Rattle.access_index.proofs.Storing.{bucket_at, found_bucket, bucket_within, few_buckets}
 use Rattle.access_index.proofs.Holding.{members_are, members_len, members_stand, probed, none_from}
-use Rattle.access_index.proofs.index.AccessIndex.probe.Goals as goal
+use Rattle.access_index.proofs.index.AccessIndex.probe_as.Goals as goal
 
 pub group_in-group-requires : goal.group_in-group-requires
 group_in-group-requires g c =
