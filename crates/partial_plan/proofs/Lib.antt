@@ -4,3 +4,4 @@ pub mod NumberFacts
 pub mod PlanFacts
 pub mod PreparingFacts
 pub mod ScanFacts
+pub mod SharedFacts

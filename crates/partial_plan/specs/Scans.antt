@@ -1,11 +1,14 @@
 -- Scans: constraints whose indexes are built for one query, and a port that has them beside its own.
 --     scanned_rows sizes scans            how many rows are read to build an index for each, where `sizes` has the number of rows of each table
 --     AreBuilt tables scans indexes       there is an index for each scan, in their order, over the rows of its table
+--     HaveSameColumns a b                 two scans have the same columns, so the same groups over the rows of one table
+--     index_under scan index              an index that stands for another scan of its columns
+--     IsAlike indexes scan found          one of some indexes is of the scan's table and columns
 --     accesses_with accesses indexes      the port's constraints, followed by those of the indexes
 --     index_with indexes id               the index of the constraint with this id, if there is one
 --     members_with, StandsWith            what hits stand for: in the index of their constraint, where it is a scan, and else in the port
 --     IndexesStand accesses rows indexes  the indexes are of the port's rows, hold over them, and have ids that none of its constraints has
-use Rattle.std.specs.Prelude.{◌≡◌, ◌≤◌, ◌==◌, ◌++◌, ℕ, false, List, [], length, map, sum_by, find, All, slice_index_or, Option, None, Some}
+use Rattle.std.specs.Prelude.{◌≡◌, ◌≤◌, ◌==◌, ◌++◌, ℕ, false, List, [], length, map, sum_by, find, All, Contains, slice_index_or, Option, None, Some}
 use Rattle.beas_core.specs.declared.schema.Access.{Access}
 use Rattle.beas_core.specs.declared.schema.AccessId.{AccessId}
 use Rattle.beas_core.specs.declared.schema.TableId.{TableId}
@@ -37,6 +40,21 @@ scanned_rows sizes scans = sum_by (λ scan. sizes scan.table) scans
 pub record AreBuilt (tables : List (List Row)) (scans : List Access) (indexes : List Index) : Type 0 where
   pub accesses : map (λ index. index.access) indexes ≡ scans
   pub each : All (λ index. IsIndexOf index (rows_of_tables tables index.access.table)) indexes
+
+-- ---- one index for several scans
+
+pub record HaveSameColumns (a b : Access) : Type 0 where
+  pub key : a.key ≡ b.key
+  pub fetched : a.fetched ≡ b.fetched
+
+abbrev pub index_under : Access → Index → Index
+index_under scan index = record { access = scan; total = index.total; buckets = index.buckets }
+
+-- one of some indexes is of the scan's table and columns
+pub record IsAlike (indexes : List Index) (scan : Access) (found : Index) : Type 0 where
+  pub among : Contains indexes found
+  pub table : found.access.table ≡ scan.table
+  pub columns : HaveSameColumns found.access scan
 
 -- ---- the port
 

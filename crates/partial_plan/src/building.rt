@@ -1,39 +1,82 @@
 // The indexes of scans.
-ghost use Rattle.std.specs.Prelude.{◌≡◌, ◌+◌, ◌<◌, ◌≤◌, [], All, IfOk, OnOk, length, slice_index_or};
+ghost use Rattle.std.specs.Prelude.{◌≡◌, ◌+◌, ◌<◌, ◌≤◌, [], All, IfOk, IfSome, IsTrue, OnOk, length, slice_index_or};
 ghost use Rattle.access_index.specs.Index.{IsIndexOf};
-ghost use Rattle.partial_plan.specs.Scans.{AreBuilt, scanned_rows, sizes_of_tables};
+ghost use Rattle.partial_plan.specs.Scans.{AreBuilt, HaveSameColumns, IsAlike, rows_of_tables, scanned_rows, sizes_of_tables};
 
-use access_index::AccessIndex;
-use beas_core::{Access, Duplicate, List, NoMemory, Steps};
+use crate::sharing::ScanIndex;
+use beas_core::{Access, ColumnId, List, NoMemory, Steps};
 use row_store::Rows;
 use std::alloc::Global;
 use std::sync::ledger::Ledger;
 
-fn build_index<L: Ledger>(
+fn are_same(one: &[ColumnId], other: &[ColumnId]) -> bool
+    ensures { IsTrue result → one.now ≡ other.now }
+{
+    if one.len() != other.len() {
+        return false;
+    }
+    for i in 0..one.len() {
+        if one[i].0 != other[i].0 {
+            return false;
+        }
+    }
+    true
+}
+
+fn have_same_columns(one: &Access, other: &Access) -> bool
+    ensures { IsTrue result → HaveSameColumns one.now other.now }
+{
+    are_same(one.key.as_slice(), other.key.as_slice())
+        && are_same(one.fetched.as_slice(), other.fetched.as_slice())
+}
+
+// An index of the same columns of the same table.
+fn index_alike<'a>(indexes: &'a [ScanIndex], scan: &Access) -> Option<&'a ScanIndex>
+    ensures { IfSome result (λ found. IsAlike indexes.now scan.now found.now) }
+{
+    for index in indexes {
+        let access = index.access();
+        if access.table.0 == scan.table.0 && have_same_columns(access, scan) {
+            return Some(index);
+        }
+    }
+    None
+}
+
+// The index of a scan: its own, or what an earlier one of the same columns has.
+fn index_for<L: Ledger>(
     alloc: Global,
     tables: &[Rows],
+    indexes: &[ScanIndex],
     scan: &Access,
     steps: &mut Steps<L>,
-) -> Result<AccessIndex, NoMemory>
-    requires { scan.now.table.0 < length tables.now }
+) -> Result<ScanIndex, NoMemory>
+    requires table { scan.now.table.0 < length tables.now }
+    requires indexes { All (λ index. IsIndexOf index (rows_of_tables tables.now index.access.table)) indexes.now }
     ensures access { IfOk result (λ index. index.access ≡ scan.now) }
     ensures index { IfOk result (λ index. IsIndexOf index (slice_index_or tables.now scan.now.table.0 [])) }
     ensures cost { OnOk result (steps.new ≡ steps.old + sizes_of_tables tables.now scan.now.table) }
     ensures at_most { steps.new ≤ steps.old + sizes_of_tables tables.now scan.now.table }
     ensures no_fewer { steps.old ≤ steps.new }
 {
-    let access = scan.copy(alloc)?;
-    AccessIndex::build(alloc, access, &tables[scan.table.0 as usize], steps)
+    let rows = &tables[scan.table.0 as usize];
+    let Some(alike) = index_alike(indexes, scan) else {
+        return ScanIndex::build(alloc, scan, rows, steps);
+    };
+    let index = alike.share(alloc, scan)?;
+    // The rows count for each scan, though an index that is shared has read them once.
+    steps.raise(rows.len());
+    Ok(index)
 }
 
-/// An index for each scan, in their order, over the rows of its table. Each row of a table is read once for each scan
-/// on it.
+/// An index for each scan, in their order, over the rows of its table. Scans of the same columns share one. Each row of
+/// a table counts once for each scan on it.
 pub fn build_indexes<L: Ledger>(
     alloc: Global,
     tables: &[Rows],
     scans: &[Access],
     steps: &mut Steps<L>,
-) -> Result<List<AccessIndex>, NoMemory>
+) -> Result<List<ScanIndex>, NoMemory>
     requires { All (λ scan. scan.table.0 < length tables.now) scans.now }
     ensures built { IfOk result (AreBuilt tables.now scans.now) }
     ensures cost { OnOk result (steps.new ≡ steps.old + scanned_rows (sizes_of_tables tables.now) scans.now) }
@@ -42,7 +85,7 @@ pub fn build_indexes<L: Ledger>(
 {
     let mut indexes = List::new(alloc);
     for scan in scans {
-        indexes.push(build_index(alloc, tables, scan, steps)?)?;
+        indexes.push(index_for(alloc, tables, indexes.as_slice(), scan, steps)?)?;
     }
     Ok(indexes)
 }

@@ -8,6 +8,7 @@ mod plan;
 mod port;
 mod preparing;
 mod scans;
+mod sharing;
 mod used;
 
 pub use executing::scan_execute;

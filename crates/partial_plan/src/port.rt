@@ -3,7 +3,7 @@ ghost use Rattle.std.specs.Prelude.{◌≡◌};
 ghost use Rattle.std.specs.Option.{option_copied};
 ghost use Rattle.partial_plan.specs.Scans.{IndexesStand, index_with};
 
-use access_index::AccessIndex;
+use crate::sharing::ScanIndex;
 use beas_core::{Access, AccessId, AccessPort, ColumnId, Hits, Steps, Value};
 use std::sync::ledger::Ledger;
 
@@ -11,12 +11,12 @@ use std::sync::ledger::Ledger;
 #[derive(Drop)]
 pub struct ScanPort<'a, P: AccessPort> {
     pub port: &'a P,
-    pub indexes: &'a [AccessIndex],
+    pub indexes: &'a [ScanIndex],
     ghost stand: { IndexesStand (P.accesses port.now) (P.rows port.now) indexes.now },
 }
 
 // The index of the constraint with this id, if there is one.
-fn index_with(indexes: &[AccessIndex], id: AccessId) -> Option<&AccessIndex>
+fn index_with(indexes: &[ScanIndex], id: AccessId) -> Option<&ScanIndex>
     ensures { option_copied result ≡ index_with indexes.now id }
 {
     indexes.iter().find(|index| index.access().id == id)

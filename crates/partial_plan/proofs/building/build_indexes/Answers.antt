@@ -7,7 +7,7 @@ pub returns-in_err-push-clause-at_most : goal.returns-in_err-push-clause-at_most
 returns-in_err-push-clause-at_most g c =
     let within = read_within c.args.scans.now c.loop-scan.scan-index c.scan-item.result c.loop-scan-test.true c.scan-item.is
     (sizes_of_tables c.args.tables.now) in
-    omega (arith, c.in_ok-build_index.ensures.cost, c.loop-scan.invariant.cost, within)
+    omega (arith, c.in_ok-index_for.ensures.cost, c.loop-scan.invariant.cost, within)
 
 pub loop-scan-preserved : goal.loop-scan-preserved
 loop-scan-preserved g c =
@@ -16,7 +16,7 @@ loop-scan-preserved g c =
     record {
       built = subst (AreBuilt c.args.tables.now (take (c.loop-scan.scan-index + 1) c.args.scans.now)) (sym c.in_ok-push.ensures.ok)
           (built_more c.args.scans.now c.loop-scan.scan-index c.scan-item.result c.loop-scan-test.true c.scan-item.is c.args.tables.now
-          c.loop-scan.indexes c.in_ok-build_index.field-0 c.loop-scan.invariant.built c.in_ok-build_index.ensures.access
-          c.in_ok-build_index.ensures.index);
-      cost = omega (arith, c.in_ok-build_index.ensures.cost, c.loop-scan.invariant.cost, more);
+          c.loop-scan.indexes c.in_ok-index_for.field-0 c.loop-scan.invariant.built c.in_ok-index_for.ensures.access
+          c.in_ok-index_for.ensures.index);
+      cost = omega (arith, c.in_ok-index_for.ensures.cost, c.loop-scan.invariant.cost, more);
     }
