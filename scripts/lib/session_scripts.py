@@ -40,9 +40,9 @@ class Script:
 class Drawn(Script):
     """A drawn script."""
 
-    def __init__(self, seed: str) -> None:
+    def __init__(self, seed: str, statements: type[Statements] = Statements) -> None:
         self.draw = random.Random(seed)
-        self.statements = Statements(self.draw)
+        self.statements = statements(self.draw)
         super().__init__(seed, self.statements.files, self.draw.choice([None, None, 400, 40]), self.chance(0.3))
         self.desk = Desk(self.files, self.budget, self.explain)
         self.desk.db = self.statements.db
