@@ -23,7 +23,7 @@ WORDS = {
             "sql_text": "word Words",
             "token_reader": "next_is_word take_word take_words want_word",
             "code_index": "word",
-            "word_index": "WordGuarded",
+            "word_index": "WordGuarded word",
         },
         {
             "code_index": {

@@ -135,7 +135,7 @@ module _ (access : Access) where
   counted_map rows key [] f = tt
   counted_map rows key (y ∷ g) f = (let t = tuple_has rows key y (f y (inl refl)) in t.0, counted_map rows key g (λ x h. f x (inr h)))
 
-filter_in_order : (test : Tally → Bool) (ts : List Tally) → IsInOrder row_cmp (tuples_in ts) → IsInOrder row_cmp (tuples_in (filter test ts))
+pub filter_in_order : (test : Tally → Bool) (ts : List Tally) → IsInOrder row_cmp (tuples_in ts) → IsInOrder row_cmp (tuples_in (filter test ts))
 filter_in_order test [] o = tt
 filter_in_order test (t ∷ ts) o = by (test t) (filter_in_order test ts o.1)
   where
@@ -153,7 +153,7 @@ filter_in_order test (t ∷ ts) o = by (test t) (filter_in_order test ts o.1)
     by true rest = (above ts o.0, rest)
     by false rest = rest
 
-filter_counted : (test : Tally → Bool) (ts : List Tally) → AllCounted ts → AllCounted (filter test ts)
+pub filter_counted : (test : Tally → Bool) (ts : List Tally) → AllCounted ts → AllCounted (filter test ts)
 filter_counted test [] a = tt
 filter_counted test (t ∷ ts) a = by (test t) (filter_counted test ts a.1)
   where

@@ -136,18 +136,25 @@ count_after w h old new less more tuple x hash m was now = by (nat_eq h (hash_of
 abbrev pub entries_sum : List (ℕ × List Tally) → ℕ
 entries_sum entries = sum_by (λ e. counts_in e.1) entries
 
-set_sum : (h : ℕ) (es : List (ℕ × List Tally)) (ts us : List Tally) → lookup (nat_eq h) es ≡ Some ts
-    → entries_sum (set_value (nat_eq h) es us) + counts_in ts ≡ entries_sum es + counts_in us
-set_sum h [] ts us e = cc
-set_sum h (e ∷ es) ts us f = by (nat_eq h e.0) f (set_sum h es ts us)
+-- a sum after what stands under one key is written anew
+pub set_sum : {K : Type 0} (f : List Tally → ℕ) (test : K → Bool) (es : List (K × List Tally)) (ts us : List Tally) → lookup test es ≡ Some ts
+    → sum_by (λ e. f e.1) (set_value test es us) + f ts ≡ sum_by (λ e. f e.1) es + f us
+set_sum f test [] ts us e = cc
+set_sum {K} f test (e ∷ es) ts us g = by (test e.0) g (set_sum f test es ts us)
   where
-    by : (b : Bool) → cond b (Some e.1) (lookup (nat_eq h) es) ≡ Some ts
-        → (lookup (nat_eq h) es ≡ Some ts → entries_sum (set_value (nat_eq h) es us) + counts_in ts ≡ entries_sum es + counts_in us)
-        → entries_sum (cond b ((e.0, us) ∷ es) (e ∷ set_value (nat_eq h) es us)) + counts_in ts ≡ entries_sum (e ∷ es) + counts_in us
-    by true g rest =
+    by : (b : Bool) → cond b (Some e.1) (lookup test es) ≡ Some ts
+        → (lookup test es ≡ Some ts → sum_by (λ d. f d.1) (set_value test es us) + f ts ≡ sum_by (λ d. f d.1) es + f us)
+        → sum_by (λ d. f d.1) (cond b ((e.0, us) ∷ es) (e ∷ set_value test es us)) + f ts ≡ sum_by (λ d. f d.1) (e ∷ es) + f us
+    by true q rest =
         let same : e.1 ≡ ts = cc in
-        omega (arith, sum_by-cons (λ d. counts_in d.1) (e.0, us) es, sum_by-cons (λ d. counts_in d.1) e es, ap counts_in same)
-    by false g rest = omega (arith, rest g, sum_by-cons (λ d. counts_in d.1) e (set_value (nat_eq h) es us), sum_by-cons (λ d. counts_in d.1) e es)
+        omega (arith, sum_by-cons (λ (d : K × List Tally). f d.1) (e.0, us) es, sum_by-cons (λ (d : K × List Tally). f d.1) e es, ap f same)
+    by false q rest =
+        omega (
+          arith,
+          rest q,
+          sum_by-cons (λ (d : K × List Tally). f d.1) e (set_value test es us),
+          sum_by-cons (λ (d : K × List Tally). f d.1) e es,
+        )
 
 -- a bucket with a tuple more
 pub stored_more : (n w h total : ℕ) (old new : List (ℕ × List Tally)) (less more : List Tally) (tuple : List Value) → IsStored n w old total
@@ -158,7 +165,7 @@ stored_more n w h total old new less more tuple s found is unique wide hash m = 
   distinct = unique;
   buckets = subst (λ es. AllByRecursion (λ e. IsBucket n w e.0 e.1) es) (sym is)
       (all_set_value n w h old more s.buckets (more_bucket n w h less more tuple m wide hash (found_bucket n w h old less s.buckets found)));
-  total_is = omega (arith, s.total_is, ap entries_sum is, set_sum h old less more found, m.sum);
+  total_is = omega (arith, s.total_is, ap entries_sum is, set_sum counts_in (nat_eq h) old less more found, m.sum);
 }
 
 -- a bucket with a tuple less, which keeps another
@@ -177,7 +184,7 @@ stored_less n w h total old new less more tuple s found is unique m some =
     record {
       distinct = unique;
       buckets = subst (λ es. AllByRecursion (λ e. IsBucket n w e.0 e.1) es) (sym is) (all_set_value n w h old less s.buckets smaller);
-      total_is = omega (arith, s.total_is, ap entries_sum is, set_sum h old more less found, m.sum);
+      total_is = omega (arith, s.total_is, ap entries_sum is, set_sum counts_in (nat_eq h) old more less found, m.sum);
     }
 
 -- a bucket that is new

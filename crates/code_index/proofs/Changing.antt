@@ -12,9 +12,10 @@ use Rattle.beas_core.specs.Groups.{same_row}
 use Rattle.beas_core.proofs.Groups.{same_row_itself}
 use Rattle.access_index.specs.declared.tally.Tally.{Tally}
 use Rattle.access_index.specs.Buckets.{count_in, one_if, IsOneMore}
+use Rattle.access_index.proofs.Storing.{set_sum}
 use Rattle.code_index.specs.Reading.{IsStored}
 use Rattle.access_index.specs.Index.{Index, IsIndexOf, tuple_of}
-use Rattle.code_index.proofs.Storing.{count_all, set_sum, gone_sum, stored_more, stored_less, stored_new, stored_gone}
+use Rattle.code_index.proofs.Storing.{count_all, gone_sum, stored_more, stored_less, stored_new, stored_gone}
 use Rattle.access_index.proofs.Indexing.{with_more}
 use Rattle.code_index.proofs.Indexing.{counts_of_index, index_of_counts}
 
@@ -66,7 +67,7 @@ module _ (access : Access) (n total : ℕ) (few many : List (List Value × List 
     added_to less more s found is unique m = record {
       few_stored = s;
       many_stored = stored_more n (length access.key) h total few many less more tuple s found is unique wide keyed m;
-      one_more = λ x. omega (arith, ap (λ es. count_all es x) is, set_sum (λ ts. count_in ts x) h few less more found, m.counts x);
+      one_more = λ x. omega (arith, ap (λ es. count_all es x) is, set_sum (λ ts. count_in ts x) (same_row h) few less more found, m.counts x);
     }
 
     pub added_new : (more : List Tally) → IsStored n (length access.key) few total → many ≡ few ++ (h, more) ∷ []
@@ -88,7 +89,7 @@ module _ (access : Access) (n total : ℕ) (few many : List (List Value × List 
   removed_from h less more s found is unique m some = record {
     few_stored = stored_less n (length access.key) h total many few less more tuple s found is unique m some;
     many_stored = s;
-    one_more = λ x. omega (arith, ap (λ es. count_all es x) is, set_sum (λ ts. count_in ts x) h many more less found, m.counts x);
+    one_more = λ x. omega (arith, ap (λ es. count_all es x) is, set_sum (λ ts. count_in ts x) (same_row h) many more less found, m.counts x);
   }
 
   pub removed_whole : (h : List Value) (more : List Tally) → IsStored n (length access.key) many (total + 1) → lookup (same_row h) many ≡ Some more

@@ -16,35 +16,9 @@ use Rattle.access_index.specs.declared.tally.Tally.{Tally}
 use Rattle.access_index.specs.Buckets.{tuples_in, count_for, count_in, is_key, AllCounted}
 use Rattle.access_index.specs.Index.{Index, IsIndexOf, tallies, rows_with, index_of}
 use Rattle.access_index.proofs.Counting.{count_kept, same_counts}
-use Rattle.access_index.proofs.Indexing.{index_count, group_tuples, group_in_order, counted_map}
+use Rattle.access_index.proofs.Indexing.{index_count, filter_counted, filter_in_order, group_tuples, group_in_order, counted_map}
 use Rattle.code_index.specs.Reading.{IsGroup, IsStored}
 use Rattle.code_index.proofs.Storing.{bucket_at, count_all, own_bucket, found_bucket}
-
-filter_in_order : (test : Tally → Bool) (ts : List Tally) → IsInOrder row_cmp (tuples_in ts) → IsInOrder row_cmp (tuples_in (filter test ts))
-filter_in_order test [] o = tt
-filter_in_order test (t ∷ ts) o = by (test t) (filter_in_order test ts o.1)
-  where
-    above : (us : List Tally) → AllByRecursion (λ y. row_cmp t.tuple y ≡ Less) (tuples_in us)
-        → AllByRecursion (λ y. row_cmp t.tuple y ≡ Less) (tuples_in (filter test us))
-    above [] a = tt
-    above (u ∷ us) a = which (test u) (above us a.1)
-      where
-        which : (b : Bool) → AllByRecursion (λ y. row_cmp t.tuple y ≡ Less) (tuples_in (filter test us))
-            → AllByRecursion (λ y. row_cmp t.tuple y ≡ Less) (tuples_in (cond b (u ∷ filter test us) (filter test us)))
-        which true rest = (a.0, rest)
-        which false rest = rest
-
-    by : (b : Bool) → IsInOrder row_cmp (tuples_in (filter test ts)) → IsInOrder row_cmp (tuples_in (cond b (t ∷ filter test ts) (filter test ts)))
-    by true rest = (above ts o.0, rest)
-    by false rest = rest
-
-filter_counted : (test : Tally → Bool) (ts : List Tally) → AllCounted ts → AllCounted (filter test ts)
-filter_counted test [] a = tt
-filter_counted test (t ∷ ts) a = by (test t) (filter_counted test ts a.1)
-  where
-    by : (b : Bool) → AllCounted (filter test ts) → AllCounted (cond b (t ∷ filter test ts) (filter test ts))
-    by true rest = (a.0, rest)
-    by false rest = rest
 
 count_append : (x : List Value) (ts us : List Tally) → count_in (ts ++ us) x ≡ count_in ts x + count_in us x
 count_append x ts us = sum_by-append (count_for x) ts us

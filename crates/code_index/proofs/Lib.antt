@@ -10,12 +10,9 @@ pub mod Indexing
 pub mod Keys
 pub mod Members
 pub mod Ordering
-pub mod Past
 pub mod ReadFacts
 pub mod Removing
-pub mod RowFacts
 pub mod SpellingFacts
 pub mod Steps
 pub mod Storing
-pub mod UnknownFacts
 pub mod WordFacts

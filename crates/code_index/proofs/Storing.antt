@@ -7,6 +7,7 @@ use Rattle.std.specs.Option.{unwrap_or}
 use Rattle.std.specs.List.{flat_map, filter, sum_by, AllByRecursion, IsDistinct}
 use Rattle.std.specs.Map.{keys_of, values_of, lookup, set_value}
 use Rattle.std.proofs.lemmas.Bool.{eq-eqb}
+use Rattle.access_index.proofs.Storing.{set_sum}
 use Rattle.code_index.proofs.Keys.{row_same}
 use Rattle.std.specs.Prelude.{position, slice_get, is_some, ◌-◌}
 use Rattle.std.specs.List.{swap_remove}
@@ -140,26 +141,6 @@ place_of h es ts e = by (position (same_row h) (keys_of es)) refl
 abbrev pub entries_sum : List (List Value × List Tally) → ℕ
 entries_sum entries = sum_by (λ e. counts_in e.1) entries
 
--- a sum after a group is written anew
-pub set_sum : (f : List Tally → ℕ) (h : List Value) (es : List (List Value × List Tally)) (ts us : List Tally) → lookup (same_row h) es ≡ Some ts
-    → sum_by (λ e. f e.1) (set_value (same_row h) es us) + f ts ≡ sum_by (λ e. f e.1) es + f us
-set_sum f h [] ts us e = cc
-set_sum f h (e ∷ es) ts us g = by (same_row h e.0) g (set_sum f h es ts us)
-  where
-    by : (b : Bool) → cond b (Some e.1) (lookup (same_row h) es) ≡ Some ts
-        → (lookup (same_row h) es ≡ Some ts → sum_by (λ d. f d.1) (set_value (same_row h) es us) + f ts ≡ sum_by (λ d. f d.1) es + f us)
-        → sum_by (λ d. f d.1) (cond b ((e.0, us) ∷ es) (e ∷ set_value (same_row h) es us)) + f ts ≡ sum_by (λ d. f d.1) (e ∷ es) + f us
-    by true q rest =
-        let same : e.1 ≡ ts = cc in
-        omega (arith, sum_by-cons (λ (d : List Value × List Tally). f d.1) (e.0, us) es, sum_by-cons (λ (d : List Value × List Tally). f d.1) e es, ap f same)
-    by false q rest =
-        omega (
-          arith,
-          rest q,
-          sum_by-cons (λ (d : List Value × List Tally). f d.1) e (set_value (same_row h) es us),
-          sum_by-cons (λ (d : List Value × List Tally). f d.1) e es,
-        )
-
 -- a sum after a group is gone
 pub gone_sum : (f : List Tally → ℕ) (h : List Value) (es : List (List Value × List Tally)) (ts : List Tally) (e : lookup (same_row h) es ≡ Some ts)
     → sum_by (λ d. f d.1) (swap_remove_entry (same_row h) es) + f ts ≡ sum_by (λ d. f d.1) es
@@ -184,7 +165,7 @@ stored_more n w h total old new less more tuple s found is unique wide hash m = 
   distinct = unique;
   buckets = subst (λ es. AllByRecursion (λ e. IsGroup n w e.0 e.1) es) (sym is)
       (all_set_value n w h old more s.buckets (more_bucket n w h less more tuple m wide hash (found_bucket n w h old less s.buckets found)));
-  total_is = omega (arith, s.total_is, ap entries_sum is, set_sum counts_in h old less more found, m.sum);
+  total_is = omega (arith, s.total_is, ap entries_sum is, set_sum counts_in (same_row h) old less more found, m.sum);
 }
 
 -- a bucket with a tuple less, which keeps another
@@ -203,7 +184,7 @@ stored_less n w h total old new less more tuple s found is unique m some =
     record {
       distinct = unique;
       buckets = subst (λ es. AllByRecursion (λ e. IsGroup n w e.0 e.1) es) (sym is) (all_set_value n w h old less s.buckets smaller);
-      total_is = omega (arith, s.total_is, ap entries_sum is, set_sum counts_in h old more less found, m.sum);
+      total_is = omega (arith, s.total_is, ap entries_sum is, set_sum counts_in (same_row h) old more less found, m.sum);
     }
 
 -- a bucket that is new

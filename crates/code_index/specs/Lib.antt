@@ -4,4 +4,3 @@ pub mod Forms
 pub mod Reading
 pub mod Spelling
 pub mod Taking
-pub mod Widths

@@ -1,9 +1,7 @@
-//! Values as numbers, and the index of one access constraint over rows of these.
+//! Values as numbers, and the index of one access constraint over rows of these, for each width of its key.
 #![tactic(auto)]
 
-mod any;
 mod asked;
-mod bulk;
 mod form;
 mod group;
 mod hasher;
@@ -12,13 +10,11 @@ mod interner;
 mod key;
 mod keyed;
 mod own_words;
-mod rows;
 mod spelling;
 mod tuples;
 mod words;
 
-pub use any::AnyIndex;
-pub use bulk::{add_rows, index_of, remove_rows};
 pub use interner::Interner;
+pub use key::known_codes;
 pub use keyed::{FixedIndex, LongIndex};
-pub use rows::{add_if_holds, find_group, remove_row};
+pub use spelling::{interned_words, known_words};

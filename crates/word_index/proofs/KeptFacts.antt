@@ -6,9 +6,9 @@ use Rattle.std.proofs.lemmas.List.Elements.{All-set, All-push, All-get_or, All-w
 use Rattle.beas_core.specs.declared.value.Value.{Value}
 use Rattle.beas_core.specs.Shapes.{AccessIsWellFormed}
 use Rattle.access_index.specs.Index.{Index}
-use Rattle.code_index.specs.declared.any.AnyIndex.{AnyIndex}
+use Rattle.word_index.specs.declared.any.AnyIndex.{AnyIndex}
 use Rattle.code_index.specs.Reading.{WordIndex, KeepsCodes, IsInOrderFor, read_index}
-use Rattle.code_index.specs.Widths.{index_in}
+use Rattle.word_index.specs.Widths.{index_in}
 use Rattle.code_index.proofs.Ordering.{none_in_order}
 use Rattle.update_guard.specs.Indexing.{no_access}
 use Rattle.update_guard.specs.Seen.{index_at, no_index, IsMoved}

@@ -2,3 +2,5 @@ mod PartFacts
 mod PlaceFacts
 pub mod KeptFacts
 pub mod ProbeFacts
+mod RowFacts
+mod UnknownFacts

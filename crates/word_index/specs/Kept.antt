@@ -11,11 +11,11 @@ use Rattle.beas_core.specs.declared.schema.Access.{Access}
 use Rattle.beas_core.specs.Shapes.{AccessIsWellFormed}
 use Rattle.beas_core.specs.Types.{Row}
 use Rattle.access_index.specs.Index.{Index, tuple_of}
-use Rattle.code_index.specs.declared.any.AnyIndex.{AnyIndex}
+use Rattle.word_index.specs.declared.any.AnyIndex.{AnyIndex}
 use Rattle.code_index.specs.Codes.{AreDistinct}
 use Rattle.code_index.specs.Reading.{read_index, IsInOrderFor}
 use Rattle.code_index.specs.Spelling.{AllHaveCodes}
-use Rattle.code_index.specs.Widths.{index_in}
+use Rattle.word_index.specs.Widths.{index_in}
 
 abbrev pub meaning : List Value → AnyIndex → Index
 meaning codes index = read_index codes (index_in index)

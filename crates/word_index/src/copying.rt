@@ -4,8 +4,8 @@ ghost use Rattle.beas_core.specs.declared.value.Value.{Value as Cell};
 ghost use Rattle.update_guard.specs.Seen.{index_at};
 ghost use Rattle.word_index.specs.Kept.{meanings, AreKept};
 
+use crate::any::AnyIndex;
 use beas_core::NoMemory;
-use code_index::AnyIndex;
 use std::alloc::Global;
 
 /// Copies of the indexes at some places, in the order of these.

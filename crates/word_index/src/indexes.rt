@@ -5,10 +5,13 @@ ghost use Rattle.beas_core.specs.Groups.{group_of, member_columns, has_column, v
 ghost use Rattle.access_index.specs.Index.{IsIndexOf, members_at, stands_at};
 ghost use Rattle.update_guard.specs.Seen.{index_at};
 
+use crate::any::AnyIndex;
+use crate::bulk::{add_rows, index_of, remove_rows};
 use crate::copying::copy_places;
 use crate::probing::{probe_in, value_in_hits};
+use crate::rows::{add_if_holds, remove_row};
 use beas_core::{Access, ColumnId, Hits, NoMemory, Row, Steps, Value};
-use code_index::{AnyIndex, Interner, add_if_holds, add_rows, index_of, remove_row, remove_rows};
+use code_index::Interner;
 use row_store::Rows;
 use std::alloc::Global;
 use std::marker::Model;

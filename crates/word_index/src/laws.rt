@@ -3,7 +3,7 @@ ghost use Rattle.std.specs.Prelude.{List};
 ghost use Rattle.beas_core.specs.Types.{Row};
 ghost use Rattle.beas_core.specs.declared.value.Value.{Value};
 ghost use Rattle.catalogue.specs.Schema.{Schema};
-ghost use Rattle.code_index.specs.declared.any.AnyIndex.{AnyIndex};
+ghost use Rattle.word_index.specs.declared.any.AnyIndex.{AnyIndex};
 ghost use Rattle.update_guard.specs.Guarding.{IsGuarded};
 ghost use Rattle.word_index.specs.Kept.{meanings, AreInterned, AreKept};
 

@@ -2,6 +2,8 @@
 //! keep every constraint. A table can be frozen: a copy that stands by itself, with its constraints and their indexes.
 #![tactic(auto)]
 
+mod any;
+mod bulk;
 mod copying;
 mod freezing;
 mod frozen;
@@ -11,6 +13,7 @@ mod indexes;
 mod laws;
 mod port;
 mod probing;
+mod rows;
 
 pub use code_index::{FixedIndex, Interner};
 pub use frozen::Frozen;

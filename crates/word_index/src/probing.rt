@@ -3,11 +3,13 @@ ghost use Rattle.std.specs.Prelude.{◌≡◌, ◌+◌, ◌<◌, [], List, lengt
 ghost use Rattle.beas_core.specs.Types.{Row};
 ghost use Rattle.beas_core.specs.Groups.{group_of, member_columns, has_column, value_in};
 ghost use Rattle.access_index.specs.Index.{IsIndexOf, members_at, stands_at};
-ghost use Rattle.code_index.specs.Widths.{index_in};
+ghost use Rattle.word_index.specs.Widths.{index_in};
 ghost use Rattle.word_index.specs.Kept.{meaning, IsKept};
 
+use crate::any::AnyIndex;
+use crate::rows::find_group;
 use beas_core::{ColumnId, Hits, Steps, Value};
-use code_index::{AnyIndex, Interner, find_group};
+use code_index::Interner;
 use std::sync::ledger::Ledger;
 
 /// The group of a key, counted: the greater of 1 and the number of its tuples. It takes no memory.

@@ -4,11 +4,11 @@ use Rattle.std.proofs.lemmas.List.{length-map}
 use Rattle.std.proofs.lemmas.List.Elements.{All-get_or}
 use Rattle.beas_core.specs.declared.schema.Access.{Access}
 use Rattle.access_index.specs.Index.{Index, IsIndexOf, tuple_of}
-use Rattle.code_index.specs.declared.any.AnyIndex.{AnyIndex}
-use Rattle.code_index.specs.declared.any.AnyIndex.TheVariants.{Zero}
+use Rattle.word_index.specs.declared.any.AnyIndex.{AnyIndex}
+use Rattle.word_index.specs.declared.any.AnyIndex.TheVariants.{Zero}
 use Rattle.code_index.specs.Spelling.{AllHaveCodes}
-use Rattle.code_index.specs.Widths.{index_in}
-use Rattle.code_index.proofs.UnknownFacts.{all_among}
+use Rattle.word_index.specs.Widths.{index_in}
+use Rattle.word_index.proofs.UnknownFacts.{all_among}
 use Rattle.update_guard.specs.Seen.{no_index}
 use Rattle.word_index.specs.Kept.{meaning, IsKept}
 use Rattle.word_index.proofs.KeptFacts.{meaning_at}

@@ -1,5 +1,5 @@
 use Rattle.std.proofs.Common.{◌∙◌, arith}
-use Rattle.code_index.specs.Widths.{index_in}
+use Rattle.word_index.specs.Widths.{index_in}
 use Rattle.code_index.proofs.SpellingFacts.{few_columns}
 use Rattle.word_index.proofs.ProbeFacts.{few_groups, group_members, group_len, group_stands}
 use Rattle.word_index.proofs.probing.probe_in.Goals as goal

@@ -5,7 +5,7 @@ use Rattle.beas_core.specs.declared.value.Value.TheVariants.{Int}
 use Rattle.beas_core.specs.Groups.{member_columns, value_in}
 use Rattle.code_index.specs.Codes.{value_of}
 use Rattle.code_index.specs.Reading.{words_at, word_in}
-use Rattle.code_index.specs.Widths.{index_in}
+use Rattle.word_index.specs.Widths.{index_in}
 use Rattle.word_index.proofs.ProbeFacts.{member_within, member_few, member_is, member_word}
 use Rattle.word_index.proofs.probing.value_in_hits.Goals as goal
 

@@ -1,0 +1,13 @@
+-- The index that stands in an index of any width.
+--     index_in index        it, whatever its width
+use Rattle.word_index.specs.declared.any.AnyIndex.{AnyIndex}
+use Rattle.word_index.specs.declared.any.AnyIndex.TheVariants.{Zero, One, Two, Three, Four, Long}
+use Rattle.code_index.specs.Reading.{WordIndex}
+
+abbrev pub index_in : AnyIndex → WordIndex
+index_in (Zero index) = index
+index_in (One index) = index
+index_in (Two index) = index
+index_in (Three index) = index
+index_in (Four index) = index
+index_in (Long index) = index
