@@ -35,7 +35,7 @@ tests_false m n h = by (m == n) refl
 
 module _ {A : Type 0} (item_in : List ColumnId → List A → ColumnId → A)
     (first : (c : ColumnId) (cs : List ColumnId) (v : A) (vs : List A) (column : ColumnId)
-        → item_in (c ∷ cs) (v ∷ vs) column ≡ cond (c.0 == column.0) v (item_in cs vs column)) where
+    → item_in (c ∷ cs) (v ∷ vs) column ≡ cond (c.0 == column.0) v (item_in cs vs column)) where
   past_suc : (columns : List ColumnId) (tuple : List A) (column : ColumnId) (i : ℕ) → i < length columns → length tuple ≡ length columns
       → ((get_or columns i (record { 0 = 0 })).0 ≡ column.0 → ⊥) → IsPast item_in columns tuple column i (suc i)
   past_suc [] tuple column i l w h = absurd (omega (arith, l))
