@@ -1,0 +1,2 @@
+mod LeftFacts
+mod RefusalFacts
