@@ -130,7 +130,7 @@ int32_t beas_number(beas_database *db, uint32_t *number);
 /* The report as the program beas writes it. `length` is set to its bytes, at BEAS_NO_ROOM too. BEAS_NO_MEMORY. */
 int32_t beas_report_text(beas_database *db, uint8_t *into, size_t room, size_t *length);
 
-/* The number of the refusal, from 1 to 32, and its text. */
+/* The number of the refusal, from 1 to 32, and its text. BEAS_NO_MEMORY. */
 int32_t beas_refusal(beas_database *db, uint32_t *number);
 int32_t beas_refusal_text(beas_database *db, uint8_t *into, size_t room, size_t *length);
 
@@ -168,13 +168,13 @@ int32_t beas_cell_count(beas_database *db, uint64_t row, uint64_t column, uint64
 int32_t beas_cell_sum(beas_database *db, uint64_t row, uint64_t column, uint64_t *low, int64_t *high);
 
 /* A whole column, from a row on: `count` cells, which have one type. BEAS_ABSENT where there are fewer rows, or a cell has another type;
- * what is written to is then anything. */
+ * what is written to is then anything. Of sums as many lower and upper parts are told as there is room for of each. */
 int32_t beas_column_integers(beas_database *db, uint64_t column, uint64_t first, int64_t *into, size_t count);
 int32_t beas_column_counts(beas_database *db, uint64_t column, uint64_t first, uint64_t *into, size_t count);
 int32_t beas_column_sums(beas_database *db, uint64_t column, uint64_t first, uint64_t *lows, size_t lows_count, int64_t *highs, size_t highs_count);
 
-/* The bytes of a column's texts, one after another, and where each ends. `length` is set to the bytes of all, at BEAS_NO_ROOM too: then
- * `into` and `ends` are anything. */
+/* The bytes of a column's texts, one after another, and where each ends. `length` is set to the bytes of all, and `ends` to where each ends,
+ * at BEAS_NO_ROOM too; `into` is as it was then. BEAS_NO_MEMORY. Where the status is another, `ends` is anything. */
 int32_t beas_column_texts(beas_database *db, uint64_t column, uint64_t first, uint64_t *ends, size_t count, uint8_t *into, size_t room,
                           size_t *length);
 

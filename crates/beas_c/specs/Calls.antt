@@ -9,7 +9,6 @@
 use Rattle.std.specs.Prelude.{◌≡◌, ◌≢◌, ◌⊎◌, ℕ, ℤ, Bool, List, Option, None, Some, IsSomeAnd, Err}
 use Rattle.std.specs.Str.{IsUtf8}
 use Rattle.beas_core.specs.declared.limits.Limits.{Limits}
-use Rattle.beas_library.specs.declared.engine.Engine.{Engine}
 use Rattle.beas_library.specs.declared.pieces.Why.{Why}
 use Rattle.beas_library.specs.declared.pieces.Why.TheVariants.{NoMemory}
 use Rattle.beas_library.specs.Engines.{HasFile, HasPriced as IsPriced, HasSaid as IsSaid, HasWanted, IsFresh, IsUnpricedFor, with_settings, without_query}

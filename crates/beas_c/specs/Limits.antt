@@ -2,7 +2,7 @@
 --     chosen asked most           the limit that is asked for, unless it is past the greatest. 0 stands for the greatest
 --     AreAsked asked limits       these are the limits
 --     IsPastSome asked            some limit is past the greatest
-use Rattle.std.specs.Prelude.{◌≡◌, ◌<◌, ◌≤◌, ◌==◌, ◌⊎◌, ℕ, Option, None, Some, if◌then◌else◌, nat_le}
+use Rattle.std.specs.Prelude.{◌≡◌, ◌<◌, ◌==◌, ◌⊎◌, ℕ, Option, None, Some, if◌then◌else◌, nat_le}
 use Rattle.beas_core.specs.declared.limits.Limits.{Limits}
 use Rattle.beas_c.specs.declared.limits.AskedLimits.{AskedLimits}
 

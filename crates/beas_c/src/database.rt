@@ -5,10 +5,10 @@ use crate::held::Held;
 use crate::seat::Seat;
 use std::alloc::Global;
 
-/// The mark of an open handle. C's memory is not likely to have it elsewhere.
+/// The mark of an open database. C's memory is not likely to have it elsewhere.
 const OPEN: u64 = 0x6265_6173_6f70_656e;
 
-/// A handle, which is open or closed. One whose bytes are all 0 is closed.
+/// A database as C keeps it, open or closed. One whose bytes are all 0 is closed.
 #[repr(C)]
 pub struct Database {
     mark: u64,
@@ -17,7 +17,7 @@ pub struct Database {
 }
 
 impl Database {
-    /// Takes out what an open handle holds, and closes it.
+    /// Takes out what an open database holds, and closes it.
     pub fn take(&mut self, alloc: Global) -> Option<Box<Held>>
         ensures held { option_map (λ b. b.value) result ≡ self.old.seat.value }
         ensures left { self.new.seat.value ≡ None }
@@ -29,7 +29,7 @@ impl Database {
         Some(self.seat.take(alloc))
     }
 
-    /// Opens a closed handle.
+    /// Opens a closed database.
     pub fn put(&mut self, held: Box<Held>)
         requires { self.old.seat.value ≡ None }
         ensures { self.new.seat.value ≡ Some held.value }

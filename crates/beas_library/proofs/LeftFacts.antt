@@ -1,5 +1,5 @@
 -- What is left of an engine where memory ran out, and the query of session 0 was dropped.
-use Rattle.std.proofs.Common.{◌≡◌, ◌⊎◌, ◌∙◌, inl, inr, ap, refl, ℕ, List, Ok, Err}
+use Rattle.std.proofs.Common.{◌≡◌, ◌∙◌, inl, inr, ap, refl, ℕ, List, Ok, Err}
 use Rattle.outside.specs.Seen.{IsLater}
 use Rattle.piece_reader.specs.declared.event.Event.TheVariants.{Said, Stepped}
 use Rattle.piece_reader.specs.Sayings.{Reading, reading_of}

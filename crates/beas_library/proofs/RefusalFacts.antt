@@ -1,5 +1,5 @@
 -- Where the words of a refusal stand in the line that reports it.
-use Rattle.std.proofs.Common.{◌≡◌, ◌<◌, ◌+◌, ◌-◌, ◌++◌, ◌∙◌, ap, subst, sym, refl, ℕ, List, length, arith, take, drop}
+use Rattle.std.proofs.Common.{◌≡◌, ◌<◌, ◌+◌, ◌-◌, ◌++◌, ◌∙◌, ap, subst, sym, ℕ, List, length, arith, take, drop}
 use Rattle.std.specs.Prelude.{codes, decimal, slice_range}
 use Rattle.std.proofs.lemmas.List.{append_assoc, length-append}
 use Rattle.std.proofs.Math.Seq.{drop-append_seam, take-append_seam}

@@ -9,11 +9,10 @@
 --     HasSaid text .., HasWanted text ..        the same of a text
 --     HasPriced text before after               what EXPLAIN would report of its query is held
 --     IsUnpricedFor desk why text               the cause for which a text isn't priced stands
-use Rattle.std.specs.Prelude.{◌≡◌, ◌≢◌, ◌⊎◌, ◌+◌, ◌-◌, ◌^◌, ℕ, Bool, List, [], ◌∷◌, min, Option, None, Some, Ok, Err}
+use Rattle.std.specs.Prelude.{◌≡◌, ◌≢◌, ◌⊎◌, ◌+◌, ◌-◌, ◌^◌, ℕ, Bool, List, [], min, Option, None, Some, Ok, Err}
 use Rattle.beas_core.specs.declared.limits.Limits.{Limits}
 use Rattle.outside.specs.Contents.{content_of}
 use Rattle.report.specs.declared.reports.Report.{Report}
-use Rattle.session.specs.Effects.{Settings}
 use Rattle.sql_tokens.specs.declared.token.Token.{Token}
 use Rattle.piece_reader.specs.declared.event.Event.TheVariants.{Said, Stepped}
 use Rattle.piece_reader.specs.Sayings.{Reading, reading_of}

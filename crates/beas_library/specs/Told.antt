@@ -9,7 +9,7 @@
 --     cell_told report row column       the cell that stands there
 --     integer_in cell ..                what is in it, by its type
 --     pair_told report k, place_told    a pair of columns; a column that makes the query covered
-use Rattle.std.specs.Prelude.{ℕ, ℤ, List, length, map, Option, None, Some, option_and_then, option_map, slice_get}
+use Rattle.std.specs.Prelude.{ℕ, ℤ, List, length, Option, None, Some, option_and_then, option_map, slice_get}
 use Rattle.aggregate.specs.declared.cell.Cell.{Cell}
 use Rattle.aggregate.specs.declared.cell.Cell.TheVariants.{Plain, Count, Sum}
 use Rattle.beas_core.specs.declared.refusal.Refusal.{Refusal}
