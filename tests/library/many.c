@@ -37,7 +37,8 @@ int main(int count, char **words)
         CHECK(say(&db, "INSERT INTO t VALUES (1, 'a text that is longer than sixteen bytes')") == BEAS_DONE);
         CHECK(say(&db, "SELECT DISTINCT b FROM t WHERE a = 1") == BEAS_DONE);
         CHECK(beas_count(&db, &rows) == BEAS_DONE && rows == 2);
-        CHECK(say(&db, "DELETE FROM t VALUES (1, 'a text that is longer than sixteen bytes')") == BEAS_DONE);
+        CHECK(say(&db, "DELETE FROM t WHERE b = 'a text that is longer than sixteen bytes'") == BEAS_DONE);
+        CHECK(beas_count(&db, &rows) == BEAS_DONE && rows == 1);
     }
     long ended = resident();
     CHECK(beas_close(&db) == BEAS_DONE);

@@ -81,6 +81,7 @@ static void life(void)
 {
     beas_database db = {0};
     int32_t status;
+    uint64_t count = 0;
     while ((status = beas_open(&db, &standard, 0, 0, 1)) != BEAS_DONE) {
         CHECK(status == BEAS_NO_MEMORY && db.mark == 0);
         ran_out++;
@@ -102,7 +103,11 @@ static void life(void)
         ran_out++;
     }
     steps(&db);
-    says(&db, "DELETE FROM t WHERE a = 1", "");
+    while ((status = say(&db, "DELETE FROM t WHERE a = 1")) != BEAS_DONE) {
+        CHECK(status == BEAS_NO_MEMORY);
+        ran_out++;
+    }
+    CHECK(beas_count(&db, &count) == BEAS_DONE && count == 2);
     CHECK(beas_close(&db) == BEAS_DONE);
 }
 

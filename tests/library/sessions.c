@@ -22,7 +22,7 @@ int main(void)
         CHECK(beas_bound(&db, &low, &high) == BEAS_DONE && low == 70 && high == 0);
         number += 2;
     }
-    SAYS(&db, "@65 STEP", "131 refused 32 session 65\n");
+    SAYS(&db, "@65 STEP", "131 refused 30 session 65 not between 1 and 64\n");
     number = 131;
     for (int k = 64; k >= 1; k--) {
         snprintf(text, sizeof text, "@%d STEP", k);
