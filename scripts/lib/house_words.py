@@ -60,6 +60,7 @@ WORDS = {
             "sql_tokens": "Piece lex_piece",
             "piece_reader": "read_piece",
             "desk_model": "law_plain_piece",
+            "beas_library": "OnePiece one_piece",
             "text_cases": "pieces_in",
         },
         {"blocked_list": {"Piece": "Chunk", "piece": "chunk"}, "text_cases": {"write_piece": "write_text"}},
@@ -76,6 +77,7 @@ WORDS = {
             "reference_coverage": "blocks_have_few_places",
             "reference_normal_form": "used_places same_place has_place places_of has_few_places",
             "specialise": "place",
+            "beas_library": "place",
         },
         {
             "block_walk": {"places": "positions"},

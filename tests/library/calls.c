@@ -194,6 +194,20 @@ static void kinds(beas_database *db)
     CHECK(beas_column_counts(db, 1, 0, counts, 1) == BEAS_DONE && counts[0] == 2);
     CHECK(beas_column_sums(db, 2, 0, lows, 1, highs, 1) == BEAS_DONE && lows[0] == 111 && highs[0] == 0);
 
+    CHECK(say(db, "DISCOVER cards LIMIT 1") == BEAS_DONE);
+    CHECK(beas_kind(db, &kind) == BEAS_DONE && kind == BEAS_PAIRS && beas_count(db, &low) == BEAS_DONE && low > 0);
+    CHECK(beas_pair_most(db, 0, &number) == BEAS_DONE && number == 1);
+    CHECK(beas_pair_name(db, 0, 0, bytes, sizeof bytes, &length) == BEAS_DONE && is(bytes, length, "card"));
+    CHECK(beas_pair_name(db, 0, 1, bytes, sizeof bytes, &length) == BEAS_DONE && length > 0);
+    CHECK(beas_pair_most(db, low, &number) == BEAS_ABSENT);
+    CHECK(say(db, "DISCOVER cards (account) FETCH (card)") == BEAS_DONE);
+    CHECK(beas_kind(db, &kind) == BEAS_DONE && kind == BEAS_GREATEST && beas_count(db, &low) == BEAS_DONE && low == 2);
+    CHECK(say(db, "SPECIALISE SELECT DISTINCT card FROM cards") == BEAS_DONE);
+    CHECK(beas_kind(db, &kind) == BEAS_DONE && kind == BEAS_SPECIALISED && beas_count(db, &low) == BEAS_DONE && low == 1);
+    CHECK(beas_place_atom(db, 0, &number) == BEAS_DONE && number == 1);
+    CHECK(beas_place_name(db, 0, bytes, sizeof bytes, &length) == BEAS_DONE && is(bytes, length, "account"));
+    CHECK(beas_place_atom(db, 1, &number) == BEAS_ABSENT);
+
     CHECK(say(db, "DELETE FROM cards WHERE account = 8") == BEAS_DONE);
     CHECK(beas_kind(db, &kind) == BEAS_DONE && kind == BEAS_CHANGED && beas_count(db, &low) == BEAS_DONE && low == 1);
 

@@ -1,4 +1,4 @@
-/* Many databases one after another, and many statements in one: the memory in use doesn't grow. */
+/* Many databases one after another, and many statements in one: the memory in use doesn't grow. Few turns tell nothing of that. */
 #include "check.h"
 #include <unistd.h>
 
@@ -43,5 +43,5 @@ int main(int count, char **words)
     long ended = resident();
     CHECK(beas_close(&db) == BEAS_DONE);
     printf("%ld databases, %ld turns: %ld pages after a tenth of them, %ld at the end\n", opens, turns, begun, ended);
-    return ended > begun + 64;
+    return turns >= 10000 && ended > begun + 64;
 }
