@@ -11,7 +11,7 @@
  *     beas_close(&db);
  *
  * Each call returns a status. A status other than BEAS_DONE says that nothing was done, and what the call writes to is as it was, unless
- * the call's own lines say more. What is proved holds for a caller who keeps to these rules, which nothing checks:
+ * the call's own lines say more. A call that has a `length` sets it at BEAS_NO_ROOM too, to the room that is needed. What is proved holds for a caller who keeps to these rules, which nothing checks:
  *
  *   - a database's bytes are all 0, or are what the last call left there; an open one is not copied;
  *   - no pointer is NULL, also where the length is 0; what one points to is whole, aligned, and the call's alone while it runs;
@@ -60,7 +60,7 @@ enum {
     BEAS_NOT_TEXT = 5,     /* the bytes are not UTF-8 */
     BEAS_NO_STATEMENT = 6, /* the text has no statement */
     BEAS_SEVERAL = 7,      /* the text has more than one statement */
-    BEAS_NOT_A_QUERY = 8,  /* what is to be priced is no SELECT */
+    BEAS_NOT_A_QUERY = 8,  /* what is to be priced is not what could be opened: one query without GROUP BY and without a word before it */
     BEAS_ABSENT = 9,       /* the report has no such thing */
     BEAS_BAD_LIMIT = 10    /* a limit is greater than it may be */
 };
@@ -75,13 +75,13 @@ enum {
     BEAS_EXPLAINED = 5,   /* a query was announced and not run: beas_bound, beas_plan_text */
     BEAS_ANSWERED = 6,    /* a query was answered: beas_bound, beas_plan_text, beas_reads, columns, rows and cells */
     BEAS_GROUPED = 7,     /* a query in groups was answered: the same */
-    BEAS_SPECIALISED = 8, /* columns were found that make a query covered: beas_count, beas_place_atom, beas_place_name */
+    BEAS_SPECIALISED = 8, /* columns that make a query covered were looked for: beas_count, beas_place_atom, beas_place_name */
     BEAS_OPENED = 9,      /* a session's query was announced: beas_session, beas_bound */
     BEAS_PROBED = 10,     /* a session's query made one probe: beas_session */
     BEAS_REFUSED = 11     /* the statement was refused and changed nothing: beas_refusal, beas_refusal_text */
 };
 
-/* The types of cells. All cells of a column have one type. */
+/* The types of cells. */
 enum {
     BEAS_INTEGER = 1, /* 64 bits with a sign */
     BEAS_TEXT = 2,    /* bytes of UTF-8 */
@@ -106,11 +106,13 @@ int32_t beas_add_file(beas_database *db, const uint8_t *name, size_t name_length
 
 /* Carries out one statement, as a script's next one; the report is there afterwards. A semicolon may end it, an @ with a session's number
  * may begin it. BEAS_TOO_LONG, BEAS_NOT_TEXT, BEAS_NO_STATEMENT and BEAS_SEVERAL leave all as it was, the last report too.
- * BEAS_NO_MEMORY: tables and constraints are as they were, and an open query whose STEP it was is lost. */
+ * BEAS_NO_MEMORY: tables, constraints and the last report are as they were. If it was a STEP, its query may be lost: it stays open, each
+ * further STEP of it gives BEAS_NO_MEMORY, and its session stays busy until beas_drop_query. */
 int32_t beas_say(beas_database *db, const uint8_t *text, size_t length);
 
-/* Tells what EXPLAIN would report of one SELECT if there were no budget; the report is there afterwards. Nothing is read. The same
- * statuses, and BEAS_NOT_A_QUERY. */
+/* Tells what EXPLAIN would report of one query if there were no budget; the report is there afterwards. Nothing is read. A text that the
+ * grammar refuses is reported as refused. EXPLAIN, SCAN OK and SPECIALISE may not stand before the query, and it has no GROUP BY: these,
+ * and other statements, are BEAS_NOT_A_QUERY. Else the same statuses as beas_say. */
 int32_t beas_price(beas_database *db, const uint8_t *text, size_t length);
 
 /* Drops the open query of a session, if it has one, without a report. */
@@ -124,10 +126,11 @@ int32_t beas_close(beas_database *db);
 /* The kind of the report. */
 int32_t beas_kind(beas_database *db, int32_t *kind);
 
-/* The number of the statement, from 1 on. Each statement that beas_say or beas_price reports on takes the next one. */
+/* The number of the statement, from 1 on. Each statement that beas_say or beas_price reports on takes the next one; the last is
+ * 4,294,967,295, at which it stays. */
 int32_t beas_number(beas_database *db, uint32_t *number);
 
-/* The report as the program beas writes it. `length` is set to its bytes, at BEAS_NO_ROOM too. BEAS_NO_MEMORY. */
+/* The report as the program beas writes it, of `length` bytes. BEAS_NO_MEMORY. */
 int32_t beas_report_text(beas_database *db, uint8_t *into, size_t room, size_t *length);
 
 /* The number of the refusal, from 1 to 32, and its text. BEAS_NO_MEMORY. */
@@ -140,7 +143,7 @@ int32_t beas_bound(beas_database *db, uint64_t *low, uint64_t *high);
 /* How many tuples were read: the lower and the upper 64 bits. */
 int32_t beas_reads(beas_database *db, uint64_t *low, uint64_t *high);
 
-/* The lines of the plan. They are none where `explain` was 0. */
+/* The lines of the plan. An answer has none, and a length of 0, if `explain` was 0, for a session's query at its opening. */
 int32_t beas_plan_text(beas_database *db, uint8_t *into, size_t room, size_t *length);
 
 /* How many: rows that changed, members of the greatest group, pairs, rows of the answer, or columns that make a query covered. Where no
@@ -167,14 +170,15 @@ int32_t beas_cell_text(beas_database *db, uint64_t row, uint64_t column, uint8_t
 int32_t beas_cell_count(beas_database *db, uint64_t row, uint64_t column, uint64_t *value);
 int32_t beas_cell_sum(beas_database *db, uint64_t row, uint64_t column, uint64_t *low, int64_t *high);
 
-/* A whole column, from a row on: `count` cells, which have one type. BEAS_ABSENT where there are fewer rows, or a cell has another type;
- * what is written to is then anything. Of sums as many lower and upper parts are told as there is room for of each. */
+/* A whole column, from a row on: `count` cells. BEAS_ABSENT where there are fewer rows, or a cell has another type; what is written to is
+ * then anything. Of no cells there is nothing to look at, so a `count` of 0 is BEAS_DONE. Of sums as many lower and upper parts are told as there is room for of each. */
 int32_t beas_column_integers(beas_database *db, uint64_t column, uint64_t first, int64_t *into, size_t count);
 int32_t beas_column_counts(beas_database *db, uint64_t column, uint64_t first, uint64_t *into, size_t count);
 int32_t beas_column_sums(beas_database *db, uint64_t column, uint64_t first, uint64_t *lows, size_t lows_count, int64_t *highs, size_t highs_count);
 
 /* The bytes of a column's texts, one after another, and where each ends. `length` is set to the bytes of all, and `ends` to where each ends,
- * at BEAS_NO_ROOM too; `into` is as it was then. BEAS_NO_MEMORY. Where the status is another, `ends` is anything. */
+ * at BEAS_NO_ROOM too; `into` is as it was then. BEAS_ABSENT as for the other columns, BEAS_NO_MEMORY. Where the status is another, `ends`
+ * is anything. `count` is the number of cells. */
 int32_t beas_column_texts(beas_database *db, uint64_t column, uint64_t first, uint64_t *ends, size_t count, uint8_t *into, size_t room,
                           size_t *length);
 
