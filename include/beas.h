@@ -11,7 +11,8 @@
  *     beas_close(&db);
  *
  * Each call returns a status. A status other than BEAS_DONE says that nothing was done, and what the call writes to is as it was, unless
- * the call's own lines say more. A call that has a `length` sets it at BEAS_NO_ROOM too, to the room that is needed. What is proved holds for a caller who keeps to these rules, which nothing checks:
+ * the call's own lines say more. A call that has a `length` sets it at BEAS_NO_ROOM too, to the room that is needed. What is proved holds
+ * for a caller who keeps to these rules, which nothing checks:
  *
  *   - a database's bytes are all 0, or are what the last call left there; an open one is not copied;
  *   - no pointer is NULL, also where the length is 0; what one points to is whole, aligned, and the call's alone while it runs;
@@ -171,7 +172,8 @@ int32_t beas_cell_count(beas_database *db, uint64_t row, uint64_t column, uint64
 int32_t beas_cell_sum(beas_database *db, uint64_t row, uint64_t column, uint64_t *low, int64_t *high);
 
 /* A whole column, from a row on: `count` cells. BEAS_ABSENT where there are fewer rows, or a cell has another type; what is written to is
- * then anything. Of no cells there is nothing to look at, so a `count` of 0 is BEAS_DONE. Of sums as many lower and upper parts are told as there is room for of each. */
+ * then anything. Of no cells there is nothing to look at, so a `count` of 0 is BEAS_DONE. Of sums as many lower and upper parts are told as
+ * there is room for of each. */
 int32_t beas_column_integers(beas_database *db, uint64_t column, uint64_t first, int64_t *into, size_t count);
 int32_t beas_column_counts(beas_database *db, uint64_t column, uint64_t first, uint64_t *into, size_t count);
 int32_t beas_column_sums(beas_database *db, uint64_t column, uint64_t first, uint64_t *lows, size_t lows_count, int64_t *highs, size_t highs_count);
