@@ -96,14 +96,22 @@ def row_of(count: int, engine: str, it: dict[str, Any]) -> str:
     return f"| {' | '.join(cells)} |"
 
 
+def item(text: str) -> str:
+    return textwrap.fill(text, 118, initial_indent="- ", subsequent_indent="  ")
+
+
 def page(results: dict[str, Any], drawn: dict[str, list[tuple[str, str]]]) -> Iterator[str]:
     yield "# Benchmarks\n\nMade by `scripts/benchmark`. Its first lines say how each engine is run. Nothing here is proved."
-    yield textwrap.fill(f"Run on {results['machine']}.", 118)
-    yield textwrap.fill(
-        "Rows are those of the largest table. Times of beas and SQLite are processor time. Those of PostgreSQL are wall time as its client tells it, which"
-        " for a query includes the way to the server and back. A query's time is the mean of all queries, in the best of three passes over them. beas gets"
-        " each query as text and parses it; the others have it prepared. Memory is the most that the process grew by, for PostgreSQL that its files grew by,"
-        " and then the same for each million rows of all tables. All answers that were taken were equal.", 118)
+    yield "\n".join(map(item, [
+        f"**When, where and what**: {results['machine']}.",
+        "**Rows** are those of the largest table.",
+        "**A query**: the mean time of all queries of a set, in the best of three passes over them. beas reads each query from its text; the"
+        " others have it prepared. All answers that were compared were equal.",
+        "**Times** of beas and SQLite are processor time. Those of PostgreSQL are wall time at its client, so a query's time includes the way"
+        " to the server and back.",
+        "**Memory** is the most that the process grew by, and for PostgreSQL what its files grew by. *Of a million rows* is this memory divided"
+        " by the millions of rows of all tables.",
+    ]))
     if any(it["query"] is None for it in results["runs"].values()):
         yield "'Not taken' means that beas was a program without proof, whose bounds and reads are the same and whose times tell nothing."
     if points_of(results["runs"], "cafes", "beas", "reads"):
