@@ -1,2 +1,3 @@
 mod LeftFacts
 mod RefusalFacts
+mod ScriptFacts

@@ -3,6 +3,7 @@ pub mod Engines
 pub mod HandedFiles
 pub mod OnePiece
 pub mod Refusals
+pub mod Scripts
 pub mod Shown
 pub mod Told
 pub mod Within

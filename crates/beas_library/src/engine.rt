@@ -1,5 +1,5 @@
 // A database that is asked statement by statement.
-ghost use Rattle.std.specs.Prelude.{◌≡◌, ◌≢◌, ◌-◌, ◌<◌, IfErr, IfOk, OnErr, OnOk, length, option_map, slice_range};
+ghost use Rattle.std.specs.Prelude.{◌≡◌, ◌≢◌, ◌-◌, ◌<◌, IfErr, IfOk, IsSome, OnErr, OnOk, length, option_map, slice_range};
 ghost use Rattle.beas_library.specs.Engines.{HasDone, HasFile, HasLeft, HasPriced, HasSaid, HasWanted, IsFresh, IsUnpricedFor, with_report, with_settings, without_query};
 ghost use Rattle.beas_library.specs.OnePiece.{IsRefusedFor};
 ghost use Rattle.beas_core.specs.Refusals.{number_of};
@@ -144,7 +144,8 @@ impl Engine {
 
     /// The last report as the program writes it.
     pub fn report_text(&self, alloc: Global) -> Result<Option<Text>, NoMemory>
-        ensures { IfOk result (λ lines. lines ≡ option_map (report_text self.now.number) self.now.report) }
+        ensures text { IfOk result (λ lines. lines ≡ option_map (report_text self.now.number) self.now.report) }
+        ensures err { OnErr result (IsSome self.now.report) }
     {
         match &self.report {
             Some(report) => Ok(Some(text(alloc, self.number, report)?)),
@@ -164,7 +165,8 @@ impl Engine {
 
     /// The text of the refusal, if the last statement was refused.
     pub fn refusal_text(&self, alloc: Global) -> Result<Option<Bytes>, NoMemory>
-        ensures { IfOk result (λ words. words ≡ option_map refusal_text (refusal_told self.now.report)) }
+        ensures words { IfOk result (λ words. words ≡ option_map refusal_text (refusal_told self.now.report)) }
+        ensures err { OnErr result (IsSome (refusal_told self.now.report)) }
     {
         match &self.report {
             Some(report) => match report {
