@@ -76,8 +76,10 @@ class Drawn:
         types = {"INTEGER": ["bigint"], "TEXT": ["text", "varchar", 'text COLLATE "C"', "text COLLATE pg_catalog.ucs_basic"]}
         columns = [f"{name} {self.case.draw.choice(types[kind])}" + " NOT NULL" * (not self.has_nulls) for name, kind in self.case.tables[table]]
         there = " AND ".join(f"{name} IS NOT NULL" for name, _ in self.case.tables[table])
+        # In one collation, since the database refuses by itself to compare texts of two.
+        shown = ", ".join(f'{name} COLLATE "C" AS {name}' if kind == "TEXT" else name for name, kind in self.case.tables[table])
         self.cursor.execute(f"CREATE TABLE {table} ({', '.join(columns)})")
-        self.cursor.execute(f"CREATE VIEW {SHOWN}.{table} AS SELECT * FROM {TABLES}.{table} WHERE {there}")
+        self.cursor.execute(f"CREATE VIEW {SHOWN}.{table} AS SELECT {shown} FROM {TABLES}.{table} WHERE {there}")
 
     def insert(self, table: str, rows: list[Row]) -> None:
         more = [with_null(row, self.case.draw.randrange(len(row))) for row in rows] if self.has_nulls else []
