@@ -4,6 +4,7 @@ import re
 import sys
 import unittest
 from pathlib import Path
+from types import ModuleType
 
 from support import TOP, Case
 
@@ -11,8 +12,8 @@ import beas
 
 from lib.place import read
 
-SOURCES = sorted((TOP / "python/beas").glob("*.py"))
-OTHERS = [*(TOP / "python/tests").glob("*.py"), *(TOP / "examples/service").glob("*.py")]
+SOURCES = sorted((TOP / "python/beas").rglob("*.py"))
+OTHERS = [*(TOP / "python/tests").rglob("*.py"), *(TOP / "examples/service").glob("*.py")]
 LONGEST_LINE, LONGEST_FUNCTION, LONGEST_FILE = 150, 40, 800
 
 
@@ -31,7 +32,8 @@ class Package(Case):
                     self.assertIn(name.partition(".")[0], sys.stdlib_module_names, path.name)
 
     def test_what_it_gives_out(self) -> None:
-        given = {name for name in dir(beas) if not name.startswith("_")}
+        # Modules of its own stand there too once they were imported.
+        given = {name for name, it in vars(beas).items() if not name.startswith("_") and not isinstance(it, ModuleType)}
         self.assertEqual(sorted(given), beas.__all__)
         self.assertTrue((TOP / "python/beas/py.typed").exists())
         for name in beas.__all__:

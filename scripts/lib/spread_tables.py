@@ -26,7 +26,7 @@ class Parts:
     """The servers that hold the parts of all tables. Their logs have each statement, so that it can be seen who is asked."""
 
     def __init__(self, count: int) -> None:
-        self.servers = list[Server]()
+        self.servers, self.read, self.count = list[Server](), [0] * count, [0] * count
         try:
             for nth in range(count):
                 self.servers.append(Server(f"part{nth}", shared_buffers="16MB", log_statement="all"))
@@ -36,7 +36,14 @@ class Parts:
 
     def asked(self) -> list[int]:
         """How many times each server was asked for rows until now."""
-        return [server.log.read_bytes().count(b"DECLARE c") for server in self.servers]
+        for nth, server in enumerate(self.servers):
+            with open(server.log, "rb") as log:
+                log.seek(self.read[nth])
+                more = log.read()
+            # A line that isn't whole yet is read the next time.
+            whole = more[: more.rfind(b"\n") + 1]
+            self.read[nth], self.count[nth] = self.read[nth] + len(whole), self.count[nth] + whole.count(b"DECLARE c")
+        return list(self.count)
 
     def link(self, cursor: Any) -> None:
         """Makes them known to the server in front."""

@@ -64,7 +64,8 @@ class Reading(Case):
         self.assertIn(LeftOut("nope", None, "it isn't there"), found_schema(self.connection, ["nope"]).left_out)
 
     def test_no_two_constraints_of_one_name(self) -> None:
-        self.run_sql('CREATE TABLE twice (a bigint NOT NULL, b bigint NOT NULL); CREATE UNIQUE INDEX "A!" ON twice (a); CREATE UNIQUE INDEX "B!" ON twice (b)')
+        self.run_sql("CREATE TABLE twice (a bigint NOT NULL, b bigint NOT NULL)")
+        self.run_sql('CREATE UNIQUE INDEX "A!" ON twice (a); CREATE UNIQUE INDEX "B!" ON twice (b)')
         script = found_schema(self.connection, ["twice"]).script
         self.assertIn("twice_key ON", script)
         self.assertIn("twice_key_2 ON", script)

@@ -1,8 +1,10 @@
 """Tables spread over three servers: the same answers and reads, and how many servers each step asks."""
 import unittest
+from collections.abc import Sequence
 
 from support import Case, HookedConnection
 
+from beas.plans import Value
 from beas.postgres import Bounded
 from lib.benchmark_sets import cafes
 from lib.spread_tables import Parts, columns_of, fill
@@ -55,7 +57,7 @@ class Spread(Case):
         self.assertGreater(rows, 0)
         self.assertEqual(SERVERS, most)
 
-    def look_at_steps(self, statements: list[tuple[str, list[list[int]]]], seen: list[list[int]]) -> int:
+    def look_at_steps(self, statements: Sequence[tuple[str, Sequence[Sequence[Value]]]], seen: list[list[int]]) -> int:
         """No step asks more servers than it has keys, nor asks more than once for each. Gives the most that one asks."""
         most = 0
         for (_, lists), before, after in zip(statements, seen[1:], seen[2:]):
