@@ -58,8 +58,8 @@ def end_well() -> None:
 
 
 def connect(folder: str, database: str = DATABASE) -> Any:
-    """A connection to the server whose socket is in a folder."""
-    if importlib.util.find_spec("psycopg2"):
+    """A connection to the server whose socket is in a folder, of psycopg2, or of psycopg 3 if BEAS_DRIVER says psycopg."""
+    if importlib.util.find_spec("psycopg2") and os.environ.get("BEAS_DRIVER") != "psycopg":
         import psycopg2
 
         return psycopg2.connect(host=folder, user=USER, dbname=database)

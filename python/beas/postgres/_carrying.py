@@ -78,13 +78,14 @@ class Carrying:
         asked = [key for key in keys if not any(isinstance(it, str) and NO_TEXT in it for it in key)]
         for number, found in self._asked(step, asked):
             groups[asked[number - 1]].append(found)
+        broken = [key for key, group in groups.items() if len(group) > step.limit]
+        if broken:
+            raise BoundBroken(step.constraint, min(broken), step.limit)
         for key, group in groups.items():
             self._count(step, key, group)
         return groups
 
     def _count(self, step: Step, key: Row, group: Sequence[Row]) -> None:
-        if len(group) > step.limit:
-            raise BoundBroken(step.constraint, key, step.limit)
         if any(value is None for found in group for value in found):
             raise NullsAllowed(f"{step.table} has NULL in a row of key {key}")
         self.probes += 1

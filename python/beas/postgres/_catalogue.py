@@ -5,7 +5,7 @@ from dataclasses import dataclass
 
 from .._schema import Column
 from ._connection import Cursor
-from ._errors import ColumnMissing, NotASchema, NullsAllowed, TableMissing, TypeDiffers, UnknownType
+from ._errors import ColumnMissing, NotASchema, NullsAllowed, OtherEncoding, TableMissing, TypeDiffers, UnknownType
 
 INTEGERS = ("int2", "int4", "int8")
 TEXTS = ("text", "varchar")
@@ -14,6 +14,9 @@ KNOWN = INTEGERS + TEXTS
 BY_BYTES = 950
 # Tables, partitioned and foreign ones, views of both kinds.
 KINDS = ["r", "p", "f", "v", "m"]
+ENCODINGS = """
+SELECT pg_catalog.current_setting('server_encoding'), pg_catalog.current_setting('client_encoding')
+"""
 TABLES = """
 SELECT DISTINCT ON (c.relname) c.oid::bigint, n.nspname::text, c.relname::text
 FROM pg_catalog.pg_class AS c JOIN pg_catalog.pg_namespace AS n ON n.oid = c.relnamespace
@@ -111,6 +114,9 @@ class IndexThere:
 
 def tables_there(cursor: Cursor, names: Sequence[str] | None = None) -> dict[str, TableThere]:
     """The tables of these names, or all, that are on the search path of the connection."""
+    cursor.execute(ENCODINGS)
+    if other := [it for it in cursor.fetchall()[0] if it != "UTF8"]:
+        raise OtherEncoding(f"texts are in {other[0]}")
     asked = None if names is None else list(names)
     cursor.execute(TABLES, (KINDS, asked, asked))
     found = {}

@@ -46,6 +46,10 @@ class NullsAllowed(BridgeError):
     """A column may hold NULL by its definition. Make it NOT NULL, or have rows with NULL left out."""
 
 
+class OtherEncoding(BridgeError):
+    """The database or the connection has its texts in another encoding than UTF8."""
+
+
 class NotASchema(BridgeError):
     """A script has another statement than CREATE TABLE, CREATE ACCESS and DROP ACCESS, or a name that the database can't have."""
 

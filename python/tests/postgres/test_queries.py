@@ -14,6 +14,7 @@ from beas.postgres import (
     InTransaction,
     NotASchema,
     NullsAllowed,
+    OtherEncoding,
     TableMissing,
     TypeDiffers,
     UnknownType,
@@ -197,6 +198,15 @@ class Failures(Case):
             self.bridge("CREATE TABLE friend")
         with self.assertRaises(ValueError):
             self.bridge(nulls="perhaps")
+
+    def test_another_encoding(self) -> None:
+        self.run_sql("SET client_encoding = 'LATIN1'")
+        self.fails(OtherEncoding, self.bridge, "LATIN1")
+
+    def test_the_least_key_is_named(self) -> None:
+        self.run_sql("INSERT INTO dine SELECT friend, nth, 'x' FROM unnest(ARRAY[2, 3]) AS friend, generate_series(20, 30) AS nth")
+        why = self.fails(BoundBroken, lambda: self.bridge().query(DINED, (1,)), "dined doesn't hold")
+        self.assertEqual((2,), why.key)
 
     def test_types_that_aren_t_known(self) -> None:
         self.run_sql("CREATE DOMAIN even AS bigint; CREATE TABLE odd (a even NOT NULL, b char(3) NOT NULL, c boolean NOT NULL)")
