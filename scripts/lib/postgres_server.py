@@ -1,4 +1,5 @@
 """PostgreSQL servers of our own, in temporary folders, each on a socket that only this user reaches. They are ended always."""
+import importlib
 import importlib.util
 import os
 import shutil
@@ -6,6 +7,7 @@ import signal
 import subprocess
 import sys
 import tempfile
+import time
 from pathlib import Path
 from types import FrameType, TracebackType
 from typing import Any
@@ -34,14 +36,21 @@ def what_lacks() -> str | None:
         return "there is no PostgreSQL server"
     if os.getuid() == 0 and (not shutil.which("runuser") or subprocess.run(["id", "postgres"], capture_output=True).returncode != 0):
         return "root can't run the server as another user"
-    if importlib.util.find_spec("psycopg2") is None and importlib.util.find_spec("psycopg") is None:
+    if not shutil.which("setpriv"):
+        return "there is no setpriv, which ends a server with its script"
+    if not drivers():
         return "this Python has no psycopg"
     return None
 
 
+def drivers() -> list[str]:
+    """The drivers that this Python has."""
+    return [name for name in ("psycopg2", "psycopg") if importlib.util.find_spec(name)]
+
+
 def start_with_psycopg() -> None:
     """Starts this script once more under the system's Python, if that has psycopg and this one hasn't."""
-    if importlib.util.find_spec("psycopg2") or importlib.util.find_spec("psycopg") or os.path.realpath(sys.executable) == os.path.realpath(OTHER_PYTHON):
+    if drivers() or os.path.realpath(sys.executable) == os.path.realpath(OTHER_PYTHON):
         return
     if os.path.exists(OTHER_PYTHON) and subprocess.run([OTHER_PYTHON, "-c", "import psycopg2"], capture_output=True).returncode == 0:
         os.execv(OTHER_PYTHON, [OTHER_PYTHON, *sys.argv])
@@ -58,26 +67,23 @@ def end_well() -> None:
 
 
 def connect(folder: str, database: str = DATABASE) -> Any:
-    """A connection to the server whose socket is in a folder, of psycopg2, or of psycopg 3 if BEAS_DRIVER says psycopg."""
-    if importlib.util.find_spec("psycopg2") and os.environ.get("BEAS_DRIVER") != "psycopg":
-        import psycopg2
-
-        return psycopg2.connect(host=folder, user=USER, dbname=database)
-    import psycopg
-
-    return psycopg.connect(host=folder, user=USER, dbname=database)
+    """A connection to the server whose socket is in a folder, of the driver that BEAS_DRIVER names, or of the first that there is."""
+    driver: Any = importlib.import_module(os.environ.get("BEAS_DRIVER") or drivers()[0])
+    return driver.connect(host=folder, user=USER, dbname=database)
 
 
 class Server:
     """A server that is started at once. Nothing of it is written through to the disk, so that tests are quick."""
 
     def __init__(self, name: str = "server", **settings: str) -> None:
-        bin_of, self.bin = tools(), Path()
+        bin_of = tools()
         assert bin_of is not None
         self.bin, self.user = bin_of, other_user()
+        self.process: subprocess.Popen[bytes] | None = None
         self.folder = tempfile.mkdtemp(prefix=f"beas-{name}-")
         given = {"shared_buffers": "64MB", "jit": "off", "max_connections": "20", **settings}
-        self.settings = " ".join(f"-c {name}={value}" for name, value in given.items())
+        own = {"listen_addresses": "", "unix_socket_directories": self.folder, "fsync": "off"}
+        self.settings = [f"--{name}={value}" for name, value in {**own, **given}.items()]
         try:
             if self.user:
                 shutil.chown(self.folder, "postgres")
@@ -99,17 +105,30 @@ class Server:
         subprocess.run([*self.user, f"{self.bin}/{program}", *words], check=True, stdout=subprocess.DEVNULL, cwd="/", timeout=SECONDS)
 
     def start(self) -> None:
-        options = f"-c listen_addresses= -c unix_socket_directories={self.folder} -c fsync=off {self.settings}"
-        self.do("pg_ctl", "-D", self.data, "-o", options, "-w", "-l", str(self.log), "start")
+        """Starts it as a child that ends with this script, also if that is killed."""
+        words = [*self.user, "setpriv", "--pdeathsig", "INT", f"{self.bin}/postgres", "-D", self.data, *self.settings]
+        with open(self.log, "ab") as log:
+            self.process = subprocess.Popen(words, stdout=log, stderr=log, stdin=subprocess.DEVNULL, cwd="/", start_new_session=True)
+        late = time.monotonic() + SECONDS
+        while not self.is_ready():
+            if self.process.poll() is not None or time.monotonic() > late:
+                raise OSError(f"the server doesn't start: {self.log.read_text(errors='replace')[-1000:]}")
+            time.sleep(0.05)
+
+    def is_ready(self) -> bool:
+        return subprocess.run([f"{self.bin}/pg_isready", "-q", "-h", self.folder], capture_output=True).returncode == 0
 
     def stop(self, how: str = "immediate") -> None:
-        subprocess.run([*self.user, f"{self.bin}/pg_ctl", "-D", self.data, "-m", how, "-w", "stop"], capture_output=True, cwd="/", timeout=SECONDS)
+        words = [*self.user, f"{self.bin}/pg_ctl", "-D", self.data, "-m", how, "-w", "stop"]
+        subprocess.run(words, capture_output=True, cwd="/", timeout=SECONDS)
+        if self.process is not None:
+            self.process.wait(SECONDS)
 
     def connect(self) -> Any:
         return connect(self.folder)
 
     def end(self) -> None:
-        if os.path.exists(f"{self.data}/postmaster.pid"):
+        if self.process is not None and self.process.poll() is None:
             self.stop()
         shutil.rmtree(self.folder, ignore_errors=True)
 

@@ -13,6 +13,7 @@ from beas.postgres import Bounded, use_planner
 PARTS = 3
 # a cursor on a part is one ask; of so many queries they are counted
 COUNTED = 100
+WAYS = {"bridge": "the bridge", "own": "PostgreSQL", "estimated": "PostgreSQL with `use_remote_estimate`"}
 
 
 class Asked:
@@ -48,6 +49,11 @@ class Spread:
             self.parts.make_part(server, "VACUUM ANALYZE")
         self.cursor.execute("ANALYZE")
         self.bridge = Bounded(self.connection, ";".join([*self.set.schema(), *self.set.accesses()]))
+
+    def let_parts_estimate(self) -> None:
+        """From now on the server in front asks the parts what a look-up of theirs would cost, before it plans."""
+        for nth in range(PARTS):
+            self.cursor.execute(f"ALTER SERVER part{nth} OPTIONS (ADD use_remote_estimate 'true')")
 
     def end(self) -> None:
         self.connection.close()
@@ -111,15 +117,18 @@ def measure_spread(the_set: Set, queries: int) -> Figures:
         asked = [the_set.parameters() for _ in range(queries)]
         for values in asked:
             assert sorted(spread.by_itself(values)) == spread.by_bridge(values).rows, "the bridge answers otherwise"
-        ways = {way: figures_of_way(spread, way, asked) for way in ("bridge", "own")}
-        return {"steps": figures_by_step(spread, asked), **ways}
+        found: Figures = {"steps": figures_by_step(spread, asked)}
+        for way in ("bridge", "own"):
+            found[way] = figures_of_way(spread, way, asked)
+        spread.let_parts_estimate()
+        return {**found, "estimated": figures_of_way(spread, "own", asked)}
     finally:
         spread.end()
 
 
 def spread_page(rows: int, found: Figures) -> str:
     lines = ["| By | Median | p99 | Asks of servers | Servers asked | Rows that they send |", "|---|---|---|---|---|---|"]
-    for way, name in (("bridge", "the bridge"), ("own", "PostgreSQL")):
+    for way, name in WAYS.items():
         it = found[way]
         cells = [f"{it['time'] * 1e3:.2f} ms", f"{it['late'] * 1e3:.2f} ms", f"{it['asks']:.1f}", f"{it['servers']:.1f}", f"{it['rows']:,.1f}"]
         lines.append(f"| {name} | {' | '.join(cells)} |")
