@@ -27,15 +27,15 @@ def tools() -> Path | None:
 
 def other_user() -> list[str]:
     """The words that run a program as another user than root, as which the server doesn't start."""
-    return ["runuser", "-u", "postgres", "--"] if os.getuid() == 0 else []
+    return ["setpriv", "--reuid", "postgres", "--regid", "postgres", "--init-groups"] if os.getuid() == 0 else []
 
 
 def what_lacks() -> str | None:
     """What isn't there that the tests over a server need, or None."""
     if tools() is None:
         return "there is no PostgreSQL server"
-    if os.getuid() == 0 and (not shutil.which("runuser") or subprocess.run(["id", "postgres"], capture_output=True).returncode != 0):
-        return "root can't run the server as another user"
+    if os.getuid() == 0 and subprocess.run(["id", "postgres"], capture_output=True).returncode != 0:
+        return "there is no user postgres, as whom root could run the server"
     if not shutil.which("setpriv"):
         return "there is no setpriv, which ends a server with its script"
     if not drivers():
@@ -106,7 +106,7 @@ class Server:
 
     def start(self) -> None:
         """Starts it as a child that ends with this script, also if that is killed."""
-        words = [*self.user, "setpriv", "--pdeathsig", "INT", f"{self.bin}/postgres", "-D", self.data, *self.settings]
+        words = [*(self.user or ["setpriv"]), "--pdeathsig", "INT", f"{self.bin}/postgres", "-D", self.data, *self.settings]
         with open(self.log, "ab") as log:
             self.process = subprocess.Popen(words, stdout=log, stderr=log, stdin=subprocess.DEVNULL, cwd="/", start_new_session=True)
         late = time.monotonic() + SECONDS
