@@ -71,13 +71,16 @@ class Measured:
         for table, rows in self.set.rows():
             self.cursor.copy_expert(f"COPY {table} FROM STDIN", Lines(rows))
             most = max(most, self.cursor.rowcount)
-        self.cursor.execute("VACUUM ANALYZE")
+        self.tidy()
         self.bridge = Bounded(self.connection, self.script)
         return most
 
     def make_indexes(self) -> None:
         for one in self.bridge.indexes():
             self.cursor.execute(one.create)
+        self.tidy()
+
+    def tidy(self) -> None:
         self.cursor.execute("VACUUM ANALYZE")
 
     def make_cold(self) -> None:
