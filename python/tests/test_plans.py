@@ -3,10 +3,14 @@ import copy
 import json
 import unittest
 from typing import Any
+from unittest import mock
 
 from support import Case
 
+import beas
 from beas.plans import BadPlan, Leaf, Pair, Place, plan_of
+from beas.postgres import NoPlans, use_planner
+from beas.postgres._planning import LibraryPlanner, planner_for
 from lib.second_plans import SecondPlanner
 
 SCHEMA = """
@@ -127,6 +131,30 @@ class Plans(Case):
         for text in ("", "{", "[]", "7", "null", '{"bound": "1"}', "[" * 100_000):
             with self.subTest(text=text[:9]), self.assertRaises(BadPlan):
                 plan_of(text)
+
+
+class FromTheLibrary(Case):
+    def test_a_library_without_plans(self) -> None:
+        if not hasattr(beas.Database, "plan"):
+            with self.assertRaises(NoPlans):
+                LibraryPlanner(SCHEMA, None)
+
+    def test_a_library_with_plans(self) -> None:
+        with mock.patch.object(beas.Database, "plan", lambda _, query: SecondPlanner(SCHEMA).plan(query), create=True):
+            planner = LibraryPlanner(SCHEMA, 1000)
+            self.addCleanup(planner.close)
+            self.assertEqual(5000 + 5000 * 31, plan_of(planner.plan(DINED)).bound)
+
+    def test_a_schema_that_is_refused(self) -> None:
+        with mock.patch.object(beas.Database, "plan", None, create=True), self.assertRaises(NoPlans):
+            LibraryPlanner(SCHEMA, None)
+        with mock.patch.object(beas.Database, "plan", lambda _, query: query, create=True), self.assertRaises(beas.Syntax):
+            LibraryPlanner("CREATE TABLE", None)
+
+    def test_another_planner(self) -> None:
+        self.addCleanup(use_planner, None)
+        use_planner(SecondPlanner)
+        self.assertIsInstance(planner_for(SCHEMA, None), SecondPlanner)
 
 
 if __name__ == "__main__":

@@ -3,6 +3,7 @@ from collections.abc import Iterator, Sequence
 from dataclasses import dataclass
 from types import TracebackType
 
+from .._errors import BadValue
 from .._lexing import refuse_another
 from .._parameters import Parameters, filled
 from .._schema import Column, Constraint
@@ -10,7 +11,7 @@ from ..plans import Plan, Value, plan_of
 from ._carrying import Carrying
 from ._catalogue import IndexThere, TableThere, indexes_there, matched, tables_there
 from ._connection import READING, WRITING, Connection, Cursor, transaction
-from ._errors import BoundBroken
+from ._errors import BoundBroken, ColumnMissing, TableMissing
 from ._planning import planner_for
 from ._relations import Row
 from ._schema import Described, described, refuse_others
@@ -109,7 +110,7 @@ class Bounded:
 
     def __init__(self, connection: Connection, schema: str, *, nulls: str = REFUSE, budget: int | None = None) -> None:
         if nulls not in (REFUSE, LEAVE_OUT):
-            raise ValueError(f"nulls is {REFUSE!r} or {LEAVE_OUT!r}")
+            raise BadValue(f"nulls is {REFUSE!r} or {LEAVE_OUT!r}")
         refuse_others(schema)
         self._connection, self._nulls, self._budget = connection, nulls, budget
         self._planner = planner_for(schema, budget)
@@ -155,10 +156,11 @@ class Bounded:
         """The size of the greatest group that a constraint of these columns would have, and the first key that has it. It reads the table
         whole."""
         one = Constraint("discovered", table.lower(), tuple(map(str.lower, key)), tuple(map(str.lower, fetched)), 1)
+        if one.table not in self.tables:
+            raise TableMissing(f"the schema has no table {table}")
         columns = {column.name for column in self.tables[one.table]}
-        unknown = [column for column in one.key + one.fetched if column not in columns]
-        if unknown:
-            raise KeyError(unknown[0])
+        if unknown := [column for column in one.key + one.fetched if column not in columns]:
+            raise ColumnMissing(f"the schema has no column {table}.{unknown[0]}")
         with transaction(self._connection) as cursor:
             return greatest_group(cursor, self._tables[one.table], one)
 
@@ -205,6 +207,8 @@ class Bounded:
                     cursor.execute(statement)
 
     def _named(self, names: Sequence[str]) -> list[Constraint]:
+        if unknown := [it for it in names if it not in self._schema.constraints]:
+            raise BadValue(f"there is no constraint {unknown[0]}")
         return [self._schema.constraints[it] for it in names] if names else self.constraints
 
     # ---- queries

@@ -5,7 +5,8 @@ from typing import Any
 
 from support import SCHEMA, Case
 
-from beas.postgres import BoundBroken, CannotKeep, DatabaseFailed, Denied
+from beas import BadValue
+from beas.postgres import BoundBroken, CannotKeep, ColumnMissing, DatabaseFailed, Denied, TableMissing
 
 PARTED = """
 CREATE TABLE parted (a bigint NOT NULL, b bigint NOT NULL) PARTITION BY RANGE (b);
@@ -40,8 +41,10 @@ class Checks(Case):
         more = bridge.with_access("of_place", "dine", ["cid"], ["pid"], 3)
         self.addCleanup(more.close)
         self.assertEqual([(2,), (3,), (4,)], more.query("SELECT DISTINCT pid FROM dine WHERE cid = 10").rows)
-        with self.assertRaises(KeyError):
-            bridge.discover("dine", ["nope"], ["pid"])
+        self.fails(ColumnMissing, lambda: bridge.discover("dine", ["nope"], ["pid"]), "dine.nope")
+        self.fails(TableMissing, lambda: bridge.discover("nope", ["pid"], ["pid"]), "no table nope")
+        with self.assertRaisesRegex(BadValue, "no constraint nope"):
+            bridge.keep("nope")
 
 
 class Indexes(Case):

@@ -196,7 +196,7 @@ class Failures(Case):
                 self.fails(kind, lambda: self.bridge(schema), why)
         with self.assertRaises(beas.Syntax):
             self.bridge("CREATE TABLE friend")
-        with self.assertRaises(ValueError):
+        with self.assertRaises(beas.BadValue):
             self.bridge(nulls="perhaps")
 
     def test_another_encoding(self) -> None:
