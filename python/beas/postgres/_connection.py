@@ -1,7 +1,8 @@
 """What is asked of a connection, transactions over it, and what its errors mean.
 
-The connection is one of psycopg2 or of psycopg 3. Neither is imported: both have all that is used here under the same names.
+The connection is one of psycopg2 or of psycopg 3. Neither is imported: both have what is used here under the same names, but for one.
 """
+import sys
 from collections.abc import Iterator, Sequence
 from contextlib import contextmanager
 from typing import Any, Protocol
@@ -58,7 +59,7 @@ class Connection(Protocol):
     @property
     def info(self) -> Any: ...
 
-    def cursor(self) -> Any: ...
+    def cursor(self, **words: Any) -> Any: ...
 
     def commit(self) -> None: ...
 
@@ -75,13 +76,25 @@ def transaction(connection: Connection, level: str = READING) -> Iterator[Cursor
         raise meaning_of(connection, why) from why
 
 
+def plain_cursor(connection: Connection) -> Cursor:
+    """A cursor whose rows are tuples, whatever rows the connection gives otherwise. The driver that made it is loaded."""
+    psycopg2, psycopg = sys.modules.get("psycopg2.extensions"), sys.modules.get("psycopg")
+    words = {}
+    if psycopg2 is not None and isinstance(connection, psycopg2.connection):
+        words = {"cursor_factory": psycopg2.cursor}
+    elif psycopg is not None and isinstance(connection, psycopg.Connection):
+        words = {"row_factory": psycopg.rows.tuple_row}
+    cursor: Cursor = connection.cursor(**words)
+    return cursor
+
+
 @contextmanager
 def _begun(connection: Connection, level: str) -> Iterator[Cursor]:
     if connection.closed:
         raise ConnectionBroken("the connection is closed")
     if connection.info.transaction_status != IDLE:
         raise InTransaction("the connection is within a transaction")
-    cursor: Cursor = connection.cursor()
+    cursor = plain_cursor(connection)
     try:
         # Without autocommit the driver has begun by itself.
         cursor.execute(f"BEGIN {level}" if connection.autocommit else f"SET TRANSACTION {level}")

@@ -52,10 +52,11 @@ def fetch(table: TableThere, one: Constraint) -> str:
 
 def greatest(table: TableThere, one: Constraint) -> str:
     """The greatest group: how many tuples it has, and its key."""
-    rest = rest_of(one)
+    # All have names of our own, since a column of the table may have any.
     names = [f"k{nth}" for nth in range(len(one.key))]
     keys = [f"{cell(table, column)} AS {name}" for column, name in zip(one.key, names)]
-    columns = ", ".join(keys + [cell(table, column) for column in rest]) or "true"
+    rest = [f"{cell(table, column)} AS r{nth}" for nth, column in enumerate(rest_of(one))]
+    columns = ", ".join(keys + rest)
     groups = f"SELECT DISTINCT {columns} FROM {table.qualified} AS t{where(present(table))}"
     by = ", ".join(names)
     ordered = ", ".join(f'{name}{collated(table, column)}' for column, name in zip(one.key, names))

@@ -1,4 +1,5 @@
 """Answers, reads and snapshots of the bridge, and what its calls raise."""
+import importlib
 import unittest
 
 from support import DINED, SCHEMA, Case, HookedConnection
@@ -90,6 +91,27 @@ class Answers(Case):
         self.connection.autocommit = True
         self.assertEqual(3, len(self.bridge().query(DINED, (1,))))
         self.assertEqual(0, self.connection.info.transaction_status)
+
+    def test_a_connection_whose_rows_are_no_tuples(self) -> None:
+        if hasattr(self.connection, "row_factory"):
+            self.connection.row_factory = importlib.import_module("psycopg.rows").dict_row
+        else:
+            self.connection.cursor_factory = importlib.import_module("psycopg2.extras").RealDictCursor
+        bridge = self.bridge()
+        self.assertEqual((3, [2, 2]), (len(bridge.query(DINED, (1,))), [it.greatest for it in bridge.check()]))
+
+    def test_a_column_that_is_named_as_those_of_a_step(self) -> None:
+        self.run_sql("CREATE TABLE named (n bigint NOT NULL, k0 bigint NOT NULL, k bigint NOT NULL, t text NOT NULL, g bigint NOT NULL)")
+        self.run_sql("INSERT INTO named VALUES (1, 2, 3, 'x', 4), (1, 5, 6, 'y', 7)")
+        names = "n INTEGER, k0 INTEGER, k INTEGER, t TEXT, g INTEGER"
+        for key, rest, values in (("n, t", "k0, k, g", "1 AND t = 'y'"), ("k0", "n, k, t, g", "5"), ("g, k", "t, n, k0", "7 AND k = 6")):
+            bridge = self.bridge(f"CREATE TABLE named ({names}); CREATE ACCESS a ON named ({key}) FETCH ({rest}) LIMIT 2")
+            answer = bridge.query(f"SELECT DISTINCT n, k0, k, t, g FROM named WHERE {key.split(',')[0]} = {values}")
+            self.assertEqual([(1, 5, 6, "y", 7)], answer.rows)
+            self.assertEqual([True], [it.holds for it in bridge.check()])
+            bridge.keep()
+            self.run_sql("UPDATE named SET g = g")
+            bridge.let_go()
 
     def test_rows_with_null_are_left_out(self) -> None:
         self.run_sql("ALTER TABLE dine ALTER COLUMN city DROP NOT NULL; INSERT INTO dine VALUES (2, 14, NULL, 1)")
