@@ -1,11 +1,12 @@
 """Plans are read from a text with strict checks, and have the lines and the bound that the second program has."""
 import copy
 import json
+import re
 import unittest
 from typing import Any
 from unittest import mock
 
-from support import Case
+from support import TOP, Case
 
 import beas
 from beas.plans import BadPlan, Leaf, Pair, Place, plan_of
@@ -131,6 +132,19 @@ class Plans(Case):
         for text in ("", "{", "[]", "7", "null", '{"bound": "1"}', "[" * 100_000):
             with self.subTest(text=text[:9]), self.assertRaises(BadPlan):
                 plan_of(text)
+
+
+class OnThePage(Case):
+    def test_the_plan_of_the_page(self) -> None:
+        """It is the plan of the question in the page's story, over the constraints that it uses."""
+        page = (TOP / "docs/postgres.md").read_text(encoding="utf-8")
+        (text,) = re.findall(r"^```json\n(.*?)^```$", page, re.M | re.S)
+        tables = re.findall(r"^CREATE TABLE \w+ \(\w+ INTEGER.*;$", page, re.M)
+        accesses = re.findall(r"^\.\.\. +(CREATE ACCESS .*;)$", page, re.M)
+        (question,) = re.findall(r'^>>> question = "(.*)"$', page, re.M)
+        planner = SecondPlanner("\n".join(tables + accesses))
+        self.assertEqual(json.loads(planner.plan(question.replace("?", "8"))), json.loads(text))
+        self.assertEqual((550, 2), (plan_of(text).bound, plan_of(text).round_trips))
 
 
 class FromTheLibrary(Case):
