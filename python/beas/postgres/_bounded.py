@@ -15,6 +15,7 @@ from ._errors import BoundBroken, ColumnMissing, TableMissing
 from ._planning import planner_for
 from ._relations import Row
 from ._schema import Described, described, refuse_others
+from ._soundness import check_plan
 from ._statements import (
     IS_KEPT,
     create_index,
@@ -230,7 +231,7 @@ class Bounded:
     def _plan(self, query: str, parameters: Parameters | None) -> Plan:
         refuse_another(query)
         plan = plan_of(self._planner.plan(query if parameters is None else filled(query, parameters)))
-        self._schema.check(plan)
+        check_plan(self._schema, plan)
         return plan
 
     # ---- the end

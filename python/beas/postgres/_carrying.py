@@ -45,19 +45,10 @@ class Carrying:
 
     def _block(self, block: Block, guide: set[Row] | None) -> set[Row]:
         found = kept(starts(block, guide), block, ())
-        self._check_output(block)
         for step in block.steps:
             before = found
             found = kept(self._after(block, step, before), block, before.classes)
         return found.projected(block.class_of(place) for place in block.output)
-
-    def _check_output(self, block: Block) -> None:
-        """Comparisons of what no step gives would never be looked at."""
-        given = {class_of for class_of, _ in block.constants} | {block.class_of(it) for it in block.output if block.guided}
-        for step in block.steps:
-            given |= set(self._classes(block, step, step.key + step.fetch))
-        if any(block.class_of(place) not in given for one in block.comparisons for place in one.places()):
-            raise BadPlan("a comparison needs a value that no step gives")
 
     def _classes(self, block: Block, step: Step, columns: Iterable[str]) -> list[int]:
         return [block.class_of(Place(step.atom, self.schema.position(step.table, it))) for it in columns]

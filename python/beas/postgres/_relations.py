@@ -3,7 +3,7 @@ import operator
 from collections.abc import Callable, Iterable, Mapping, Sequence
 from dataclasses import dataclass
 
-from ..plans import BadPlan, Block, Comparison, Place, Value
+from ..plans import Block, Comparison, Place, Value
 
 Row = tuple[Value, ...]
 TESTS: dict[str, Callable[[Value, Value], bool]] = {
@@ -23,11 +23,8 @@ class Valuations:
     rows: frozenset[Row]
 
     def positions(self, classes: Iterable[int]) -> list[int]:
-        """Where the values of some classes stand."""
-        try:
-            return [self.classes.index(it) for it in classes]
-        except ValueError:
-            raise BadPlan("a step or the output needs a value that no step before has given") from None
+        """Where the values of some classes stand, which a sound plan has given before."""
+        return [self.classes.index(it) for it in classes]
 
     def projected(self, classes: Iterable[int]) -> set[Row]:
         """The different values of some classes."""

@@ -3,7 +3,6 @@ from dataclasses import dataclass
 
 from .._lexing import first_token, statements_of, tokens_of
 from .._schema import Column, Constraint, Schema
-from ..plans import BadPlan, Plan, Step
 from ._errors import NotASchema
 
 # PostgreSQL cuts longer names short.
@@ -18,20 +17,6 @@ class Described:
     script: str
     tables: dict[str, tuple[Column, ...]]
     constraints: dict[str, Constraint]
-
-    def check(self, plan: Plan) -> None:
-        """Raises BadPlan unless each step of a plan is one of these constraints, and each atom a table."""
-        for block in plan.blocks:
-            for table, classes in zip(block.atoms, block.classes):
-                if len(self.tables.get(table, ())) != len(classes):
-                    raise BadPlan(f"the plan has another table {table} than the schema")
-            for step in block.steps:
-                self._check_step(step)
-
-    def _check_step(self, step: Step) -> None:
-        one = self.constraints.get(step.constraint)
-        if one != (step.constraint, step.table, step.key, step.fetch, step.limit):
-            raise BadPlan(f"the plan has another constraint {step.constraint} than the schema")
 
     def position(self, table: str, column: str) -> int:
         """The position of a column in its table."""

@@ -1,10 +1,13 @@
 """Answers, reads and snapshots of the bridge, and what its calls raise."""
 import importlib
+import json
 import unittest
+from typing import Any
 
 from support import DINED, SCHEMA, Case, HookedConnection
 
 import beas
+from beas.plans import BadPlan
 from beas.postgres import (
     BoundBroken,
     Bounded,
@@ -19,7 +22,9 @@ from beas.postgres import (
     TableMissing,
     TypeDiffers,
     UnknownType,
+    use_planner,
 )
+from lib.second_plans import SecondPlanner, use_the_second_program
 
 
 class Answers(Case):
@@ -191,6 +196,66 @@ class Prices(Case):
         with self.assertRaises(beas.TypeMismatch):
             bridge.query(DINED, ("x",))
         self.assertEqual([(6,)], self.rows("SELECT count(*) FROM friend"))
+
+
+class Told:
+    """A planner that tells one plan, whatever it is asked."""
+
+    def __init__(self, told: dict[str, Any]) -> None:
+        self.text = json.dumps(told)
+
+    def plan(self, query: str) -> str:
+        return self.text
+
+    def close(self) -> None:
+        """Nothing is held."""
+
+
+class WrongPlans(Case):
+    def setUp(self) -> None:
+        super().setUp()
+        self.told = json.loads(SecondPlanner(SCHEMA).plan(DINED.replace("?", "1") + " AND d.cid > 3"))
+        self.block = self.told["blocks"][0]
+        self.addCleanup(use_the_second_program)
+
+    def is_refused(self, why: str, bound: int) -> None:
+        """The plan is refused, where its bounds are those of its steps."""
+        self.told["bound"] = self.block["bound"] = str(bound)
+        use_planner(lambda script, budget: Told(self.told))
+        bridge = self.bridge()
+        self.fails(BadPlan, lambda: bridge.query(DINED, (1,)), why)
+
+    def test_another_limit(self) -> None:
+        self.block["steps"][1]["limit"] = 5
+        self.is_refused("another constraint dined", 3 + 3 * 5)
+
+    def test_another_constraint(self) -> None:
+        self.block["steps"][1]["constraint"] = "nope"
+        self.is_refused("another constraint nope", 15)
+
+    def test_another_table(self) -> None:
+        self.block["classes"][0].append(1)
+        self.is_refused("another table friend", 15)
+
+    def test_steps_in_another_order(self) -> None:
+        self.block["steps"].reverse()
+        self.is_refused("the step by dined needs a value that no step before gives", 4 + 4 * 3)
+
+    def test_an_output_that_no_step_gives(self) -> None:
+        self.block["comparisons"], self.block["steps"] = [], self.block["steps"][:1]
+        self.is_refused("the output or a comparison needs a value", 3)
+
+    def test_a_comparison_that_is_never_made(self) -> None:
+        self.block["output"], self.block["steps"] = [[0, 1], [0, 0]], self.block["steps"][:1]
+        self.is_refused("the output or a comparison needs a value", 3)
+
+    def test_steps_that_say_wrongly_what_they_add(self) -> None:
+        self.block["steps"][0]["adds"] = self.block["steps"][1]["adds"] = False
+        self.is_refused("friends says wrongly whether it adds", 3 + 4)
+
+    def test_an_atom_without_a_step_of_its_own(self) -> None:
+        self.block["output"], self.block["comparisons"], self.block["steps"] = [[0, 1], [0, 0]], [], self.block["steps"][:1]
+        self.is_refused("no step has all columns of atom 1", 3)
 
 
 class Failures(Case):
