@@ -108,6 +108,13 @@ class Indexes(Case):
         self.run_sql(dined.create)
         self.assertEqual("beas_index_dined", bridge.indexes()[1].there)
 
+    def test_a_partitioned_table(self) -> None:
+        self.run_sql(PARTED + "INSERT INTO parted VALUES (1, 150), (2, 3)")
+        bridge = self.bridge(PARTED_SCHEMA)
+        self.run_sql(bridge.indexes()[0].create)
+        self.assertEqual(("beas_index_ab", True), (bridge.indexes()[0].there, bridge.indexes()[0].covers))
+        self.assertEqual([(1,), (150,)], bridge.query("SELECT DISTINCT b FROM parted WHERE a = 1").rows)
+
     def test_long_names(self) -> None:
         name = "f" * 64
         (wanted,) = self.bridge(f"CREATE TABLE friend (pid INTEGER, fid INTEGER); CREATE ACCESS {name} ON friend (pid) FETCH (fid) LIMIT 3").indexes()
@@ -143,6 +150,12 @@ class Kept(Case):
         self.assertEqual([(0,)], self.rows("SELECT count(*) FROM pg_proc WHERE proname LIKE 'beas%'"))
         self.fails(DatabaseFailed, bridge.let_go)
         self.run_sql("INSERT INTO friend SELECT 1, nth FROM generate_series(1, 9) AS nth")
+
+    def test_a_trigger_that_is_off(self) -> None:
+        bridge = self.bridge()
+        bridge.keep()
+        self.run_sql("ALTER TABLE friend DISABLE TRIGGER USER; INSERT INTO friend SELECT 1, nth FROM generate_series(1, 9) AS nth")
+        self.assertEqual([(False, False), (True, True)], [(it.holds, it.is_kept) for it in bridge.check()])
 
     def test_nothing_is_made_if_one_doesn_t_hold(self) -> None:
         self.run_sql("INSERT INTO dine SELECT 9, nth, 'x' FROM generate_series(1, 9) AS nth")
