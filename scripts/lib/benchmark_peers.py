@@ -2,13 +2,10 @@
 import csv
 import io
 import json
-import os
 import re
 import resource
-import shutil
 import subprocess
 import sys
-import tempfile
 import time
 
 try:
@@ -19,6 +16,7 @@ except ImportError:
 from .benchmark_beas import PASSES, Files, Found
 from .benchmark_sets import Set, Values, literal, mark_of
 from .place import TOP
+from .postgres_server import DATABASE, USER, Server
 
 # what psql writes after each statement
 TIME = re.compile(r"^Time: ([0-9.]+) ms.*\n", re.M)
@@ -58,43 +56,25 @@ def as_sqlite(room: str) -> None:
     print(json.dumps({"load": load, "memory": memory, "query": best / len(work["asked"]), "mark": mark_of(answers)}))
 
 
-class Cluster:
-    """A PostgreSQL server of its own in a temporary folder, which only this user reaches."""
+class Cluster(Server):
+    """A server of its own, which is asked by psql."""
 
     def __init__(self) -> None:
-        tools = subprocess.run(["pg_config", "--bindir"], stdout=subprocess.PIPE, text=True).stdout.strip() if shutil.which("pg_config") else ""
-        there = os.listdir("/usr/lib/postgresql") if os.path.isdir("/usr/lib/postgresql") else []
-        places = [tools, *sorted((f"/usr/lib/postgresql/{it}/bin" for it in there), reverse=True)]
-        self.bin = next(it for it in places if it and os.path.exists(f"{it}/initdb"))
-        self.room = tempfile.mkdtemp(prefix="beas-postgres-")
-        self.user = ["runuser", "-u", "postgres", "--"] if os.getuid() == 0 else []
-        if self.user:
-            shutil.chown(self.room, "postgres")
-        self.do(f"{self.bin}/initdb", "-D", f"{self.room}/data", "-A", "trust", "-U", "beas", "-E", "UTF8", "--locale=C")
-        options = f"-c listen_addresses= -c unix_socket_directories={self.room} -c fsync=off -c shared_buffers=2GB -c jit=off"
-        self.do(f"{self.bin}/pg_ctl", "-D", f"{self.room}/data", "-o", options, "-w", "-l", f"{self.room}/log", "start")
-
-    def do(self, *words: str) -> None:
-        subprocess.run([*self.user, *words], check=True, stdout=subprocess.DEVNULL, cwd="/")
+        super().__init__("postgres", shared_buffers="2GB")
 
     def psql(self, script: str) -> tuple[str, float]:
         began = time.monotonic()
-        ran = subprocess.run(["psql", "-h", self.room, "-U", "beas", "-d", "postgres", "-q", "-At", "--csv", "-v", "ON_ERROR_STOP=1"],
+        ran = subprocess.run(["psql", "-h", self.folder, "-U", USER, "-d", DATABASE, "-q", "-At", "--csv", "-v", "ON_ERROR_STOP=1"],
                              input=script, stdout=subprocess.PIPE, text=True, check=True)
         return ran.stdout, time.monotonic() - began
 
     def size(self) -> float:
         """The database in MB."""
-        return float(self.psql("SELECT pg_database_size('postgres') / 1048576.0;\n")[0])
-
-    def stop(self) -> None:
-        self.do(f"{self.bin}/pg_ctl", "-D", f"{self.room}/data", "-m", "immediate", "stop")
-        shutil.rmtree(self.room, ignore_errors=True)
+        return float(self.psql("SELECT pg_database_size(current_database()) / 1048576.0;\n")[0])
 
 
 def run_postgres(_: str, the_set: Set, files: Files, asked: list[Values], room: str) -> Found:
-    cluster = Cluster()
-    try:
+    with Cluster() as cluster:
         before = cluster.size()
         copies = [f"\\copy {table} FROM '{room}/{file}' WITH (FORMAT csv, HEADER true)" for table, file in files]
         begun = "".join(f"{it};\n" for it in the_set.schema()) + "\n".join(copies) + "\n"
@@ -108,5 +88,3 @@ def run_postgres(_: str, the_set: Set, files: Files, asked: list[Values], room: 
         out, spent = min(((it, sum(map(float, TIME.findall(it))) / 1000) for it in (cluster.psql(ask)[0] for _ in range(PASSES))), key=lambda it: it[1])
         answers = [list(csv.reader(io.StringIO(part))) for part in TIME.split(out)[::2][:-1]]
         return {"load": load, "memory": cluster.size() - before, "query": spent / len(asked), "mark": mark_of(answers)}
-    finally:
-        cluster.stop()
