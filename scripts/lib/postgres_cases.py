@@ -2,6 +2,7 @@
 from collections.abc import Iterator
 from typing import Any, NamedTuple
 
+from .case_runs import differs, reports_of
 from .second_plans import SecondPlanner
 from .second_program.answers import Run, checked_run
 from .second_program.database import Row
@@ -37,12 +38,13 @@ class Told(NamedTuple):
 class Drawn:
     """A drawn case, carried out in a database that is empty at first. With NULLs each table has rows besides that are to be left out."""
 
-    def __init__(self, connection: Any, seed: str) -> None:
+    def __init__(self, connection: Any, seed: str, program: str | None = None) -> None:
         self.case, self.connection, self.cursor = Case(seed), connection, connection.cursor()
         self.desk, self.script = Desk(Rows(self.case.files)), list[str]()
         self.has_nulls = self.case.draw.random() < 0.3
         self.cursor.execute(f"DROP SCHEMA IF EXISTS {TABLES}, {SHOWN} CASCADE; CREATE SCHEMA {TABLES}; CREATE SCHEMA {SHOWN}")
         self.bridge: Bounded | None = None
+        self.reports = iter(reports_of(program, self.case)) if program else None
 
     def queries(self) -> Iterator[Told]:
         """Carries the statements out, and tells what came of each query."""
@@ -94,11 +96,12 @@ class Drawn:
         try:
             run = checked_run(planner.prepared(text), self.desk.db)
         except NotCovered:
-            return Told(False, 0, None)
+            run = None
         finally:
             planner.close()
-        wrong = self.compare(text, run)
-        return Told(True, sum(plan.is_guided for plan in run.prepared.plans), wrong and f"{wrong}\n{text}")
+        wrong = differs(next(self.reports), run) if self.reports else None
+        wrong = wrong or run and self.compare(text, run)
+        return Told(run is not None, sum(plan.is_guided for plan in run.prepared.plans) if run else 0, wrong and f"{wrong}\n{text}")
 
     def planner(self) -> SecondPlanner:
         return SecondPlanner(";".join(self.script))
