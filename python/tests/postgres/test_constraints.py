@@ -164,6 +164,20 @@ class Kept(Case):
         self.assertEqual(("dined", (9,), 4), (why.constraint, why.key, why.limit))
         self.assertEqual([False, False], [it.is_kept for it in bridge.check()])
 
+    def test_a_writer_who_is_not_done(self) -> None:
+        """What others have written and not committed yet is waited for, and then counted."""
+        bridge, other, said = self.bridge(), self.connected(), list[object]()
+        with other.cursor() as cursor:
+            cursor.execute("INSERT INTO friend SELECT 1, nth FROM generate_series(1, 9) AS nth")
+        waiting = threading.Thread(target=lambda: said.append(self.fails(BoundBroken, bridge.keep)))
+        waiting.start()
+        waiting.join(0.3)
+        self.assertTrue(waiting.is_alive(), "keep doesn't wait")
+        other.commit()
+        waiting.join(10)
+        self.assertEqual([BoundBroken], list(map(type, said)))
+        self.assertEqual([False, False], [it.is_kept for it in bridge.check()])
+
     def test_what_can_t_be_kept(self) -> None:
         self.run_sql("ALTER TABLE friend RENAME TO other; CREATE VIEW friend AS SELECT * FROM other")
         self.fails(CannotKeep, self.bridge(nulls="leave out").keep)
