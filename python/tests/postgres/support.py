@@ -12,7 +12,8 @@ sys.path[:0] = [str(TOP / "python"), str(TOP / "scripts")]
 from lib.postgres_server import connect  # noqa: E402
 from lib.second_plans import use_the_second_program  # noqa: E402
 
-from beas.postgres import Bounded, BridgeError  # noqa: E402
+from beas import Error  # noqa: E402
+from beas.postgres import Bounded  # noqa: E402
 
 use_the_second_program()
 FOLDER = os.environ.get("BEAS_POSTGRES", "")
@@ -101,7 +102,7 @@ class Case(unittest.TestCase):
         self.addCleanup(made.close)
         return made
 
-    def fails(self, kind: type[BridgeError], call: Callable[[], object], why: str = "") -> Any:
+    def fails(self, kind: type[Error], call: Callable[[], object], why: str = "") -> Any:
         """The error that a call ends with; the connection is idle afterwards, and serves on unless it is broken."""
         with self.assertRaisesRegex(kind, why) as caught:
             call()
