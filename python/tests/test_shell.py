@@ -7,6 +7,7 @@ import signal
 import subprocess
 import sys
 import tempfile
+import time
 import unittest
 from array import array
 from pathlib import Path
@@ -192,20 +193,29 @@ class Terminal:
         self.wait_for(wanted)
 
     def interrupt(self, wanted: str) -> None:
-        """An interrupt that comes while the prompt is being made waits for the next key, so another one is sent."""
-        for _ in range(50):
+        """An interrupt that comes while the prompt is being made waits for the next key, which may be a space."""
+        for _ in range(20):
             self.ran.send_signal(signal.SIGINT)
-            if select.select([self.outer], [], [], 0.2)[0]:
-                break
+            if self.comes(wanted, 1):
+                return
+            os.write(self.outer, b" ")
+            if self.comes(wanted, 1):
+                return
         self.wait_for(wanted)
 
     def wait_for(self, text: str) -> None:
+        if not self.comes(text, 60):
+            raise AssertionError(f"{text!r} doesn't come after {self.seen!r}")
+
+    def comes(self, text: str, seconds: float) -> bool:
         """Reads until a text comes; what was read up to it is not looked at again."""
+        end = time.monotonic() + seconds
         while text not in self.seen[self.at :]:
-            if not select.select([self.outer], [], [], 20)[0]:
-                raise AssertionError(f"{text!r} doesn't come after {self.seen!r}")
+            if not select.select([self.outer], [], [], max(0.0, end - time.monotonic()))[0]:
+                return False
             self.seen += os.read(self.outer, 4096).decode()
         self.at = self.seen.index(text, self.at) + len(text)
+        return True
 
 
 if __name__ == "__main__":
