@@ -1,0 +1,2 @@
+pub mod NamedFacts
+pub mod Tokens
