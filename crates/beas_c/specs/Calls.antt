@@ -32,9 +32,9 @@ HasSet budget explain (Some held) status after =
 abbrev pub HasAdded : List ℕ → List ℕ → Option Held → ℤ → Option Held → Type 0
 HasAdded name bytes None status after = (status ≡ closed) × (after ≡ None)
 HasAdded name bytes (Some held) status after =
-    ((status ≡ done) × IsSomeAnd after (λ new. HasFile name bytes held.engine new.engine))
+    ((status ≡ done) × IsUtf8 name × IsSomeAnd after (λ new. HasFile name bytes held.engine new.engine))
     ⊎ ((status ≡ not_text) × (IsUtf8 name → ⊥) × (after ≡ Some held))
-    ⊎ ((status ≡ no_memory) × (after ≡ Some held))
+    ⊎ ((status ≡ no_memory) × IsUtf8 name × (after ≡ Some held))
 
 -- a text without a report leaves all as it was
 pub record IsRefused (cause : Why → Type 0) (before : Held) (status : ℤ) (after : Option Held) : Type 0 where

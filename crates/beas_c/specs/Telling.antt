@@ -3,7 +3,7 @@
 --     HasTold part held status old new            this part of what is held is told
 --     HasToldWide ..                              the same in two halves; HasToldSum of a number with a sign
 --     HasCopied text held status ..               a text's bytes are at the front, where there is room, and its length is told
---     MayCopy ..                                  or memory ran out
+--     MayCopy part held status ..                 the same, or memory ran out where there is such a text; MayCopySome of what was found
 --     kind_of report                              the number of its kind
 --     type_of cell                                the number of its type
 --     name_of which pair                          the name of the key, which is 0, or that of the other column
@@ -78,10 +78,14 @@ abbrev pub HasCopied : (Engine → Option (List ℕ)) → Option Held → ℤ �
 HasCopied part None status old new length_old length_new = (status ≡ closed) × (new ≡ old) × (length_new ≡ length_old)
 HasCopied part (Some held) status old new length_old length_new = CopiesSome (part held.engine) status old new length_old length_new
 
+abbrev pub MayCopySome : Option (List ℕ) → ℤ → List ℕ → List ℕ → ℕ → ℕ → Type 0
+MayCopySome None status old new length_old length_new = (status ≡ absent) × (new ≡ old) × (length_new ≡ length_old)
+MayCopySome (Some text) status old new length_old length_new =
+    Copies text status old new length_new ⊎ ((status ≡ no_memory) × (new ≡ old) × (length_new ≡ length_old))
+
 abbrev pub MayCopy : (Engine → Option (List ℕ)) → Option Held → ℤ → List ℕ → List ℕ → ℕ → ℕ → Type 0
-MayCopy part held status old new length_old length_new =
-    HasCopied part held status old new length_old length_new
-    ⊎ ((status ≡ no_memory) × (new ≡ old) × (length_new ≡ length_old))
+MayCopy part None status old new length_old length_new = (status ≡ closed) × (new ≡ old) × (length_new ≡ length_old)
+MayCopy part (Some held) status old new length_old length_new = MayCopySome (part held.engine) status old new length_old length_new
 
 -- ---- an answer, and pairs
 
