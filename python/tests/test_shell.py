@@ -1,4 +1,5 @@
 """The shell: lines, tables, completions, statuses, and a prompt at a terminal."""
+import functools
 import io
 import os
 import pty
@@ -175,7 +176,9 @@ class Terminal:
     def __init__(self, folder: str) -> None:
         self.outer, inner = pty.openpty()
         around = {**os.environ, "PYTHONPATH": TESTS, "BEAS_HISTORY": f"{folder}/history", "TERM": "dumb"}
-        self.ran = subprocess.Popen(RUN, stdin=inner, stdout=inner, stderr=inner, env=around, start_new_session=True)
+        # where the tests run in the background interrupts are ignored, and so they would be here
+        listens = functools.partial(signal.signal, signal.SIGINT, signal.SIG_DFL)
+        self.ran = subprocess.Popen(RUN, stdin=inner, stdout=inner, stderr=inner, env=around, start_new_session=True, preexec_fn=listens)
         os.close(inner)
         self.seen, self.at = "", 0
 
