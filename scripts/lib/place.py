@@ -1,5 +1,6 @@
 """Where things stand in the repository, and the environment in which a program is measured."""
 import os
+import re
 import sys
 from pathlib import Path
 
@@ -27,3 +28,16 @@ def start_in_large_pages() -> None:
 def read(path: str | Path) -> str:
     """A file of the repository; an odd byte of it is replaced."""
     return (TOP / path).read_text(encoding="utf-8", errors="replace")
+
+
+def unread_files(case: Path) -> set[str]:
+    """The file that can't be read when a stored script loads it, if its case has a number of a read that fails. The first read, 0, is that of
+    the script, and each LOAD makes one."""
+    if not (case / "failing_read").exists():
+        return set()
+    failing = int((case / "failing_read").read_text(encoding="utf-8"))
+    loads = re.findall(r"LOAD \w+ FROM '([^']*)'", (case / "script.beas").read_text(encoding="utf-8"))
+    name = loads[failing - 1] if failing else "script.beas"
+    if loads.count(name) > 1:
+        raise ValueError(f"{case.name} loads {name} more than once, and one of these reads fails")
+    return {name}
