@@ -25,6 +25,20 @@ def start_in_large_pages() -> None:
         os.execv(sys.executable, [sys.executable, *sys.argv])
 
 
+def memory_of_machine() -> float:
+    """In GB."""
+    return os.sysconf("SC_PAGE_SIZE") * os.sysconf("SC_PHYS_PAGES") / 2**30
+
+
+def machine_at_hand() -> str:
+    """The processors and the memory, and whether they have other work now."""
+    with open("/proc/cpuinfo", encoding="utf-8") as file:
+        found = re.search(r"model name\s*: (.*)", file.read())
+    model, load = found[1] if found else "unknown", os.getloadavg()[0]
+    busy = f", which did other work too ({load:.1f} processors' worth)" if load > 1.5 else ""
+    return f"{os.cpu_count()} processors ({model}), {memory_of_machine():.0f} GB{busy}"
+
+
 def read(path: str | Path) -> str:
     """A file of the repository; an odd byte of it is replaced."""
     return (TOP / path).read_text(encoding="utf-8", errors="replace")
