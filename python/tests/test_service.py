@@ -144,14 +144,16 @@ class Load(Case):
         """What begins before the first moment or after the last one isn't counted, and what is counted is timed from its beat."""
         now = perf_counter()
         asked: list[Any] = []
-        times = service_load.times_of(lambda it: asked.append(it) or [], [(1,), (2,), (3,)], iter([now - 10, now - 5, now - 1]), now - 6, now + 60)
+        ask = lambda values: asked.append(values) or []
+        times = service_load.times_of(ask, [(1,), (2,), (3,)], iter([now - 10, now - 5, now - 1]), now - 6, now + 60)
         self.assertEqual([(1,), (2,), (3,)], asked)
         self.assertEqual([5, 1], [int(it) for it in times])
         self.assertEqual([], service_load.times_of(lambda it: [], [(1,)], iter([now]), now, now - 1))
 
     def test_hundredths(self) -> None:
         values = [float(it) for it in range(1, 201)]
-        self.assertEqual([100.0, 198.0, 1.0], [service_load.hundredth(values, 50), service_load.hundredth(values, 99), service_load.hundredth([1.0], 99)])
+        self.assertEqual([1.0, 100.0, 198.0, 200.0], [service_load.hundredth(values, share) for share in (0, 50, 99, 100)])
+        self.assertEqual(1.0, service_load.hundredth([1.0], 99))
         with self.assertRaisesRegex(RuntimeError, "no question was answered"):
             service_load.figures_of([], Pace(1, 1.0))
 
