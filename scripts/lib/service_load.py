@@ -84,10 +84,10 @@ def named(values: Values) -> dict[str, int | str]:
 
 
 def times_of(ask: Ask, draws: Iterable[Values], beats: Iterator[float], begin: float, end: float) -> list[float]:
-    """The seconds of each question that is asked between two moments."""
-    times = []
+    """The seconds of each question that is asked between two moments, and of one at least, however long answers take."""
+    times = list[float]()
     for since, values in zip(beats, draws):
-        if perf_counter() > end:
+        if times and perf_counter() > end:
             break
         ask(values)
         spent = perf_counter() - since
@@ -173,8 +173,6 @@ def hundredth(ordered: Sequence[float], share: int) -> float:
 
 
 def figures_of(times: list[float], pace: Pace) -> Figures:
-    if not times:
-        raise RuntimeError(f"no question was answered in {pace.seconds} seconds")
     ordered = sorted(times)
     figures = {"p50": hundredth(ordered, 50), "p99": hundredth(ordered, 99), "greatest": ordered[-1]}
     return {**figures, "questions": len(ordered), "a second": len(ordered) / pace.seconds}
