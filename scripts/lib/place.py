@@ -1,8 +1,10 @@
-"""Where things stand in the repository, and the environment in which a program is measured."""
+"""Where things stand in the repository, the environment in which a program is measured, and how a script with servers ends."""
 import os
 import re
+import signal
 import sys
 from pathlib import Path
+from types import FrameType
 
 TOP = Path(__file__).resolve().parents[2]
 # folders of scripts with what is to be written for each
@@ -23,6 +25,16 @@ def start_in_large_pages() -> None:
     if "GLIBC_TUNABLES" not in os.environ:
         os.environ["GLIBC_TUNABLES"] = TUNABLES
         os.execv(sys.executable, [sys.executable, *sys.argv])
+
+
+def end_well() -> None:
+    """Lets a signal that ends this script end its servers first."""
+
+    def leave(number: int, _: FrameType | None) -> None:
+        raise SystemExit(128 + number)
+
+    for number in (signal.SIGTERM, signal.SIGHUP):
+        signal.signal(number, leave)
 
 
 def memory_of_machine() -> float:

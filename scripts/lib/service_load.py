@@ -137,7 +137,8 @@ class Client:
 
 def by_http(words: Sequence[str], cafes: Cafes, pace: Pace) -> tuple[list[float], list[Rows]]:
     """The seconds of each request, and the answers to the first questions."""
-    with served(words, cafes.room) as port, ThreadPoolExecutor(pace.clients) as threads:
+    # If something goes wrong, the service ends first, and so clients that still ask do.
+    with ThreadPoolExecutor(pace.clients) as threads, served(words, cafes.room) as port:
         clients = [Client(port) for _ in range(pace.clients)]
         try:
             answers = [clients[0].ask(values) for values in cafes.draws[:COMPARED]]
