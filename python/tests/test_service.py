@@ -74,6 +74,7 @@ class Services(Case):
         for path in ("/cafes", "/cafes?person=0", "/cafes?person=x&year=1&month=1&city=", "/cafes?person=9223372036854775808&year=1&month=1&city="):
             self.assertEqual(400, self.get(path)[0], path)
         wrong = [{"query": FRIENDS}, {"query": FRIENDS, "parameters": "0"}, {"query": FRIENDS, "parameters": [None]}, {"query": "DELETE FROM friend"},
+                 {"query": "LOAD friend FROM 'cafes.beas'"},
                  {"query": "@1 " + FRIENDS, "parameters": [0]}, {"query": "SELECT;SELECT"}, {"query": 7}]
         for body in (b"", b"{", b"[]", *wrong):
             self.assertEqual(400, self.post("/query", body)[0], body)
@@ -119,6 +120,8 @@ class Load(Case):
             load_test.write({"taken": "2026-11-30", "machine": "one processor", **Pace(4, 2.0)._asdict(), "runs": runs}, Path(room))
             self.assertEqual(4, (Path(room) / "service-cafes.svg").read_text(encoding="utf-8").count("<polyline"))
             table = (Path(room) / "table.md").read_text(encoding="utf-8")
+        runs["10000"] = {"http": {**figures, "p50": 0.003, "p99": 0.5}, "package": figures}
+        self.assertEqual("HTTP: over 10,000 rows p50 1.50 times and p99 2.00 times that over 1,000", load_test.growth_of("http", runs))
         self.assertIn("| 10,000 | HTTP | 2 ms | 250 ms | 250 ms | 2 |\n", table)
         self.assertIn(table, with_part(read("docs/library.md"), load_test.MARK, table))
 
