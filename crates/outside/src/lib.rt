@@ -10,4 +10,5 @@ mod sink;
 pub use files::{Files, FilesError};
 pub use memory_files::{MemoryFiles, SteadyFiles};
 pub use memory_sink::{MemorySink, SteadySink};
+pub use shelf::{Shelf, copy_within};
 pub use sink::{Sink, SinkError};
