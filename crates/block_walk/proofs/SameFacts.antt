@@ -28,3 +28,17 @@ same_more xs ys zs x same more y = (
     | inr k ↦ Has-append_right xs (x ∷ []) y k
   ]),
 )
+
+-- a list goes on with rows that are all the same one, be they few or many
+pub same_one : (start now some all : List Row) (x : Row) → SameMembers now (start ++ some) → ((y : Row) → Has some y → y ≡ x)
+    → ((y : Row) → Has all y → y ≡ x) → Has some x → Has all x → SameMembers now (start ++ all)
+same_one start now some all x same only_some only_all in_some in_all y = (
+  λ h. elim (Has-append_cases start some y ((same y).0 h)) [
+    | inl k ↦ Has-append_left start all y k
+    | inr k ↦ Has-append_right start all y (subst (Has all) (sym (only_some y k)) in_all)
+  ],
+  λ h. (same y).1 (elim (Has-append_cases start all y h) [
+    | inl k ↦ Has-append_left start some y k
+    | inr k ↦ Has-append_right start some y (subst (Has some) (sym (only_all y k)) in_some)
+  ]),
+)

@@ -127,7 +127,8 @@ fn push_output_once(
     Ok(())
 }
 
-// Adds the outputs of the valuations after the last step that one before it and the tuples of an entry make.
+// Adds the outputs of the valuations after the last step that one before it and the tuples of an entry make. Where the step is
+// settled, all of them give the same output, so that no tuple is looked at after the first one that leads on.
 fn push_outputs(
     alloc: Global,
     block: &Normal,
@@ -150,6 +151,9 @@ fn push_outputs(
         let tuple = known.tuple(place, i);
         if leads(block, stage, row, tuple) {
             push_output_once(alloc, block, stage, row, tuple, through)?;
+            if stage.settled {
+                return Ok(());
+            }
         }
     }
     Ok(())

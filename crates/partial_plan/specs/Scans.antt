@@ -1,5 +1,5 @@
 -- Scans: constraints whose indexes are built for one query, and a port that has them beside its own.
---     scanned_rows sizes scans            how many rows are read to build an index for each, where `sizes` has the number of rows of each table
+--     scanned_rows sizes scans            how many rows are counted for the indexes of all, shared or not; `sizes` has the number of rows of each table
 --     AreBuilt tables scans indexes       there is an index for each scan, in their order, over the rows of its table
 --     HaveSameColumns a b                 two scans have the same columns, so the same groups over the rows of one table
 --     index_under scan index              an index that stands for another scan of its columns
@@ -18,7 +18,7 @@ use Rattle.beas_core.specs.Groups.{Holds}
 use Rattle.beas_core.specs.Derivations.{is_live}
 use Rattle.access_index.specs.Index.{Index, IsIndexOf, members_at, stands_at}
 
--- ---- what is read to build them
+-- ---- what is counted for them
 
 -- how many rows each table has
 abbrev pub TableSizes : Type 0

@@ -3,7 +3,8 @@
 --                                         them that has the hash, as places are counted from the last tuple
 --     IsHashed places tuples count post   what a call gives for the number of each of so many tuples is its hash
 --     HasNone places tuples hash i j      no tuple from the one on and before the other has the hash
---     IsNext places tuples hash old o new   what comes next, so that none is left out that has the hash
+--     IsNext places tuples hash old o new   what comes next, so that none is left out that has the hash, and no more than that: what comes may have
+--                                         another; where nothing comes, all stays as it is
 use Rattle.std.specs.Prelude.{◌≡◌, ◌<◌, ◌≤◌, ◌+◌, ◌-◌, [], ℕ, List, Option, None, Some, IfSome, length, slice_index_or}
 use Rattle.beas_core.specs.Types.{Row}
 use Rattle.place_chains.specs.declared.fitting.Fitting.{Fitting}
@@ -23,6 +24,6 @@ abbrev pub HasNone : List ℕ → List Row → ℕ → ℕ → ℕ → Type 0
 HasNone places tuples hash i j = (k : ℕ) → i ≤ k → k < j → hash_at places (slice_index_or tuples k []) ≡ hash → ⊥
 
 abbrev pub IsNext : List ℕ → List Row → ℕ → Fitting → Option ℕ → Fitting → Type 0
-IsNext places tuples hash old None new = HasNone places tuples hash old.from (length tuples)
+IsNext places tuples hash old None new = HasNone places tuples hash old.from (length tuples) × (new ≡ old)
 IsNext places tuples hash old (Some i) new = (old.from ≤ i) × (i < length tuples) × HasNone places tuples hash old.from i
     × (new.from ≡ i + 1) × IsFitting places tuples hash new

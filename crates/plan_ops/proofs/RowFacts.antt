@@ -1,8 +1,9 @@
 -- One step from one valuation: what its places say is what the definitions say.
-use Rattle.std.proofs.Common.{◌≡◌, ◌&&◌, ◌<◌, ◌+◌, ℕ, zero, suc, pos, Bool, true, false, cond, List, [], ◌∷◌, length, get_or, All, Result, Ok, Err, refl, ap, sym, subst, ◌∙◌, arith}
+use Rattle.std.proofs.Common.{◌≡◌, ◌&&◌, ◌<◌, ◌+◌, ℕ, zero, suc, pos, Bool, true, false, cond, List, [], ◌∷◌, ◌++◌, length, get_or, All, Result, Ok, Err, refl, ap, sym, subst, ◌∙◌, arith}
 use Rattle.std.specs.Result.{IfOk}
-use Rattle.std.specs.List.{filter}
+use Rattle.std.specs.List.{filter, zip}
 use Rattle.std.proofs.lemmas.List.{length-map}
+use Rattle.std.proofs.lemmas.Slice.Zip.{firsts-zip}
 use Rattle.beas_core.specs.declared.value.Value.TheVariants.{Int}
 use Rattle.beas_core.specs.declared.schema.Access.{Access}
 use Rattle.beas_core.specs.declared.value.Value.{Value}
@@ -15,13 +16,14 @@ use Rattle.beas_core.specs.declared.plan.DStep.{DStep}
 use Rattle.beas_core.specs.declared.plan.Normal.{Normal}
 use Rattle.beas_core.specs.Types.{Row, ClassSet, Use}
 use Rattle.beas_core.specs.Groups.{group_of, member_columns, project}
-use Rattle.beas_core.specs.Coverage.{class_at, place_class, holds_classes, key_classes}
+use Rattle.beas_core.specs.Coverage.{class_at, has, place_class, holds_classes, key_classes, output_classes}
 use Rattle.beas_core.specs.Derivations.{access_in, member_classes}
 use Rattle.beas_core.specs.Valuations.{agrees, as_bindings, classes_in, comparison_is_met, output_row, value_of}
-use Rattle.beas_core.proofs.Sets.{Has, Contains-from_has}
+use Rattle.beas_core.proofs.Sets.{Has, Has-map, Contains-from_has}
 use Rattle.evaluation_facts.specs.Extensions.{meets_bound}
-use Rattle.evaluation_facts.proofs.ClassSetFacts.{length-with}
-use Rattle.evaluation_facts.proofs.MemberTests.{and_left}
+use Rattle.evaluation_facts.proofs.BindingFacts.{Has-classes_in, map_same, value-append_in, value_in_valuation}
+use Rattle.evaluation_facts.proofs.ClassSetFacts.{has-with_kept, length-with}
+use Rattle.evaluation_facts.proofs.MemberTests.{all_has, and_left}
 use Rattle.evaluation_facts.proofs.UseFacts.{same_number}
 use Rattle.plan_ops.specs.declared.joining.Join.{Join}
 use Rattle.plan_ops.specs.declared.stages.Stage.{Stage}
@@ -87,6 +89,20 @@ module _ (normal : Normal) (atom : ℕ) (classes : List ℕ) (are : classes ≡ 
         row = rows_are normal (a ∷ []) s classes are join is v t wide fit bound begins;
       })
 
+-- a step leaves the output of a valuation as it is, where all classes of the output are bound before it
+pub output_kept : (normal : Normal) (u : Use) (set : ClassSet) (v t : Row) → holds_classes set (output_classes normal) ≡ true
+    → length v ≡ length (classes_in set) → output_row normal (bound_with normal u set) (joined_row normal u set v t) ≡ output_row normal set v
+output_kept normal u set v t held wide =
+    let w = as_bindings set v in
+    let more = zip (member_classes normal u) t in
+    let after = bound_with normal u set in
+    map_same (λ p. value_of (as_bindings after (joined_row normal u set v t)) (place_class normal p)) (λ p. value_of w (place_class normal p)) normal.output
+    (λ p m.
+    let c = place_class normal p in
+    let h = all_has (has set) (output_classes normal) c held (Has-map (place_class normal) normal.output p m) in
+    value_in_valuation after (w ++ more) c (has-with_kept (member_classes normal u) set c h)
+    ∙ value-append_in w more c (subst (λ ks. Has ks c) (sym (firsts-zip (classes_in set) v wide)) (Has-classes_in set c h)))
+
 -- the classes after a join are those of their set
 pub join_classes : (normal : Normal) (u : Use) (classes : List ℕ) (join : Join) → IsJoin normal u classes join
     → join.classes ≡ classes_in (set_of normal join.classes)
@@ -146,6 +162,10 @@ module _ (normal : Normal) (stage : Stage) (is : IsStage normal stage) where
   pub key_made : (v : Row) → length v ≡ length stage.from.value → project stage.picked.0 v ≡ key_by normal u set v
   key_made v wide = ap (λ k. project k v) is.key_is
       ∙ picked_values set stage.from.value (class_at normal stage.atom) stage.access.value.key v is.from_are wide
+
+  pub output_settled : stage.settled ≡ true → (v t : Row) → length v ≡ length stage.from.value
+      → output_row normal after (joined_row normal u set v t) ≡ output_row normal set v
+  output_settled e v t wide = output_kept normal u set v t (sym is.settled_is ∙ e) (wide ∙ ap length is.from_are)
 
   module _ (v t : Row) (pair : IsPair normal stage v t) where
     pub pair_within : IsWithin (length v + length t) stage.join

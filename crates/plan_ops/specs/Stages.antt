@@ -11,7 +11,7 @@ use Rattle.beas_core.specs.declared.value.Value.TheVariants.{Int}
 use Rattle.beas_core.specs.declared.plan.Normal.{Normal}
 use Rattle.beas_core.specs.Types.{Row, ClassSet, Bindings, Use}
 use Rattle.beas_core.specs.Groups.{member_columns}
-use Rattle.beas_core.specs.Coverage.{class_at, place_class, with_classes, holds_classes, key_classes}
+use Rattle.beas_core.specs.Coverage.{class_at, place_class, with_classes, holds_classes, key_classes, output_classes}
 use Rattle.beas_core.specs.Derivations.{member_classes}
 use Rattle.beas_core.specs.Valuations.{value_of, agrees, classes_in, as_bindings}
 use Rattle.evaluation_facts.specs.Extensions.{meets_bound}
@@ -58,6 +58,7 @@ pub record IsStage (normal : Normal) (stage : Stage) : Type 0 where
   pub join_is : IsJoin normal (use_at stage) stage.from.value stage.join
   pub sides_are : stage.sides.items ≡ map (sides_at normal stage.join.classes) normal.comparisons
   pub output_is : stage.picked.1 ≡ map (λ p. column_of stage.join.classes (place_class normal p)) normal.output
+  pub settled_is : stage.settled ≡ holds_classes (set_before normal stage) (output_classes normal)
 
 -- a valuation before the step, and a tuple that its key finds
 pub record IsPair (normal : Normal) (stage : Stage) (v tuple : Row) : Type 0 where

@@ -1,7 +1,7 @@
 // Where classes stand in valuations.
 ghost use Rattle.std.specs.Prelude.{◌≡◌, ◌+◌, ◌++◌, ◌≤◌, length, map, vec_capacity, vec_len, IfOk};
 ghost use Rattle.std.specs.Ordering.{nat_cmp};
-ghost use Rattle.beas_core.specs.Coverage.{class_at as class_of_column, place_class};
+ghost use Rattle.beas_core.specs.Coverage.{ClassesInRange, class_at as class_of_column, holds_classes, place_class};
 ghost use Rattle.beas_core.specs.Sets.{IsInOrder};
 ghost use Rattle.beas_core.specs.Valuations.{classes_in};
 ghost use Rattle.plan_ops.specs.Over.{set_of};
@@ -29,6 +29,21 @@ fn column_in(block: &Normal, classes: &[u16], class: u16) -> ColumnId
     // Read for what its type tells: there are fewer than 2^16 classes, so that each place has a column's number.
     let _count = block.count;
     ColumnId(place_in(classes, class) as u16)
+}
+
+/// Whether the classes of some places all stand among these.
+pub fn hold_places(block: &Normal, classes: &[u16], places: &[Place]) -> bool
+    requires ranges { ClassesInRange block.now }
+    requires classes { classes.now ≡ classes_in (set_of block.now classes.now) }
+    ensures { result ≡ holds_classes (set_of block.now classes.now) (map (place_class block.now) places.now) }
+{
+    for place in places {
+        let class = class_at(block, place.atom, place.column);
+        if place_in(classes, class) == classes.len() {
+            return false;
+        }
+    }
+    true
 }
 
 /// Adds the columns that the classes of some columns of an atom have in valuations, where there is room for them.

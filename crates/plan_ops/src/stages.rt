@@ -16,7 +16,7 @@ use crate::keeping::sign_holds;
 use crate::pairs::{pair_fits, push_pair, value_in_pair};
 use crate::picked::Picked;
 use crate::picking::{push_values, values_in};
-use crate::places::columns_at;
+use crate::places::{columns_at, hold_places};
 use beas_core::{
     Access, ColumnId, Comparison, Duplicate, List, NoMemory, Normal, Operand, Row, Value, compare,
 };
@@ -38,6 +38,8 @@ pub struct Stage {
     pub sides: Vec<Sides>,
     /// The columns of its key in these valuations, and those of the block's output in valuations after it.
     pub picked: Picked,
+    /// Whether all classes of the block's output are bound before it: then none of its tuples changes the output of a valuation.
+    pub settled: bool,
 }
 
 /// The stage of a step on an atom by a constraint, after valuations of these classes.
@@ -62,6 +64,7 @@ pub fn stage_of(
     let after = join.classes.as_slice();
     let sides = all_sides(alloc, block, after)?;
     let picked = Picked::of(alloc, block, before, after, atom, access.key.as_slice())?;
+    let settled = hold_places(block, before, block.output.as_slice());
     Ok(Stage {
         atom,
         access: Snapshot::of(access),
@@ -69,6 +72,7 @@ pub fn stage_of(
         join,
         sides,
         picked,
+        settled,
     })
 }
 

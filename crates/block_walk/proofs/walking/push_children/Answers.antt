@@ -92,6 +92,6 @@ returns-clause-pending c =
     let row = row_of c.args.pending.now at in
     let tuples = (entry_of c.args.known.now c.args.place).1 in
     let was = c.tuples.invariant in
-    let none = c.in_default.ensures stage.join.shared.tuple.items tuples (hash_at stage.join.shared.row.items row) was.fits in
+    let none = (c.in_default.ensures stage.join.shared.tuple.items tuples (hash_at stage.join.shared.row.items row) was.fits).0 in
     was.pending ∙ ap (λ (rows : List Row). pending_in c.args.pending.now ++ children (pending_of c.args.pending.now.values.items at) rows)
     (next_all normal stage c.requires.stage row tuples c.requires.pairs c.tuples.fitting.from was.fits.from none)

@@ -54,7 +54,7 @@ returns g c =
     let tuples = g.P.AccessPort.members c.args.port.now c.args.hits.now in
     let p = fits_by join.checks.items row in
     let was = c.tuples.invariant in
-    let none = c.in_default.ensures join.shared.tuple.items tuples (hash_at join.shared.row.items row) was.fits in
+    let none = (c.in_default.ensures join.shared.tuple.items tuples (hash_at join.shared.row.items row) was.fits).0 in
     was.found ∙ ap (λ xs. c.args.found.now.items ++ map (joined_by join.sources.items row) xs)
     (sym (none_passes_more p tuples join.shared.tuple.items (hash_at join.shared.row.items row) (fits_only join row c.requires.sharing tuples)
     c.tuples.fitting.from was.fits.from none))

@@ -1,4 +1,4 @@
-use Rattle.std.proofs.Common.{◌+◌, ℕ, Some, sym, subst}
+use Rattle.std.proofs.Common.{◌+◌, ℕ, Some, refl, sym, subst}
 use Rattle.place_chains.specs.declared.fitting.Fitting.{Fitting}
 use Rattle.place_chains.specs.Fitting.{IsNext}
 use Rattle.place_chains.proofs.FittingFacts.{next_found, next_none, next_of_all}
@@ -9,7 +9,7 @@ pub returns-in_err-back-in-Some : goal.returns-in_err-back-in-Some
 returns-in_err-back-in-Some c = λ places tuples hash fits.
     let f = c.args.self.now in
     subst (λ o. IsNext places tuples hash f o f) (sym c.from_residual.ensures)
-    (next_none places tuples hash f fits c.in-Some.chain c.in-Some.is c.in_err-back-in-Some.was)
+    (next_none places tuples hash f fits c.in-Some.chain c.in-Some.is c.in_err-back-in-Some.was, refl)
 
 pub returns : goal.returns
 returns c = λ places tuples hash fits.
