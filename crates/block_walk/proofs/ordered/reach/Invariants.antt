@@ -1,4 +1,4 @@
-use Rattle.std.proofs.Common.{ℕ, suc, ◌-◌, length}
+use Rattle.std.proofs.Common.{suc, ◌-◌, length}
 use Rattle.block_walk.specs.Ordered.{HasSame}
 use Rattle.block_walk.proofs.ordered.reach.Given as goal
 
