@@ -1,9 +1,10 @@
 -- Entries of what probes found, by their spots, and how a key is looked for among them.
 --     Added old found key s ..        the values and spots are the old ones with those of one entry more, which the spot s stands for
 --     hash_at known place             the hash of the entry at a place
---     Searched known hash probe at    no entry at the places that were looked at is that of the probe, and `at` is the next place to look at
+--     Searched known hash probe at    no entry that is found by its hash at the places that were looked at is that of the probe, and `at` is
+--                                     the next place to look at
 --     places_left at                  a bound on the places that are left to look at
-use Rattle.std.proofs.Common.{◌≡◌, ◌<◌, ◌≤◌, ◌+◌, ◌*◌, ◌++◌, ◌∷◌, [], ℕ, zero, suc, Bool, List, Option, Some, None, IfSome, length, inl, inr, take, drop, map, set, get_or, slice_index_or, refl, ap, sym, subst, ◌∙◌, arith}
+use Rattle.std.proofs.Common.{◌≡◌, ◌<◌, ◌≤◌, ◌+◌, ◌*◌, ◌++◌, ◌∷◌, [], ℕ, zero, suc, Bool, true, false, List, Option, Some, None, IfSome, IfNone, IsSome, length, inl, inr, take, drop, map, set, get_or, slice_index_or, refl, ap, sym, subst, ◌∙◌, arith}
 use Rattle.std.specs.Ordering.{eq_by_cmp, is_eq}
 use Rattle.std.specs.Bool.{Decides}
 use Rattle.std.specs.List.{All}
@@ -25,8 +26,11 @@ use Rattle.plan_ops.proofs.FetchedFacts.{length-rows_in, row_at, row_within}
 use Rattle.place_chains.specs.Chains.{IsLast}
 use Rattle.place_chains.specs.Hashing.{hash_of}
 use Rattle.block_walk.specs.Kept.{Entry, part}
-use Rattle.block_walk.specs.Entries.{IsIndex, IsIndexed, IsKnown, IsSpot, entries_in, entry_at, entry_of, key_alone}
+use Rattle.block_walk.specs.Entries.{AreReached, IsAt, IsIndex, IsIndexed, IsKnown, IsReached, IsSpot, entries_in, entry_at, entry_of, key_alone}
+use Rattle.block_walk.specs.Ordered.{IsPlaced, kept_under}
+use Rattle.block_walk.proofs.OrderedFacts.{reached_more, some_weaker}
 use Rattle.block_walk.specs.declared.known.Known.{Known}
+use Rattle.block_walk.specs.declared.ordered.OrderedKeys.{OrderedKeys}
 use Rattle.block_walk.specs.declared.known.Spot.{Spot}
 use Rattle.block_walk.specs.declared.known.TupleIndex.{TupleIndex}
 
@@ -217,17 +221,20 @@ module _ (old : Known) (is : IsKnown old) (found : List Value) (key : Row) (s : 
         (subst (λ o. IfSome o (IsIndexed (entry_of new i).1 new.indexes.items)) (sym added.plain) tt))
   ]
 
-  pub known_added : (new : Known) → new.values.items ≡ values → new.spots.items ≡ spots → new.chains ≡ old.chains ++ hash_of s.step key ∷ []
+  pub known_added : (new : Known) → new.values.items ≡ values → new.spots.items ≡ spots → (place hash : ℕ) → place ≡ length old.spots.items
+      → IsPlaced old.ordered.steps.items new.ordered.steps.items s.step key place (hash_of s.step key) hash → new.chains ≡ old.chains ++ hash ∷ []
       → new.indexes.items ≡ old.indexes.items → IsKnown new
-  known_added new v p h x =
-      let hash : Entry → ℕ = λ e. hash_of e.0.0 e.0.1 in
+  known_added new v p place hash last placed h x =
       let added_entry : Entry = ((s.step, key), rows_in s.width s.count found) in
       let entries : entries_in new ≡ entries_in old ++ added_entry ∷ [] =
       ap (λ vs. map (entry_at vs) new.spots.items) v ∙ ap (map (entry_at values)) p ∙ entries_added in
       record {
         spots = subst (λ vs. All (IsSpot vs) new.spots.items) (sym (v ∙ added.values_are))
             (subst (All (IsSpot (front ++ alone))) (sym (p ∙ added.spots_are)) spots_added);
-        hashes = h ∙ ap (λ hs. hs ++ hash_of s.step key ∷ []) is.hashes ∙ sym (ap (map hash) entries ∙ map-append hash (entries_in old) (added_entry ∷ []));
+        reached = subst (λ es. AreReached es new.chains new.ordered.steps.items) (sym entries)
+            (subst (λ hs. AreReached (entries_in old ++ added_entry ∷ []) hs new.ordered.steps.items) (sym h)
+            (reached_more (entries_in old) old.chains old.ordered.steps.items new.ordered.steps.items s.step key (rows_in s.width s.count found) place hash
+            (last ∙ sym (length-entries_in old)) placed is.reached));
         indexes = indexes_kept new (p ∙ added.spots_are) added_entry entries x;
       }
 
@@ -236,7 +243,7 @@ module _ (old : Known) (is : IsKnown old) (found : List Value) (key : Row) (s : 
 module _ (old : Known) (is : IsKnown old) (place : ℕ) (l : place < length (entries_in old)) (s t : Spot) (was : s ≡ get_or old.spots.items place s)
     (index : TupleIndex) (good : IsIndex (entry_of old place).1 index) (t_is : t ≡ record s { index = Some (length old.indexes.items) })
     (new : Known) (values : new.values.items ≡ old.values.items) (spots : new.spots.items ≡ set old.spots.items place t) (chains : new.chains ≡ old.chains)
-    (indexes : new.indexes.items ≡ old.indexes.items ++ index ∷ []) where
+    (ordered : new.ordered ≡ old.ordered) (indexes : new.indexes.items ≡ old.indexes.items ++ index ∷ []) where
   there : place < length old.spots.items
   there = let n = length-entries_in old in omega (arith, l, n)
 
@@ -294,7 +301,9 @@ module _ (old : Known) (is : IsKnown old) (place : ℕ) (l : place < length (ent
   known_indexed = record {
     spots = subst (λ vs. All (IsSpot vs) new.spots.items) (sym values)
         (subst (All (IsSpot old.values.items)) (sym spots) (All-set (IsSpot old.values.items) old.spots.items place t spot_stays is.spots));
-    hashes = chains ∙ is.hashes ∙ ap (map (λ (e : Entry). hash_of e.0.0 e.0.1)) (sym same_entries);
+    reached = subst (λ es. AreReached es new.chains new.ordered.steps.items) (sym same_entries)
+        (subst (λ hs. AreReached (entries_in old) hs new.ordered.steps.items) (sym chains)
+        (subst (λ (o : OrderedKeys). AreReached (entries_in old) old.chains o.steps.items) (sym ordered) is.reached));
     indexes = indexes_stay;
   }
 
@@ -333,30 +342,29 @@ key_decided known place s l is step key same n wide r told =
 abbrev pub hash_at : Known → ℕ → ℕ
 hash_at known place = slice_index_or known.chains place 0
 
-hash_of_entry : (known : Known) → IsKnown known → (place : ℕ) → place < length (entries_in known)
-    → hash_at known place ≡ hash_of (entry_of known place).0.0 (entry_of known place).0.1
-hash_of_entry known is place l =
-    ap (λ hs. get_or hs place 0) is.hashes
-    ∙ get_or-map (λ (e : Entry). hash_of e.0.0 e.0.1) (entries_in known) place ((0, []), []) 0 l
-
-pub hash_of_probe : (known : Known) → IsKnown known → (place step : ℕ) (key : Row) → place < length (entries_in known)
-    → (entry_of known place).0 ≡ (step, key) → hash_at known place ≡ hash_of step key
-hash_of_probe known is place step key l e = hash_of_entry known is place l ∙ ap (λ p. hash_of p.0 p.1) e
-
-pub length-chains : (known : Known) → IsKnown known → length known.chains ≡ length (entries_in known)
-length-chains known is = ap length is.hashes ∙ length-map (entries_in known) (λ (e : Entry). hash_of e.0.0 e.0.1)
-
 pub record Searched (known : Known) (hash : ℕ) (probe : ℕ × Row) (at : Option ℕ) : Type 0 where
   pub end : ℕ
   pub within : end ≤ length (entries_in known)
   pub last : IsLast hash known.chains end at
-  pub passed : (i : ℕ) → end ≤ i → i < length (entries_in known) → (entry_of known i).0 ≡ probe → ⊥
+  pub passed : (i : ℕ) → end ≤ i → i < length (entries_in known) → hash_at known i ≡ hash → (entry_of known i).0 ≡ probe → ⊥
 
 abbrev pub places_left : Option ℕ → ℕ
 places_left None = 0
 places_left (Some place) = suc place
 
 module _ (known : Known) (is : IsKnown known) (step : ℕ) (key : Row) where
+  -- no place was looked at
+  pub searched_first : (at : Option ℕ) → IsLast (hash_of step key) known.chains (length known.chains) at
+      → Searched known (hash_of step key) (step, key) at
+  searched_first at last =
+      let n = is.reached.chained in
+      record {
+        end = length known.chains;
+        within = omega (arith, n);
+        last = last;
+        passed = λ i l m own e. absurd (omega (arith, l, m, n));
+      }
+
   -- the entry at a place isn't the one that is looked for, and the search goes on before it
   pub searched_more : (place : ℕ) → Searched known (hash_of step key) (step, key) (Some place) → ((entry_of known place).0 ≡ (step, key) → ⊥)
       → (at : Option ℕ) → IsLast (hash_at known place) known.chains place at → Searched known (hash_of step key) (step, key) at
@@ -367,22 +375,40 @@ module _ (known : Known) (is : IsKnown known) (step : ℕ) (key : Row) where
     passed = passed;
   }
     where
-      passed : (i : ℕ) → place ≤ i → i < length (entries_in known) → (entry_of known i).0 ≡ (step, key) → ⊥
-      passed i l m e = elim (cases_lt place i) [
+      passed : (i : ℕ) → place ≤ i → i < length (entries_in known) → hash_at known i ≡ hash_of step key → (entry_of known i).0 ≡ (step, key) → ⊥
+      passed i l m own e = elim (cases_lt place i) [
         | inl behind ↦ elim (cases_lt i s.end) [
-          | inl before ↦ s.last.2 i behind before (hash_of_probe known is i step key m e)
-          | inr past ↦ s.passed i past m e
+          | inl before ↦ s.last.2 i behind before own
+          | inr past ↦ s.passed i past m own e
         ]
         | inr same ↦ other (subst (λ j. (entry_of known j).0 ≡ (step, key)) (let t : i ≡ place = omega (arith, l, same) in t) e)
       ]
 
-  -- no place is left
-  pub searched_all : Searched known (hash_of step key) (step, key) None → (e : Entry) → Has (entries_in known) e → e.0 ≡ (step, key) → ⊥
-  searched_all s e h same =
+  abbrev kept : Option ℕ
+  kept = kept_under known.ordered.steps.items step key
+
+  -- no place is left, and no entry is kept in order
+  searched_all : Searched known (hash_of step key) (step, key) None → kept ≡ None → (e : Entry) → Has (entries_in known) e → e.0 ≡ (step, key) → ⊥
+  searched_all s none e h same =
       let c = Contains-from_has (entries_in known) e h in
       let at : (entry_of known c.0).0 ≡ (step, key) =
       ap (λ (x : Entry). x.0) (get_or_default (entries_in known) c.0 ((0, []), []) e c.1 ∙ c.2) ∙ same in
-      elim (cases_lt c.0 s.end) [
-        | inl before ↦ s.last c.0 before (hash_of_probe known is c.0 step key c.1 at)
-        | inr past ↦ s.passed c.0 past c.1 at
+      elim (subst (λ (k : ℕ × Row). IsReached known.chains known.ordered.steps.items c.0 k) at (is.reached.reached c.0 c.1)) [
+        | inl own ↦ elim (cases_lt c.0 s.end) [
+          | inl before ↦ s.last c.0 before own
+          | inr past ↦ s.passed c.0 past c.1 own at
+        ]
+        | inr some ↦ (let t : false ≡ true = subst IsSome none some in cc)
       ]
+
+  -- what is kept in order is such an entry, and where nothing is, there is none
+  pub kept_there : (o : Option ℕ) → o ≡ kept → IfSome o (λ place. place < length (entries_in known))
+  kept_there o e = some_weaker (λ place at. at.0) o (subst (λ x. IfSome x (IsAt (entries_in known) (step, key))) (sym e) (is.reached.kept step key))
+
+  pub kept_key : (o : Option ℕ) → o ≡ kept → IfSome o (λ place. (entry_of known place).0 ≡ (step, key))
+  kept_key o e = some_weaker (λ place at. at.1) o (subst (λ x. IfSome x (IsAt (entries_in known) (step, key))) (sym e) (is.reached.kept step key))
+
+  pub kept_none : Searched known (hash_of step key) (step, key) None → (o : Option ℕ) → o ≡ kept
+      → IfNone o ((e : Entry) → Has (entries_in known) e → e.0 ≡ (step, key) → ⊥)
+  kept_none s None e = searched_all s (sym e)
+  kept_none s (Some place) e = tt

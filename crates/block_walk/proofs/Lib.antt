@@ -6,6 +6,7 @@ mod FittingFacts
 mod KnownFacts
 pub mod LoopFacts
 mod OrderFacts
+mod OrderedFacts
 mod ProbeOrder
 mod SameFacts
 mod StackFacts

@@ -6,9 +6,11 @@
 --     IsSpot values s            its values are there
 --     IsIndex tuples index       the index has the hashes of these tuples at its places
 --     IsIndexed tuples all k     so has the one at place k of all
---     IsKnown known              so it is of each spot, the chains have the hash of each entry's step and key, and each index that a spot
---                                names is that of its tuples
-use Rattle.std.specs.Prelude.{◌≡◌, ℕ, zero, suc, ◌+◌, ◌*◌, ◌<◌, ◌≤◌, List, [], drop, length, map, slice_index_or, All, IfSome}
+--     IsAt entries key place     the entry at a place is of this step and key
+--     IsReached chains maps place key     the chains have at the place the hash of the step and key, or the maps keep an entry under them
+--     AreReached entries chains maps      so each entry is found again, and what the maps keep is an entry of that step and key
+--     IsKnown known              so it is of each spot and of the entries, and each index that a spot names is that of its tuples
+use Rattle.std.specs.Prelude.{◌≡◌, ℕ, zero, suc, ◌+◌, ◌*◌, ◌<◌, ◌≤◌, ◌⊎◌, List, [], drop, length, map, slice_index_or, All, IfSome, IsSome}
 use Rattle.beas_core.specs.declared.value.Value.{Value}
 use Rattle.beas_core.specs.Types.{Row}
 use Rattle.plan_ops.specs.Fetched.{rows_in}
@@ -17,6 +19,7 @@ use Rattle.block_walk.specs.declared.known.TupleIndex.{TupleIndex}
 use Rattle.block_walk.specs.declared.known.Known.{Known}
 use Rattle.place_chains.specs.Hashing.{hash_of, hashes_back}
 use Rattle.block_walk.specs.Kept.{Entry, part}
+use Rattle.block_walk.specs.Ordered.{Maps, kept_under}
 
 abbrev pub key_alone : ℕ → Row → Row
 key_alone zero key = key
@@ -42,8 +45,19 @@ pub record IsIndexed (tuples : List Row) (indexes : List TupleIndex) (k : ℕ) :
   pub there : k < length indexes
   pub is : (d : TupleIndex) → IsIndex tuples (slice_index_or indexes k d)
 
+abbrev pub IsAt : List Entry → ℕ × Row → ℕ → Type 0
+IsAt entries key place = (place < length entries) × ((slice_index_or entries place ((0, []), [])).0 ≡ key)
+
+abbrev pub IsReached : List ℕ → Maps → ℕ → ℕ × Row → Type 0
+IsReached chains maps place key = (slice_index_or chains place 0 ≡ hash_of key.0 key.1) ⊎ IsSome (kept_under maps key.0 key.1)
+
+pub record AreReached (entries : List Entry) (chains : List ℕ) (maps : Maps) : Type 0 where
+  pub chained : length chains ≡ length entries
+  pub reached : (i : ℕ) → i < length entries → IsReached chains maps i (slice_index_or entries i ((0, []), [])).0
+  pub kept : (step : ℕ) (key : Row) → IfSome (kept_under maps step key) (IsAt entries (step, key))
+
 pub record IsKnown (known : Known) : Type 0 where
   pub spots : All (IsSpot known.values.items) known.spots.items
-  pub hashes : known.chains ≡ map (λ (e : Entry). hash_of e.0.0 e.0.1) (entries_in known)
+  pub reached : AreReached (entries_in known) known.chains known.ordered.steps.items
   pub indexes : (i : ℕ) (d : Spot) → i < length known.spots.items
       → IfSome (slice_index_or known.spots.items i d).index (IsIndexed (entry_of known i).1 known.indexes.items)

@@ -2,6 +2,7 @@ pub mod Descents
 pub mod Entries
 pub mod Finding
 pub mod Kept
+pub mod Ordered
 pub mod Routes
 pub mod Stacks
 pub mod Turns

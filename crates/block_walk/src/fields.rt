@@ -1,5 +1,6 @@
 // What a walk is made of.
 use crate::known::Known;
+use crate::ordered::OrderedKeys;
 use crate::stack::Stack;
 use crate::walking::Walk;
 
@@ -18,8 +19,10 @@ pub fn walk_fields(walk: &Walk) {
         values: _values,
         spots: _spots,
         chains: _chains,
+        ordered,
         indexes: _indexes,
     } = known;
+    let OrderedKeys { steps: _steps } = ordered;
     let Stack {
         values: _left,
         marks: _marks,

@@ -10,6 +10,7 @@ ghost use Rattle.block_walk.specs.Entries.{IsIndex, IsKnown, entries_in, entry_o
 ghost use Rattle.place_chains.specs.Fitting.{IsFitting};
 ghost use Rattle.place_chains.specs.Hashing.{hash_at, hash_of, hashes_back};
 
+use crate::ordered::OrderedKeys;
 use beas_core::{AccessId, AccessPort, ColumnId, NoMemory, Steps, Value};
 use place_chains::{Fitting, PlaceChains, hash_at, hashed_back};
 use plan_ops::{Shared, fetch};
@@ -38,14 +39,16 @@ pub struct TupleIndex {
 }
 
 /// What the probes of a walk found, each with its step and key, in the order in which they were made. A step and a key are found
-/// again by their hash; a map would keep each key as a piece of memory of its own.
+/// again by their hash; a map would keep each key as a piece of memory of its own. Only where keys were chosen so that many share
+/// a hash, those past the first ones are in such maps.
 #[derive(Drop)]
 pub struct Known {
     /// All values of keys and tuples.
     pub values: Vec<Value>,
     pub spots: Vec<Spot>,
-    /// The hash of each entry's step and key.
+    /// The hash of each entry's step and key, or one that is made up where the entry is among the ordered keys.
     pub chains: PlaceChains,
+    pub ordered: OrderedKeys,
     pub indexes: Vec<TupleIndex>,
 }
 
@@ -81,6 +84,7 @@ impl Known {
             values: Vec::with_capacity(alloc, VALUES)?,
             spots: Vec::with_capacity(alloc, ENTRIES)?,
             chains: PlaceChains::new(alloc),
+            ordered: OrderedKeys::new(alloc),
             indexes: Vec::new(alloc),
         })
     }
@@ -111,7 +115,7 @@ impl Known {
             }
             at = self.chains.earlier(place);
         }
-        None
+        self.ordered.get(step, key)
     }
 
     /// How many tuples an entry has.
@@ -246,9 +250,12 @@ impl Known {
     {
         let from = self.values.len();
         let count = fetch(alloc, port, id, columns, key, &mut self.values, steps)?;
+        let place = self.spots.len();
+        let hash = self
+            .ordered
+            .hash_for(alloc, &self.chains, step, key, place, hash)?;
         let key_width = key.len();
         keep_key(count, key, &mut self.values)?;
-        let place = self.spots.len();
         self.spots.push(Spot {
             step,
             from,

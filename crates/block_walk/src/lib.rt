@@ -4,6 +4,7 @@
 mod fields;
 mod known;
 mod laws;
+mod ordered;
 mod stack;
 mod walking;
 

@@ -2,7 +2,7 @@
 ghost use Rattle.std.specs.Prelude.{◌≡◌, ◌<◌, ◌++◌, ◌∷◌, [], length, OnErr, OnOk, slice_index_or};
 ghost use Rattle.place_chains.specs.Chains.{IsLast};
 
-use crate::links::{Link, bucket_of, replace_head, same_from, wider_heads};
+use crate::links::{Link, bucket_of, is_long_from, replace_head, same_from, wider_heads};
 use std::alloc::{AllocError, Global};
 use std::marker::Model;
 
@@ -13,6 +13,9 @@ pub struct PlaceChains {
     heads: Vec<Option<usize>>,
     links: Vec<Link>,
 }
+
+// Hashes that are spread well hardly ever bring so many places into one bucket.
+const LONG: usize = 16;
 
 impl Model for PlaceChains {
     ghost use Rattle.std.specs.Prelude.{◌≤◌, List, ℕ, vec_capacity, vec_len};
@@ -55,6 +58,17 @@ impl PlaceChains {
     {
         let link = self.links[place];
         same_from(&self.links, link.hash, link.earlier)
+    }
+
+    /// Whether a search for a hash looks at sixteen places or more before it ends. It depends on where places lie, which no clause
+    /// tells: so each answer is a right one, and serves to save time alone. Where places are added only if it says no, no search
+    /// looks at more than sixteen.
+    pub fn is_long(&self, hash: u64) -> bool {
+        let count = self.heads.len();
+        if count == 0 {
+            return false;
+        }
+        is_long_from(&self.links, self.heads[bucket_of(hash, count)], LONG)
     }
 
     /// Adds the next place, with its hash. It takes a few steps, except where there are as many places as buckets: then these are

@@ -42,6 +42,21 @@ pub fn same_from(links: &[Link], hash: u64, from: Option<usize>) -> Option<usize
     None
 }
 
+/// Whether there are so many places or more on the way back from a place, or from none.
+pub fn is_long_from(links: &[Link], from: Option<usize>, many: usize) -> bool
+    requires back { AllLeadBack links.now }
+    requires from { IfSome from (λ place. place < length links.now) }
+{
+    let mut at = from;
+    for _ in 0..many {
+        match at {
+            Some(place) => at = links[place].earlier,
+            None => return false,
+        }
+    }
+    true
+}
+
 /// Makes a place the last one of its bucket, and gives the one that was the last.
 pub fn replace_head(heads: &mut [Option<usize>], hash: u64, place: usize) -> Option<usize>
     requires { 0 < length heads.old }

@@ -5,7 +5,9 @@ use Rattle.beas_core.specs.Derivations.{access_in}
 use Rattle.beas_core.specs.Groups.{group_of}
 use Rattle.block_walk.specs.declared.known.Spot.{Spot}
 use Rattle.plan_ops.proofs.ProbeFacts.{group_takes}
+use Rattle.place_chains.specs.Hashing.{hash_of}
 use Rattle.block_walk.specs.Entries.{entries_in, key_alone}
+use Rattle.block_walk.specs.Ordered.{IsPlaced}
 use Rattle.block_walk.proofs.KnownFacts.{Added, entries_added, known_added, values_behind}
 use Rattle.block_walk.proofs.known.Known.fetch.Given
 use Rattle.block_walk.proofs.known.Known.fetch.Goals as goal
@@ -48,9 +50,18 @@ returns-clause-known g c =
     let known = c.args.self.now in
     let found = drop (length known.values.items) c.fetch.new.values.items in
     let key = c.args.key.now.items in
+    let placed = subst (λ k. IsPlaced known.ordered.steps.items c.hash_for.new.self.steps.items c.args.step k c.len-place.result (hash_of c.args.step key) c.in_ok-hash.hash)
+    c.deref-2.ensures.value
+    (subst (λ h. IsPlaced known.ordered.steps.items c.hash_for.new.self.steps.items c.args.step c.deref-2.result.now c.len-place.result h c.in_ok-hash.hash)
+    c.requires.hash c.in_ok-hash.ensures) in
     known_added known c.requires.known found key (spot_of g c) c.keep_key.new.values.items c.push.new.self.items (added g c)
-    (record { values = c.keep_key.new.values; spots = c.push.new.self; chains = c.push-2.new.self; indexes = c.args.self.now.indexes }) refl refl
-    (c.in_ok-push-2.ensures.ok ∙ ap (λ h. known.chains ++ h ∷ []) c.requires.hash) refl
+    (record {
+      values = c.keep_key.new.values;
+      spots = c.push.new.self;
+      chains = c.push-2.new.self;
+      ordered = c.hash_for.new.self;
+      indexes = c.args.self.now.indexes;
+    }) refl refl c.len-place.result c.in_ok-hash.hash (grind (arith, common_steps)) placed c.in_ok-push-2.ensures.ok refl
 
 pub returns-clause-entries : goal.returns-clause-entries
 returns-clause-entries g c =
