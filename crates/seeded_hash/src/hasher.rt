@@ -9,7 +9,7 @@ use std::hash::{BuildHasher, FoldHasher, Hasher};
 /// any other is hashed by `FoldHasher` first. It isn't cryptographic, but who doesn't know the seed can't choose keys that
 /// collide.
 #[derive(Clone, Copy)]
-pub struct WordHasher {
+pub struct SeededHasher {
     state: u64,
     // It is drawn from the seed too: with a fixed one, words that collide for one seed would often do so for others.
     factor: u64,
@@ -19,8 +19,8 @@ pub struct WordHasher {
 
 /// What makes a hasher for each key of a map.
 #[derive(Clone, Copy)]
-pub struct WordHashing {
-    initial: WordHasher,
+pub struct SeededHashing {
+    initial: SeededHasher,
 }
 
 // Both halves of the product of two words, joined.
@@ -53,17 +53,17 @@ fn word_of(texts: FoldHasher, bytes: &[u8]) -> u64
     }
 }
 
-impl WordHashing {
+impl SeededHashing {
     /// The hashing of a seed.
-    pub fn seeded(seed: u64) -> WordHashing {
+    pub fn seeded(seed: u64) -> SeededHashing {
         let mut texts = FoldHasher::default();
         texts.write_u64(seed);
         let factor = texts.finish() | 1;
         texts.write_u64(seed);
         let state = texts.finish();
         texts.write_u64(seed);
-        WordHashing {
-            initial: WordHasher {
+        SeededHashing {
+            initial: SeededHasher {
                 state,
                 factor,
                 texts,
@@ -72,17 +72,17 @@ impl WordHashing {
     }
 }
 
-impl BuildHasher for WordHashing {
-    type Hasher = WordHasher;
+impl BuildHasher for SeededHashing {
+    type Hasher = SeededHasher;
 
     ghost build_hasher = { λ s. s.initial };
 
-    fn build_hasher(&self) -> WordHasher {
+    fn build_hasher(&self) -> SeededHasher {
         self.initial
     }
 }
 
-impl Hasher for WordHasher {
+impl Hasher for SeededHasher {
     ghost use Rattle.seeded_hash.specs.Words.{mixed, word_of};
 
     ghost write = { λ s bytes. record s { state = mixed s.factor s.state (word_of s.texts bytes) } };

@@ -4,4 +4,4 @@
 
 mod hasher;
 
-pub use hasher::{WordHasher, WordHashing};
+pub use hasher::{SeededHasher, SeededHashing};
