@@ -27,7 +27,7 @@ WORDS = {
         },
         {
             "code_index": {
-                "WordHashing": "CodeHashing", "WordHasher": "CodeHasher", "word_at": "code_at", "word_of": "code_of",
+                "word_at": "code_at", "word_of": "code_of",
                 "known_words": "row_codes", "interned_words": "interned_row", "words": "codes", "KeyWords": "KeyCodes",
                 "OwnWords": "OwnCodes", "AskedWords": "AskedCodes", "push_words": "push_codes", "tuple_words": "tuple_codes",
             },

@@ -16,6 +16,7 @@ use beas_core::{
     Access, AccessId, AccessSpec, Column, ColumnId, Counted, Duplicate, Fail, Limits, List, Name,
     NoMemory, Refusal, TableId,
 };
+use seeded_hash::SeededHashing;
 use std::alloc::Global;
 use std::marker::Model;
 use std::mem;
@@ -62,19 +63,33 @@ fn catalogue_fields(catalogue: &Catalogue) {
 }
 
 impl Catalogue {
-    /// A catalogue without tables. It takes no memory.
+    /// A catalogue without tables, whose names will be hashed with the seed 0. It takes no memory.
     pub fn new(alloc: Global) -> Catalogue
         ensures { result ≡ record { tables = []; accesses = []; created = 0 } }
     {
+        Catalogue::seeded(alloc, 0)
+    }
+
+    /// A catalogue without tables, whose names will be hashed with a seed. It makes no difference to what is answered. It
+    /// takes no memory.
+    pub fn seeded(alloc: Global, seed: u64) -> Catalogue
+        ensures { result ≡ record { tables = []; accesses = []; created = 0 } }
+    {
+        let hashing = SeededHashing::seeded(seed);
         Catalogue {
             alloc,
             tables: Vec::new(alloc),
             accesses: List::new(alloc),
             created: 0,
-            table_numbers: NameMap::new(alloc),
-            access_ids: NameMap::new(alloc),
+            table_numbers: NameMap::new(alloc, hashing),
+            access_ids: NameMap::new(alloc, hashing),
             by_table: Vec::new(alloc),
         }
+    }
+
+    /// How names are hashed.
+    fn hashing(&self) -> SeededHashing {
+        self.table_numbers.hashing()
     }
 
     /// The table with this name, if there is one. It takes no memory.
@@ -171,7 +186,7 @@ impl Catalogue {
                 name: name.copy(alloc)?,
             }));
         }
-        refuse_repeated(alloc, columns.as_slice())?;
+        refuse_repeated(alloc, self.hashing(), columns.as_slice())?;
         if self.tables.len() >= limits.tables as usize {
             return Err(Fail::Refused(Refusal::TooMany {
                 what: Counted::Tables,
@@ -344,8 +359,8 @@ impl Catalogue {
         let columns = self.columns(id).as_slice();
         let key_columns = ids_of(alloc, columns, key.as_slice())?;
         let fetched_columns = ids_of(alloc, columns, fetched.as_slice())?;
-        refuse_repeated(alloc, key.as_slice())?;
-        refuse_repeated(alloc, fetched.as_slice())?;
+        refuse_repeated(alloc, self.hashing(), key.as_slice())?;
+        refuse_repeated(alloc, self.hashing(), fetched.as_slice())?;
         Ok((id, key_columns, fetched_columns))
     }
 
@@ -360,8 +375,8 @@ impl Catalogue {
         let key = ids_of(alloc, columns, spec.key.as_slice())?;
         let fetched = ids_of(alloc, columns, spec.fetched.as_slice())?;
         self.refuse_taken_name(alloc, &spec.name)?;
-        refuse_repeated(alloc, spec.key.as_slice())?;
-        refuse_repeated(alloc, spec.fetched.as_slice())?;
+        refuse_repeated(alloc, self.hashing(), spec.key.as_slice())?;
+        refuse_repeated(alloc, self.hashing(), spec.fetched.as_slice())?;
         let bound = bound_of(alloc, &spec.limit)?;
         self.refuse_one_too_many(limits)?;
         Ok(Access {

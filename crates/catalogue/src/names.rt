@@ -5,12 +5,13 @@ ghost use Rattle.indexmap.specs.IndexMap.{get_by_text, spare};
 
 use beas_core::{Name, NoMemory};
 use indexmap::IndexMap;
+use seeded_hash::SeededHashing;
 use std::alloc::Global;
 
 /// A number for each of some names.
 #[derive(Debug, Drop)]
 pub struct NameMap {
-    numbers: IndexMap<String, u32>,
+    numbers: IndexMap<String, u32, SeededHashing>,
 }
 
 /// A map of names has this one field and no other: with a further field this would not compile.
@@ -20,12 +21,17 @@ fn map_fields(map: &NameMap) {
 
 impl NameMap {
     /// No names. It takes no memory.
-    pub fn new(alloc: Global) -> NameMap
+    pub fn new(alloc: Global, hashing: SeededHashing) -> NameMap
         ensures { (q : List ℕ) → get_by_text result.numbers q ≡ None }
     {
         NameMap {
-            numbers: IndexMap::new(alloc),
+            numbers: IndexMap::with_hasher(alloc, hashing),
         }
+    }
+
+    /// How its names are hashed.
+    pub fn hashing(&self) -> SeededHashing {
+        *self.numbers.hasher()
     }
 
     /// The number of a name, if it has one.

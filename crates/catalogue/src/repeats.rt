@@ -5,6 +5,7 @@ ghost use Rattle.catalogue.specs.Refusing.{first_repeated, repeated_name};
 
 use beas_core::{Column, Duplicate, Fail, Name, NoMemory, Refusal};
 use indexmap::IndexMap;
+use seeded_hash::SeededHashing;
 use std::alloc::Global;
 
 /// What has a name.
@@ -34,10 +35,14 @@ impl Named for Column {
 }
 
 /// The first name that stands among those before it, if there is one.
-fn first_repeated<T: Named>(alloc: Global, items: &[T]) -> Result<Option<&Name>, NoMemory>
+fn first_repeated<T: Named>(
+    alloc: Global,
+    hashing: SeededHashing,
+    items: &[T],
+) -> Result<Option<&Name>, NoMemory>
     ensures { IfOk result (λ name. option_copied name ≡ first_repeated (map T.name_of items.now)) }
 {
-    let mut seen: IndexMap<&str, ()> = IndexMap::new(alloc);
+    let mut seen: IndexMap<&str, (), SeededHashing> = IndexMap::with_hasher(alloc, hashing);
     for item in items {
         let name = item.name();
         if seen.insert(name.as_str(), ())?.is_some() {
@@ -48,10 +53,14 @@ fn first_repeated<T: Named>(alloc: Global, items: &[T]) -> Result<Option<&Name>,
 }
 
 /// Refuses the first name that stands twice.
-pub fn refuse_repeated<T: Named>(alloc: Global, items: &[T]) -> Result<(), Fail>
+pub fn refuse_repeated<T: Named>(
+    alloc: Global,
+    hashing: SeededHashing,
+    items: &[T],
+) -> Result<(), Fail>
     ensures { IsRefusedAs result (repeated_name (map T.name_of items.now)) }
 {
-    match first_repeated(alloc, items)? {
+    match first_repeated(alloc, hashing, items)? {
         None => Ok(()),
         Some(name) => Err(Fail::Refused(Refusal::DuplicateName {
             name: name.copy(alloc)?,

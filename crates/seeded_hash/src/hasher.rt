@@ -1,0 +1,111 @@
+// A hasher of words: maps are asked by numbers much more often than by texts.
+ghost use Rattle.std.specs.Prelude.{◌≡◌};
+ghost use Rattle.std.specs.Hash.FoldHasher.{folded_multiply};
+ghost use Rattle.seeded_hash.specs.Words.{mixed, word_of};
+
+use std::hash::{BuildHasher, FoldHasher, Hasher};
+
+/// A fast hasher that takes one multiplication for a word. A piece of eight bytes or of one is the number that these spell;
+/// any other is hashed by `FoldHasher` first. It isn't cryptographic, but who doesn't know the seed can't choose keys that
+/// collide.
+#[derive(Clone, Copy)]
+pub struct SeededHasher {
+    state: u64,
+    // It is drawn from the seed too: with a fixed one, words that collide for one seed would often do so for others.
+    factor: u64,
+    // It has been fed the seed, since its own constants are fixed.
+    texts: FoldHasher,
+}
+
+/// What makes a hasher for each key of a map.
+#[derive(Clone, Copy)]
+pub struct SeededHashing {
+    initial: SeededHasher,
+}
+
+// Both halves of the product of two words, joined.
+fn folded_product(a: u64, b: u64) -> u64
+    ensures { result ≡ folded_multiply a b }
+{
+    let product = a as u128 * b as u128;
+    (product & 0xFFFF_FFFF_FFFF_FFFF) as u64 ^ (product >> 64) as u64
+}
+
+/// A word mixed into a state.
+fn mixed(factor: u64, state: u64, word: u64) -> u64
+    ensures { result ≡ mixed factor state word }
+{
+    folded_product(state ^ word, factor)
+}
+
+/// The word that stands for some bytes. Eight of them, or one, are the number that they spell.
+fn word_of(texts: FoldHasher, bytes: &[u8]) -> u64
+    ensures { result ≡ word_of texts bytes.now }
+{
+    match bytes {
+        [a, b, c, d, e, f, g, h] => u64::from_le_bytes([*a, *b, *c, *d, *e, *f, *g, *h]),
+        [byte] => u64::from(*byte),
+        _ => {
+            let mut hasher = texts;
+            hasher.write(bytes);
+            hasher.finish()
+        }
+    }
+}
+
+impl SeededHashing {
+    /// The hashing of a seed.
+    pub fn seeded(seed: u64) -> SeededHashing {
+        let mut texts = FoldHasher::default();
+        texts.write_u64(seed);
+        let factor = texts.finish() | 1;
+        texts.write_u64(seed);
+        let state = texts.finish();
+        texts.write_u64(seed);
+        SeededHashing {
+            initial: SeededHasher {
+                state,
+                factor,
+                texts,
+            },
+        }
+    }
+}
+
+impl BuildHasher for SeededHashing {
+    type Hasher = SeededHasher;
+
+    ghost build_hasher = { λ s. s.initial };
+
+    fn build_hasher(&self) -> SeededHasher {
+        self.initial
+    }
+}
+
+impl Hasher for SeededHasher {
+    ghost use Rattle.seeded_hash.specs.Words.{mixed, word_of};
+
+    ghost write = { λ s bytes. record s { state = mixed s.factor s.state (word_of s.texts bytes) } };
+
+    ghost finish = { λ s. s.state };
+
+    fn finish(&self) -> u64 {
+        self.state
+    }
+
+    fn write(&mut self, bytes: &[u8]) {
+        self.state = mixed(self.factor, self.state, word_of(self.texts, bytes));
+    }
+
+    fn write_u8(&mut self, byte: u8) {
+        self.state = mixed(self.factor, self.state, u64::from(byte));
+    }
+
+    fn write_u64(&mut self, word: u64) {
+        self.state = mixed(self.factor, self.state, word);
+    }
+
+    fn write_usize(&mut self, number: usize) {
+        self.state = mixed(self.factor, self.state, number as u64);
+    }
+}
