@@ -1,7 +1,11 @@
 // A desk.
 ghost use Rattle.std.specs.Prelude.{◌≡◌, ◌≤◌, [], None, false, IfOk, OnErr};
+ghost use Rattle.beas_core.specs.Fits.{PlanFits};
+ghost use Rattle.beas_core.specs.Results.{Gives};
+ghost use Rattle.catalogue.specs.Database.{schema_of};
 ghost use Rattle.outside.specs.Seen.{IsLater};
 ghost use Rattle.desk_model.specs.Desks.{action_of_event, query_of};
+ghost use Rattle.session.specs.Announced.{announcement};
 ghost use Rattle.session.specs.Effects.{explain_effect};
 ghost use Rattle.session.specs.Statements.{TreeIsWellFormed};
 ghost use Rattle.session.specs.Applying.{database_of, settings_of};
@@ -10,10 +14,11 @@ ghost use Rattle.version_store.specs.Desks.{EventIsWellFormed, GoesOn, IsDesk, M
 
 use crate::going::{drop_query, step};
 use crate::open::OpenQuery;
-use crate::pricing::price;
+use crate::pricing::{prepared, price};
 use crate::saying::say;
 use crate::store::KeptTable;
-use beas_core::{NoMemory, Steps};
+use beas_core::{Fail, NoMemory, Prepared, Steps};
+use catalogue::Catalogue;
 use outside::Files;
 use piece_reader::Event;
 use report::Report;
@@ -128,6 +133,23 @@ impl Desk {
             ≡ (explain_effect self.now.settings.limits None self.now.state.db tree.now).report) }
     {
         price(alloc, &self.session, tree)
+    }
+
+    /// The query of which `announce` tells, as it is prepared, or its refusal. It reads no row either.
+    pub fn plan(&self, alloc: Global, tree: &SelectTree) -> Result<Prepared, Fail>
+        requires { TreeIsWellFormed tree.now }
+        ensures planned { Gives result
+            (announcement self.now.settings.limits None (schema_of self.now.state.db) tree.now) }
+        ensures fits { IfOk result (PlanFits self.now.state.db.accesses) }
+    {
+        prepared(alloc, &self.session, tree)
+    }
+
+    /// Tables and constraints, by which a plan is read.
+    pub fn catalogue(&self) -> &Catalogue
+        ensures { result.now ≡ schema_of self.now.state.db }
+    {
+        &self.session.guarded.catalogue
     }
 
     /// Changes the budget, and whether reports of queries show their plans. The queries that are open keep the plans that they

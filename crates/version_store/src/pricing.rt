@@ -18,8 +18,8 @@ use session::Session;
 use sql_text::SelectTree;
 use std::alloc::Global;
 
-// A query as it is prepared.
-fn prepared(alloc: Global, session: &Session, tree: &SelectTree) -> Result<Prepared, Fail>
+/// A query as it is prepared where there is no budget.
+pub fn prepared(alloc: Global, session: &Session, tree: &SelectTree) -> Result<Prepared, Fail>
     requires { TreeIsWellFormed tree.now }
     ensures announced { Gives result
         (announcement session.now.limits None (schema_of (database_of session.now)) tree.now) }
