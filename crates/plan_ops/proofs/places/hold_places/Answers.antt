@@ -1,4 +1,4 @@
-use Rattle.std.proofs.Common.{◌≡◌, ◌<◌, ◌∙◌, ◌∷◌, [], Bool, true, false, arith, ap, sym, subst, inl, inr, refl, get_or, length, map, take}
+use Rattle.std.proofs.Common.{◌≡◌, ◌∙◌, ◌∷◌, [], Bool, true, false, arith, ap, sym, subst, inl, inr, refl, get_or, length, map, take}
 use Rattle.std.specs.List.{list_all}
 use Rattle.std.specs.Ordering.{nat_cmp}
 use Rattle.std.proofs.lemmas.List.{take_all, take_more}
@@ -29,9 +29,10 @@ returns-then-place_in-classes c =
     let set = set_of normal classes in
     let place = get_or places c.loop-place.place-index no_place in
     let class = place_class normal place in
-    let far : length classes ≡ place_of classes class = sym c.if-place_in-classes.true ∙ c.place_in.ensures ∙ ap (place_of classes) c.class_at-class.ensures in
-    let none : has set class ≡ false =
-    held_by_place normal classes class (c.requires.ranges place.atom place.column) ∙ is_above (place_of classes class) (length classes) (omega (arith, far)) in
+    let far : length classes ≡ place_of classes class =
+    sym c.if-place_in-classes.true ∙ c.place_in.ensures ∙ ap (place_of classes) c.class_at-class.ensures in
+    let none : has set class ≡ false = held_by_place normal classes class (c.requires.ranges place.atom place.column)
+    ∙ is_above (place_of classes class) (length classes) (omega (arith, far)) in
     elim (which (holds_classes set (map (place_class normal) places))) [
       | inl all ↦ (
           let held : has set class ≡ true = all_has (has set) (map (place_class normal) places) class all
@@ -52,8 +53,8 @@ loop-place-preserved c =
     let is = c.place_in.ensures ∙ ap (place_of classes) c.class_at-class.ensures in
     let le = place-le classes class in
     let other = c.if-place_in-classes.false in
-    let held : has set class ≡ true =
-    held_by_place normal classes class (c.requires.ranges place.atom place.column) ∙ is_below (place_of classes class) (length classes) (omega (arith, is, le, other)) in
+    let held : has set class ≡ true = held_by_place normal classes class (c.requires.ranges place.atom place.column)
+    ∙ is_below (place_of classes class) (length classes) (omega (arith, is, le, other)) in
     ap (list_all test) (take_more places i no_place c.loop-place-test.true) ∙ list_all-append test (take i places) (place ∷ [])
     ∙ and_both (list_all test (take i places)) (list_all test (place ∷ [])) c.loop-place.invariant (and_both (has set class) true held refl)
 
