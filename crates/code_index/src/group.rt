@@ -11,7 +11,6 @@ ghost use Rattle.indexmap.specs.IndexMap.{insert_entry};
 ghost use Rattle.code_index.specs.Reading.{read, read_group, pick, AllKnown, AllWordsKnown};
 ghost use Rattle.code_index.specs.Taking.{HasRoom};
 
-use crate::hasher::WordHashing;
 use crate::interner::Interner;
 use crate::tuples::Group;
 use crate::words::{compare_tuple, tuple_words};
@@ -19,6 +18,7 @@ use beas_core::{Access, NoMemory};
 use blocked_list::Before;
 use indexmap::IndexMap;
 use marked_list::{Coded, TupleWords};
+use seeded_hash::SeededHashing;
 use std::alloc::Global;
 use std::cmp::Ordering;
 use std::hash::Hash;
@@ -155,7 +155,7 @@ pub fn count_down(group: &mut Group, at: usize)
 /// Puts a copy of a group under a key.
 pub fn put_copy<K: Eq + Hash + Drop>(
     alloc: Global,
-    groups: &mut IndexMap<K, Group, WordHashing>,
+    groups: &mut IndexMap<K, Group, SeededHashing>,
     key: K,
     group: &Group,
 ) -> Result<(), NoMemory>

@@ -6,10 +6,10 @@ ghost use Rattle.access_index.specs.Hashing.{or_zero};
 ghost use Rattle.code_index.specs.Codes.{code_of, extended, value_of, AreDistinct};
 ghost use Rattle.code_index.specs.Reading.{KeepsCodes};
 
-use crate::hasher::WordHashing;
 use crate::hints::{Hints, integer_in};
 use beas_core::{Duplicate, NoMemory, Value};
 use indexmap::IndexSet;
+use seeded_hash::SeededHashing;
 use std::alloc::Global;
 use std::marker::Model;
 
@@ -17,7 +17,7 @@ use std::marker::Model;
 /// values are those of rows, which are handed out after a probe alone, so it isn't `Debug`.
 #[derive(Drop)]
 pub struct Interner {
-    values: IndexSet<Value, WordHashing>,
+    values: IndexSet<Value, SeededHashing>,
     hints: Hints,
 }
 
@@ -44,14 +44,26 @@ fn interner_fields(interner: &Interner) {
 }
 
 impl Interner {
-    /// No values, which takes no memory.
+    /// No values, which takes no memory. They will be hashed with the seed 0.
     pub fn new(alloc: Global) -> Interner
         ensures { result ≡ [] }
     {
+        Interner::seeded(alloc, 0)
+    }
+
+    /// No values, to be hashed with a seed, which makes no difference to what is answered. It takes no memory.
+    pub fn seeded(alloc: Global, seed: u64) -> Interner
+        ensures { result ≡ [] }
+    {
         Interner {
-            values: IndexSet::with_hasher(alloc, WordHashing::new()),
+            values: IndexSet::with_hasher(alloc, SeededHashing::seeded(seed)),
             hints: Hints::new(alloc),
         }
+    }
+
+    /// How its values are hashed, for the indexes over its codes.
+    pub fn hashing(&self) -> SeededHashing {
+        *self.values.hasher()
     }
 
     /// The code of an integer that stands where the hint says. It takes no memory.
@@ -119,7 +131,7 @@ impl Interner {
         let mut values = IndexSet::with_capacity_and_hasher(
             alloc,
             self.values.len(),
-            WordHashing::new(),
+            self.hashing(),
         )?;
         for i in 0..self.values.len() {
             values.insert(self.values[i].copy(alloc)?)?;

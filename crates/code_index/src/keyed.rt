@@ -9,7 +9,6 @@ ghost use Rattle.code_index.specs.Taking.{CountsWhere, HoldsWhere};
 
 use crate::asked::{AskedRow, AskedWords};
 use crate::group::{count_down, count_up, has_room, of_one, put_copy};
-use crate::hasher::WordHashing;
 use crate::interner::Interner;
 use crate::own_words::{GroupKey, OwnWords};
 use crate::tuples::Group;
@@ -17,6 +16,7 @@ use crate::words::word_of;
 use beas_core::{Access, ColumnId, Duplicate, List, NoMemory};
 use indexmap::IndexMap;
 use marked_list::TupleWords;
+use seeded_hash::SeededHashing;
 use std::alloc::Global;
 use std::marker::Model;
 
@@ -25,7 +25,7 @@ use std::marker::Model;
 pub struct KeyedIndex<W: OwnWords> {
     access: Access,
     total: u32,
-    groups: IndexMap<GroupKey<W>, Group, WordHashing>,
+    groups: IndexMap<GroupKey<W>, Group, SeededHashing>,
 }
 
 /// The index of one access constraint whose key has `K` columns.
@@ -59,11 +59,11 @@ fn index_fields<W: OwnWords>(index: &KeyedIndex<W>) {
 /// The same groups under the same keys.
 fn copy_groups<W: OwnWords>(
     alloc: Global,
-    groups: &IndexMap<GroupKey<W>, Group, WordHashing>,
-) -> Result<IndexMap<GroupKey<W>, Group, WordHashing>, NoMemory>
+    groups: &IndexMap<GroupKey<W>, Group, SeededHashing>,
+) -> Result<IndexMap<GroupKey<W>, Group, SeededHashing>, NoMemory>
     ensures { IfOk result (λ copy. copy.entries ≡ groups.now.entries) }
 {
-    let mut copy = IndexMap::with_hasher(alloc, WordHashing::new());
+    let mut copy = IndexMap::with_hasher(alloc, *groups.hasher());
     for i in 0..groups.len() {
         let Some((key, group)) = groups.get_index(i) else {
             unreachable!()
@@ -74,8 +74,20 @@ fn copy_groups<W: OwnWords>(
 }
 
 impl<W: OwnWords> KeyedIndex<W> {
-    /// An index of no rows.
+    /// An index of no rows. Its keys will be hashed with the seed 0.
     pub fn new(alloc: Global, access: Access) -> KeyedIndex<W>
+        requires { W.fits (length access.key) }
+        ensures access { result.access ≡ access }
+        ensures none { result.groups ≡ [] }
+        ensures total { result.total ≡ 0 }
+        ensures in_order { (codes : List Value) → AreDistinct codes → IsInOrderFor codes result }
+        ensures index { (codes : List Value) → IsIndexOf (read_index codes result) [] }
+    {
+        KeyedIndex::with_hashing(alloc, access, SeededHashing::seeded(0))
+    }
+
+    /// An index of no rows, whose keys will be hashed as an interner's values are.
+    pub fn with_hashing(alloc: Global, access: Access, hashing: SeededHashing) -> KeyedIndex<W>
         requires { W.fits (length access.key) }
         ensures access { result.access ≡ access }
         ensures none { result.groups ≡ [] }
@@ -86,7 +98,7 @@ impl<W: OwnWords> KeyedIndex<W> {
         KeyedIndex {
             access,
             total: 0,
-            groups: IndexMap::with_hasher(alloc, WordHashing::new()),
+            groups: IndexMap::with_hasher(alloc, hashing),
         }
     }
 

@@ -4,7 +4,6 @@
 mod asked;
 mod form;
 mod group;
-mod hasher;
 mod hints;
 mod interner;
 mod key;

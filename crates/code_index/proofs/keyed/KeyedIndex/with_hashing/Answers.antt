@@ -2,7 +2,7 @@ use Rattle.std.proofs.Common.{[], refl, sym, subst}
 use Rattle.access_index.specs.Index.{IsIndexOf}
 use Rattle.code_index.specs.Reading.{IsInOrderFor, IsOrdered, read_index}
 use Rattle.code_index.proofs.Ordering.{none_in_order, ordered_none}
-use Rattle.code_index.proofs.keyed.KeyedIndex.new.Goals as goal
+use Rattle.code_index.proofs.keyed.KeyedIndex.with_hashing.Goals as goal
 
 pub invariant_of-result : goal.invariant_of-result
 invariant_of-result g c = (
