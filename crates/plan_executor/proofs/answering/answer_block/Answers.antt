@@ -1,5 +1,5 @@
 use Rattle.std.specs.Option.{option_copied}
-use Rattle.std.proofs.Common.{false, subst, arith, map}
+use Rattle.std.proofs.Common.{◌≡◌, ◌≤◌, ◌+◌, ℕ, Err, Result, false, subst, arith, map}
 use Rattle.std.proofs.lemmas.List.{take_all}
 use Rattle.std.proofs.lemmas.Result.{err_from_is_err_and}
 use Rattle.beas_core.specs.declared.plan.DStep.{DStep}
@@ -7,7 +7,7 @@ use Rattle.beas_core.specs.Order.{row_cmp}
 use Rattle.beas_core.specs.Sets.{distinct}
 use Rattle.beas_core.specs.Reads.{reads_of}
 use Rattle.beas_core.specs.Valuations.{output_row, answers_of}
-use Rattle.plan_ops.specs.Over.{bound_set}
+use Rattle.plan_ops.specs.Over.{Counts, bound_set}
 use Rattle.plan_ops.proofs.FrontFacts.{Front, front_none, nothing_read, answered, is_next, front_more, last_over, last_answers, at_error}
 use Rattle.plan_executor.proofs.answering.answer_block.Goals as goal
 
@@ -47,35 +47,29 @@ take_step-requires-clause-room g c =
     let all = c.requires.room in
     omega (arith, room, reads, all)
 
+-- a step that fails has read at most what the plan reads
+failed : {A E : Type 0} (result : Result A E) (e : E) (start before now front share whole : ℕ) → result ≡ Err e → before ≡ start + front → before ≤ now
+    → now ≤ before + share → front + share ≤ whole → Counts result start now whole
+failed result e start before now front share whole is so_far low high within =
+    at_error result e start now whole is (omega (arith, so_far, low)) (omega (arith, within, so_far, high))
+
 pub returns-in_err-from-2-clause-reads : goal.returns-in_err-from-2-clause-reads
 returns-in_err-from-2-clause-reads g c =
-    let rows = g.P.AccessPort.rows c.args.port.now in
-    let normal = c.args.block.now in
-    let accesses = g.P.AccessPort.accesses c.args.port.now in
-    let guide = option_copied c.args.guide in
     let p = err_from_is_err_and c.from_residual-in_err-from-2.result c.from_residual-in_err-from-2.ensures.1 in
-    let within = (is_next rows normal accesses guide c.requires.classes c.requires.constants c.requires.fits c.args.plan.now c.loop-step.step-index none
-    c.loop-step-test.true c.requires.sound c.loop-step.from c.loop-step.invariant.front).within in
-    let so_far = c.loop-step.invariant.reads in
-    let low = c.in_err-from-2.ensures.reads.0 in
-    let high = c.in_err-from-2.ensures.reads.1 in
-    at_error c.from_residual-in_err-from-2.result p.0 c.args.reads.now c.take_step.new.reads
-    (reads_of rows normal accesses guide c.args.plan.now) p.1 (omega (arith, so_far, low)) (omega (arith, within, so_far, high))
+    failed c.from_residual-in_err-from-2.result p.0 c.args.reads.now _ c.take_step.new.reads _ _ _ p.1 c.loop-step.invariant.reads
+    c.in_err-from-2.ensures.reads.0 c.in_err-from-2.ensures.reads.1
+    (is_next (g.P.AccessPort.rows c.args.port.now) c.args.block.now (g.P.AccessPort.accesses c.args.port.now) (option_copied c.args.guide)
+    c.requires.classes c.requires.constants c.requires.fits c.args.plan.now c.loop-step.step-index none c.loop-step-test.true c.requires.sound
+    c.loop-step.from c.loop-step.invariant.front).within
 
 pub returns-in_err-from-2-clause-steps : goal.returns-in_err-from-2-clause-steps
 returns-in_err-from-2-clause-steps g c =
-    let rows = g.P.AccessPort.rows c.args.port.now in
-    let normal = c.args.block.now in
-    let accesses = g.P.AccessPort.accesses c.args.port.now in
-    let guide = option_copied c.args.guide in
     let p = err_from_is_err_and c.from_residual-in_err-from-2.result c.from_residual-in_err-from-2.ensures.1 in
-    let within = (is_next rows normal accesses guide c.requires.classes c.requires.constants c.requires.fits c.args.plan.now c.loop-step.step-index none
-    c.loop-step-test.true c.requires.sound c.loop-step.from c.loop-step.invariant.front).within in
-    let so_far = c.loop-step.invariant.steps in
-    let low = c.in_err-from-2.ensures.steps.0 in
-    let high = c.in_err-from-2.ensures.steps.1 in
-    at_error c.from_residual-in_err-from-2.result p.0 c.args.steps.now c.take_step.new.steps
-    (reads_of rows normal accesses guide c.args.plan.now) p.1 (omega (arith, so_far, low)) (omega (arith, within, so_far, high))
+    failed c.from_residual-in_err-from-2.result p.0 c.args.steps.now _ c.take_step.new.steps _ _ _ p.1 c.loop-step.invariant.steps
+    c.in_err-from-2.ensures.steps.0 c.in_err-from-2.ensures.steps.1
+    (is_next (g.P.AccessPort.rows c.args.port.now) c.args.block.now (g.P.AccessPort.accesses c.args.port.now) (option_copied c.args.guide)
+    c.requires.classes c.requires.constants c.requires.fits c.args.plan.now c.loop-step.step-index none c.loop-step-test.true c.requires.sound
+    c.loop-step.from c.loop-step.invariant.front).within
 
 pub loop-step-preserved : goal.loop-step-preserved
 loop-step-preserved g c =

@@ -15,6 +15,8 @@ use Rattle.beas_core.specs.Results.{IsRefusedAs}
 use Rattle.catalogue.proofs.MayMake.{may_make_access}
 use Rattle.update_guard.proofs.GuardFacts.{on_ok, on_err, widened}
 use Rattle.update_guard.proofs.InsertFacts.{refused_alike}
+use Rattle.update_guard.proofs.making.make_access.Given as given
+use Rattle.update_guard.proofs.making.make_access.Goals.{After-put_index}
 use Rattle.update_guard.proofs.making.make_access.Goals as goal
 
 pub columns-few-requires : goal.columns-few-requires
@@ -31,97 +33,69 @@ put_index-requires g c =
     widened (length (columns_at c.args.catalogue.now a.table)) a c.columns-few.ensures.sound.few_columns
     (subst (λ (x : Access). AccessIsWellFormed (length (columns_at c.args.catalogue.now x.table)) x) (sym c.in_ok-access.ensures.admitted) may.form)
 
+-- the constraint that is admitted, over the rows of its table
+module _ (g : given.Over) (c : After-put_index g) where
+  abbrev admitted : Access
+  admitted = new_access c.args.catalogue.now c.args.spec.now
+
+  abbrev rows : List Row
+  rows = get_or c.args.rows.now admitted.table.0 []
+
+  abbrev refusal : Option Refusal
+  refusal = admit_refusal c.args.limits.now c.args.catalogue.now c.args.spec.now
+
+  same : c.in_ok-access.access ≡ admitted
+  same = c.in_ok-access.ensures.admitted
+
+  own : c.index-as_slice-table.result ≡ rows
+  own =
+      let lent = c.index-as_slice-table.result in
+      let may = may_make_access c.args.limits.now c.args.catalogue.now c.args.spec.now c.in_ok-access.ensures.refused c.requires.fetches
+      c.args.limits.now.constraints_in_range.1 in
+      let live : admitted.table.0 < length c.args.rows.now = omega (arith, may.table, c.requires.tables) in
+      c.index-as_slice-table.is ∙ ap (λ xs. get_or xs c.in_ok-access.access.table.0 lent) c.as_slice.ensures
+      ∙ ap (λ (x : Access). get_or c.args.rows.now x.table.0 lent) same
+      ∙ get_or_default c.args.rows.now admitted.table.0 lent [] live
+
+  told : option_or refusal (already_broken rows admitted) ≡ already_broken c.index-as_slice-table.result c.in_ok-access.access
+  told = ap (λ o. option_or o (already_broken rows admitted)) c.in_ok-access.ensures.refused ∙ ap (λ rs. already_broken rs admitted) (sym own)
+      ∙ ap (already_broken c.index-as_slice-table.result) (sym same)
+
+  share : length c.index-as_slice-table.result ≡ (if is_none refusal then length rows else 0)
+  share = ap length own ∙ sym (ap (λ (o : Option Refusal). if is_none o then length rows else 0) c.in_ok-access.ensures.refused)
+
 pub returns-in-Err-clause-refused : goal.returns-in-Err-clause-refused
 returns-in-Err-clause-refused g c =
-    let a = new_access c.args.catalogue.now c.args.spec.now in
-    let rows = get_or c.args.rows.now a.table.0 [] in
-    let lent = c.index-as_slice-table.result in
-    let same : c.in_ok-access.access ≡ a = c.in_ok-access.ensures.admitted in
-    let may = may_make_access c.args.limits.now c.args.catalogue.now c.args.spec.now c.in_ok-access.ensures.refused c.requires.fetches
-    c.args.limits.now.constraints_in_range.1 in
-    let live : a.table.0 < length c.args.rows.now = omega (arith, may.table, c.requires.tables) in
-    let own : lent ≡ rows =
-    c.index-as_slice-table.is ∙ ap (λ xs. get_or xs c.in_ok-access.access.table.0 lent) c.as_slice.ensures
-    ∙ ap (λ (x : Access). get_or c.args.rows.now x.table.0 lent) same
-    ∙ get_or_default c.args.rows.now a.table.0 lent [] live in
-    let told : option_or (admit_refusal c.args.limits.now c.args.catalogue.now c.args.spec.now) (already_broken rows a)
-    ≡ already_broken lent c.in_ok-access.access =
-    ap (λ o. option_or o (already_broken rows a)) c.in_ok-access.ensures.refused ∙ ap (λ rs. already_broken rs a) (sym own)
-    ∙ ap (already_broken lent) (sym same) in
     let R : Option Refusal → Type 0 = λ r. IsRefusedAs {A = AccessId} (Err c.in-Err.why) r in
-    subst R (sym told) (refused_alike (Unit {0}) AccessId c.in-Err.why (already_broken lent c.in_ok-access.access) c.in-Err.ensures.refused)
+    subst R (sym (told g (goal.at.returns-in-Err-clause-refused g c).After-put_index))
+    (refused_alike (Unit {0}) AccessId c.in-Err.why (already_broken c.index-as_slice-table.result c.in_ok-access.access) c.in-Err.ensures.refused)
 
 pub returns-in-Err-clause-cost : goal.returns-in-Err-clause-cost
 returns-in-Err-clause-cost g c n =
-    let a = new_access c.args.catalogue.now c.args.spec.now in
-    let rows = get_or c.args.rows.now a.table.0 [] in
-    let lent = c.index-as_slice-table.result in
-    let same : c.in_ok-access.access ≡ a = c.in_ok-access.ensures.admitted in
-    let may = may_make_access c.args.limits.now c.args.catalogue.now c.args.spec.now c.in_ok-access.ensures.refused c.requires.fetches
-    c.args.limits.now.constraints_in_range.1 in
-    let live : a.table.0 < length c.args.rows.now = omega (arith, may.table, c.requires.tables) in
-    let own : lent ≡ rows =
-    c.index-as_slice-table.is ∙ ap (λ xs. get_or xs c.in_ok-access.access.table.0 lent) c.as_slice.ensures
-    ∙ ap (λ (x : Access). get_or c.args.rows.now x.table.0 lent) same
-    ∙ get_or_default c.args.rows.now a.table.0 lent [] live in
-    let share = ap length own ∙ sym (ap (λ (o : Option Refusal). if is_none o then length rows else 0) c.in_ok-access.ensures.refused) in
-    c.in-Err.ensures.refused_read (λ e. n (ap Err e)) ∙ ap (λ k. c.args.steps.now + k) share
+    c.in-Err.ensures.refused_read (λ e. n (ap Err e))
+    ∙ ap (λ k. c.args.steps.now + k) (share g (goal.at.returns-in-Err-clause-cost g c).After-put_index)
 
 pub returns-in-Err-clause-at_most : goal.returns-in-Err-clause-at_most
 returns-in-Err-clause-at_most g c =
-    let a = new_access c.args.catalogue.now c.args.spec.now in
-    let rows = get_or c.args.rows.now a.table.0 [] in
-    let lent = c.index-as_slice-table.result in
-    let same : c.in_ok-access.access ≡ a = c.in_ok-access.ensures.admitted in
-    let may = may_make_access c.args.limits.now c.args.catalogue.now c.args.spec.now c.in_ok-access.ensures.refused c.requires.fetches
-    c.args.limits.now.constraints_in_range.1 in
-    let live : a.table.0 < length c.args.rows.now = omega (arith, may.table, c.requires.tables) in
-    let own : lent ≡ rows =
-    c.index-as_slice-table.is ∙ ap (λ xs. get_or xs c.in_ok-access.access.table.0 lent) c.as_slice.ensures
-    ∙ ap (λ (x : Access). get_or c.args.rows.now x.table.0 lent) same
-    ∙ get_or_default c.args.rows.now a.table.0 lent [] live in
-    let share = ap length own ∙ sym (ap (λ (o : Option Refusal). if is_none o then length rows else 0) c.in_ok-access.ensures.refused) in
-    subst (λ (k : ℕ). c.put_index.new.steps ≤ c.args.steps.now + k) share c.in-Err.ensures.at_most
+    subst (λ (k : ℕ). c.put_index.new.steps ≤ c.args.steps.now + k) (share g (goal.at.returns-in-Err-clause-at_most g c).After-put_index)
+    c.in-Err.ensures.at_most
 
 pub returns-in-Ok-clause-refused : goal.returns-in-Ok-clause-refused
 returns-in-Ok-clause-refused g c =
-    let a = new_access c.args.catalogue.now c.args.spec.now in
-    let rows = get_or c.args.rows.now a.table.0 [] in
-    let lent = c.index-as_slice-table.result in
-    let same : c.in_ok-access.access ≡ a = c.in_ok-access.ensures.admitted in
-    let may = may_make_access c.args.limits.now c.args.catalogue.now c.args.spec.now c.in_ok-access.ensures.refused c.requires.fetches
-    c.args.limits.now.constraints_in_range.1 in
-    let live : a.table.0 < length c.args.rows.now = omega (arith, may.table, c.requires.tables) in
-    let own : lent ≡ rows =
-    c.index-as_slice-table.is ∙ ap (λ xs. get_or xs c.in_ok-access.access.table.0 lent) c.as_slice.ensures
-    ∙ ap (λ (x : Access). get_or c.args.rows.now x.table.0 lent) same
-    ∙ get_or_default c.args.rows.now a.table.0 lent [] live in
-    let told : option_or (admit_refusal c.args.limits.now c.args.catalogue.now c.args.spec.now) (already_broken rows a)
-    ≡ already_broken lent c.in_ok-access.access =
-    ap (λ o. option_or o (already_broken rows a)) c.in_ok-access.ensures.refused ∙ ap (λ rs. already_broken rs a) (sym own)
-    ∙ ap (already_broken lent) (sym same) in
-    subst (IsRefusedAs c.put_access.result) (sym (told ∙ c.in-Ok.ensures.refused)) c.put_access.ensures.refused
+    subst (IsRefusedAs c.put_access.result) (sym (told g (goal.at.returns-in-Ok-clause-refused g c).After-put_index ∙ c.in-Ok.ensures.refused))
+    c.put_access.ensures.refused
 
 pub returns-in-Ok-clause-index : goal.returns-in-Ok-clause-index
 returns-in-Ok-clause-index g c =
-    let a = new_access c.args.catalogue.now c.args.spec.now in
-    let rows = get_or c.args.rows.now a.table.0 [] in
-    let lent = c.index-as_slice-table.result in
-    let same : c.in_ok-access.access ≡ a = c.in_ok-access.ensures.admitted in
-    let may = may_make_access c.args.limits.now c.args.catalogue.now c.args.spec.now c.in_ok-access.ensures.refused c.requires.fetches
-    c.args.limits.now.constraints_in_range.1 in
-    let live : a.table.0 < length c.args.rows.now = omega (arith, may.table, c.requires.tables) in
-    let own : lent ≡ rows =
-    c.index-as_slice-table.is ∙ ap (λ xs. get_or xs c.in_ok-access.access.table.0 lent) c.as_slice.ensures
-    ∙ ap (λ (x : Access). get_or c.args.rows.now x.table.0 lent) same
-    ∙ get_or_default c.args.rows.now a.table.0 lent [] live in
+    let at = (goal.at.returns-in-Ok-clause-index g c).After-put_index in
     let x = c.in-Ok.ensures.index in
     on_ok c.put_access.result c.put_access.ensures.index (λ e. record {
       index = x.index;
       added = e ∙ x.added;
-      access_is = x.access_is ∙ same;
-      index_is = subst (λ (rs : List Row). IsIndexOf x.index rs) own x.index_is;
-      holds = subst (λ (x : Access). Holds rows x) same (subst (λ (rs : List Row). Holds rs c.in_ok-access.access) own x.holds);
+      access_is = x.access_is ∙ same g at;
+      index_is = subst (λ (rs : List Row). IsIndexOf x.index rs) (own g at) x.index_is;
+      holds = subst (λ (x : Access). Holds (rows g at) x) (same g at)
+          (subst (λ (rs : List Row). Holds rs c.in_ok-access.access) (own g at) x.holds);
     })
 
 pub returns-in-Ok-clause-indexes_stay : goal.returns-in-Ok-clause-indexes_stay
@@ -136,32 +110,9 @@ put_access-requires-clause-some g c =
 
 pub returns-in-Ok-clause-cost : goal.returns-in-Ok-clause-cost
 returns-in-Ok-clause-cost g c n =
-    let a = new_access c.args.catalogue.now c.args.spec.now in
-    let rows = get_or c.args.rows.now a.table.0 [] in
-    let lent = c.index-as_slice-table.result in
-    let same : c.in_ok-access.access ≡ a = c.in_ok-access.ensures.admitted in
-    let may = may_make_access c.args.limits.now c.args.catalogue.now c.args.spec.now c.in_ok-access.ensures.refused c.requires.fetches
-    c.args.limits.now.constraints_in_range.1 in
-    let live : a.table.0 < length c.args.rows.now = omega (arith, may.table, c.requires.tables) in
-    let own : lent ≡ rows =
-    c.index-as_slice-table.is ∙ ap (λ xs. get_or xs c.in_ok-access.access.table.0 lent) c.as_slice.ensures
-    ∙ ap (λ (x : Access). get_or c.args.rows.now x.table.0 lent) same
-    ∙ get_or_default c.args.rows.now a.table.0 lent [] live in
-    let share = ap length own ∙ sym (ap (λ (o : Option Refusal). if is_none o then length rows else 0) c.in_ok-access.ensures.refused) in
-    c.in-Ok.ensures.read ∙ ap (λ k. c.args.steps.now + k) share
+    c.in-Ok.ensures.read ∙ ap (λ k. c.args.steps.now + k) (share g (goal.at.returns-in-Ok-clause-cost g c).After-put_index)
 
 pub returns-in-Ok-clause-at_most : goal.returns-in-Ok-clause-at_most
 returns-in-Ok-clause-at_most g c =
-    let a = new_access c.args.catalogue.now c.args.spec.now in
-    let rows = get_or c.args.rows.now a.table.0 [] in
-    let lent = c.index-as_slice-table.result in
-    let same : c.in_ok-access.access ≡ a = c.in_ok-access.ensures.admitted in
-    let may = may_make_access c.args.limits.now c.args.catalogue.now c.args.spec.now c.in_ok-access.ensures.refused c.requires.fetches
-    c.args.limits.now.constraints_in_range.1 in
-    let live : a.table.0 < length c.args.rows.now = omega (arith, may.table, c.requires.tables) in
-    let own : lent ≡ rows =
-    c.index-as_slice-table.is ∙ ap (λ xs. get_or xs c.in_ok-access.access.table.0 lent) c.as_slice.ensures
-    ∙ ap (λ (x : Access). get_or c.args.rows.now x.table.0 lent) same
-    ∙ get_or_default c.args.rows.now a.table.0 lent [] live in
-    let share = ap length own ∙ sym (ap (λ (o : Option Refusal). if is_none o then length rows else 0) c.in_ok-access.ensures.refused) in
-    subst (λ (k : ℕ). c.put_index.new.steps ≤ c.args.steps.now + k) share c.in-Ok.ensures.at_most
+    subst (λ (k : ℕ). c.put_index.new.steps ≤ c.args.steps.now + k) (share g (goal.at.returns-in-Ok-clause-at_most g c).After-put_index)
+    c.in-Ok.ensures.at_most
