@@ -19,6 +19,7 @@ from ._refusals import Refused
 from ._reports import Answer, Changed, Explained, Ok, Price, Report
 from ._schema import Column, Constraint, Schema
 from ._sessions import Session
+from .plans import Plan, plan_of
 
 MOST_OF_A_BUDGET = 2**64 - 1
 SESSIONS = range(1, 65)
@@ -185,6 +186,31 @@ class Database:
         report = raised(self._outcome(self._library.price, text))
         assert isinstance(report, Explained)
         return Price(report.bound, report.plan)
+
+    def plan(self, query: str, parameters: Parameters | None = None) -> Plan:
+        """The plan that a query would have, as data, whatever the budget is. Nothing is read, and the last report stays; only a refusal, which
+        is raised, is a report of its own.
+
+        >>> with Database() as db:
+        ...     _ = db.run("CREATE TABLE r (a INTEGER, b INTEGER); CREATE ACCESS ab ON r (a) FETCH (b) LIMIT 5")
+        ...     [(it.constraint, it.key, it.fetch, it.limit) for it in db.plan("SELECT DISTINCT b FROM r WHERE a = 1").blocks[0].steps]
+        [('ab', ('a',), ('b',), 5)]
+        """
+        text = query if parameters is None else filled(query, parameters)
+        status, told = self._planned(encoded(text))
+        if status == _library.ABSENT:
+            # The query is refused; the price tells why.
+            raised(self._outcome(self._library.price, text))
+        check(status)
+        return plan_of(told)
+
+    def _planned(self, query: bytes) -> tuple[int, str]:
+        self._allow()
+        try:
+            self._is_busy = True
+            return self._last.status_and_text(self._library.plan_data, query, len(query))
+        finally:
+            self._is_busy = False
 
     # ---- rows and files
 

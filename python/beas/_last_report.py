@@ -68,17 +68,22 @@ class LastReport:
         return self.low.value | self.high.value << 64
 
     def text(self, call: Call, *which: int) -> str:
-        """A text; if it is longer than the room for short ones, once more into a room of its own."""
+        """A text that is there."""
+        status, text = self.status_and_text(call, *which)
+        if status:
+            check(status)
+        return text
+
+    def status_and_text(self, call: Call, *which: object) -> tuple[int, str]:
+        """A text, and the status; if it is longer than the room for short ones, once more into a room of its own."""
         buffer = self.buffer
         status = call(self.db, *which, buffer, ROOM, self.to_length)
         if status == NO_ROOM:
             room = self.length.value
             buffer = ctypes.create_string_buffer(room)
             status = call(self.db, *which, buffer, room, self.to_length)
-        if status:
-            check(status)
-        content: bytes = buffer[: self.length.value]
-        return content.decode()
+        content: bytes = b"" if status else buffer[: self.length.value]
+        return status, content.decode()
 
     def plan(self) -> tuple[str, ...]:
         text = self.text(self.library.plan_text)

@@ -24,7 +24,7 @@ ERRORS: dict[int, tuple[type[Error], str]] = {
     5: (NotText, "the text is not UTF-8"),
     6: (NoStatement, "there is no statement"),
     7: (SeveralStatements, "there is more than one statement"),
-    8: (NotAQuery, "only a query has a price"),
+    8: (NotAQuery, "only a query has a price and a plan"),
     ABSENT: (Error, "the last report has no such thing"),
     10: (LimitTooGreat, "a limit is greater than it may be"),
 }
@@ -74,6 +74,7 @@ LONG_CALLS: dict[str, tuple[Any, ...]] = {
     "add_file": (_DB, c_char_p, c_size_t, c_char_p, c_size_t),
     "say": (_DB, c_char_p, c_size_t),
     "price": (_DB, c_char_p, c_size_t),
+    "plan_data": (_DB, c_char_p, c_size_t, *_INTO),
     "drop_query": (_DB, c_uint32),
     "close": (_DB,),
     "report_text": (_DB, *_INTO),
@@ -118,6 +119,7 @@ class Library:
     add_file: Call
     say: Call
     price: Call
+    plan_data: Call
     drop_query: Call
     close: Call
     kind: Call

@@ -1,7 +1,7 @@
 """Plans as data: what a program needs that carries a query out by itself.
 
-The library gives a plan as one text in JSON; `plan_of` reads it. A text that isn't a plan, or whose bound isn't the one that its steps
-have, is refused with BadPlan, so what is read here can be carried out without a further look.
+The library gives a plan as one text in JSON, which `plan_of` reads; `beas.Database.plan` does both. A text that isn't a plan, or whose bound
+isn't the one that its steps have, is refused with BadPlan, so what is read here can be carried out without a further look.
 """
 import json
 from collections.abc import Callable, Iterator
@@ -70,7 +70,6 @@ class Block:
     #: Whether it begins with the answers of the left side of an EXCEPT.
     guided: bool
     steps: tuple[Step, ...]
-    bound: int
 
     def class_of(self, place: Place) -> int:
         return self.classes[place.atom][place.column]
@@ -107,7 +106,7 @@ class Plan:
     """A query with its bound.
 
     >>> plan = plan_of('{"bound": "3", "columns": ["card"], "query": {"block": 0}, "blocks": [{"atoms": ["cards"], "classes": [[0, 1]],'
-    ...     '"count": 2, "constants": [[0, 7]], "comparisons": [], "output": [[0, 1]], "guided": false, "bound": "3", "steps": ['
+    ...     '"count": 2, "constants": [[0, 7]], "comparisons": [], "output": [[0, 1]], "guided": false, "steps": ['
     ...     '{"atom": 0, "table": "cards", "constraint": "cards_of", "key": ["account"], "fetch": ["card"], "limit": 3, "adds": true}]}]}')
     >>> plan.bound, plan.columns, plan.round_trips
     (3, ('card',), 1)
@@ -121,6 +120,11 @@ class Plan:
     columns: tuple[str, ...]
     query: Tree
     blocks: tuple[Block, ...]
+
+    @property
+    def bounds(self) -> tuple[int, ...]:
+        """What each block may read at most. The bound of the query is their sum."""
+        return tuple(bound_of(self, number) for number in range(len(self.blocks)))
 
     @property
     def round_trips(self) -> int:
@@ -201,7 +205,7 @@ def plan_of(text: str) -> Plan:
     blocks = tuple(map(block_of, list_of("blocks", fields["blocks"])))
     plan = Plan(bound_in(fields["bound"]), texts_of("columns", fields["columns"]), tree_of(fields["query"]), blocks)
     check_tree(plan)
-    check_bounds(plan)
+    demand(plan.bound == sum(plan.bounds), "the bound isn't that of the steps")
     return plan
 
 
@@ -211,12 +215,6 @@ def check_tree(plan: Plan) -> None:
     for number, block in enumerate(plan.blocks):
         demand(len(block.output) == len(plan.columns), f"block {number} has another output than the query has columns")
         demand(not block.guided or guide_of(plan.query, number) is not None, f"block {number} is guided and has no guide")
-
-
-def check_bounds(plan: Plan) -> None:
-    for number, block in enumerate(plan.blocks):
-        demand(block.bound == bound_of(plan, number), f"the bound of block {number} isn't that of its steps")
-    demand(plan.bound == sum(block.bound for block in plan.blocks), "the bound isn't that of the blocks")
 
 
 def tree_of(told: Any) -> Tree:
@@ -229,7 +227,7 @@ def tree_of(told: Any) -> Tree:
 
 
 def block_of(told: Any) -> Block:
-    names = ("atoms", "classes", "count", "constants", "comparisons", "output", "guided", "steps", "bound")
+    names = ("atoms", "classes", "count", "constants", "comparisons", "output", "guided", "steps")
     fields = fields_of("block", told, *names)
     block = Block(
         atoms=texts_of("atoms", fields["atoms"]),
@@ -240,7 +238,6 @@ def block_of(told: Any) -> Block:
         output=tuple(map(place_of, list_of("output", fields["output"]))),
         guided=flag_of("guided", fields["guided"]),
         steps=tuple(map(step_of, list_of("steps", fields["steps"]))),
-        bound=bound_in(fields["bound"]),
     )
     check_block(block)
     return block

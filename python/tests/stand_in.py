@@ -15,8 +15,11 @@ TOP = Path(__file__).resolve().parents[2]
 sys.path.insert(0, str(TOP / "scripts"))
 sys.setrecursionlimit(20_000)
 
+from lib.second_plans import plan_text  # noqa: E402
 from lib.second_program import database, desk  # noqa: E402
+from lib.second_program.binding import bind  # noqa: E402
 from lib.second_program.grammar import parse  # noqa: E402
+from lib.second_program.prepared import prepare  # noqa: E402
 from lib.second_program.reports import Numbered, text_of  # noqa: E402
 from lib.second_program.reports import answered as as_text  # noqa: E402
 from lib.second_program.tokens import Refused, Token, pieces_of  # noqa: E402
@@ -91,6 +94,12 @@ class Base:
             self.desk.budget = budget
         self.told(report)
         return True
+
+    def plan(self, tokens: list[Token]) -> str | None:
+        """The text of a query's plan, or None of another statement. Raises the refusal of a query that has none."""
+        database.MOST.update(self.limits)
+        tree = query_of(tokens)
+        return None if tree is None else plan_text(self.desk.db, prepare(self.desk.db, None, *bind(self.desk.db, tree)))
 
     def words(self, line: int) -> list[str]:
         return self.report[line].split(" ")
@@ -210,6 +219,16 @@ class StandIn:
         if status != DONE:
             return status
         return DONE if base.price(pieces[0]) else NOT_A_QUERY
+
+    def plan_data(self, base: Base, text: int, text_length: int, *into: int) -> int:
+        status, pieces = read_pieces(text, text_length)
+        if status != DONE:
+            return status
+        try:
+            plan = base.plan(pieces[0])
+        except Refused:
+            return ABSENT
+        return NOT_A_QUERY if plan is None else put_text(plan, *into)
 
     def drop_query(self, base: Base, session: int) -> int:
         base.desk.open.pop(session, None)

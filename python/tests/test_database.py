@@ -246,8 +246,9 @@ class Errors(Case):
         db.close()
         db.close()
         session.close()
-        for call in (lambda: db.say(CARDS_OF_7), lambda: db.query(CARDS_OF_7), lambda: db.price(CARDS_OF_7), lambda: db.run("DROP ACCESS a"),
-                     lambda: db.load("cards", []), lambda: db.add_file("a", b""), db.report_text, lambda: setattr(db, "budget", 5)):
+        for call in (lambda: db.say(CARDS_OF_7), lambda: db.query(CARDS_OF_7), lambda: db.price(CARDS_OF_7),
+                     lambda: db.plan(CARDS_OF_7), lambda: db.run("DROP ACCESS a"), lambda: db.load("cards", []),
+                     lambda: db.add_file("a", b""), db.report_text, lambda: setattr(db, "budget", 5)):
             with self.assertRaises(beas.Closed):
                 call()
         self.assertEqual([], db.run(""))

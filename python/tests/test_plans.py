@@ -4,13 +4,12 @@ import json
 import re
 import unittest
 from typing import Any
-from unittest import mock
 
 from support import TOP, Case
 
 import beas
 from beas.plans import BadPlan, Leaf, Pair, Place, plan_of
-from beas.postgres import NoPlans, use_planner
+from beas.postgres import use_planner
 from beas.postgres._planning import LibraryPlanner, planner_for
 from lib.second_plans import SecondPlanner
 
@@ -34,7 +33,7 @@ WRONG: list[tuple[list[Any], Any, str]] = [
     (["bound"], "+7", "text of digits"),
     (["bound"], "٣", "text of digits"),
     (["bound"], str(2**128), "below 2"),
-    (["bound"], "7", "isn't that of the blocks"),
+    (["bound"], "7", "isn't that of the steps"),
     (["columns"], [], "another output"),
     (["columns"], ["cid", 7], "columns is a text"),
     (["columns"], "cid", "columns is a list"),
@@ -65,11 +64,11 @@ WRONG: list[tuple[list[Any], Any, str]] = [
     (["blocks", 0, "guided"], True, "no guide"),
     (["blocks", 0, "steps", 0, "limit"], 0, "between 1"),
     (["blocks", 0, "steps", 0, "limit"], 2**32, "between 1"),
-    (["blocks", 0, "steps", 0, "limit"], 4999, "that of its steps"),
+    (["blocks", 0, "steps", 0, "limit"], 4999, "that of the steps"),
     (["blocks", 0, "steps", 0, "adds"], None, "true or false"),
     (["blocks", 0, "steps", 0, "atom"], 7, "table of its atom"),
     (["blocks", 0, "steps", 0, "constraint"], "", "is a text"),
-    (["blocks", 0, "bound"], "9", "that of its steps"),
+    (["blocks", 0, "bound"], "9", "has the fields"),
 ]
 
 
@@ -86,12 +85,12 @@ class Plans(Case):
     def test_lines_and_bounds(self) -> None:
         planner = SecondPlanner(SCHEMA)
         for query in QUERIES:
-            prepared, plan = planner.prepared(query), plan_of(planner.plan(query))
+            prepared, plan = planner.prepared(query), planner.plan(query)
             self.assertEqual(prepared.lines, plan.lines())
             self.assertEqual((prepared.number, tuple(prepared.header)), (plan.bound, plan.columns))
 
     def test_parts(self) -> None:
-        plan = plan_of(SecondPlanner(SCHEMA).plan(DINED))
+        plan = SecondPlanner(SCHEMA).plan(DINED)
         (block,) = plan.blocks
         self.assertEqual((("friend", "dine"), ((0, 1), (1, 2, 3, 4)), 5), (block.atoms, block.classes, block.count))
         self.assertEqual((((0, 7), (3, 2015)), (Place(1, 1),)), (block.constants, block.output))
@@ -100,10 +99,10 @@ class Plans(Case):
         self.assertEqual(5000 + 5000 * 31, plan.bound)
 
     def test_guided(self) -> None:
-        plan = plan_of(SecondPlanner(SCHEMA).plan(QUERIES[2]))
+        plan = SecondPlanner(SCHEMA).plan(QUERIES[2])
         self.assertEqual(Pair("except", Leaf(0), Leaf(1)), plan.query)
         self.assertEqual([False, True], [it.guided for it in plan.blocks])
-        self.assertEqual([31, 31 * 7], [it.bound for it in plan.blocks])
+        self.assertEqual((31, 31 * 7), plan.bounds)
         self.assertEqual(2, plan.round_trips)
 
     def test_a_bound_of_128_bits(self) -> None:
@@ -111,16 +110,16 @@ class Plans(Case):
         query = f"SELECT DISTINCT x3.b FROM r x0, r x1, r x2, r x3 WHERE x0.a = 1 AND {joins}"
         planner = SecondPlanner(f"CREATE TABLE r (a INTEGER, b INTEGER); CREATE ACCESS ab ON r (a) FETCH (b) LIMIT {2**32 - 1}")
         most = 2**32 - 1
-        self.assertEqual(most + most**2 + most**3 + most**4, plan_of(planner.plan(query)).bound)
+        self.assertEqual(most + most**2 + most**3 + most**4, planner.plan(query).bound)
 
     def test_wrong_plans(self) -> None:
-        told = json.loads(SecondPlanner(SCHEMA).plan(DINED))
+        told = json.loads(SecondPlanner(SCHEMA).text(DINED))
         for path, value, why in WRONG:
             with self.subTest(path=path, value=value), self.assertRaisesRegex(BadPlan, why):
                 plan_of(changed(told, path, value))
 
     def test_fields_that_lack(self) -> None:
-        told = json.loads(SecondPlanner(SCHEMA).plan(DINED))
+        told = json.loads(SecondPlanner(SCHEMA).text(DINED))
         for inner in (told, told["blocks"][0], told["blocks"][0]["steps"][0], told["blocks"][0]["comparisons"][0]):
             for name in list(inner):
                 value = inner.pop(name)
@@ -143,26 +142,54 @@ class OnThePage(Case):
         accesses = re.findall(r"^\.\.\. +(CREATE ACCESS .*;)$", page, re.M)
         (question,) = re.findall(r'^>>> question = "(.*)"$', page, re.M)
         planner = SecondPlanner("\n".join(tables + accesses))
-        self.assertEqual(json.loads(planner.plan(question.replace("?", "8"))), json.loads(text))
+        self.assertEqual(json.loads(planner.text(question.replace("?", "8"))), json.loads(text))
         self.assertEqual((550, 2), (plan_of(text).bound, plan_of(text).round_trips))
 
 
 class FromTheLibrary(Case):
-    def test_a_library_without_plans(self) -> None:
-        if not hasattr(beas.Database, "plan"):
-            with self.assertRaises(NoPlans):
-                LibraryPlanner(SCHEMA, None)
+    """The library's plans, or those of the stand-in, which has them from the second program."""
 
-    def test_a_library_with_plans(self) -> None:
-        with mock.patch.object(beas.Database, "plan", lambda _, query: SecondPlanner(SCHEMA).plan(query), create=True):
-            planner = LibraryPlanner(SCHEMA, 1000)
-            self.addCleanup(planner.close)
-            self.assertEqual(5000 + 5000 * 31, plan_of(planner.plan(DINED)).bound)
+    def test_texts_are_those_of_the_second_program(self) -> None:
+        db, planner = self.database(SCHEMA), SecondPlanner(SCHEMA)
+        for query in [*QUERIES, DINED.replace("rome", 'r\n"\\ö\x7f\x01')]:
+            self.assertEqual((0, planner.text(query)), db._planned(query.encode()))
+            self.assertEqual(planner.plan(query), db.plan(query))
 
-    def test_a_schema_that_is_refused(self) -> None:
-        with mock.patch.object(beas.Database, "plan", None, create=True), self.assertRaises(NoPlans):
-            LibraryPlanner(SCHEMA, None)
-        with mock.patch.object(beas.Database, "plan", lambda _, query: query, create=True), self.assertRaises(beas.Syntax):
+    def test_it_is_the_plan_of_the_price(self) -> None:
+        db = self.database(SCHEMA)
+        for query in QUERIES:
+            self.assertEqual((db.price(query).bound, list(db.price(query).plan)), (db.plan(query).bound, db.plan(query).lines()))
+
+    def test_it_leaves_no_report(self) -> None:
+        db = self.database(SCHEMA, budget=1)
+        before = db.report_text()
+        self.assertEqual(31 + 31 * 7, db.plan(QUERIES[2]).bound)
+        self.assertEqual(db.plan("SELECT DISTINCT fid FROM friend WHERE pid = 7"), db.plan("SELECT DISTINCT fid FROM friend WHERE pid = ?", (7,)))
+        self.assertEqual(before, db.report_text())
+        with self.assertRaises(beas.NotCovered) as caught:
+            db.plan("SELECT DISTINCT pid FROM friend")
+        self.assertEqual(caught.exception.written, db.report_text())
+
+    def test_a_long_plan(self) -> None:
+        db = self.database(SCHEMA)
+        plan = db.plan(" UNION ".join(["SELECT fid FROM friend WHERE pid = 7"] * 60))
+        self.assertEqual((60, 60 * 5000), (len(plan.blocks), plan.bound))
+
+    def test_what_has_no_plan(self) -> None:
+        db = self.database(SCHEMA)
+        for kind, text in [(beas.NoStatement, ""), (beas.SeveralStatements, f"{DINED};{DINED}"), (beas.NotText, "\ud800"), (beas.Syntax, "SELECT"),
+                           (beas.NotAQuery, f"EXPLAIN {DINED}"), (beas.NotAQuery, f"SCAN OK {DINED}"), (beas.NotAQuery, "DROP ACCESS f1")]:
+            with self.subTest(text), self.assertRaises(kind):
+                db.plan(text)
+
+    def test_the_planner_of_bridges(self) -> None:
+        planner = planner_for(SCHEMA, 1000)
+        self.addCleanup(planner.close)
+        self.assertIsInstance(planner, LibraryPlanner)
+        self.assertEqual(31 + 31 * 7, planner.plan(QUERIES[2]).bound)
+        with self.assertRaisesRegex(beas.OverBudget, "bound 160000 above budget 1000"):
+            planner.plan(DINED)
+        with self.assertRaises(beas.Syntax):
             LibraryPlanner("CREATE TABLE", None)
 
     def test_another_planner(self) -> None:

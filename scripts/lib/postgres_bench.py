@@ -9,6 +9,7 @@ from .postgres_server import Server
 from .second_plans import SecondPlanner
 from .spread_tables import columns_of
 
+from beas.plans import Plan
 from beas.postgres import Bounded, use_planner
 
 # of so many queries the pages are counted, since EXPLAIN carries each out once more
@@ -21,13 +22,13 @@ Ask = Callable[[Values], Any]
 
 
 class KnownPlans(SecondPlanner):
-    """Plans that were made before, so that no time of the stand-in planner is measured."""
+    """Plans that were made before by the second program, whose time isn't measured."""
 
     def __init__(self, script: str, budget: int | None) -> None:
         super().__init__(script, budget)
-        self.known: dict[str, str] = {}
+        self.known: dict[str, Plan] = {}
 
-    def plan(self, query: str) -> str:
+    def plan(self, query: str) -> Plan:
         if query not in self.known:
             self.known[query] = super().plan(query)
         return self.known[query]

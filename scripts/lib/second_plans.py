@@ -1,4 +1,4 @@
-"""Plans as data, from the second program: what stands in for the library's calls until a library is built."""
+"""Plans as data, from the second program: what the library's are compared with, and what stands in for them where it isn't built."""
 import json
 import sys
 from typing import Any
@@ -10,7 +10,7 @@ from .second_program.desk import Desk
 from .second_program.files import Folder
 from .second_program.grammar import parse
 from .second_program.plans import Plan, Use
-from .second_program.prepared import Guide, Prepared, prepare
+from .second_program.prepared import Prepared, prepare
 from .second_program.scopes import Condition, Place
 from .second_program.tokens import Refused, pieces_of
 from .second_program.trees import Either
@@ -18,7 +18,10 @@ from .second_program.trees import Query as Asked
 
 sys.path.insert(0, str(TOP / "python"))
 
+from beas._library import paths
 from beas._refusals import refusal
+from beas.plans import Plan as PlanAsData
+from beas.plans import plan_of
 from beas.postgres import use_planner
 
 class SecondPlanner:
@@ -48,8 +51,12 @@ class SecondPlanner:
         except Refused as why:
             raise refused(self.said, str(why)) from None
 
-    def plan(self, query: str) -> str:
+    def text(self, query: str) -> str:
+        """The text of a plan, in JSON."""
         return plan_text(self.db, self.prepared(query))
+
+    def plan(self, query: str) -> PlanAsData:
+        return plan_of(self.text(query))
 
     def close(self) -> None:
         """Nothing is held."""
@@ -58,45 +65,26 @@ def refused(statement: int, text: str) -> Exception:
     _, number, why = text.split(" ", 2)
     return refusal(statement, int(number), why)
 
-def use_the_second_program() -> None:
-    """Makes the second program the planner of the bridge."""
-    use_planner(SecondPlanner)
+def use_plans_there() -> None:
+    """Makes the library the planner of the bridge, or the second program where the library isn't built."""
+    use_planner(None if any(it.exists() for it in paths()) else SecondPlanner)
 
 def plan_text(db: Database, prepared: Prepared) -> str:
-    """The text of a plan, in JSON."""
-    sizes = Sizes(prepared)
-    blocks = [block_told(db, plan, sizes.starts[number]) for number, plan in enumerate(prepared.plans)]
+    """The text of a plan, in JSON, as the library has it."""
+    blocks = [block_told(db, plan) for plan in prepared.plans]
     told = {"bound": str(prepared.number), "columns": prepared.header, "query": tree_told(prepared.query), "blocks": blocks}
-    return json.dumps(told, ensure_ascii=False)
-
-class Sizes:
-    """How many valuations may stand before the first step of each block."""
-
-    def __init__(self, prepared: Prepared) -> None:
-        self.plans, self.starts = prepared.plans, dict[int, int]()
-        self.size(prepared.query, None)
-
-    def size(self, tree: Query, guide: Guide | None) -> int:
-        if not isinstance(tree, Either):
-            plan = self.plans[tree.number]
-            self.starts[tree.number] = start = guide.size if plan.is_guided and guide else 1
-            sizes = plan.sizes(plan.steps, start)
-            return sizes[-1][2] if sizes else start
-        left = self.size(tree.left, guide)
-        right = self.size(tree.right, Guide("", left) if tree.sign == "except" else guide)
-        return left + right if tree.sign == "union" else left
+    return json.dumps(told, ensure_ascii=False, separators=(",", ":"))
 
 def tree_told(tree: Query) -> dict[str, Any]:
     if isinstance(tree, Either):
         return {tree.sign: [tree_told(tree.left), tree_told(tree.right)]}
     return {"block": tree.number}
 
-def block_told(db: Database, plan: Plan, start: int) -> dict[str, Any]:
+def block_told(db: Database, plan: Plan) -> dict[str, Any]:
     block, of = plan.block, plan.classes.of
     numbers: dict[Place, int] = {}
     for place in sorted(of):
         numbers.setdefault(of[place], len(numbers))
-    sizes = plan.sizes(plan.steps, start)
     return {
         "atoms": block.tables,
         "classes": [[numbers[of[Place(atom, column)]] for column in range(width)] for atom, width in enumerate(block.widths)],
@@ -105,8 +93,7 @@ def block_told(db: Database, plan: Plan, start: int) -> dict[str, Any]:
         "comparisons": list(map(comparison_told, plan.classes.comparisons)),
         "output": list(map(list, block.output)),
         "guided": plan.is_guided,
-        "steps": [step_told(db, use, adds) for use, (adds, _, _) in zip(plan.steps, sizes)],
-        "bound": str(sum(cost for _, cost, _ in sizes)),
+        "steps": [step_told(db, use, adds) for use, (adds, _, _) in zip(plan.steps, plan.sizes(plan.steps, 1))],
     }
 
 def comparison_told(one: Condition) -> dict[str, Any]:

@@ -5,6 +5,23 @@ static const char *tables = "CREATE TABLE cards (account INTEGER, card INTEGER, 
 static const char *access_ = "CREATE ACCESS cards_of ON cards (account) FETCH (card, name) LIMIT 3";
 static const char *rows = "INSERT INTO cards VALUES (7, -4111, 'one'), (7, 4222, ''), (8, 4111, 'three')";
 static const char *query = "SELECT DISTINCT card, name FROM cards WHERE account = 7";
+static const char *plan =
+    "{\"bound\":\"3\",\"columns\":[\"card\",\"name\"],\"query\":{\"block\":0},\"blocks\":[{\"atoms\":[\"cards\"],\"classes\":[[0,1,2]],"
+    "\"count\":3,\"constants\":[[0,7]],\"comparisons\":[],\"output\":[[0,1],[0,2]],\"guided\":false,\"steps\":[{\"atom\":0,"
+    "\"table\":\"cards\",\"constraint\":\"cards_of\",\"key\":[\"account\"],\"fetch\":[\"card\",\"name\"],\"limit\":3,\"adds\":true}]}]}";
+/* the right side is covered by the answers of the left one alone */
+static const char *guided = "SELECT DISTINCT account FROM cards WHERE account = 8 AND card <> 1"
+                            " EXCEPT SELECT DISTINCT account FROM cards WHERE name = 'it''s'";
+static const char *guided_plan =
+    "{\"bound\":\"12\",\"columns\":[\"account\"],\"query\":{\"except\":[{\"block\":0},{\"block\":1}]},\"blocks\":["
+    "{\"atoms\":[\"cards\"],\"classes\":[[0,1,2]],\"count\":3,\"constants\":[[0,8]],\"comparisons\":[{\"left\":[0,1],\"sign\":\"<>\","
+    "\"right\":{\"value\":1}}],\"output\":[[0,0]],\"guided\":false,\"steps\":[{\"atom\":0,\"table\":\"cards\",\"constraint\":\"cards_of\","
+    "\"key\":[\"account\"],\"fetch\":[\"card\",\"name\"],\"limit\":3,\"adds\":true}]},"
+    "{\"atoms\":[\"cards\"],\"classes\":[[0,1,2]],\"count\":3,\"constants\":[[2,\"it's\"]],\"comparisons\":[],\"output\":[[0,0]],"
+    "\"guided\":true,\"steps\":[{\"atom\":0,\"table\":\"cards\",\"constraint\":\"cards_of\",\"key\":[\"account\"],"
+    "\"fetch\":[\"card\",\"name\"],\"limit\":3,\"adds\":true}]}]}";
+static const char *either = "SELECT card FROM cards WHERE account = 7 UNION (SELECT card FROM cards WHERE account = 8"
+                            " EXCEPT SELECT card FROM cards WHERE account = 9)";
 
 /* Whether bytes are a text's. */
 static int is(const uint8_t *bytes, size_t length, const char *text)
@@ -28,6 +45,7 @@ static void closed(beas_database *db)
     CHECK(add_file(db, "a", "b") == BEAS_CLOSED);
     CHECK(say(db, query) == BEAS_CLOSED);
     CHECK(price(db, query) == BEAS_CLOSED);
+    CHECK(plan_data(db, query, bytes, sizeof bytes, &length) == BEAS_CLOSED);
     CHECK(beas_drop_query(db, 1) == BEAS_CLOSED);
     CHECK(beas_kind(db, &kind) == BEAS_CLOSED);
     CHECK(beas_number(db, &number) == BEAS_CLOSED);
@@ -84,6 +102,41 @@ static void limits(void)
     CHECK(beas_close(&db) == BEAS_DONE);
 }
 
+/* What has no plan leaves what is written to as it was. */
+static void no_plans(beas_database *db, const uint8_t *many, size_t count)
+{
+    uint8_t bytes[8] = "#######";
+    size_t length = 82;
+    CHECK(plan_data(db, "", bytes, 8, &length) == BEAS_NO_STATEMENT && plan_data(db, "a;b", bytes, 8, &length) == BEAS_SEVERAL);
+    CHECK(beas_plan_data(db, many, count, bytes, 8, &length) == BEAS_TOO_LONG);
+    CHECK(beas_plan_data(db, (const uint8_t *)"\xff", 1, bytes, 8, &length) == BEAS_NOT_TEXT);
+    CHECK(plan_data(db, "INSERT INTO cards VALUES (1, 2, 'x')", bytes, 8, &length) == BEAS_NOT_A_QUERY);
+    CHECK(plan_data(db, "@1 STEP", bytes, 8, &length) == BEAS_NOT_A_QUERY);
+    CHECK(plan_data(db, "EXPLAIN SELECT DISTINCT card FROM cards WHERE account = 7", bytes, 8, &length) == BEAS_NOT_A_QUERY);
+    CHECK(plan_data(db, "SCAN OK SELECT DISTINCT card FROM cards", bytes, 8, &length) == BEAS_NOT_A_QUERY);
+    CHECK(plan_data(db, "SELECT", bytes, 8, &length) == BEAS_ABSENT);
+    CHECK(plan_data(db, "SELECT DISTINCT nothing FROM cards", bytes, 8, &length) == BEAS_ABSENT);
+    CHECK(plan_data(db, "SELECT DISTINCT account FROM cards WHERE card = 1", bytes, 8, &length) == BEAS_ABSENT);
+    CHECK(is(bytes, 8, "#######") && length == 82);
+}
+
+/* Plans as data, whatever the budget is, with one byte too few and with just enough. */
+static void plans(beas_database *db)
+{
+    static uint8_t bytes[4096];
+    size_t length = 0, all;
+    CHECK(beas_set(db, 1, 0, 0) == BEAS_DONE);
+    CHECK(plan_data(db, query, bytes, sizeof bytes, &length) == BEAS_DONE && is(bytes, length, plan));
+    CHECK(plan_data(db, guided, bytes, sizeof bytes, &length) == BEAS_DONE && is(bytes, length, guided_plan));
+    CHECK(plan_data(db, either, bytes, sizeof bytes, &length) == BEAS_DONE && length > strlen(guided_plan));
+    all = strlen(plan);
+    memset(bytes, '#', sizeof bytes);
+    CHECK(plan_data(db, query, bytes, all - 1, &length) == BEAS_NO_ROOM && length == all && bytes[0] == '#');
+    CHECK(plan_data(db, query, bytes, 0, &length) == BEAS_NO_ROOM && length == all && bytes[0] == '#');
+    CHECK(plan_data(db, query, bytes, all, &length) == BEAS_DONE && is(bytes, length, plan) && bytes[all] == '#');
+    CHECK(beas_set(db, 0, 0, 0) == BEAS_DONE);
+}
+
 /* Texts that have no report leave the last one. */
 static void texts(beas_database *db)
 {
@@ -101,6 +154,7 @@ static void texts(beas_database *db)
     CHECK(price(db, "") == BEAS_NO_STATEMENT && price(db, "a;b") == BEAS_SEVERAL);
     CHECK(beas_price(db, many, sizeof many) == BEAS_TOO_LONG);
     CHECK(price(db, "INSERT INTO cards VALUES (1, 2, 'x')") == BEAS_NOT_A_QUERY);
+    no_plans(db, many, sizeof many);
     CHECK(beas_number(db, &number) == BEAS_DONE && number == 4);
     CHECK(!strncmp(report(db), "4 bound 3\n", 10));
 }
@@ -262,6 +316,7 @@ int main(void)
     SAYS(&db, tables, "1 ok\n");
     SAYS(&db, access_, "2 ok\n");
     SAYS(&db, rows, "3 ok 3 rows\n");
+    plans(&db);
     texts(&db);
     answer(&db);
     kinds(&db);

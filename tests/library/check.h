@@ -27,6 +27,11 @@ static inline int32_t price(beas_database *db, const char *text)
     return beas_price(db, (const uint8_t *)text, strlen(text));
 }
 
+static inline int32_t plan_data(beas_database *db, const char *text, uint8_t *into, size_t room, size_t *length)
+{
+    return beas_plan_data(db, (const uint8_t *)text, strlen(text), into, room, length);
+}
+
 static inline int32_t add_file(beas_database *db, const char *name, const char *bytes)
 {
     return beas_add_file(db, (const uint8_t *)name, strlen(name), (const uint8_t *)bytes, strlen(bytes));

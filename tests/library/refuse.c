@@ -79,9 +79,11 @@ static void steps(beas_database *db)
 
 static void life(void)
 {
+    static uint8_t bytes[1024];
     beas_database db = {0};
     int32_t status;
     uint64_t count = 0;
+    size_t length = 0;
     while ((status = beas_open(&db, &standard, 0, 0, 1)) != BEAS_DONE) {
         CHECK(status == BEAS_NO_MEMORY && db.mark == 0);
         ran_out++;
@@ -99,6 +101,15 @@ static void life(void)
     says(&db, "SELECT DISTINCT b FROM t WHERE a = 1",
          "6 bound 2\nb\na text that is longer than sixteen\nanother\n6 ok 2 rows 2 reads\n");
     while ((status = price(&db, "SELECT DISTINCT b FROM t WHERE a = 2")) != BEAS_DONE) {
+        CHECK(status == BEAS_NO_MEMORY);
+        ran_out++;
+    }
+    while ((status = plan_data(&db, "SELECT DISTINCT b FROM t WHERE a = 2", bytes, sizeof bytes, &length)) != BEAS_DONE) {
+        CHECK(status == BEAS_NO_MEMORY && length == 0);
+        ran_out++;
+    }
+    CHECK(length > 0 && bytes[0] == '{' && bytes[length - 1] == '}');
+    while ((status = plan_data(&db, "SELECT DISTINCT a FROM t", bytes, sizeof bytes, &length)) != BEAS_ABSENT) {
         CHECK(status == BEAS_NO_MEMORY);
         ran_out++;
     }

@@ -4,19 +4,23 @@
 --     HasAdded name bytes before status after                 the file was handed over
 --     HasSaid text before status after                        the text's one statement was carried out
 --     HasPriced text before status after                      what EXPLAIN would report of it is held
+--     HasPlanned text before status ..                        the plan of its query is at the front, where there is room
 --     HasDropped session before status after
 --     HasClosed before status after                           nothing is held any more
-use Rattle.std.specs.Prelude.{◌≡◌, ◌≢◌, ◌⊎◌, ℕ, ℤ, Bool, List, Option, None, Some, IsSomeAnd, Err}
+use Rattle.std.specs.Prelude.{◌≡◌, ◌≢◌, ◌⊎◌, ℕ, ℤ, Bool, List, Option, None, Some, IsSomeAnd, Result, Err}
+use Rattle.std.specs.Result.{result_ok}
 use Rattle.std.specs.Str.{IsUtf8}
 use Rattle.beas_core.specs.declared.limits.Limits.{Limits}
+use Rattle.beas_core.specs.declared.refusal.Refusal.{Refusal}
 use Rattle.beas_library.specs.declared.pieces.Why.{Why}
 use Rattle.beas_library.specs.declared.pieces.Why.TheVariants.{NoMemory}
-use Rattle.beas_library.specs.Engines.{HasFile, HasPriced as IsPriced, HasSaid as IsSaid, HasWanted, IsFresh, IsUnpricedFor, with_settings, without_query}
+use Rattle.beas_library.specs.Engines.{HasFile, HasPriced as IsPriced, HasSaid as IsSaid, HasWanted, IsFresh, IsPlanOf, IsUnpricedFor, with_settings, without_query}
 use Rattle.beas_library.specs.OnePiece.{IsRefusedFor}
 use Rattle.beas_c.specs.declared.held.Held.{Held}
 use Rattle.beas_c.specs.declared.limits.AskedLimits.{AskedLimits}
 use Rattle.beas_c.specs.Limits.{AreAsked, IsPastSome}
 use Rattle.beas_c.specs.Statuses.{bad_limit, closed, done, no_memory, not_text, status_of}
+use Rattle.beas_c.specs.Telling.{CopiesSome}
 
 abbrev pub HasOpened : AskedLimits → Option ℕ → Bool → Option Held → ℤ → Option Held → Type 0
 HasOpened asked budget explain before status after =
@@ -58,6 +62,23 @@ HasPriced text (Some held) status after =
     ((status ≡ done) × IsSomeAnd after (λ new. IsPriced text held.engine new.engine))
     ⊎ IsRefused (λ why. IsUnpricedFor held.engine.desk why text) held status after
     ⊎ ((status ≡ no_memory) × (after ≡ Some held))
+
+-- a query that is refused has no plan to be copied
+pub record Planned (text : List ℕ) (held : Held) (status : ℤ) (old new : List ℕ) (length_old length_new : ℕ) : Type 0 where
+  pub plan : Result (List ℕ) Refusal
+  pub is : IsPlanOf held.engine.desk text plan
+  pub copied : CopiesSome (result_ok plan) status old new length_old length_new
+
+pub record Unplanned (text : List ℕ) (held : Held) (status : ℤ) (old new : List ℕ) (length_old length_new : ℕ) : Type 0 where
+  pub why : Why
+  pub status_is : status ≡ status_of (Err why)
+  pub stands : IsUnpricedFor held.engine.desk why text
+  pub same : (new ≡ old) × (length_new ≡ length_old)
+
+abbrev pub HasPlanned : List ℕ → Option Held → ℤ → List ℕ → List ℕ → ℕ → ℕ → Type 0
+HasPlanned text None status old new length_old length_new = (status ≡ closed) × (new ≡ old) × (length_new ≡ length_old)
+HasPlanned text (Some held) status old new length_old length_new =
+    Planned text held status old new length_old length_new ⊎ Unplanned text held status old new length_old length_new
 
 abbrev pub HasDropped : ℕ → Option Held → ℤ → Option Held → Type 0
 HasDropped session None status after = (status ≡ closed) × (after ≡ None)

@@ -1,16 +1,19 @@
 // The calls that open, ask and close a database.
 ghost use Rattle.std.specs.Prelude.{◌≡◌, ◌≢◌, ◌<◌, ◌⊎◌, ℕ, IfErr, OnErr, OnOk};
+ghost use Rattle.std.specs.Result.{result_ok};
 ghost use Rattle.beas_library.specs.Engines.{HasFile, HasSaid as IsSaid, HasWanted};
 ghost use Rattle.beas_library.specs.OnePiece.{IsRefusedFor};
-ghost use Rattle.beas_c.specs.Calls.{HasAdded, HasClosed, HasDropped, HasOpened, HasPriced, HasSaid, HasSet};
+ghost use Rattle.beas_c.specs.Calls.{HasAdded, HasClosed, HasDropped, HasOpened, HasPlanned, HasPriced, HasSaid, HasSet};
 ghost use Rattle.beas_c.specs.Given.{budget_of, is_set};
 ghost use Rattle.beas_c.specs.Statuses.{done, no_memory};
+ghost use Rattle.beas_c.specs.Telling.{CopiesSome};
 
 use crate::database::Database;
 use crate::held::Held;
 use crate::limits::{AskedLimits, limits_of};
 use crate::status::{BAD_LIMIT, CLOSED, DONE, NO_MEMORY, NOT_TEXT, status_of};
-use beas_core::{Bytes, NoMemory, Steps, Text};
+use crate::telling::copy;
+use beas_core::{Bytes, NoMemory, Refusal, Steps, Text};
 use beas_library::{Engine, Why};
 use std::alloc::Global;
 use std::marker::Brand;
@@ -168,6 +171,41 @@ pub extern "C" fn beas_price(db: &mut Database, alloc: Global, text: &[u8]) -> i
             let priced = held.engine.price(alloc, text);
             db.put(held);
             status_of(priced)
+        }
+        None => CLOSED,
+    }
+}
+
+/// The plan of a query, if it isn't refused.
+fn copy_plan(plan: Result<Text, Refusal>, into: &mut [u8], len: &mut usize) -> i32
+    ensures { CopiesSome (result_ok plan) result into.old into.new len.old len.new }
+{
+    match plan {
+        Ok(text) => copy(Some(text.as_str()), into, len),
+        Err(_) => copy(None, into, len),
+    }
+}
+
+/// The plan of one SELECT as a JSON text, whatever the budget is. The last report stays.
+#[unsafe(no_mangle)]
+pub extern "C" fn beas_plan_data(
+    db: &mut Database,
+    alloc: Global,
+    text: &[u8],
+    into: &mut [u8],
+    len: &mut usize,
+) -> i32
+    ensures planned { HasPlanned text.now db.old.seat.value result into.old into.new len.old len.new }
+    ensures same { db.new.seat.value ≡ db.old.seat.value }
+{
+    match db.take(alloc) {
+        Some(held) => {
+            let status = match held.engine.plan_data(alloc, text) {
+                Ok(plan) => copy_plan(plan, into, len),
+                Err(why) => status_of(Err(why)),
+            };
+            db.put(held);
+            status
         }
         None => CLOSED,
     }

@@ -9,8 +9,10 @@
 --     HasSaid text .., HasWanted text ..        the same of a text
 --     HasPriced text before after               what EXPLAIN would report of its query is held
 --     IsUnpricedFor desk why text               the cause for which a text isn't priced stands
-use Rattle.std.specs.Prelude.{◌≡◌, ◌≢◌, ◌⊎◌, ◌+◌, ◌-◌, ◌^◌, ℕ, Bool, List, [], min, Option, None, Some, Ok, Err}
+--     IsPlanOf desk text plan                   the plan of its query as data, or why the query is refused
+use Rattle.std.specs.Prelude.{◌≡◌, ◌≢◌, ◌⊎◌, ◌+◌, ◌-◌, ◌^◌, ℕ, Bool, List, [], min, Option, None, Some, Result, Ok, Err}
 use Rattle.beas_core.specs.declared.limits.Limits.{Limits}
+use Rattle.beas_core.specs.declared.refusal.Refusal.{Refusal}
 use Rattle.outside.specs.Contents.{content_of}
 use Rattle.report.specs.declared.reports.Report.{Report}
 use Rattle.sql_tokens.specs.declared.token.Token.{Token}
@@ -18,6 +20,7 @@ use Rattle.piece_reader.specs.declared.event.Event.TheVariants.{Said, Stepped}
 use Rattle.piece_reader.specs.Sayings.{Reading, reading_of}
 use Rattle.version_store.specs.Desks.{Seen as DeskSeen, desk_wanting, without_query_of}
 use Rattle.beas_run.specs.Pieces.{GoesOnBy, IsDone, IsLeft}
+use Rattle.beas_run.specs.Plans.{plan_of_reading}
 use Rattle.beas_run.specs.Prices.{price_of}
 use Rattle.beas_library.specs.declared.engine.Engine.{Engine}
 use Rattle.beas_library.specs.declared.pieces.Why.{Why}
@@ -127,3 +130,10 @@ IsUnpricedFor desk NotText text = IsRefusedFor NotText text
 IsUnpricedFor desk NoStatement text = IsRefusedFor NoStatement text
 IsUnpricedFor desk Several text = IsRefusedFor Several text
 IsUnpricedFor desk NoMemory text = IsRefusedFor NoMemory text
+
+-- ---- a plan
+
+pub record IsPlanOf (desk : DeskSeen) (text : List ℕ) (plan : Result (List ℕ) Refusal) : Type 0 where
+  pub tokens : List Token
+  pub is : IsStatementIn text tokens
+  pub plan_is : plan_of_reading desk (reading_of tokens) ≡ Some plan

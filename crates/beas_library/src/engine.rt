@@ -1,6 +1,6 @@
 // A database that is asked statement by statement.
 ghost use Rattle.std.specs.Prelude.{◌≡◌, ◌≢◌, ◌-◌, ◌<◌, IfErr, IfOk, IsSome, OnErr, OnOk, length, option_map, slice_range};
-ghost use Rattle.beas_library.specs.Engines.{HasDone, HasFile, HasLeft, HasPriced, HasSaid, HasWanted, IsFresh, IsUnpricedFor, with_report, with_settings, without_query};
+ghost use Rattle.beas_library.specs.Engines.{HasDone, HasFile, HasLeft, HasPriced, HasSaid, HasWanted, IsFresh, IsPlanOf, IsUnpricedFor, with_report, with_settings, without_query};
 ghost use Rattle.beas_library.specs.OnePiece.{IsRefusedFor};
 ghost use Rattle.beas_core.specs.Refusals.{number_of};
 ghost use Rattle.report.specs.Reports.{report_text};
@@ -11,8 +11,8 @@ ghost use Rattle.desk_model.specs.Desks.{query_of};
 
 use crate::handed_files::HandedFiles;
 use crate::pieces::{OnePiece, Why, one_piece};
-use beas_core::{Bytes, Limits, NoMemory, Steps, Text};
-use beas_run::{Unpriced, priced, report_on};
+use beas_core::{Bytes, Limits, NoMemory, Refusal, Steps, Text};
+use beas_run::{Unpriced, planned, priced, report_on};
 use report::{Report, text};
 use session::Session;
 use std::alloc::Global;
@@ -121,6 +121,20 @@ impl Engine {
                 self.hold(report);
                 Ok(())
             }
+            Err(Unpriced::NotAQuery) => Err(Why::NotAQuery),
+            Err(Unpriced::NoMemory) => Err(Why::NoMemory),
+        }
+    }
+
+    /// The plan of the one query of a text as a JSON text, whatever the budget is, or the query's refusal. Nothing is read, and
+    /// the last report stays.
+    pub fn plan_data(&self, alloc: Global, text: &[u8]) -> Result<Result<Text, Refusal>, Why>
+        ensures plan { IfOk result (λ plan. IsPlanOf self.now.desk text.now plan) }
+        ensures why { IfErr result (λ why. IsUnpricedFor self.now.desk why text.now) }
+    {
+        let piece = one_piece(alloc, text)?;
+        match planned(alloc, &self.desk, piece.tokens()) {
+            Ok(plan) => Ok(plan),
             Err(Unpriced::NotAQuery) => Err(Why::NotAQuery),
             Err(Unpriced::NoMemory) => Err(Why::NoMemory),
         }

@@ -11,3 +11,4 @@ pub mod Sources
 pub mod States
 pub mod Walks
 pub mod Prices
+pub mod Plans

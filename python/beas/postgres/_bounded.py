@@ -7,7 +7,7 @@ from .._errors import BadValue
 from .._lexing import refuse_another
 from .._parameters import Parameters, filled
 from .._schema import Column, Constraint
-from ..plans import Plan, Value, plan_of
+from ..plans import Plan, Value
 from ._carrying import Carrying
 from ._catalogue import IndexThere, TableThere, indexes_there, matched, tables_there
 from ._connection import READING, WRITING, Connection, Cursor, transaction
@@ -230,7 +230,7 @@ class Bounded:
 
     def _plan(self, query: str, parameters: Parameters | None) -> Plan:
         refuse_another(query)
-        plan = plan_of(self._planner.plan(query if parameters is None else filled(query, parameters)))
+        plan = self._planner.plan(query if parameters is None else filled(query, parameters))
         check_plan(self._schema, plan)
         return plan
 

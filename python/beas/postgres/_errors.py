@@ -54,10 +54,6 @@ class NotASchema(BridgeError):
     """A script has another statement than CREATE TABLE, CREATE ACCESS and DROP ACCESS, or a name that the database can't have."""
 
 
-class NoPlans(BridgeError):
-    """The library gives no plans."""
-
-
 class CannotKeep(BridgeError):
     """The database can't keep a constraint on this kind of table."""
 

@@ -1,16 +1,16 @@
 """Who makes plans: the library, unless another planner is named."""
 from collections.abc import Callable
-from typing import Any, Protocol
+from typing import Protocol
 
 from .._database import Database
-from ._errors import NoPlans
+from ..plans import Plan
 
 
 class Planner(Protocol):
     """Plans queries over the tables and constraints of one script. It reads no rows, since it has none."""
 
-    def plan(self, query: str) -> str:
-        """The plan of a query, as beas.plans reads it. Raises the refusal of a query that has none."""
+    def plan(self, query: str) -> Plan:
+        """The plan of a query. Raises the refusal of a query that has none, or whose bound is above the budget."""
 
     def close(self) -> None:
         """Gives back what it holds."""
@@ -20,21 +20,22 @@ MakePlanner = Callable[[str, "int | None"], Planner]
 
 
 class LibraryPlanner:
-    """The library's own plans."""
+    """The library's own plans, over a database that has no rows."""
 
     def __init__(self, script: str, budget: int | None) -> None:
         self.db = Database(budget=budget)
         try:
-            self.plans: Any = getattr(self.db, "plan", None)
-            if self.plans is None:
-                raise NoPlans("this library gives no plans")
             self.db.run(script)
         except BaseException:
             self.close()
             raise
 
-    def plan(self, query: str) -> str:
-        return str(self.plans(query))
+    def plan(self, query: str) -> Plan:
+        plan = self.db.plan(query)
+        if self.db.budget is not None and plan.bound > self.db.budget:
+            # The plan comes whatever the budget is; this is refused.
+            self.db.say(f"EXPLAIN {query}")
+        return plan
 
     def close(self) -> None:
         self.db.close()

@@ -10,12 +10,12 @@ TOP = Path(__file__).resolve().parents[3]
 sys.path[:0] = [str(TOP / "python"), str(TOP / "scripts")]
 
 from lib.postgres_server import connect  # noqa: E402
-from lib.second_plans import use_the_second_program  # noqa: E402
+from lib.second_plans import use_plans_there  # noqa: E402
 
 from beas import Error  # noqa: E402
 from beas.postgres import Bounded  # noqa: E402
 
-use_the_second_program()
+use_plans_there()
 FOLDER = os.environ.get("BEAS_POSTGRES", "")
 # friends, and where they dined
 TABLES = """

@@ -7,7 +7,7 @@ from typing import Any
 from support import DINED, SCHEMA, Case, HookedConnection
 
 import beas
-from beas.plans import BadPlan
+from beas.plans import BadPlan, Plan, plan_of
 from beas.postgres import (
     BoundBroken,
     Bounded,
@@ -24,7 +24,7 @@ from beas.postgres import (
     UnknownType,
     use_planner,
 )
-from lib.second_plans import SecondPlanner, use_the_second_program
+from lib.second_plans import SecondPlanner, use_plans_there
 
 
 class Answers(Case):
@@ -204,8 +204,8 @@ class Told:
     def __init__(self, told: dict[str, Any]) -> None:
         self.text = json.dumps(told)
 
-    def plan(self, query: str) -> str:
-        return self.text
+    def plan(self, query: str) -> Plan:
+        return plan_of(self.text)
 
     def close(self) -> None:
         """Nothing is held."""
@@ -214,13 +214,13 @@ class Told:
 class WrongPlans(Case):
     def setUp(self) -> None:
         super().setUp()
-        self.told = json.loads(SecondPlanner(SCHEMA).plan(DINED.replace("?", "1") + " AND d.cid > 3"))
+        self.told = json.loads(SecondPlanner(SCHEMA).text(DINED.replace("?", "1") + " AND d.cid > 3"))
         self.block = self.told["blocks"][0]
-        self.addCleanup(use_the_second_program)
+        self.addCleanup(use_plans_there)
 
     def is_refused(self, why: str, bound: int) -> None:
-        """The plan is refused, where its bounds are those of its steps."""
-        self.told["bound"] = self.block["bound"] = str(bound)
+        """The plan is refused, where its bound is that of its steps."""
+        self.told["bound"] = str(bound)
         use_planner(lambda script, budget: Told(self.told))
         bridge = self.bridge()
         self.fails(BadPlan, lambda: bridge.query(DINED, (1,)), why)
