@@ -73,7 +73,11 @@ def figures_of(measured: Measured, way: str, asked: Sequence[Values]) -> Figures
 def cold_figures(measured: Measured, way: str, asked: Sequence[Values]) -> Figures:
     """The first time that each query is asked after the server was started anew; without indexes there is one such query."""
     measured.make_cold()
-    few, before = asked[: 1 if way == "bare" else EXPLAINED], measured.from_outside()
+    few = asked[: 1 if way == "bare" else EXPLAINED]
+    # plans that are made before are made anew for the new bridge
+    for values in few:
+        measured.bridge.price(measured.set.query, values)
+    before = measured.from_outside()
     if way == "bare":
         with measured.without_indexes():
             cold = list(times_of(measured.by_itself, few))

@@ -1,12 +1,11 @@
 """What docs/postgres.md and docs/scale.md say of the bridge's figures: each part stands between marks, and there are pictures."""
-import re
-import textwrap
 from collections.abc import Callable, Iterable, Iterator
 from pathlib import Path
 from typing import Any
 
 from .benchmark_page import picture
 from .benchmark_sets import SETS
+from .page_marks import paragraph
 from .postgres_bench import FEW, LARGE, SOME, WAYS, Figures
 from .spread_bench import PARTS
 from .spread_bench import WAYS as SPREAD_WAYS
@@ -15,29 +14,16 @@ COLOURS = {"bridge": "#d1495b", "own": "#00798c", "bare": "#edae49"}
 SHORT = {"bridge": "the bridge", "own": "PostgreSQL", "bare": "without indexes"}
 # where each part stands
 PLACES = {"sizes": "docs/postgres.md", "edges": "docs/postgres.md", "spread": "docs/scale.md"}
+PLANS = {
+    True: "The library plans each query, and that time is the bridge's.",
+    False: "Plans were made before by the second program, so the bridge's times have none for it.",
+}
 # Other work on the machine has changed times that were taken under more load than the servers' own.
 QUIET = 1.5
-END_MARK = "<!-- end of figures -->"
-
-
-def mark(part: str) -> str:
-    return f"<!-- {part}: scripts/bench-postgres --write writes these figures -->"
-
-
-def put(page: str, part: str, text: str) -> str:
-    """A page with a part's text between its marks."""
-    found = re.compile(f"({re.escape(mark(part))}\n).*?({re.escape(END_MARK)})", re.S)
-    if not found.search(page):
-        raise ValueError(f"the page has no marks of {part}")
-    return found.sub(lambda its: f"{its[1]}\n{text.strip()}\n\n{its[2]}", page)
 
 
 def told(seconds: float) -> str:
     return f"{seconds * 1e3:.2f} ms" if seconds < 1 else f"{seconds:.2f} s"
-
-
-def paragraph(text: str) -> str:
-    return textwrap.fill(" ".join(text.split()), 120, break_on_hyphens=False)
 
 
 def table(heads: str, rows: Iterable[Iterable[str]]) -> str:
@@ -48,10 +34,10 @@ def table(heads: str, rows: Iterable[Iterable[str]]) -> str:
 def taken(runs: list[Figures]) -> str:
     """When and where the figures were taken, and whether other work went on."""
     days, loads = sorted({it["taken"][:10] for it in runs}), [it["load"] for it in runs]
-    text = f"Taken on {' and '.join(days)}, with {runs[-1]['versions']}, {runs[-1]['machine']}, in one connection."
+    text = f"Taken on {' and '.join(days)}, with {runs[-1]['versions']}, {runs[-1]['machine']}, in one connection. {PLANS[runs[-1]['plans']]}"
     if max(loads) <= QUIET:
         return text
-    return f"{text} **The times are to be taken again**: the machine did other work (load up to {max(loads):.1f}). Pages and reads stay."
+    return f"{text} **The times are to be taken again**: the machine did other work (load up to {max(loads):.1f}). The counts stay."
 
 
 # ---- sizes
@@ -128,7 +114,7 @@ def spread_parts(it: Figures) -> Iterator[str]:
 
 
 def spread_text(found: Figures) -> str:
-    head = f"The queries over tables that are spread over {PARTS} servers, with a fourth in front, all on one machine. {taken([found])}"
+    head = f"Measured over {PARTS} servers with a fourth in front, all on one machine. {taken([found])}"
     return "\n\n".join([paragraph(head), *(part for it in found["sets"] for part in spread_parts(it))])
 
 

@@ -72,6 +72,12 @@ def connect(folder: str, database: str = DATABASE) -> Any:
     return driver.connect(host=folder, user=USER, dbname=database)
 
 
+def versions(connection: Any) -> str:
+    """The versions of the server and of the driver, in words."""
+    number, driver = connection.info.server_version, type(connection).__module__.split(".")[0]
+    return f"PostgreSQL {number // 10000}.{number % 10000} and {driver} {sys.modules[driver].__version__.split()[0]}"
+
+
 class Server:
     """A server that is started at once. Nothing of it is written through to the disk, so that tests are quick. Its files go with it,
     unless they are `kept` in a folder: then this is made if it isn't there, and the next server goes on with it."""

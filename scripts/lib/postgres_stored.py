@@ -3,12 +3,15 @@ import os
 from collections.abc import Iterable, Iterator, Sequence
 from contextlib import contextmanager
 from pathlib import Path
+from typing import Any
 
 from .benchmark_sets import Set
 from .postgres_server import Server
 from .second_plans import SecondPlanner
 from .spread_tables import columns_of
 
+from beas import Database
+from beas._library import paths
 from beas.postgres import Bounded, use_planner
 
 # Nothing is written twice, and nothing goes on beside what is measured.
@@ -25,16 +28,25 @@ LOADING = ("SET max_parallel_maintenance_workers = 0", "SET maintenance_work_mem
 
 
 class KnownPlans(SecondPlanner):
-    """Plans that were made before, so that no time of the stand-in planner is measured."""
+    """Plans that were made before by the second program, whose time isn't measured."""
 
     def __init__(self, script: str, budget: int | None) -> None:
         super().__init__(script, budget)
-        self.known: dict[str, str] = {}
+        self.known: dict[str, Any] = {}
 
-    def plan(self, query: str) -> str:
+    def plan(self, query: str) -> Any:
         if query not in self.known:
             self.known[query] = super().plan(query)
         return self.known[query]
+
+
+def library_plans() -> bool:
+    """Whether the library is built and gives plans. Then these are taken, and their time is the bridge's."""
+    return hasattr(Database, "plan") and any(it.exists() for it in paths())
+
+
+def use_plans() -> None:
+    use_planner(None if library_plans() else KnownPlans)
 
 
 class Lines:
@@ -60,7 +72,7 @@ class Stored:
         self.set, self.name = the_set, name
         self.server = Server("bench", kept, shared_buffers=buffers, **SETTINGS)
         self.script = ";".join([*the_set.schema(), *the_set.accesses()])
-        use_planner(KnownPlans)
+        use_plans()
         try:
             self.make()
             self.open()

@@ -5,10 +5,10 @@ from typing import Any
 from .benchmark_sets import SETS, Set, Values
 from .postgres_bench import Figures, share, times_of
 from .postgres_server import Server
-from .postgres_stored import KnownPlans
+from .postgres_stored import use_plans
 from .spread_tables import SPREAD_BY, Parts
 
-from beas.postgres import Bounded, use_planner
+from beas.postgres import Bounded
 
 PARTS = 3
 # a cursor on a part is one ask; of so many queries they are counted
@@ -33,7 +33,7 @@ class Spread:
     def __init__(self, the_set: Set) -> None:
         self.set, self.parts = the_set, Parts(PARTS)
         self.front = Server("front")
-        use_planner(KnownPlans)
+        use_plans()
         self.connection = self.front.connect()
         self.connection.autocommit = True
         self.cursor = self.connection.cursor()
