@@ -1,12 +1,12 @@
 """A set of tables in a database of its own, with the indexes that its constraints want, on a server whose files may be kept."""
 import os
 from collections.abc import Iterable, Iterator, Sequence
-from contextlib import contextmanager
+from contextlib import closing, contextmanager
 from pathlib import Path
 from typing import Any
 
 from .benchmark_sets import Set
-from .postgres_server import Server
+from .postgres_server import DATABASE, Server
 from .second_plans import SecondPlanner
 from .spread_tables import columns_of
 
@@ -180,6 +180,15 @@ class Stored:
         self.bridge.close()
         self.connection.close()
         self.server.end()
+
+
+def loaded(kept: Path) -> list[tuple[str, int]]:
+    """The sets and sizes whose tables are in a folder, the smallest first."""
+    with Server("loaded", kept, **SETTINGS) as server, closing(server.connect()) as connection:
+        cursor = connection.cursor()
+        cursor.execute("SELECT datname FROM pg_database WHERE datname <> %s AND shobj_description(oid, 'pg_database') ~ '^[0-9]+$'", (DATABASE,))
+        found = [name.rsplit("_", 1) for (name,) in cursor.fetchall()]
+    return sorted(((name, int(rows)) for name, rows in found), key=lambda it: (it[1], it[0]))
 
 
 def forget(path: str) -> None:
