@@ -3,16 +3,13 @@ import os
 from collections.abc import Iterable, Iterator, Sequence
 from contextlib import closing, contextmanager
 from pathlib import Path
-from typing import Any
 
 from .benchmark_sets import Set
+from .known_plans import use_plans
 from .postgres_server import DATABASE, Server
-from .second_plans import SecondPlanner
 from .spread_tables import columns_of
 
-from beas import Database
-from beas._library import paths
-from beas.postgres import Bounded, use_planner
+from beas.postgres import Bounded
 
 # Nothing is written twice, and nothing goes on beside what is measured.
 SETTINGS = {
@@ -25,28 +22,6 @@ SETTINGS = {
 }
 # One processor loads, and sorts in so much memory.
 LOADING = ("SET max_parallel_maintenance_workers = 0", "SET maintenance_work_mem = '1GB'")
-
-
-class KnownPlans(SecondPlanner):
-    """Plans that were made before by the second program, whose time isn't measured."""
-
-    def __init__(self, script: str, budget: int | None) -> None:
-        super().__init__(script, budget)
-        self.known: dict[str, Any] = {}
-
-    def plan(self, query: str) -> Any:
-        if query not in self.known:
-            self.known[query] = super().plan(query)
-        return self.known[query]
-
-
-def library_plans() -> bool:
-    """Whether the library is built and gives plans. Then these are taken, and their time is the bridge's."""
-    return hasattr(Database, "plan") and any(it.exists() for it in paths())
-
-
-def use_plans() -> None:
-    use_planner(None if library_plans() else KnownPlans)
 
 
 class Lines:

@@ -3,9 +3,9 @@ from collections.abc import Iterator, Sequence
 from typing import Any
 
 from .benchmark_sets import SETS, Set, Values
+from .known_plans import use_plans
 from .postgres_bench import Figures, share, times_of
 from .postgres_server import Server
-from .postgres_stored import use_plans
 from .spread_tables import SPREAD_BY, Parts
 
 from beas.postgres import Bounded
