@@ -3,8 +3,8 @@
 
     examples/service/service.py [--script FILE] [--budget N] [--port N]
 
-FILE makes the tables and constraints and adds the rows; it is crates/beas_shell/data/cafes.beas unless it is named. The service hears
-this machine alone (127.0.0.1). It answers with JSON:
+FILE makes the tables and constraints and adds the rows; a LOAD in it reads a file beside it. It is crates/beas_shell/data/cafes.beas unless
+it is named. The service hears this machine alone (127.0.0.1). It answers with JSON:
 
     GET /cafes?person=0&year=2015&month=5&city=nyc    the cafés of a city where friends of a person dined in a month
     POST /price   {"query": .., "parameters": [..]}   the bound of a query; nothing is read
@@ -40,13 +40,10 @@ class BadRequest(Exception):
 class Keeper:
     """A database in a thread of its own, since only the thread that opened it may use it. Those of the connections wait for their turn."""
 
-    def __init__(self, script: str, budget: int) -> None:
+    def __init__(self, script: Path, budget: int) -> None:
         self.thread = ThreadPoolExecutor(1, "beas")
-        self.db = self.thread.submit(lambda: beas.Database(budget=budget)).result()
-        self.thread.submit(self.db.run, script).result()
-
-    def load(self, table: str, rows: Any) -> None:
-        self.thread.submit(self.db.load, table, rows).result()
+        self.db = self.thread.submit(lambda: beas.Database(budget=budget, folder=script.parent)).result()
+        self.thread.submit(self.db.run, script.read_text(encoding="utf-8")).result()
 
     def price(self, query: str, parameters: Any) -> dict[str, Any]:
         price = self.thread.submit(self.db.price, query, parameters).result()
@@ -139,7 +136,7 @@ def main() -> int:
     given.add_argument("--budget", type=int, default=400_000)
     given.add_argument("--port", type=int, default=8080)
     words = given.parse_args()
-    keeper = Keeper(words.script.read_text(encoding="utf-8"), words.budget)
+    keeper = Keeper(words.script, words.budget)
     try:
         with Service(keeper, words.port) as service:
             print(f"http://127.0.0.1:{service.server_port}/cafes?person=0&year=2015&month=5&city=nyc", flush=True)

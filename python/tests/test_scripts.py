@@ -1,5 +1,6 @@
 """Whole scripts: the reports by Python, joined, are what the program writes; and answers by cells are answers by text."""
 import os
+import shutil
 import subprocess
 import tempfile
 import unittest
@@ -11,6 +12,7 @@ from support import CASES, Case, program
 import beas
 from beas import statements_of
 
+from lib.place import unread_files
 from lib.session_scripts import Drawn
 
 DRAWN = int(os.environ.get("BEAS_DRAWN", "300"))
@@ -23,10 +25,9 @@ def words_of(folder: Path) -> list[str]:
 
 
 def is_beyond(folder: Path) -> bool:
-    """Whether a case asks for more than a script's meaning: words that are refused, files that fail, a demonstration."""
+    """Whether a case asks for more than a script's meaning: words that are refused, a script that can't be read, a demonstration."""
     status = folder / "status"
-    beyond = status.exists() and int(status.read_text()) > 1
-    return beyond or (folder / "failing_read").exists() or "--demo" in words_of(folder)
+    return status.exists() and int(status.read_text()) > 1 or "--demo" in words_of(folder)
 
 
 def budget_in(words: list[str]) -> int | None:
@@ -52,7 +53,7 @@ class Scripts(Case):
 
     def test_the_cases_of_the_program(self) -> None:
         """Scripts with what is to be written for each. A script before the first goes over the same tables, and has numbers of its own."""
-        folders = [it for it in sorted(CASES.iterdir()) if not is_beyond(it)]
+        folders = [it for it in sorted(CASES.iterdir()) if not is_beyond(it) and not unread_files(it)]
         self.assertGreater(len(folders), 90)
         for folder in folders:
             with self.subTest(folder.name):
@@ -64,6 +65,20 @@ class Scripts(Case):
                 reports = self.reports_of(db, text(folder / "script.beas"))
                 self.assertEqual(text(folder / "output"), "".join(numbered_anew(reports, len(before))))
                 db.close()
+
+    def test_files_that_cannot_be_read(self) -> None:
+        """A file that isn't there, and a folder in its place: both are refused as the program refuses a read that fails."""
+        folders = [it for it in sorted(CASES.iterdir()) if (it / "failing_read").exists() and not is_beyond(it)]
+        self.assertGreater(len(folders), 4)
+        for folder in folders:
+            for is_folder in (False, True):
+                with self.subTest(folder.name, is_folder=is_folder), tempfile.TemporaryDirectory() as room:
+                    copy = Path(shutil.copytree(folder, Path(room) / folder.name))
+                    for path in (copy / name for name in unread_files(folder)):
+                        path.unlink(missing_ok=True)
+                        if is_folder:
+                            path.mkdir()
+                    self.assertEqual(text(folder / "output"), "".join(self.reports_of(self.database(folder=copy), text(folder / "script.beas"))))
 
     def test_drawn_scripts(self) -> None:
         """Sessions that take turns, updates, loads and constraints: byte by byte what the program writes, if it is there, and else what

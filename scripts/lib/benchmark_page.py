@@ -100,6 +100,15 @@ def item(text: str) -> str:
     return textwrap.fill(text, 118, initial_indent="- ", subsequent_indent="  ")
 
 
+def with_part(page: str, mark: str, part: str) -> str:
+    """A page with another part between the line of a mark, <!-- mark -->, and the next <!-- end -->."""
+    before, begins, rest = page.partition(f"<!-- {mark} -->\n")
+    _, ends, after = rest.partition("<!-- end -->\n")
+    if not ends:
+        raise ValueError(f"the page has no part {mark}")
+    return f"{before}{begins}{part}{ends}{after}"
+
+
 def page(results: dict[str, Any], drawn: dict[str, list[tuple[str, str]]]) -> Iterator[str]:
     yield "# Benchmarks\n\nMade by `scripts/benchmark`. Its first lines say how each engine is run. Nothing here is proved."
     yield "\n".join(map(item, [

@@ -3,13 +3,12 @@ import importlib
 import importlib.util
 import os
 import shutil
-import signal
 import subprocess
 import sys
 import tempfile
 import time
 from pathlib import Path
-from types import FrameType, TracebackType
+from types import TracebackType
 from typing import Any
 
 OTHER_PYTHON = "/usr/bin/python3"
@@ -54,16 +53,6 @@ def start_with_psycopg() -> None:
         return
     if os.path.exists(OTHER_PYTHON) and subprocess.run([OTHER_PYTHON, "-c", "import psycopg2"], capture_output=True).returncode == 0:
         os.execv(OTHER_PYTHON, [OTHER_PYTHON, *sys.argv])
-
-
-def end_well() -> None:
-    """Lets a signal that ends this script end its servers first."""
-
-    def leave(number: int, _: FrameType | None) -> None:
-        raise SystemExit(128 + number)
-
-    for number in (signal.SIGTERM, signal.SIGHUP):
-        signal.signal(number, leave)
 
 
 def connect(folder: str, database: str = DATABASE) -> Any:

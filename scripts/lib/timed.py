@@ -19,8 +19,8 @@ EMPTY_KEY = "CREATE TABLE r (a INTEGER, b INTEGER); CREATE ACCESS all_rows ON r 
 SMALL_GROUPS = "CREATE TABLE r (a INTEGER, b INTEGER); CREATE ACCESS ab ON r (a) FETCH (b) LIMIT 100;\n"
 Kind = TypeVar("Kind")
 Row = tuple[Any, ...]
-# processor seconds, refused statements, and what SQLite took, where it does the same
-Timed = tuple[float, int] | tuple[float, int, float]
+# processor seconds, refused statements, and what another took, where one does the same: SQLite, unless it is named
+Timed = tuple[float, int] | tuple[float, int, float] | tuple[float, int, float, str]
 
 
 def written(name: str, lines: Iterable[str]) -> None:

@@ -1,8 +1,8 @@
 /* Times queries by the C libraries of beas and SQLite, for scripts/lib/timed_library.py.
 
-    timed_library beas | sqlite | prepared TIMES
+    timed_library beas | sqlite | prepared TIMES [FILE..]
 
-It reads the folder in which it runs. Of begun.beas and begun.sql each line is a statement that prepares the tables; rows.csv is handed
+It reads the folder in which it runs. Of begun.beas and begun.sql each line is a statement that prepares the tables; each FILE is handed
 over to beas. Of queries.txt each line is a query. prepared.txt has one with ? in the place of its integer, for which values.txt has
 a value for each query. All are asked TIMES times, each from its text unless it is prepared, and every cell, an integer, is read.
 It writes the least processor seconds of all queries, the number of rows that came, and the sum of their cells. */
@@ -95,16 +95,21 @@ static void ask_beas(beas_database *db, const char *query) {
     found.rows += rows;
 }
 
-static double time_beas(struct lines begun, struct lines queries, int times) {
+static void hand_over(beas_database *db, const char *file) {
+    size_t length;
+    char *bytes = whole_file(file, &length);
+    see(file, beas_add_file(db, (const uint8_t *)file, strlen(file), (const uint8_t *)bytes, length), BEAS_DONE);
+    free(bytes);
+}
+
+static double time_beas(struct lines begun, struct lines queries, int times, char **files) {
     beas_database db = {0};
     beas_limits limits = {0};
-    size_t length;
-    char *rows = whole_file("rows.csv", &length);
     int32_t kind;
     double least = 1e9;
     if (beas_abi() != BEAS_ABI) fail("version of the interface", (int)beas_abi());
     see("open", beas_open(&db, &limits, 0, 0, 0), BEAS_DONE);
-    see("file", beas_add_file(&db, (const uint8_t *)"rows.csv", 8, (const uint8_t *)rows, length), BEAS_DONE);
+    for (; *files; files++) hand_over(&db, *files);
     for (size_t nth = 0; nth < begun.count; nth++) {
         see(begun.line[nth], beas_say(&db, (const uint8_t *)begun.line[nth], strlen(begun.line[nth])), BEAS_DONE);
         if (beas_kind(&db, &kind) != BEAS_DONE || kind == BEAS_REFUSED) fail(begun.line[nth], kind);
@@ -116,7 +121,6 @@ static double time_beas(struct lines begun, struct lines queries, int times) {
         least = spent < least ? spent : least;
     }
     see("close", beas_close(&db), BEAS_DONE);
-    free(rows);
     return least;
 }
 
@@ -168,11 +172,12 @@ static double time_sqlite(struct lines begun, struct lines queries, struct lines
 }
 
 int main(int count, char **words) {
-    if (count != 3) fail("wanted: a way and a number", count);
+    if (count < 3) fail("wanted: a way and a number", count);
     int times = atoi(words[2]), is_beas = !strcmp(words[1], "beas"), is_prepared = !strcmp(words[1], "prepared");
     struct lines begun = lines_of(is_beas ? "begun.beas" : "begun.sql");
-    struct lines queries = lines_of(is_prepared ? "prepared.txt" : "queries.txt"), values = lines_of("values.txt");
-    double least = is_beas ? time_beas(begun, queries, times) : time_sqlite(begun, queries, values, is_prepared, times);
+    struct lines queries = lines_of(is_prepared ? "prepared.txt" : "queries.txt"), values = {0};
+    if (is_prepared) values = lines_of("values.txt");
+    double least = is_beas ? time_beas(begun, queries, times, words + 3) : time_sqlite(begun, queries, values, is_prepared, times);
     printf("%.9f %llu %llu\n", least, (unsigned long long)found.rows, (unsigned long long)found.sum);
     return 0;
 }

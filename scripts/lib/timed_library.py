@@ -1,6 +1,6 @@
-"""Workloads of small queries by libraries: beas and SQLite by their C libraries, and both from Python.
+"""Workloads of queries by libraries: beas and SQLite by their C libraries, and both from Python; and by C beside a script of the program.
 
-A row of scripts/times has the time of a query from its text to its cells. Each query makes one probe and finds five tuples, so what is
+A row of scripts/times has the time of a query from its text to its cells. A small query makes one probe and finds five tuples, so what is
 timed is mostly the way there and back."""
 import sqlite3
 import subprocess
@@ -10,13 +10,16 @@ from collections.abc import Callable
 from typing import Any
 
 from .place import TOP
-from .timed import RUNS, SMALL_GROUPS, Timed, rows_of, written
+from .timed import RUNS, SMALL_GROUPS, Timed, beyond, reports_in, rows_of, written
+from .timed_queries import CAFE_QUERY, TABLES, cafe_draws, cafes_begun, cafes_of
 
 LIBRARY = TOP / "out/libbeas.so"
 SOURCE = TOP / "scripts/lib/timed_library.c"
 GROUPS, OF_A_GROUP, QUERIES = 20_000, 5, 100_000
 QUERY = "SELECT DISTINCT b FROM r WHERE a = {}"
 INDEX = "CREATE INDEX ab ON r (a, b)"
+BEGUN = [f"{statement};\n" for statement in SMALL_GROUPS.strip("; \n").split("; ")] + ["LOAD r FROM 'rows.csv';\n"]
+MEALS, CAFE_QUERIES = 10_000, 20_000
 
 
 def rows() -> list[tuple[int, int]]:
@@ -34,7 +37,7 @@ def values(queries: int) -> list[int]:
 def write_inputs(queries: int) -> None:
     """The files that scripts/lib/timed_library.c reads."""
     rows_of("rows.csv", rows())
-    written("begun.beas", [f"{line}\n" for line in SMALL_GROUPS.strip().split("; ")] + ["LOAD r FROM 'rows.csv';\n"])
+    written("begun.beas", BEGUN)
     inserts = [f"INSERT INTO r VALUES {', '.join(map(str, rows()[at : at + 500]))};\n" for at in range(0, GROUPS * OF_A_GROUP, 500)]
     written("begun.sql", ["CREATE TABLE r (a INTEGER, b INTEGER);\n", *inserts, f"{INDEX};\n"])
     written("queries.txt", [QUERY.format(value) + " ORDER BY 1\n" for value in values(queries)])
@@ -51,9 +54,9 @@ def compiled() -> None:
     subprocess.run([*words, "-lsqlite3"], check=True)
 
 
-def seconds_by_c(way: str, queries: int) -> tuple[float, str]:
-    """The least processor seconds of all queries, and the number of rows with the sum of their cells."""
-    told = subprocess.run(["./timed_library", way, str(RUNS)], capture_output=True, text=True, check=True).stdout
+def seconds_by_c(way: str, queries: int, *files: str) -> tuple[float, str]:
+    """The least processor seconds of a query, and the number of all rows with the sum of their cells."""
+    told = subprocess.run(["./timed_library", way, str(RUNS), *files], capture_output=True, text=True, check=True).stdout
     seconds, _, answers = told.strip().partition(" ")
     return float(seconds) / queries, answers
 
@@ -65,7 +68,7 @@ def by_c(is_prepared: bool, queries: int = QUERIES) -> Timed:
     beside, wanted = seconds_by_c("prepared" if is_prepared else "sqlite", queries)
     # beas answers in order by itself, and has no words for it.
     written("queries.txt", [QUERY.format(value) + "\n" for value in values(queries)])
-    spent, answers = seconds_by_c("beas", queries)
+    spent, answers = seconds_by_c("beas", queries, "rows.csv")
     see_equal(wanted, answers)
     return spent, 0, beside
 
@@ -73,7 +76,39 @@ def by_c(is_prepared: bool, queries: int = QUERIES) -> Timed:
 def see_equal(wanted: object, found: object) -> None:
     """What is timed has to be the same answers."""
     if wanted != found:
-        raise RuntimeError(f"SQLite gave {wanted}, beas {found}")
+        raise RuntimeError(f"one gave {wanted}, the other {found}")
+
+
+# ---- by C, beside a script of the program
+
+
+def answers_of(program: str, script: str) -> str:
+    """The number of rows that a script's queries give with the sum of their cells, as often as the library asks them."""
+    out = subprocess.run([program, script], stdout=subprocess.PIPE, check=False).stdout.decode()
+    found = [row for it in reports_in(out) if it.outcome == "answer" for row in it.records]
+    return f"{RUNS * len(found)} {RUNS * sum(int(cell) for row in found for cell in row)}"
+
+
+def beside_script(program: str, begun: list[str], queries: list[str], files: list[str]) -> Timed:
+    """A query by C, from its text to its cells, and within a script, from its text to its report."""
+    written("begun.beas", begun)
+    written("queries.txt", [f"{it}\n" for it in queries])
+    compiled()
+    spent, answers = seconds_by_c("beas", len(queries), *files)
+    within, refusals = beyond(program, begun, [f"{it};\n" for it in queries])
+    see_equal(answers_of(program, "whole.beas"), answers)
+    return spent, refusals, within / len(queries), "within a script"
+
+
+def small_beside_script(program: str, queries: int = QUERIES) -> Timed:
+    rows_of("rows.csv", rows())
+    return beside_script(program, BEGUN, [QUERY.format(value) for value in values(queries)], ["rows.csv"])
+
+
+def cafes_beside_script(program: str, queries: int = CAFE_QUERIES) -> Timed:
+    people, tables = cafes_of(MEALS)
+    asked = [CAFE_QUERY.format(person, month, f"'c{city}'") for person, month, city in cafe_draws(people, queries)]
+    return beside_script(program, cafes_begun(tables), asked, [f"{table}.csv" for table in TABLES])
 
 
 # ---- from Python
@@ -112,14 +147,16 @@ def by_python(is_prepared: bool, queries: int = QUERIES) -> Timed:
         return best(ours, queries), 0, best(theirs, queries)
 
 
-def if_built(workload: Callable[[], Timed]) -> Callable[[str], Timed | None]:
-    """A row of scripts/times, which is passed over where the library isn't built. The program isn't run."""
-    return lambda _: workload() if LIBRARY.exists() else None
+def if_built(workload: Callable[[str], Timed]) -> Callable[[str], Timed | None]:
+    """A row of scripts/times, which is passed over where the library isn't built."""
+    return lambda program: workload(program) if LIBRARY.exists() else None
 
 
 WORKLOADS: dict[str, Callable[[str], Timed | None]] = {
-    "a small query by the C library, from its text to its cells": if_built(lambda: by_c(False)),
-    "the same, beside a statement that SQLite prepared once": if_built(lambda: by_c(True)),
-    "a small query by the Python package, from its text to its rows": if_built(lambda: by_python(False)),
-    "the same with a value for its place, which sqlite3 keeps prepared": if_built(lambda: by_python(True)),
+    "a small query by the C library, from its text to its cells": if_built(lambda _: by_c(False)),
+    "the same, beside a statement that SQLite prepared once": if_built(lambda _: by_c(True)),
+    "a small query by the C library, beside the same within a script": if_built(small_beside_script),
+    "a query of the cafes by the C library, beside the same within a script": if_built(cafes_beside_script),
+    "a small query by the Python package, from its text to its rows": if_built(lambda _: by_python(False)),
+    "the same with a value for its place, which sqlite3 keeps prepared": if_built(lambda _: by_python(True)),
 }

@@ -57,16 +57,22 @@ CAFE_QUERY = (
 )
 
 
-def cafes(program: str, count: int, is_prepared: bool = False) -> Timed:
-    """Queries of about 20 probes over three tables, the greatest of so many rows. SQLite gets each as a text of its own, or prepares
-    one statement once and gets the values."""
-    people, rows = cafes_of(count)
+def cafes_begun(rows: dict[str, list[tuple[int | str, ...]]]) -> list[str]:
+    """The statements that make the tables and load them, a line for each, with the files that they load."""
     begun = []
     for table, (columns, name, key, fetched, bound) in TABLES.items():
         head = ",".join(word.split()[0] for word in columns.split(", "))
         written(f"{table}.csv", [head + "\n", *(",".join(map(str, row)) + "\n" for row in rows[table])])
-        begun += [f"CREATE TABLE {table} ({columns}); CREATE ACCESS {name} ON {table} ({key}) FETCH ({fetched}) LIMIT {bound};\n"]
+        begun += [f"CREATE TABLE {table} ({columns});\n", f"CREATE ACCESS {name} ON {table} ({key}) FETCH ({fetched}) LIMIT {bound};\n"]
         begun += [f"LOAD {table} FROM '{table}.csv';\n"]
+    return begun
+
+
+def cafes(program: str, count: int, is_prepared: bool = False) -> Timed:
+    """Queries of about 20 probes over three tables, the greatest of so many rows. SQLite gets each as a text of its own, or prepares
+    one statement once and gets the values."""
+    people, rows = cafes_of(count)
+    begun = cafes_begun(rows)
     # A load of many rows takes long, and its time varies by more than few queries take.
     times = 20_000 if count < MILLION else 80_000
     draws = list(cafe_draws(people, times))

@@ -218,7 +218,30 @@ static void kinds(beas_database *db)
         fprintf(stderr, "%s", report(db));
         exit(1);
     }
-    CHECK(say(db, "LOAD cards FROM 'missing.csv'") == BEAS_DONE && beas_kind(db, &kind) == BEAS_DONE && kind == BEAS_REFUSED);
+}
+
+/* LOAD reads what was handed over last under exactly its name, and no file of the system. */
+static void files(void)
+{
+    beas_database db = {0};
+    int32_t kind = 0;
+    uint32_t number = 0;
+    CHECK(beas_open(&db, &standard, 0, 0, 0) == BEAS_DONE);
+    SAYS(&db, tables, "1 ok\n");
+    SAYS(&db, "LOAD cards FROM 'it''s.csv'", "2 refused 15 cannot read 'it''s.csv'\n");
+    CHECK(beas_kind(&db, &kind) == BEAS_DONE && kind == BEAS_REFUSED);
+    CHECK(beas_refusal(&db, &number) == BEAS_DONE && number == 15);
+    CHECK(add_file(&db, "it's.csv", "account,card,name\n9,1,a\n9,2,b\n") == BEAS_DONE);
+    SAYS(&db, "LOAD cards FROM 'it''s.csv'", "3 ok 2 rows\n");
+    SAYS(&db, "LOAD cards FROM 'IT''S.csv'", "4 refused 15 cannot read 'IT''S.csv'\n");
+    SAYS(&db, "@2 LOAD cards FROM './it''s.csv'", "5 refused 15 cannot read './it''s.csv'\n");
+    SAYS(&db, "LOAD cards FROM '/dev/null'", "6 refused 15 cannot read '/dev/null'\n");
+    SAYS(&db, "LOAD cards FROM ''", "7 refused 15 cannot read ''\n");
+    SAYS(&db, "LOAD others FROM 'none.csv'", "8 refused 4 unknown table others\n");
+    CHECK(add_file(&db, "it's.csv", "") == BEAS_DONE);
+    SAYS(&db, "LOAD cards FROM 'it''s.csv'", "9 refused 18 header mismatch\n");
+    SAYS(&db, "DELETE FROM cards", "10 ok 2 rows\n");
+    CHECK(beas_close(&db) == BEAS_DONE);
 }
 
 int main(void)
@@ -231,6 +254,7 @@ int main(void)
     closed(&db);
     closed(&wrong);
     limits();
+    files();
     CHECK(beas_open(&db, &standard, 0, 0, 0) == BEAS_DONE);
     CHECK(beas_kind(&db, &kind) == BEAS_DONE && kind == BEAS_NOTHING);
     CHECK(beas_number(&db, &number) == BEAS_ABSENT);
