@@ -15,12 +15,13 @@ Values = tuple[int | str, ...]
 
 
 class Set:
-    """Tables with their columns, constraints (table, key, fetched, limit), rows and one query with parameters."""
+    """Tables with their columns, constraints (table, key, fetched, limit), rows and one query with parameters. Some sets have also the
+    SELECTs by which PostgreSQL itself makes such rows, by table; these are other rows, drawn alike."""
 
     def __init__(self, title: str, tables: dict[str, str], constraints: list[tuple[str, str, str, int]], query: str,
-                 rows: Callable[[], Rows], parameters: Callable[[], Values]) -> None:
+                 rows: Callable[[], Rows], parameters: Callable[[], Values], in_sql: dict[str, str] | None = None) -> None:
         self.title, self.tables, self.constraints, self.query = title, tables, constraints, query
-        self.rows, self.parameters = rows, parameters
+        self.rows, self.parameters, self.in_sql = rows, parameters, in_sql
 
     def schema(self) -> Iterator[str]:
         for table, columns in self.tables.items():
@@ -35,6 +36,16 @@ class Set:
             yield f"CREATE ACCESS i{nth} ON {table} ({key}) FETCH ({fetched}) LIMIT {limit}"
 
 
+def numbers(count: int) -> str:
+    """The numbers below a count, as PostgreSQL gives them one by one."""
+    return f"(SELECT generate_series(0, {count - 1}::bigint) AS n) AS numbers"
+
+
+def drawn(draw: int, below: int, of: str = "n") -> str:
+    """A number below another one, the same in each run: what a draw gives for a number."""
+    return f"((hashint8extended({of}, {draw}) & {2**63 - 1}) % {below})"
+
+
 def cafes(count: int) -> Set:
     draw, people = random.Random(count), max(100, count // 5)
     places = max(50, people // 4)
@@ -44,6 +55,11 @@ def cafes(count: int) -> Set:
         yield "dine", ((person, draw.randrange(places), 2015, 1 + draw.randrange(12)) for person in range(people) for _ in range(5))
         yield "cafe", ((cafe, f"c{draw.randrange(CITIES)}") for cafe in range(places))
 
+    in_sql = {
+        "friend": f"SELECT n / 5, {drawn(1, people)} FROM {numbers(5 * people)}",
+        "dine": f"SELECT n / 5, {drawn(2, places)}, 2015, 1 + {drawn(3, 12)} FROM {numbers(5 * people)}",
+        "cafe": f"SELECT n, 'c' || {drawn(4, CITIES)} FROM {numbers(places)}",
+    }
     asked = random.Random(count + 1)
     return Set(
         "cafés: where friends of a person dined in a month, in a city",
@@ -51,7 +67,7 @@ def cafes(count: int) -> Set:
         [("friend", "pid", "fid", 5000), ("dine", "pid, year, month", "cid", 31), ("cafe", "cid", "city", 1)],
         "SELECT DISTINCT c.cid FROM friend AS f, dine AS d, cafe AS c WHERE f.pid = ? AND f.fid = d.pid AND d.year = 2015 AND d.month = ?"
         " AND d.cid = c.cid AND c.city = ?",
-        rows, lambda: (asked.randrange(people), 1 + asked.randrange(12), f"c{asked.randrange(CITIES)}"))
+        rows, lambda: (asked.randrange(people), 1 + asked.randrange(12), f"c{asked.randrange(CITIES)}"), in_sql)
 
 
 def drawn_day(draw: random.Random) -> int:
@@ -70,6 +86,16 @@ def orders(count: int) -> Set:
         yield "parts", ((it, f"Part {it}", f"Brand {draw.randrange(25)}") for it in range(parts))
         yield "suppliers", ((it, f"Supplier {it}", draw.randrange(25)) for it in range(suppliers))
 
+    day = f"19920101 + 10000 * {drawn(2, 7)} + 100 * {drawn(3, 12)} + {drawn(4, 28)}"
+    lines_there = f"(SELECT n, generate_series(1, n % 7 + 1) AS nth FROM {numbers(orders_there)}) AS lines_there"
+    line = ", ".join(drawn(nth, below, "8 * n + nth") for nth, below in ((5, parts), (6, suppliers), (7, 50)))
+    in_sql = {
+        "customers": f"SELECT n, 'Customer ' || n, {drawn(1, 25)} FROM {numbers(customers)}",
+        "orders": f"SELECT n, n % {customers}, {day} FROM {numbers(orders_there)}",
+        "lines": f"SELECT n, nth, {line} + 1 FROM {lines_there}",
+        "parts": f"SELECT n, 'Part ' || n, 'Brand ' || {drawn(8, 25)} FROM {numbers(parts)}",
+        "suppliers": f"SELECT n, 'Supplier ' || n, {drawn(9, 25)} FROM {numbers(suppliers)}",
+    }
     asked = random.Random(count + 1)
     return Set(
         "orders: parts and suppliers of a customer's orders in a year",
@@ -80,7 +106,7 @@ def orders(count: int) -> Set:
          ("lines", "orderkey", "nth, partkey, suppkey, quantity", 7), ("parts", "partkey", "name, brand", 1), ("suppliers", "suppkey", "name, nation", 1)],
         "SELECT DISTINCT o.orderkey, p.name, s.name FROM customers AS c, orders AS o, lines AS l, parts AS p, suppliers AS s WHERE c.custkey = ?"
         " AND o.custkey = c.custkey AND o.day BETWEEN ? AND ? AND l.orderkey = o.orderkey AND p.partkey = l.partkey AND s.suppkey = l.suppkey",
-        rows, lambda: (asked.randrange(customers), *((lambda year: (year * 10000, year * 10000 + 9999))(1992 + asked.randrange(7)))))
+        rows, lambda: (asked.randrange(customers), *((lambda year: (year * 10000, year * 10000 + 9999))(1992 + asked.randrange(7)))), in_sql)
 
 
 def chain(count: int) -> Set:

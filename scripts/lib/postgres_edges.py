@@ -12,11 +12,6 @@ ONE_OF, FRIENDS = 1000, 5000
 class WithoutStatistics(Measured):
     """Tables that nobody has analysed since they were loaded."""
 
-    def load(self) -> int:
-        self.cursor.execute("ALTER SYSTEM SET autovacuum = off")
-        self.cursor.execute("SELECT pg_reload_conf()")
-        return super().load()
-
     def tidy(self) -> None:
         self.cursor.execute("VACUUM")
 
@@ -35,29 +30,27 @@ def crowded(count: int) -> Set:
     return Set("cafés where a person has 5,000 friends", plain.tables, plain.constraints, plain.query, rows, parameters)
 
 
+# what a page calls a case, with its tables
+CASES: dict[str, tuple[type[Measured], Callable[[int], Set]]] = {
+    "orders that nobody analysed since they were loaded": (WithoutStatistics, SETS["orders"]),
+    "cafés, a person with 5,000 friends": (Measured, crowded),
+}
+
+
 def measure_edge(measured: Measured, queries: int) -> Figures:
     try:
-        measured.load()
-        measured.make_indexes()
         asked = [measured.set.parameters() for _ in range(queries)]
         for values in asked:
             assert sorted(measured.by_itself(values)) == measured.by_bridge(values).rows, "the bridge answers otherwise"
-        bridge = figures_of("bridge", measured.by_bridge, measured.pages_by_bridge, asked)
-        return {"bridge": bridge, "own": figures_of("own", measured.by_itself, measured.pages_by_itself, asked)}
+        return {way: figures_of(measured, way, asked) for way in ("bridge", "own")}
     finally:
         measured.end()
 
 
-def edges_page(sizes: list[int], queries: int, buffers: str) -> str:
-    lines = ["| Case | Rows | By | Pages, mean | Pages, most | Median |", "|---|---|---|---|---|---|"]
-    for count in sizes:
-        cases: list[tuple[str, type[Measured], Callable[[int], Set]]] = [
-            ("orders without statistics", WithoutStatistics, SETS["orders"]),
-            ("a person with 5,000 friends", Measured, crowded),
-        ]
-        for name, kind, make in cases:
-            found = measure_edge(kind(make(count), buffers), queries)
-            for way, by in (("bridge", "the bridge"), ("own", "PostgreSQL")):
-                it = found[way]
-                lines.append(f"| {name} | {count:,} | {by} | {it['pages']:,.0f} | {it['most pages']:,} | {it['time'] * 1e3:.2f} ms |")
-    return "\n".join([*lines, ""])
+def measure_edges(sizes: list[int], queries: int, buffers: str) -> list[Figures]:
+    """The figures of each case at each size."""
+    return [
+        {"case": name, "rows": count, "queries": queries, **measure_edge(kind(make(count), buffers), queries)}
+        for name, (kind, make) in CASES.items()
+        for count in sizes
+    ]

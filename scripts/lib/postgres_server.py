@@ -61,30 +61,45 @@ def connect(folder: str, database: str = DATABASE) -> Any:
     return driver.connect(host=folder, user=USER, dbname=database)
 
 
-class Server:
-    """A server that is started at once. Nothing of it is written through to the disk, so that tests are quick."""
+def versions(connection: Any) -> str:
+    """The versions of the server and of the driver, in words."""
+    number, driver = connection.info.server_version, type(connection).__module__.split(".")[0]
+    return f"PostgreSQL {number // 10000}.{number % 10000} and {driver} {sys.modules[driver].__version__.split()[0]}"
 
-    def __init__(self, name: str = "server", **settings: str) -> None:
+
+class Server:
+    """A server that is started at once. Nothing of it is written through to the disk, so that tests are quick. Its files go with it,
+    unless they are `kept` in a folder: then this is made if it isn't there, and the next server goes on with it."""
+
+    def __init__(self, name: str = "server", kept: Path | None = None, **settings: str) -> None:
         bin_of = tools()
         assert bin_of is not None
         self.bin, self.user = bin_of, other_user()
         self.process: subprocess.Popen[bytes] | None = None
-        self.folder = tempfile.mkdtemp(prefix=f"beas-{name}-")
+        self.folder, self.kept = tempfile.mkdtemp(prefix=f"beas-{name}-"), kept
         given = {"shared_buffers": "64MB", "jit": "off", "max_connections": "20", **settings}
         own = {"listen_addresses": "", "unix_socket_directories": self.folder, "fsync": "off"}
         self.settings = [f"--{name}={value}" for name, value in {**own, **given}.items()]
         try:
             if self.user:
                 shutil.chown(self.folder, "postgres")
-            self.do("initdb", "-D", self.data, "-A", "trust", "-U", USER, "-E", "UTF8", "--locale=C", "--no-sync")
+            if not Path(self.data).exists():
+                self.make()
             self.start()
         except BaseException:
             self.end()
             raise
 
+    def make(self) -> None:
+        if self.kept:
+            self.kept.mkdir(parents=True, exist_ok=True)
+            if self.user:
+                shutil.chown(self.kept, "postgres")
+        self.do("initdb", "-D", self.data, "-A", "trust", "-U", USER, "-E", "UTF8", "--locale=C", "--no-sync")
+
     @property
     def data(self) -> str:
-        return f"{self.folder}/data"
+        return f"{self.kept or self.folder}/data"
 
     @property
     def log(self) -> Path:
@@ -113,12 +128,13 @@ class Server:
         if self.process is not None:
             self.process.wait(SECONDS)
 
-    def connect(self) -> Any:
-        return connect(self.folder)
+    def connect(self, database: str = DATABASE) -> Any:
+        return connect(self.folder, database)
 
     def end(self) -> None:
+        """Files that are kept are made whole first."""
         if self.process is not None and self.process.poll() is None:
-            self.stop()
+            self.stop("fast" if self.kept else "immediate")
         shutil.rmtree(self.folder, ignore_errors=True)
 
     def __enter__(self) -> "Server":

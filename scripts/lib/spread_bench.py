@@ -1,14 +1,14 @@
 """The bridge over tables that are spread over three servers: who is asked, how often, and for how many rows."""
-import re
 from collections.abc import Iterator, Sequence
 from typing import Any
 
-from .benchmark_sets import Set, Values
-from .postgres_bench import Figures, KnownPlans, Lines, share, times_of
+from .benchmark_sets import SETS, Set, Values
+from .known_plans import use_plans
+from .postgres_bench import Figures, share, times_of
 from .postgres_server import Server
-from .spread_tables import Parts
+from .spread_tables import SPREAD_BY, Parts
 
-from beas.postgres import Bounded, use_planner
+from beas.postgres import Bounded
 
 PARTS = 3
 # a cursor on a part is one ask; of so many queries they are counted
@@ -33,16 +33,16 @@ class Spread:
     def __init__(self, the_set: Set) -> None:
         self.set, self.parts = the_set, Parts(PARTS)
         self.front = Server("front")
-        use_planner(KnownPlans)
+        use_plans()
         self.connection = self.front.connect()
         self.connection.autocommit = True
         self.cursor = self.connection.cursor()
 
-    def load(self) -> None:
+    def load(self, by: dict[str, str]) -> None:
         self.parts.link(self.cursor)
-        self.parts.spread(self.cursor, self.set)
-        for table, rows in self.set.rows():
-            self.cursor.copy_expert(f"COPY {table} FROM STDIN", Lines(rows))
+        self.parts.spread(self.cursor, self.set, by)
+        for table, rows in (self.set.in_sql or {}).items():
+            self.cursor.execute(f"INSERT INTO {table} {rows}")
         for server in self.parts.servers:
             for statement in self.set.indexes():
                 self.parts.make_part(server, statement)
@@ -80,16 +80,25 @@ def nodes(plan: dict[str, Any]) -> Iterator[dict[str, Any]]:
 
 
 def figures_by_step(spread: Spread, asked: Sequence[Values]) -> list[Figures]:
-    """Of each step the keys and the servers that it asks, in the mean and at most."""
+    """Of each step the keys and the servers that it asks, in the mean and at most. No step asks more servers than it has keys."""
     found: dict[int, list[tuple[int, int]]] = {}
     for values in asked[:COUNTED]:
-        for nth, (text, lists) in enumerate(spread.by_bridge(values).statements, 1):
+        for nth, (text, lists) in enumerate(spread.by_bridge(values).statements):
             counted = Asked(spread.parts)
             spread.cursor.execute(text, tuple(lists))
-            found.setdefault(nth, []).append((len(lists[0]), sum(it > 0 for it in counted.since())))
+            keys, servers = len(lists[0]), sum(it > 0 for it in counted.since())
+            assert servers <= keys, "a step asks more servers than it has keys"
+            found.setdefault(nth, []).append((keys, servers))
+    steps = spread.bridge.price(spread.set.query, asked[0]).plan.blocks[0].steps
     mean = lambda them: sum(them) / len(them)
     return [
-        {"step": nth, "keys": mean([it[0] for it in its]), "servers": mean([it[1] for it in its]), "most": max(it[1] for it in its)}
+        {
+            "step": nth + 1,
+            "table": steps[nth].table,
+            "keys": mean([it[0] for it in its]),
+            "servers": mean([it[1] for it in its]),
+            "most": max(it[1] for it in its),
+        }
         for nth, its in found.items()
     ]
 
@@ -110,28 +119,19 @@ def figures_of_way(spread: Spread, way: str, asked: Sequence[Values]) -> Figures
     return {"time": share(times, 50), "late": share(times, 99), "asks": asks / count, "servers": servers / count, "rows": rows / count}
 
 
-def measure_spread(the_set: Set, queries: int) -> Figures:
+def measure_spread(name: str, rows: int, queries: int) -> Figures:
+    """All figures of a set at one size. The bridge's answers and the database's have to be equal."""
+    the_set = SETS[name](rows)
     spread = Spread(the_set)
     try:
-        spread.load()
+        spread.load(SPREAD_BY[name])
         asked = [the_set.parameters() for _ in range(queries)]
         for values in asked:
             assert sorted(spread.by_itself(values)) == spread.by_bridge(values).rows, "the bridge answers otherwise"
-        found: Figures = {"steps": figures_by_step(spread, asked)}
+        found: Figures = {"set": name, "rows": rows, "queries": queries, "steps": figures_by_step(spread, asked)}
         for way in ("bridge", "own"):
             found[way] = figures_of_way(spread, way, asked)
         spread.let_parts_estimate()
         return {**found, "estimated": figures_of_way(spread, "own", asked)}
     finally:
         spread.end()
-
-
-def spread_page(rows: int, found: Figures) -> str:
-    lines = ["| By | Median | p99 | Asks of servers | Servers asked | Rows that they send |", "|---|---|---|---|---|---|"]
-    for way, name in WAYS.items():
-        it = found[way]
-        cells = [f"{it['time'] * 1e3:.2f} ms", f"{it['late'] * 1e3:.2f} ms", f"{it['asks']:.1f}", f"{it['servers']:.1f}", f"{it['rows']:,.1f}"]
-        lines.append(f"| {name} | {' | '.join(cells)} |")
-    lines += ["", "| Step | Keys, mean | Servers asked, mean | At most |", "|---|---|---|---|"]
-    lines += [f"| {it['step']} | {it['keys']:.1f} | {it['servers']:.2f} | {it['most']} |" for it in found["steps"]]
-    return re.sub(r"\n{3,}", "\n\n", "\n".join([f"Cafés, {rows:,} rows, over {PARTS} servers:", "", *lines, ""]))

@@ -5,8 +5,11 @@ from typing import Any
 from .benchmark_sets import Set
 from .postgres_server import DATABASE, USER, Server
 
-# the columns by which each table of the cafés is spread
-SPREAD_BY = {"friend": "pid", "dine": "pid", "cafe": "cid"}
+# the column by which each table of a set is spread
+SPREAD_BY = {
+    "cafes": {"friend": "pid", "dine": "pid", "cafe": "cid"},
+    "orders": {"customers": "custkey", "orders": "custkey", "lines": "orderkey", "parts": "partkey", "suppliers": "suppkey"},
+}
 
 
 def columns_of(the_set: Set, table: str) -> str:
@@ -54,10 +57,10 @@ class Parts:
             cursor.execute(f"CREATE SERVER part{nth} FOREIGN DATA WRAPPER postgres_fdw OPTIONS ({options})")
             cursor.execute(f"CREATE USER MAPPING FOR CURRENT_USER SERVER part{nth} OPTIONS (user '{USER}')")
 
-    def spread(self, cursor: Any, the_set: Set) -> None:
+    def spread(self, cursor: Any, the_set: Set, by: dict[str, str]) -> None:
         """Makes the tables, each with a part on each server."""
         for table in the_set.tables:
-            cursor.execute(f"CREATE TABLE {table} ({columns_of(the_set, table)}) PARTITION BY HASH ({SPREAD_BY[table]})")
+            cursor.execute(f"CREATE TABLE {table} ({columns_of(the_set, table)}) PARTITION BY HASH ({by[table]})")
             for nth, server in enumerate(self.servers):
                 self.make_part(server, f"DROP TABLE IF EXISTS {table}; CREATE TABLE {table} ({columns_of(the_set, table)})")
                 values = f"FOR VALUES WITH (MODULUS {len(self.servers)}, REMAINDER {nth})"

@@ -6,18 +6,24 @@ from support import Case, HookedConnection
 
 from beas.plans import Value
 from beas.postgres import Bounded
-from lib.benchmark_sets import cafes
-from lib.spread_tables import Parts, columns_of, fill
+from lib.benchmark_sets import SETS, Set
+from lib.spread_tables import SPREAD_BY, Parts, columns_of, fill
 
-SET, SERVERS, QUERIES = cafes(2000), 3, 60
-SCHEMA = ";".join([*SET.schema(), *SET.accesses()])
+ROWS, SERVERS, QUERIES = 2000, 3, 60
 
 
 class Spread(Case):
+    """What both sets of tables share: each on three servers, and beside it on one."""
+
+    NAME = "cafes"
     parts: Parts
+    set: Set
+    schema: str
 
     @classmethod
     def setUpClass(cls) -> None:
+        cls.set = SETS[cls.NAME](ROWS)
+        cls.schema = ";".join([*cls.set.schema(), *cls.set.accesses()])
         cls.parts = Parts(SERVERS)
         cls.addClassCleanup(cls.parts.end)
 
@@ -28,10 +34,10 @@ class Spread(Case):
         with self.front.cursor() as front, self.connection.cursor() as alone:
             front.execute("SET search_path = spread")
             self.parts.link(front)
-            self.parts.spread(front, SET)
-            for table, rows in SET.rows():
+            self.parts.spread(front, self.set, SPREAD_BY[self.NAME])
+            for table, rows in self.set.rows():
                 kept = list(rows)
-                alone.execute(f"CREATE TABLE {table} ({columns_of(SET, table)})")
+                alone.execute(f"CREATE TABLE {table} ({columns_of(self.set, table)})")
                 fill(alone, table, kept)
                 fill(front, table, kept)
         self.front.commit()
@@ -42,16 +48,16 @@ class Spread(Case):
         self.front.close()
         self.run_sql("DROP SCHEMA spread CASCADE")
 
-    def test_answers_reads_and_servers(self) -> None:
+    def try_answers_reads_and_servers(self) -> None:
         seen: list[list[int]] = []
         hooked = HookedConnection(self.front, lambda statement: seen.append(self.parts.asked()))
-        alone, spread = self.bridge(SCHEMA), self.bridge(SCHEMA, hooked)
+        alone, spread = self.bridge(self.schema), self.bridge(self.schema, hooked)
         rows = most = 0
         for _ in range(QUERIES):
-            values = SET.parameters()
-            wanted = alone.query(SET.query, values)
+            values = self.set.parameters()
+            wanted = alone.query(self.set.query, values)
             seen.clear()
-            found = spread.query(SET.query, values)
+            found = spread.query(self.set.query, values)
             self.assertEqual((wanted.rows, wanted.reads, wanted.bound), (found.rows, found.reads, found.bound))
             rows, most = rows + len(found), max(most, self.look_at_steps(found.statements, [*seen, self.parts.asked()]))
         self.assertGreater(rows, 0)
@@ -67,14 +73,26 @@ class Spread(Case):
             most = max(most, sum(it > 0 for it in asked))
         return most
 
+
+class Cafes(Spread):
+    def test_answers_reads_and_servers(self) -> None:
+        self.try_answers_reads_and_servers()
+
     def test_a_key_that_isn_t_the_spread_s(self) -> None:
         """Where a step's key lacks the columns by which its table is spread, all servers are asked for each key."""
-        more = f"{SCHEMA}; CREATE ACCESS of_place ON dine (cid) FETCH (pid) LIMIT 200"
+        more = f"{self.schema}; CREATE ACCESS of_place ON dine (cid) FETCH (pid) LIMIT 200"
         seen: list[list[int]] = []
         bridge: Bounded = self.bridge(more, HookedConnection(self.front, lambda statement: seen.append(self.parts.asked())))
         seen.clear()
         bridge.query("SELECT DISTINCT pid FROM dine WHERE cid = 7")
         self.assertEqual([1] * SERVERS, [new - old for old, new in zip(seen[-1], self.parts.asked())])
+
+
+class Orders(Spread):
+    NAME = "orders"
+
+    def test_answers_reads_and_servers(self) -> None:
+        self.try_answers_reads_and_servers()
 
 
 if __name__ == "__main__":
