@@ -32,7 +32,7 @@ fn column_in(block: &Normal, classes: &[u16], class: u16) -> ColumnId
 }
 
 /// Whether the classes of some places all stand among these.
-pub fn hold_places(block: &Normal, classes: &[u16], places: &[Place]) -> bool
+pub fn are_bound(block: &Normal, classes: &[u16], places: &[Place]) -> bool
     requires ranges { ClassesInRange block.now }
     requires classes { classes.now ≡ classes_in (set_of block.now classes.now) }
     ensures { result ≡ holds_classes (set_of block.now classes.now) (map (place_class block.now) places.now) }

@@ -16,7 +16,7 @@ use crate::keeping::sign_holds;
 use crate::pairs::{pair_fits, push_pair, value_in_pair};
 use crate::picked::Picked;
 use crate::picking::{push_values, values_in};
-use crate::places::{columns_at, hold_places};
+use crate::places::{are_bound, columns_at};
 use beas_core::{
     Access, ColumnId, Comparison, Duplicate, List, NoMemory, Normal, Operand, Row, Value, compare,
 };
@@ -64,7 +64,7 @@ pub fn stage_of(
     let after = join.classes.as_slice();
     let sides = all_sides(alloc, block, after)?;
     let picked = Picked::of(alloc, block, before, after, atom, access.key.as_slice())?;
-    let settled = hold_places(block, before, block.output.as_slice());
+    let settled = are_bound(block, before, block.output.as_slice());
     Ok(Stage {
         atom,
         access: Snapshot::of(access),

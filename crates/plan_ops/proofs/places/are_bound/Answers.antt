@@ -12,7 +12,7 @@ use Rattle.plan_ops.specs.Over.{set_of}
 use Rattle.plan_ops.specs.Places.{place_of}
 use Rattle.plan_ops.proofs.BoundSets.{held_by_place, is_above, is_below}
 use Rattle.plan_ops.proofs.PlaceFacts.{classes_rise, place-le}
-use Rattle.plan_ops.proofs.places.hold_places.Goals as goal
+use Rattle.plan_ops.proofs.places.are_bound.Goals as goal
 
 abbrev no_place : Place
 no_place = record { atom = 0; column = record { 0 = 0 } }
