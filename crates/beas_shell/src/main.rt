@@ -11,6 +11,7 @@ use std::env;
 use std::io::{self, ErrorKind};
 use std::marker::Brand;
 use std::process::ExitCode;
+use std::random::RandomSource;
 use std::sync::ledger::{Blank, Ledger};
 
 /// The status where memory runs out for the words.
@@ -36,9 +37,19 @@ fn after_first(words: &[String]) -> &[String] {
     }
 }
 
+/// A seed for the maps of this run, so that nobody can choose values that collide in them. It is 0 where the system gives
+/// no random number: then answers are the same, and come as fast for values that weren't chosen so.
+fn seed_of(rt: &HostRuntime) -> u64 {
+    let mut bytes = [0; 8];
+    match rt.fill_bytes(&mut bytes) {
+        Ok(()) => u64::from_le_bytes(bytes),
+        Err(_) => 0,
+    }
+}
+
 /// Runs what the words ask for, over a session without tables and the system's files and streams.
 fn run_words<L: Ledger>(rt: &HostRuntime, words: &[String], steps: &mut Steps<L>) -> u8 {
-    let mut session = Session::new(rt.alloc(), Limits::standard(), None, false);
+    let mut session = Session::seeded(rt.alloc(), Limits::standard(), None, false, seed_of(rt));
     let mut files = RealFiles::new(rt);
     let mut out = RealSink::new(rt.stdout());
     let mut err = RealSink::new(rt.stderr());

@@ -44,13 +44,28 @@ impl Session {
     ghost use Rattle.partial_plan.specs.ScanPlans.{ScanPlanFits};
     ghost use Rattle.session.specs.Applying.{IsApplied, MayCost, MayLoad, database_of, settings_in, settings_of};
 
-    /// A session without tables. It takes no memory.
+    /// A session without tables, whose maps will hash with the seed 0. It takes no memory.
     pub fn new(alloc: Global, limits: Limits, budget: Option<u64>, explain: bool) -> Session
         ensures db { database_of result ≡ record { tables = []; accesses = []; created = 0 } }
         ensures settings { settings_of result ≡ record { limits = limits; budget = budget; explain = explain } }
     {
+        Session::seeded(alloc, limits, budget, explain, 0)
+    }
+
+    /// A session without tables, whose maps will hash with a seed. It makes no difference to what is answered, but who
+    /// doesn't know it can't choose values that collide. It takes no memory.
+    pub fn seeded(
+        alloc: Global,
+        limits: Limits,
+        budget: Option<u64>,
+        explain: bool,
+        seed: u64,
+    ) -> Session
+        ensures db { database_of result ≡ record { tables = []; accesses = []; created = 0 } }
+        ensures settings { settings_of result ≡ record { limits = limits; budget = budget; explain = explain } }
+    {
         Session {
-            guarded: Store::new(alloc),
+            guarded: Store::seeded(alloc, seed),
             limits,
             budget,
             explain,

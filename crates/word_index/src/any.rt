@@ -10,6 +10,7 @@ ghost use Rattle.word_index.specs.Widths.{index_in};
 
 use beas_core::{Access, ColumnId, NoMemory};
 use code_index::{FixedIndex, Interner, LongIndex};
+use seeded_hash::SeededHashing;
 use std::alloc::Global;
 
 /// The index of an access constraint, whatever the width of its key.
@@ -38,8 +39,8 @@ macro_rules! of_any {
 }
 
 impl AnyIndex {
-    /// An index of no rows.
-    pub fn new(alloc: Global, access: Access) -> AnyIndex
+    /// An index of no rows, whose keys will be hashed as an interner's values are.
+    pub fn new(alloc: Global, access: Access, hashing: SeededHashing) -> AnyIndex
         requires { length access.key ≤ 64 }
         ensures access { (index_in result).access ≡ access }
         ensures total { (index_in result).total ≡ 0 }
@@ -47,12 +48,12 @@ impl AnyIndex {
         ensures index { (codes : List Value) → IsIndexOf (read_index codes (index_in result)) [] }
     {
         match access.key.len() {
-            0 => AnyIndex::Zero(FixedIndex::new(alloc, access)),
-            1 => AnyIndex::One(FixedIndex::new(alloc, access)),
-            2 => AnyIndex::Two(FixedIndex::new(alloc, access)),
-            3 => AnyIndex::Three(FixedIndex::new(alloc, access)),
-            4 => AnyIndex::Four(FixedIndex::new(alloc, access)),
-            _ => AnyIndex::Long(LongIndex::new(alloc, access)),
+            0 => AnyIndex::Zero(FixedIndex::with_hashing(alloc, access, hashing)),
+            1 => AnyIndex::One(FixedIndex::with_hashing(alloc, access, hashing)),
+            2 => AnyIndex::Two(FixedIndex::with_hashing(alloc, access, hashing)),
+            3 => AnyIndex::Three(FixedIndex::with_hashing(alloc, access, hashing)),
+            4 => AnyIndex::Four(FixedIndex::with_hashing(alloc, access, hashing)),
+            _ => AnyIndex::Long(LongIndex::with_hashing(alloc, access, hashing)),
         }
     }
 

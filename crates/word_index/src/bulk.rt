@@ -168,7 +168,7 @@ pub fn index_of<L: Ledger>(
 {
     let columns = joined_columns(alloc, &access)?;
     let lent = lend_in_order(alloc, rows, columns.as_slice(), steps)?;
-    let mut index = AnyIndex::new(alloc, access);
+    let mut index = AnyIndex::new(alloc, access, codes.hashing());
     add_all(alloc, codes, &mut index, lent.as_slice())?;
     Ok(index)
 }

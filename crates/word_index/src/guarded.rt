@@ -48,14 +48,22 @@ fn guarded_fields(guarded: &WordGuarded) {
 impl WordGuarded {
     ghost use Rattle.word_index.specs.Stored.{database_in};
 
-    /// A database without tables. It takes no memory.
+    /// A database without tables, whose maps will hash with the seed 0. It takes no memory.
     pub fn new(alloc: Global) -> WordGuarded
         ensures { database_in result ≡ record { tables = []; accesses = []; created = 0 } }
     {
+        WordGuarded::seeded(alloc, 0)
+    }
+
+    /// A database without tables, whose maps will hash with a seed. It makes no difference to what is answered, but who
+    /// doesn't know it can't choose values that collide. It takes no memory.
+    pub fn seeded(alloc: Global, seed: u64) -> WordGuarded
+        ensures { database_in result ≡ record { tables = []; accesses = []; created = 0 } }
+    {
         WordGuarded {
-            catalogue: Catalogue::new(alloc),
+            catalogue: Catalogue::seeded(alloc, seed),
             rows: List::new(alloc),
-            indexes: WordIndexes::new(alloc),
+            indexes: WordIndexes::seeded(alloc, seed),
         }
     }
 

@@ -47,12 +47,12 @@ fn indexes_fields(indexes: &WordIndexes) {
 }
 
 impl WordIndexes {
-    /// No indexes, which takes no memory.
-    pub fn new(alloc: Global) -> WordIndexes
+    /// No indexes, whose maps will hash with a seed. It takes no memory.
+    pub fn seeded(alloc: Global, seed: u64) -> WordIndexes
         ensures { result ≡ [] }
     {
         WordIndexes {
-            codes: Interner::new(alloc),
+            codes: Interner::seeded(alloc, seed),
             indexes: Vec::new(alloc),
         }
     }
