@@ -134,6 +134,18 @@ enumerated_more f xs i d l =
 enumerated_all : {A B : Type 0} (f : ℕ × A → B) (xs : List A) → map f (take (length xs) (enumerate_from 0 xs)) ≡ map f (enumerate_from 0 xs)
 enumerated_all f xs = ap (λ n. map f (take n (enumerate_from 0 xs))) (sym (length-enumerate_from 0 xs)) ∙ ap (map f) (take-length (enumerate_from 0 xs))
 
+-- a list for each atom: one more, at a step of a loop over the atoms, and all of them after its last
+pub listed_more : {A : Type 0} (f : ℕ × Atom → A) (atoms : List Atom) (i : ℕ) (lists new : List A) (item : A) → i < length atoms
+    → new ≡ lists ++ item ∷ [] → lists ≡ map f (take i (enumerate_from 0 atoms))
+    → item ≡ f (i, get_or atoms i (record { table = record { 0 = 0 }; width = 0 })) → new ≡ map f (take (i + 1) (enumerate_from 0 atoms))
+listed_more f atoms i lists new item l e so is =
+    pushed lists (map f (take i (enumerate_from 0 atoms))) new item (f (i, get_or atoms i (record { table = record { 0 = 0 }; width = 0 }))) e so is
+    ∙ sym (enumerated_more f atoms i (record { table = record { 0 = 0 }; width = 0 }) l)
+
+pub listed_all : {A : Type 0} (f : ℕ × Atom → A) (atoms : List Atom) (i : ℕ) (lists : List A) → i ≡ length atoms
+    → lists ≡ map f (take i (enumerate_from 0 atoms)) → lists ≡ map f (enumerate_from 0 atoms)
+listed_all f atoms i lists whole so = so ∙ ap (λ n. map f (take n (enumerate_from 0 atoms))) whole ∙ enumerated_all f atoms
+
 pub class_lists_more : (atoms : List Atom) (classes : List ℕ) (i : ℕ) (d : Atom) → i < length atoms
     → map (λ a. class_list atoms classes a.0 a.1.width) (take (i + 1) (enumerate_from 0 atoms))
     ≡ map (λ a. class_list atoms classes a.0 a.1.width) (take i (enumerate_from 0 atoms)) ++ class_list atoms classes i (get_or atoms i d).width ∷ []

@@ -9,7 +9,7 @@ use Rattle.std.proofs.lemmas.Bool.Decides.{nat_tests}
 use Rattle.std.proofs.lemmas.List.Elements.{All-tail, All-append, All-from_recursion, filter-append}
 use Rattle.std.proofs.lemmas.List.Sorted.{All-permutation, Contains-permutation}
 use Rattle.std.proofs.Math.Seq.{take-suc}
-use Rattle.std.proofs.lemmas.List.{append-nil, length-drop, take_all, get_or-map, get_or-take, length-replicate, map-append, map_more}
+use Rattle.std.proofs.lemmas.List.{length-map, append-nil, length-drop, take_all, get_or-map, get_or-take, length-replicate, map-append, map_more}
 use Rattle.attribute_closure.proofs.Sets.{with_push}
 use Rattle.std.proofs.lemmas.Bool.{eqb-true}
 use Rattle.beas_core.specs.declared.plan.Normal.{Normal}
@@ -151,6 +151,9 @@ not_less a b c d h = (first a b c d h, second a b c d h)
     second : (a b c d : ℕ) → is_lt (ordering_then (nat_cmp a b) (nat_cmp c d)) ≡ false → a ≡ b → d ≤ c
     second a b c d h e = grind (arith, nat_tests)
 
+pub seen_is : (us : List UseAt) (i : ℕ) (u : UseAt) → i < length us → u ≡ get_or us i u → as_use u ≡ use_at (map as_use us) i
+seen_is us i u below is = ap as_use is ∙ sym (get_or-map as_use us i u no_use below)
+
 module _ (normal : Normal) (us : List Use) (set : ClassSet) where
   -- nothing is left where the queue is empty
   pub none_waiting : (entries : List Entry) → entries ≡ [] → AreWaiting normal us set entries → least_bound (filter (may_add normal set) us) ≡ None
@@ -169,8 +172,14 @@ module _ (normal : Normal) (us : List Use) (set : ClassSet) where
     all_each : All (IsEntry normal us set) (e ∷ rest)
     all_each = All-permutation (IsEntry normal us set) entries (e ∷ rest) permuted waiting.each
 
-    pub up : IsEntry normal us set e
+    up : IsEntry normal us set e
     up = all_each 0 e (omega arith)
+
+    -- the use that it stands for, where the code reads it
+    pub up_is : (seen : List UseAt) (u : UseAt) → map as_use seen ≡ us → u ≡ get_or seen e.0.1 u → as_use u ≡ use_at us e.0.1
+    up_is seen u same is =
+        let number = up.number in
+        seen_is seen e.0.1 u (omega (arith, number, ap length same, length-map seen as_use)) is ∙ ap (λ vs. use_at vs e.0.1) same
 
     left_each : All (IsEntry normal us set) rest
     left_each = All-tail (IsEntry normal us set) e rest all_each
@@ -227,9 +236,6 @@ module _ (normal : Normal) (us : List Use) (set : ClassSet) where
         other w adds (inr m) = m
 
 -- ---- one number more
-
-pub seen_is : (us : List UseAt) (i : ℕ) (u : UseAt) → i < length us → u ≡ get_or us i u → as_use u ≡ use_at (map as_use us) i
-seen_is us i u below is = ap as_use is ∙ sym (get_or-map as_use us i u no_use below)
 
 pub entries_step : (us : List Use) (old : List Entry) (ns : List ℕ) (i : ℕ) (entry : Entry) → i < length ns → entry ≡ entry_of us (get_or ns i 0)
     → (old ++ map (entry_of us) (take i ns)) ++ entry ∷ [] ≡ old ++ map (entry_of us) (take (i + 1) ns)

@@ -247,47 +247,42 @@ pub record Turn (accesses : List Access) (table : ℕ) (ids : List AccessId) (k 
     pub at : (d : Access) → get_or accesses place d ≡ access_with_id accesses id
     pub access_is : new.access ≡ (get_or indexes place new).access
 
--- the first of the ids that are left is done no more
-pub turn_out : {accesses : List Access} {table : ℕ} {ids : List AccessId} {k : ℕ} {indexes : List Index} {place : ℕ} {id : AccessId} {new : Index}
-    (rows : List (List Row)) (before after : List Row) → Turn accesses table ids k indexes place id new → table < length rows
-    → (IsIndexOf (get_or indexes place new) after → IsIndexOf new before)
-    → AreIndexed accesses rows table before after (drop k ids) indexes → AreIndexed accesses rows table before after (drop (suc k) ids) (set indexes place new)
-turn_out {accesses} {table} {ids} {k} {indexes} {place} {id} {new} rows before after t live flips is = moved_one (record {
+-- the index that it moves is read over other rows, where its id is done before or after alone
+turn_to : {accesses : List Access} {table : ℕ} {ids : List AccessId} {k : ℕ} {indexes : List Index} {place : ℕ} {id : AccessId} {new : Index}
+    (rows : List (List Row)) (before after : List Row) (done moved : List AccessId) (was now : Bool)
+    → Turn accesses table ids k indexes place id new → table < length rows
+    → ((x : ℕ) → x ≢ (get_or ids k id).0 → has x moved ≡ has x done) → has (get_or ids k id).0 done ≡ was → has (get_or ids k id).0 moved ≡ now
+    → (IsIndexOf (get_or indexes place new) (if was then after else before) → IsIndexOf new (if now then after else before))
+    → AreIndexed accesses rows table before after done indexes → AreIndexed accesses rows table before after moved (set indexes place new)
+turn_to {accesses} {table} {ids} {k} {indexes} {place} {id} {new} rows before after done moved was now t live others was_done is_done flips is = moved_one (record {
   indexed = is;
   rise = t.rise;
   live = live;
   within = t.within;
   at = t.at;
   is_on = t.is_on;
-  others = λ x n. drop_others ids k id x t.in_list (λ s. n (s ∙ ap (λ i. i.0) (sym t.id_is)));
+  others = λ x n. others x (λ s. n (s ∙ ap (λ i. i.0) (sym t.id_is)));
   access_is = t.access_is;
   index_is = λ old.
-      let was : has id.0 (drop k ids) ≡ true = ap (λ i. has i.0 (drop k ids)) t.id_is ∙ drop_own ids k id t.in_list in
-      let now : has id.0 (drop (suc k) ids) ≡ false = ap (λ i. has i.0 (drop (suc k) ids)) t.id_is ∙ not_after ids k id t.rising t.in_list in
-      subst (IsIndexOf new) (ap (λ b. if b then after else before) (sym now))
-      (flips (subst (IsIndexOf (get_or indexes place new)) (ap (λ b. if b then after else before) was) old));
+      subst (IsIndexOf new) (ap (λ b. if b then after else before) (sym (ap (λ i. has i.0 moved) t.id_is ∙ is_done)))
+      (flips (subst (IsIndexOf (get_or indexes place new)) (ap (λ b. if b then after else before) (ap (λ i. has i.0 done) t.id_is ∙ was_done)) old));
 })
+
+-- the first of the ids that are left is done no more
+pub turn_out : {accesses : List Access} {table : ℕ} {ids : List AccessId} {k : ℕ} {indexes : List Index} {place : ℕ} {id : AccessId} {new : Index}
+    (rows : List (List Row)) (before after : List Row) → Turn accesses table ids k indexes place id new → table < length rows
+    → (IsIndexOf (get_or indexes place new) after → IsIndexOf new before)
+    → AreIndexed accesses rows table before after (drop k ids) indexes → AreIndexed accesses rows table before after (drop (suc k) ids) (set indexes place new)
+turn_out {accesses} {table} {ids} {k} {indexes} {place} {id} {new} rows before after t live flips is = turn_to rows before after (drop k ids) (drop (suc k) ids) true false t live
+    (λ x n. drop_others ids k id x t.in_list n) (drop_own ids k id t.in_list) (not_after ids k id t.rising t.in_list) flips is
 
 -- one id more is done
 pub turn_in : {accesses : List Access} {table : ℕ} {ids : List AccessId} {k : ℕ} {indexes : List Index} {place : ℕ} {id : AccessId} {new : Index}
     (rows : List (List Row)) (before after : List Row) → Turn accesses table ids k indexes place id new → table < length rows
     → (IsIndexOf (get_or indexes place new) before → IsIndexOf new after)
     → AreIndexed accesses rows table before after (take k ids) indexes → AreIndexed accesses rows table before after (take (suc k) ids) (set indexes place new)
-turn_in {accesses} {table} {ids} {k} {indexes} {place} {id} {new} rows before after t live flips is = moved_one (record {
-  indexed = is;
-  rise = t.rise;
-  live = live;
-  within = t.within;
-  at = t.at;
-  is_on = t.is_on;
-  others = λ x n. step_others ids k id x t.in_list (λ s. n (s ∙ ap (λ i. i.0) (sym t.id_is)));
-  access_is = t.access_is;
-  index_is = λ old.
-      let was : has id.0 (take k ids) ≡ false = ap (λ i. has i.0 (take k ids)) t.id_is ∙ not_before ids k id t.rising t.in_list in
-      let now : has id.0 (take (suc k) ids) ≡ true = ap (λ i. has i.0 (take (suc k) ids)) t.id_is ∙ step_own ids k id t.in_list in
-      subst (IsIndexOf new) (ap (λ b. if b then after else before) (sym now))
-      (flips (subst (IsIndexOf (get_or indexes place new)) (ap (λ b. if b then after else before) was) old));
-})
+turn_in {accesses} {table} {ids} {k} {indexes} {place} {id} {new} rows before after t live flips is = turn_to rows before after (take k ids) (take (suc k) ids) false true t live
+    (λ x n. step_others ids k id x t.in_list n) (not_before ids k id t.rising t.in_list) (step_own ids k id t.in_list) flips is
 
 -- a step over the first n of a table's constraints
 pub turn_of : {accesses : List Access} {table k place : ℕ} (n : ℕ) (indexes : List Index) (new : Index) → IsPlaceOn accesses table k place → k < n
