@@ -1,24 +1,30 @@
 -- How a query of session 0 that was opened comes to its answer, event by event.
-use Rattle.std.proofs.Common.{◌≡◌, ◌≤◌, ◌<◌, ◌+◌, ◌-◌, ◌∙◌, ap, subst, sym, refl, ℕ, zero, suc, Bool, true, false, not, cond, List, [], ◌∷◌, Option, None, Some, arith, find, length, remove, set}
-use Rattle.std.specs.Prelude.{if◌then◌else◌, nat_lt, sum, unwrap_or, IsSomeAnd, option_map}
+use Rattle.std.proofs.Common.{◌≡◌, ◌≤◌, ◌<◌, ◌+◌, ◌-◌, ◌∙◌, ap, subst, sym, refl, ℕ, zero, suc, Bool, true, false, not, cond, List, [], ◌∷◌, Option, None, Some, Result, Ok, Err, arith, find, length, remove, set}
+use Rattle.std.specs.Prelude.{if◌then◌else◌, nat_lt, sum, unwrap_or, IfOk, IsSomeAnd, OnErr, option_map}
 use Rattle.std.specs.List.{position_or_len}
 use Rattle.std.specs.Option.{option_map_or}
 use Rattle.std.proofs.lemmas.Bool.{lt-ltb, le-ltb, ltb-true}
+use Rattle.beas_core.specs.declared.errors.NoMemory.{NoMemory as Out}
 use Rattle.outside.specs.Seen.{Seen}
 use Rattle.kept_facts.specs.OpenQueries.{OpenQuery, answer_of, probes_of, reads_of}
 use Rattle.report.specs.declared.reports.Report.{Report}
 use Rattle.report.specs.declared.reports.Report.TheVariants.{Answered}
+use Rattle.session.specs.Effects.{Settings}
+use Rattle.piece_reader.specs.declared.event.Event.{Event}
 use Rattle.piece_reader.specs.declared.event.Event.TheVariants.{Stepped}
 use Rattle.desk_model.specs.Desks.{AtOnce, DeskEffect, State, action_of_event, answered_effect, is_of, probed_effect, query_effect, query_of, stepped_effect, with_query}
 use Rattle.desk_model.specs.Pieces.{after_cost, and_step, and_steps, probes_due}
 use Rattle.desk_model.proofs.Places.{find_passes}
-use Rattle.version_store.specs.Desks.{GoesOn, IsDesk, MayTake, Seen as DeskSeen, Takes, TakesSome, desk_wanting, without_query_of}
-use Rattle.beas_run.specs.Pieces.{Reaches, answered_from, is_probed}
+use Rattle.version_store.specs.Desks.{GoesOn, IsDesk, MayTake, Seen as DeskSeen, Takes, TakesSome, desk_wanting, waits_for_file, without_query_of}
+use Rattle.beas_run.specs.Pieces.{Reaches, answered_from, has_probed}
 use Rattle.beas_run.specs.Shares.{open_reads}
 use Rattle.beas_run.proofs.FoundFacts.{find-set-found, remove-set-found, sum_by-set-found}
 use Rattle.beas_run.proofs.LeftFacts.{wanting_db}
-use Rattle.beas_run.proofs.SparedFacts.{spared_lost, spared_probed}
+use Rattle.beas_run.proofs.SparedFacts.{dropped, spared_lost, spared_probed}
 use Rattle.beas_run.proofs.ShareFacts.{may_take, shares_fit}
+
+abbrev is_probed : Report → Bool
+is_probed report = has_probed (Ok report)
 
 -- ---- event by event
 
@@ -140,7 +146,7 @@ module _ (start now after : DeskSeen) (s t u : ℕ) (x y : Seen) (way : OnTheWay
     there = ap (λ st. query_of 0 st) took_one.state_is
         ∙ find-set-found (is_of 0) now.state.queries q further way.is (find_passes (is_of 0) now.state.queries q way.is)
 
-    pub goes_on : GoesOn (Stepped 0) report now after t u → after.settings ≡ now.settings → t ≤ u → OnTheWay start after s u
+    goes_on : GoesOn (Stepped 0) report now after t u → after.settings ≡ now.settings → t ≤ u → OnTheWay start after s u
     goes_on once settings later =
         let less = ltb-true way.made n due in
         let counted : u + sum now.shares ≡ t + 0 + sum after.shares = took_one.counts in
@@ -164,7 +170,7 @@ module _ (start now after : DeskSeen) (s t u : ℕ) (x y : Seen) (way : OnTheWay
           later = omega (arith, begun, later);
         }
 
-    pub fewer_left : probes_left after.state < probes_left now.state
+    fewer_left : probes_left after.state < probes_left now.state
     fewer_left =
         let less = ltb-true way.made n due in
         let after_it : probes_left after.state ≡ n - (way.made + 1) =
@@ -186,7 +192,7 @@ module _ (start now after : DeskSeen) (s t u : ℕ) (x y : Seen) (way : OnTheWay
     took_last : Takes now.settings.limits.file (AtOnce (answered_effect now.state 0 q)) report now after t u x y
     took_last = taken_as false none_due
 
-    pub answered : IsSomeAnd (query_of 0 start.state) (λ query. query.made ≡ Some 0) → IsDesk after
+    answered : IsSomeAnd (query_of 0 start.state) (λ query. query.made ≡ Some 0) → IsDesk after
         → (first : DeskEffect) → first.state ≡ start.state → first.cost ≡ 0 → Reaches (answered_from first) report start after s u
     answered new told first same free =
         let o = way.opened in
@@ -208,11 +214,13 @@ module _ (start now after : DeskSeen) (s t u : ℕ) (x y : Seen) (way : OnTheWay
           counts = omega (arith, counted, same_reads, before, cost, free);
         }
 
--- out of memory in one of them
-pub lost_db : (start now after : DeskSeen) (s t : ℕ) → OnTheWay start now s t → after ≡ desk_wanting (Stepped 0) now → after.state.db ≡ start.state.db
-lost_db start now after s t way e = wanting_db 0 now after e ∙ way.db
+    closed : GoesOn (Stepped 0) report now after t u → after.settings ≡ now.settings → after ≡ without_query_of 0 start
+    closed once settings =
+        dropped 0 now q way.is after t u settings took_last.state_is
+        (subst (λ (r : Report). GoesOn (Stepped 0) r now after t u) took_last.report_is once) ∙ way.others
 
-pub lost_reads : (start now : DeskSeen) (s t u : ℕ) → OnTheWay start now s t → IsDesk now → MayTake (Stepped 0) now t u
+-- out of memory in one of them
+lost_reads : (start now : DeskSeen) (s t u : ℕ) → OnTheWay start now s t → IsDesk now → MayTake (Stepped 0) now t u
     → u + sum start.shares ≤ s + open_reads start.state
 lost_reads start now s t u way told may =
     let most = may_take 0 now t u told may in
@@ -220,7 +228,67 @@ lost_reads start now s t u way told may =
     let same = way.reads in
     omega (arith, most, before, same)
 
-pub lost_others : (start now after : DeskSeen) (s t : ℕ) → OnTheWay start now s t → after ≡ desk_wanting (Stepped 0) now
+lost_others : (start now after : DeskSeen) (s t : ℕ) → OnTheWay start now s t → after ≡ desk_wanting (Stepped 0) now
     → without_query_of 0 after ≡ without_query_of 0 start
 lost_others start now after s t way e =
     ap (without_query_of 0) e ∙ spared_lost 0 now way.query way.is (find_passes (is_of 0) now.state.queries way.query way.is) ∙ way.others
+
+-- ---- by an event that goes on with the query, whatever it answers
+
+abbrev Steps : Event → DeskSeen → DeskSeen → ℕ → ℕ → Seen → Seen → Report → Type 0
+Steps event now after t u x y report = TakesSome now.settings.limits.file (action_of_event now.settings now.state event) report now after t u x y
+
+no_wait : (o : Option DeskEffect) → waits_for_file (option_map AtOnce o) ≡ false
+no_wait None = refl
+no_wait (Some effect) = refl
+
+module _ (event : Event) (is : event ≡ Stepped 0) where
+  pub none_waits : (settings : Settings) (state : State) → waits_for_file (action_of_event settings state event) ≡ false
+  none_waits settings state =
+      ap (λ e. waits_for_file (action_of_event settings state e)) is ∙ no_wait (stepped_effect state 0 (query_of 0 state))
+
+  module _ (start now after : DeskSeen) (s t u : ℕ) (x y : Seen) (way : OnTheWay start now s t) where
+    steps : (report : Report) → Steps event now after t u x y report → Steps (Stepped 0) now after t u x y report
+    steps report took = subst (λ e. Steps e now after t u x y report) is took
+
+    goes : (report : Report) → GoesOn event report now after t u → GoesOn (Stepped 0) report now after t u
+    goes report once = subst (λ e. GoesOn e report now after t u) is once
+
+    pub on_by : (r : Result Report Out) → has_probed r ≡ true → IfOk r (Steps event now after t u x y)
+        → IfOk r (λ report. GoesOn event report now after t u) → after.settings ≡ now.settings → t ≤ u → OnTheWay start after s u
+    on_by (Ok report) probed took once settings later =
+        goes_on start now after s t u x y way report (steps report took) probed (goes report once) settings later
+    on_by (Err none) probed took once settings later = let other : true ≡ false = sym probed in cc
+
+    pub fewer_by : (r : Result Report Out) → has_probed r ≡ true → IfOk r (Steps event now after t u x y) → probes_left after.state < probes_left now.state
+    fewer_by (Ok report) probed took = fewer_left start now after s t u x y way report (steps report took) probed
+    fewer_by (Err none) probed took = let other : true ≡ false = sym probed in cc
+
+    pub answered_by : (r : Result Report Out) → has_probed r ≡ false → IsSomeAnd (query_of 0 start.state) (λ query. query.made ≡ Some 0) → IsDesk after
+        → IfOk r (Steps event now after t u x y)
+        → IfOk r (λ report. (first : DeskEffect) → first.state ≡ start.state → first.cost ≡ 0 → Reaches (answered_from first) report start after s u)
+    answered_by (Ok report) ended new told took = answered start now after s t u x y way report (steps report took) ended new told
+    answered_by (Err none) ended new told took = tt
+
+    pub closed_by : (r : Result Report Out) → has_probed r ≡ false → IfOk r (Steps event now after t u x y)
+        → IfOk r (λ report. GoesOn event report now after t u) → after.settings ≡ now.settings → IfOk r (λ _. after ≡ without_query_of 0 start)
+    closed_by (Ok report) ended took once settings = closed start now after s t u x y way report (steps report took) ended (goes report once) settings
+    closed_by (Err none) ended took once settings = tt
+
+  lost : (now after : DeskSeen) → after ≡ desk_wanting event now → after ≡ desk_wanting (Stepped 0) now
+  lost now after e = e ∙ ap (λ v. desk_wanting v now) is
+
+  module _ (start now : DeskSeen) (s t : ℕ) (way : OnTheWay start now s t) where
+    pub lost_db_by : (after : DeskSeen) (r : Result Report Out) → OnErr r (after ≡ desk_wanting event now) → OnErr r (after.state.db ≡ start.state.db)
+    lost_db_by after (Ok report) e = tt
+    lost_db_by after (Err none) e = wanting_db 0 now after (lost now after e) ∙ way.db
+
+    pub lost_others_by : (after : DeskSeen) (r : Result Report Out) → OnErr r (after ≡ desk_wanting event now)
+        → OnErr r (without_query_of 0 after ≡ without_query_of 0 start)
+    lost_others_by after (Ok report) e = tt
+    lost_others_by after (Err none) e = lost_others start now after s t way (lost now after e)
+
+    pub lost_reads_by : (u : ℕ) (r : Result Report Out) → IsDesk now → OnErr r (MayTake event now t u)
+        → OnErr r (u + sum start.shares ≤ s + open_reads start.state)
+    lost_reads_by u (Ok report) told may = tt
+    lost_reads_by u (Err none) told may = lost_reads start now s t u way told (subst (λ e. MayTake e now t u) is may)

@@ -3,6 +3,7 @@ use Rattle.std.proofs.Common.{◌≡◌, ◌≤◌, ◌+◌, ◌⊎◌, ◌∙�
 use Rattle.std.specs.Prelude.{IfOk, OnErr, option_map, sum}
 use Rattle.std.proofs.lemmas.List.Sums.{sum_by_push}
 use Rattle.beas_core.specs.declared.errors.NoMemory.{NoMemory as Out}
+use Rattle.beas_core.specs.declared.refusal.Refusal.{Refusal}
 use Rattle.outside.specs.Counts.{raised}
 use Rattle.outside.specs.Seen.{Seen}
 use Rattle.kept_facts.specs.OpenQueries.{OpenQuery, reads_of}
@@ -14,7 +15,7 @@ use Rattle.piece_reader.specs.declared.event.Event.TheVariants.{Said, Stepped}
 use Rattle.desk_model.specs.Desks.{DeskAction, AtOnce, ByLoad, DeskEffect, State, action_of_event, lost, new_query, opened_effect, query_of, said_action, stepped_effect}
 use Rattle.desk_model.specs.Pieces.{next, piece_action, with_answer}
 use Rattle.piece_reader.specs.Sayings.{Reading}
-use Rattle.version_store.specs.Desks.{IsDesk, MayCost, MayLoad, MayTake, Seen as DeskSeen, desk_wanting, without_query_of}
+use Rattle.version_store.specs.Desks.{GoesOn, IsDesk, MayCost, MayLoad, MayTake, Seen as DeskSeen, desk_wanting}
 use Rattle.beas_run.specs.Pieces.{GoesOnBy, IsLeft, LeavesDesk, reads_by}
 use Rattle.beas_run.specs.Shares.{AreShares, open_reads}
 use Rattle.beas_run.proofs.ReadsFacts.{alone_grows, answered_reads, same_reads, stepped_reads}
@@ -160,17 +161,32 @@ event_left_step s k (Err none) before after m n x y told e may no_fewer loaded =
 
 -- ---- what is left of the desk
 
-pub desk_left_said : (k : ℕ) (statement : Statement) (r : Result Report Out) (before after : DeskSeen)
-    → OnErr r (after ≡ desk_wanting (Said k statement) before) → OnErr r (LeavesDesk (Ok (Said k statement)) before after)
-desk_left_said k statement (Ok report) before after e = tt
-desk_left_said k statement (Err none) before after e = inl (ap (without_query_of 0) e)
+pub desk_left_alone : (reading : Reading) (desk : DeskSeen) (m : ℕ) → LeavesDesk reading desk desk m m
+desk_left_alone (Ok (Said zero statement)) desk m = refl
+desk_left_alone (Ok (Said (suc session) statement)) desk m = (refl, λ outcome. omega arith)
+desk_left_alone (Ok (Stepped session)) desk m = inl (refl, refl)
+desk_left_alone (Err why) desk m = (refl, refl)
 
-pub desk_left_step : (k : ℕ) (r : Result Report Out) (before after : DeskSeen)
-    → OnErr r (after ≡ desk_wanting (Stepped k) before) → OnErr r (LeavesDesk (Ok (Stepped k)) before after)
-desk_left_step k (Ok report) before after e = tt
-desk_left_step k (Err none) before after e = inr e
+pub desk_left_said : (k : ℕ) (statement : Statement) (r : Result Report Out) (before after : DeskSeen) (m n : ℕ) → (k ≡ 0 → ⊥)
+    → OnErr r (after ≡ desk_wanting (Said k statement) before) → OnErr r (MayTake (Said k statement) before m n)
+    → OnErr r (LeavesDesk (Ok (Said k statement)) before after m n)
+desk_left_said zero statement r before after m n named e may = absurd (named refl)
+desk_left_said (suc k) statement (Ok report) before after m n named e may = tt
+desk_left_said (suc k) statement (Err none) before after m n named e may = (e, may)
 
-pub goes_on_said : (k : ℕ) (statement : Statement) (r : Result Report Out) (before after : DeskSeen) (m n : ℕ)
-    → IfOk r (λ report. GoesOnBy (Ok (Said k statement)) report before after m n)
-goes_on_said k statement (Ok report) before after m n = tt
-goes_on_said k statement (Err none) before after m n = tt
+pub desk_left_step : (k : ℕ) (r : Result Report Out) (before after : DeskSeen) (m n : ℕ)
+    → OnErr r (after ≡ desk_wanting (Stepped k) before) → OnErr r (MayTake (Stepped k) before m n)
+    → OnErr r (LeavesDesk (Ok (Stepped k)) before after m n)
+desk_left_step k (Ok report) before after m n e may = tt
+desk_left_step k (Err none) before after m n e may = inr (e, may)
+
+-- ---- the probes and the shares
+
+pub goes_on_said : (k : ℕ) (statement : Statement) (r : Result Report Out) (before after : DeskSeen) (m n : ℕ) → (k ≡ 0 → ⊥)
+    → IfOk r (λ report. GoesOn (Said k statement) report before after m n) → IfOk r (λ report. GoesOnBy (Ok (Said k statement)) report before after m n)
+goes_on_said zero statement r before after m n named h = absurd (named refl)
+goes_on_said (suc k) statement r before after m n named h = h
+
+pub goes_on_refused : (reading : Reading) (why : Refusal) (report : Report) (desk : DeskSeen) (m : ℕ) → reading ≡ Err why
+    → GoesOnBy reading report desk desk m m
+goes_on_refused reading why report desk m e = subst (λ r. GoesOnBy r report desk desk m m) (sym e) (refl, refl)

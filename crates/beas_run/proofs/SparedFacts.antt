@@ -4,14 +4,16 @@ use Rattle.std.specs.Prelude.{slice_set}
 use Rattle.std.proofs.lemmas.List.{length-append}
 use Rattle.beas_core.specs.Queries.{BlockProbe}
 use Rattle.kept_facts.specs.OpenQueries.{OpenQuery, share_of}
+use Rattle.report.specs.declared.reports.Report.{Report}
 use Rattle.report.specs.declared.reports.Report.TheVariants.{Opened}
 use Rattle.session.specs.Effects.{Settings}
 use Rattle.sql_text.specs.declared.tree.Statement.{Statement}
 use Rattle.sql_text.specs.declared.tree.Statement.TheVariants.{Select}
 use Rattle.piece_reader.specs.declared.event.Event.TheVariants.{Said, Stepped}
 use Rattle.desk_model.specs.Desks.{State, is_of, lost, place_of, query_of, with_query, without_query}
-use Rattle.version_store.specs.Desks.{Begins, GoesOn, IsDesk, ProbesOnce, Seen as DeskSeen, Stays, desk_wanting, place_in, share_at, without_query_of}
+use Rattle.version_store.specs.Desks.{Begins, Finishes, GoesOn, IsDesk, ProbesOnce, Seen as DeskSeen, Stays, desk_wanting, place_in, share_at, without_query_of}
 use Rattle.version_store.proofs.Places.{remove-set}
+use Rattle.beas_run.specs.Pieces.{is_opened}
 use Rattle.beas_run.proofs.FoundFacts.{place-last, place-none, place-set-found, remove-at-last, remove-past, remove-set-found}
 
 abbrev pub seen : Settings → State → List ℕ → List (List BlockProbe) → DeskSeen
@@ -60,13 +62,39 @@ module _ (k : ℕ) (now : DeskSeen) (q : OpenQuery) (is : query_of k now.state �
       ap (λ o. without_query_of k (seen now.settings (lost now.state k o) (slice_set now.shares (place_in k now) 0) (slice_set now.probes (place_in k now) []))) is
       ∙ spared_set (record q { made = None }) own 0 []
 
--- ---- a query was opened
+  -- or it is answered, and so closed
+  pub dropped : (after : DeskSeen) (t u : ℕ) → after.settings ≡ now.settings → after.state ≡ without_query k now.state
+      → Finishes k now after t u → after ≡ without_query_of k now
+  dropped after t u settings state ends =
+      ap (λ s. seen s after.state after.shares after.probes) settings ∙ ap (λ st. seen now.settings st after.shares after.probes) state
+      ∙ ap (λ ss. seen now.settings (without_query k now.state) ss after.probes) ends.shares
+      ∙ ap (seen now.settings (without_query k now.state) (remove now.shares (place_in k now))) ends.probes
+
+-- a session that has no query loses none
+pub none_dropped : (k : ℕ) (before after : DeskSeen) → IsDesk before → query_of k before.state ≡ None → after ≡ without_query_of k before
+    → Stays before after
+none_dropped k before after told idle e =
+    let n = length before.state.queries in
+    let none = place-none (is_of k) before.state.queries idle in
+    record {
+      probes = ap (λ (d : DeskSeen). d.probes) e ∙ ap (remove before.probes) none ∙ remove-past before.probes n told.as_many_probes;
+      shares = ap (λ (d : DeskSeen). d.shares) e ∙ ap (remove before.shares) none ∙ remove-past before.shares n told.as_many_shares;
+    }
+
+-- ---- a query was opened, or none
 
 -- no other statement begins a query
 begun : (statement : Statement) (k j bound : ℕ) (before after : DeskSeen) (s t : ℕ) → GoesOn (Said k statement) (Opened j bound) before after s t
     → Begins before after s t ⊎ Stays before after
 begun (Select tree) k j bound before after s t h = inl h
 begun _ k j bound before after s t h = inr h
+
+-- where none is opened
+pub stays : (statement : Statement) (k : ℕ) (report : Report) (before after : DeskSeen) (s t : ℕ) → is_opened report ≡ false
+    → GoesOn (Said k statement) report before after s t → Stays before after
+stays (Select tree) k (Opened j bound) before after s t none h = let other : true ≡ false = none in cc
+stays (Select tree) k _ before after s t none h = h
+stays _ k report before after s t none h = h
 
 module _ (k : ℕ) (before after : DeskSeen) (q : OpenQuery) (idle : query_of k before.state ≡ None) (own : is_of k q ≡ true)
     (state : after.state ≡ record before.state { queries = before.state.queries ++ q ∷ [] }) (settings : after.settings ≡ before.settings) where

@@ -17,12 +17,12 @@ use Rattle.desk_model.specs.Desks.{DeskAction, AtOnce, ByLoad, DeskEffect, State
 use Rattle.desk_model.specs.Pieces.{next, opens, piece_action, with_answer}
 use Rattle.piece_reader.specs.declared.event.Event.TheVariants.{Said}
 use Rattle.version_store.specs.Desks.{GoesOn, IsDesk, Seen as DeskSeen, Takes, without_query_of}
-use Rattle.beas_run.specs.Pieces.{IsDone, IsLeft, LeavesDesk, Reaches, answered_from, is_opened, reads_by, turn_alone}
+use Rattle.beas_run.specs.Pieces.{GoesOnBy, IsDone, IsLeft, LeavesDesk, Reaches, answered_from, is_opened, reads_by, turn_alone}
 use Rattle.beas_run.specs.Shares.{open_reads}
 use Rattle.desk_model.proofs.Places.{find-last}
 use Rattle.beas_run.proofs.SaidFacts.{SaidIs, said_is}
 use Rattle.beas_run.proofs.ShareFacts.{shares_fit}
-use Rattle.beas_run.proofs.SparedFacts.{spared_opened}
+use Rattle.beas_run.proofs.SparedFacts.{none_dropped, spared_opened, stays}
 use Rattle.beas_run.proofs.DoneFacts.{done_by_action}
 use Rattle.beas_run.proofs.LeftFacts.{LeftBy, answer_none, answer_reads}
 
@@ -180,7 +180,20 @@ module _ (s : Settings) (statement : Statement) (before mid after : DeskSeen) (o
   answer_left earlier (Ok report) took begun later most db = tt
   answer_left earlier (Err e) took begun later most db = left_answered earlier took begun later most db
 
-pub answer_spared : (statement : Statement) (before mid after : DeskSeen) (r : Result Report Out) → without_query_of 0 mid ≡ without_query_of 0 before
-    → OnErr r (without_query_of 0 after ≡ without_query_of 0 mid) → OnErr r (LeavesDesk (Ok (Said 0 statement)) before after)
-answer_spared statement before mid after (Ok report) opened e = tt
-answer_spared statement before mid after (Err none) opened e = inl (e ∙ opened)
+-- ---- what becomes of the desk
+
+pub unopened_stays : (statement : Statement) (report : Report) (before after : DeskSeen) (m n : ℕ) → is_opened report ≡ false
+    → GoesOn (Said 0 statement) report before after m n → GoesOnBy (Ok (Said 0 statement)) report before after m n
+unopened_stays statement report before after m n none h = stays statement 0 report before after m n none h
+
+pub answer_stays : (statement : Statement) (before mid after : DeskSeen) (r : Result Report Out) (m n : ℕ) → IsDesk before
+    → query_of 0 before.state ≡ None → without_query_of 0 mid ≡ without_query_of 0 before
+    → IfOk r (λ _. after ≡ without_query_of 0 mid) → IfOk r (λ report. GoesOnBy (Ok (Said 0 statement)) report before after m n)
+answer_stays statement before mid after (Ok report) m n told idle opened e = none_dropped 0 before after told idle (e ∙ opened)
+answer_stays statement before mid after (Err none) m n told idle opened e = tt
+
+pub answer_spared : (statement : Statement) (before mid after : DeskSeen) (r : Result Report Out) (m n : ℕ)
+    → without_query_of 0 mid ≡ without_query_of 0 before → OnErr r (without_query_of 0 after ≡ without_query_of 0 mid)
+    → OnErr r (LeavesDesk (Ok (Said 0 statement)) before after m n)
+answer_spared statement before mid after (Ok report) m n opened e = tt
+answer_spared statement before mid after (Err none) m n opened e = e ∙ opened

@@ -2,7 +2,7 @@
 --     Scene                             a desk, the steps, the output and the files; scene makes one
 --     moment_of scene                   what a run comes to that ends there
 --     answered_from first               the effect of going on, to its answer, with a query of session 0 that was opened
---     is_opened report                  the event opened a query, by its report; is_probed: it made a probe
+--     is_opened report                  the event opened a query, by its report; has_probed report: it made a probe
 --     IsTaken event result ..           what a desk tells of an event that was to be done there
 --     Reaches last report ..            what was done came to this effect
 --     IsTurn settings reading turn ..   the piece was carried out in this turn
@@ -13,9 +13,9 @@
 --     reads_by state turn               what is read at most for all that was opened, where this turn comes next
 --     IsLeft settings reading ..        out of memory the piece wasn't carried out, and the database is as it was
 --     IsUndone ..                       the same, and nothing was sent
---     LeavesDesk reading before after   and the desk is as it was, but for the query of session 0; or a query is lost that it was to go on with
---     GoesOnBy reading report ..        what becomes of the probes and the shares where the piece goes on with a query
-use Rattle.std.specs.Prelude.{◌≡◌, ◌≤◌, ◌+◌, ◌++◌, ◌⊎◌, ℕ, Bool, true, false, List, [], ◌∷◌, length, sum, Option, None, Some, Result, Ok, Err, IfOk, OnErr}
+--     LeavesDesk reading before after ..     and what is left of the desk, with the reads that may have been counted
+--     GoesOnBy reading report ..        what becomes of the probes and the shares
+use Rattle.std.specs.Prelude.{◌≡◌, ◌≤◌, ◌+◌, ◌++◌, ◌⊎◌, ℕ, zero, suc, Bool, true, false, List, [], ◌∷◌, length, sum, Option, None, Some, Result, Ok, Err, IfOk, OnErr}
 use Rattle.std.specs.Option.{option_map_or}
 use Rattle.beas_core.specs.declared.errors.NoMemory.{NoMemory}
 use Rattle.outside.specs.Counts.{raised}
@@ -33,7 +33,7 @@ use Rattle.piece_reader.specs.declared.event.Event.TheVariants.{Said, Stepped}
 use Rattle.desk_model.specs.Desks.{DeskEffect, State, action_of_event}
 use Rattle.desk_model.specs.Pieces.{DeskTurn, Next, and_steps, next, piece_action, probes_due, seen_turn}
 use Rattle.piece_reader.specs.Sayings.{Reading}
-use Rattle.version_store.specs.Desks.{GoesOn, IsDesk, MayLoad, MayTake, Seen as DeskSeen, TakesSome, desk_wanting, without_query_of}
+use Rattle.version_store.specs.Desks.{GoesOn, IsDesk, MayLoad, MayTake, Seen as DeskSeen, Stays, TakesSome, desk_wanting, without_query_of}
 use Rattle.beas_run.specs.declared.ending.Ending.{Ending}
 use Rattle.beas_run.specs.declared.ending.Ending.TheVariants.{NoMemory as Want}
 use Rattle.beas_run.specs.Shares.{AreShares, open_reads}
@@ -60,9 +60,9 @@ abbrev pub is_opened : Report → Bool
 is_opened (Opened session bound) = true
 is_opened _ = false
 
-abbrev pub is_probed : Report → Bool
-is_probed (Probed session) = true
-is_probed _ = false
+abbrev pub has_probed : Result Report NoMemory → Bool
+has_probed (Ok (Probed session)) = true
+has_probed _ = false
 
 -- what a desk tells of an event, whatever it answers
 pub record IsTaken (event : Event) (result : Result Report NoMemory) (before after : DeskSeen) (steps_before steps_after : ℕ)
@@ -144,18 +144,18 @@ pub record IsUndone (settings : Settings) (reading : Reading) (before after : Sc
   pub sent : before.out.told ≡ true → after.out.bytes ≡ before.out.bytes
   pub puts : after.out.puts ≡ before.out.puts
 
--- a STEP's query is lost, if it has one
-abbrev pub LosesQuery : Reading → DeskSeen → DeskSeen → Type 0
-LosesQuery (Ok (Stepped session)) before after = after ≡ desk_wanting (Stepped session) before
-LosesQuery (Ok (Said session statement)) before after = ⊥
-LosesQuery (Err why) before after = ⊥
+-- a statement that names no session may leave a query of session 0 open; what it may have counted says IsLeft. Any other leaves the desk as it
+-- was. A STEP loses its query, unless memory ran out before the piece was read
+abbrev pub LeavesDesk : Reading → DeskSeen → DeskSeen → ℕ → ℕ → Type 0
+LeavesDesk (Ok (Said zero statement)) before after s t = without_query_of 0 after ≡ without_query_of 0 before
+LeavesDesk (Ok (Said (suc session) statement)) before after s t = (after ≡ before) × MayTake (Said (suc session) statement) before s t
+LeavesDesk (Ok (Stepped session)) before after s t =
+    ((after ≡ before) × (t ≡ s)) ⊎ ((after ≡ desk_wanting (Stepped session) before) × MayTake (Stepped session) before s t)
+LeavesDesk (Err why) before after s t = (after ≡ before) × (t ≡ s)
 
--- a query that a piece without a session has opened may be open still
-abbrev pub LeavesDesk : Reading → DeskSeen → DeskSeen → Type 0
-LeavesDesk reading before after =
-    (without_query_of 0 after ≡ without_query_of 0 before) ⊎ LosesQuery reading before after
-
+-- where a statement names no session, all of them stay: a query that it opened was answered, and so closed again
 abbrev pub GoesOnBy : Reading → Report → DeskSeen → DeskSeen → ℕ → ℕ → Type 0
+GoesOnBy (Ok (Said zero statement)) report before after s t = Stays before after
+GoesOnBy (Ok (Said (suc session) statement)) report before after s t = GoesOn (Said (suc session) statement) report before after s t
 GoesOnBy (Ok (Stepped session)) report before after s t = GoesOn (Stepped session) report before after s t
-GoesOnBy (Ok (Said session statement)) report before after s t = Unit {0}
-GoesOnBy (Err why) report before after s t = Unit {0}
+GoesOnBy (Err why) report before after s t = (after ≡ before) × (t ≡ s)

@@ -5,7 +5,7 @@ ghost use Rattle.desk_model.specs.Desks.{DeskEffect, query_of};
 ghost use Rattle.piece_reader.specs.Sayings.{reading_of};
 ghost use Rattle.session.specs.Statements.{StatementIsWellFormed};
 ghost use Rattle.session.specs.Turns.{IsWithin};
-ghost use Rattle.beas_run.specs.Pieces.{GoesOnBy, IsDone, IsLeft, IsTaken, LeavesDesk, Reaches, answered_from, is_opened, is_probed};
+ghost use Rattle.beas_run.specs.Pieces.{GoesOnBy, IsDone, IsLeft, IsTaken, LeavesDesk, Reaches, answered_from, has_probed, is_opened};
 ghost use Rattle.beas_run.specs.Shares.{open_reads};
 ghost use Rattle.version_store.specs.Desks.{EventIsWellFormed, session_in, without_query_of};
 
@@ -23,7 +23,7 @@ use version_store::Desk;
 const UNNAMED: u32 = 0;
 
 /// Lets a report go. A function that calls this doesn't prove anew what that does to each kind of report.
-fn discard(_report: Report) {}
+fn discard<T: Drop>(_report: T) {}
 
 /// Does what a session says.
 fn say<F: Files, L: Ledger>(
@@ -66,10 +66,10 @@ fn is_opened(report: &Report) -> bool
 }
 
 /// Whether an event has made a probe, by its report.
-fn is_probed(report: &Report) -> bool
-    ensures { result ≡ is_probed report.now }
+fn has_probed(report: &Result<Report, NoMemory>) -> bool
+    ensures { result ≡ has_probed report.now }
 {
-    matches!(report, Report::Probed { .. })
+    matches!(report, Ok(Report::Probed { .. }))
 }
 
 /// Goes on with the query that the pieces without a session have opened, event by event, until it is answered. There is one
@@ -84,6 +84,7 @@ fn answer<F: Files, L: Ledger>(
     ensures answered { IfOk result (λ report. (first : DeskEffect) → first.state ≡ desk.old.state → first.cost ≡ 0
         → Reaches (answered_from first) report desk.old desk.new steps.old steps.new) }
     ensures within { IfOk result IsWithin }
+    ensures closed { IfOk result (λ _. desk.new ≡ without_query_of 0 desk.old) }
     ensures db { OnErr result (desk.new.state.db ≡ desk.old.state.db) }
     ensures others { OnErr result (without_query_of 0 desk.new ≡ without_query_of 0 desk.old) }
     ensures at_most { OnErr result (steps.new + sum desk.old.shares ≤ steps.old + open_reads desk.old.state) }
@@ -91,10 +92,11 @@ fn answer<F: Files, L: Ledger>(
     ensures settings { desk.new.settings ≡ desk.old.settings }
     ensures unread { files.new ≡ files.old }
 {
+    let turn = Event::Stepped { session: UNNAMED };
     'probes: loop {
-        let report = step(alloc, desk, UNNAMED, files, steps)?;
-        if !is_probed(&report) {
-            return Ok(report);
+        let report = desk.event(alloc, files, &turn, steps);
+        if !has_probed(&report) {
+            return report;
         }
         discard(report);
     }
@@ -113,7 +115,9 @@ fn carry_out_statement<F: Files, L: Ledger>(
         desk.old desk.new steps.old steps.new (F.seen files.old) (F.seen files.new)) }
     ensures left { OnErr result (IsLeft desk.old.settings (Ok (Event.Said 0 statement))
         desk.old desk.new steps.old steps.new (F.seen files.old) (F.seen files.new)) }
-    ensures desk { OnErr result (LeavesDesk (Ok (Event.Said 0 statement)) desk.old desk.new) }
+    ensures goes_on { IfOk result (λ report. GoesOnBy (Ok (Event.Said 0 statement)) report
+        desk.old desk.new steps.old steps.new) }
+    ensures desk { OnErr result (LeavesDesk (Ok (Event.Said 0 statement)) desk.old desk.new steps.old steps.new) }
     ensures settings { desk.new.settings ≡ desk.old.settings }
     ensures later { IsLater (F.seen files.old) (F.seen files.new) }
 {
@@ -142,7 +146,7 @@ fn carry_out_event<F: Files, L: Ledger>(
         desk.old desk.new steps.old steps.new (F.seen files.old) (F.seen files.new)) }
     ensures goes_on { IfOk result (λ report. GoesOnBy (Ok event) report
         desk.old desk.new steps.old steps.new) }
-    ensures desk { OnErr result (LeavesDesk (Ok event) desk.old desk.new) }
+    ensures desk { OnErr result (LeavesDesk (Ok event) desk.old desk.new steps.old steps.new) }
     ensures settings { desk.new.settings ≡ desk.old.settings }
     ensures later { IsLater (F.seen files.old) (F.seen files.new) }
 {
@@ -173,7 +177,8 @@ pub fn report_on<F: Files, L: Ledger>(
         desk.old desk.new steps.old steps.new (F.seen files.old) (F.seen files.new)) }
     ensures goes_on { IfOk result (λ report. GoesOnBy (reading_of tokens.now) report
         desk.old desk.new steps.old steps.new) }
-    ensures desk { OnErr result (LeavesDesk (reading_of tokens.now) desk.old desk.new) }
+    ensures desk { OnErr result (LeavesDesk (reading_of tokens.now) desk.old desk.new
+        steps.old steps.new) }
     ensures settings { desk.new.settings ≡ desk.old.settings }
     ensures later { IsLater (F.seen files.old) (F.seen files.new) }
 {

@@ -1,38 +1,61 @@
-use Rattle.std.proofs.Common.{◌∙◌, refl, sym}
-use Rattle.beas_run.proofs.AnswerFacts.{answered, fewer_left, goes_on, lost_db, lost_others, lost_reads, on_the_way}
-use Rattle.beas_run.proofs.DoneFacts.{on_error}
+use Rattle.std.proofs.Common.{◌≤◌, ◌∙◌, arith, refl, subst, sym}
+use Rattle.version_store.specs.Desks.{EventIsWellFormed, session_in}
+use Rattle.beas_run.proofs.AnswerFacts.{answered_by, closed_by, fewer_by, lost_db_by, lost_others_by, lost_reads_by, none_waits, on_by, on_the_way}
 use Rattle.beas_run.proofs.pieces.answer.Goals as goal
 
 pub probes-init : goal.probes-init
-probes-init g c = record { way = on_the_way c.args.desk.now c.args.steps.now c.requires; unread = refl }
+probes-init g c = record { way = on_the_way c.args.desk.now c.args.steps.now c.requires; unread = refl; is = refl }
+
+pub event-report-requires-clause-session : goal.event-report-requires-clause-session
+event-report-requires-clause-session g c = subst (λ event. session_in event ≤ 64) (sym c.probes.invariant.is) (omega arith)
+
+pub event-report-requires-clause-well_formed : goal.event-report-requires-clause-well_formed
+event-report-requires-clause-well_formed g c = subst EventIsWellFormed (sym c.probes.invariant.is) tt
 
 pub probes-preserved : goal.probes-preserved
 probes-preserved g c =
-    let e = c.in_ok-report.ensures.taken in
+    let i = c.probes.invariant in
+    let e = c.event-report.ensures in
     record {
-      way = goes_on _ _ _ _ _ _ _ _ c.probes.invariant.way c.in_ok-report.report e.did (sym c.is_probed.ensures ∙ c.if-not-is_probed.false) e.goes_on e.settings e.no_fewer;
-      unread = c.in_ok-report.ensures.unread ∙ c.probes.invariant.unread;
+      way = on_by _ i.is _ _ _ _ _ _ _ _ i.way c.event-report.result (sym c.has_probed.ensures ∙ c.if-not-has_probed.false) e.did e.goes_on e.settings e.no_fewer;
+      is = i.is;
+      unread = e.unread (none_waits _ i.is c.probes.desk.settings c.probes.desk.state) ∙ i.unread;
     }
 
 pub probes-smaller : goal.probes-smaller
 probes-smaller g c =
-    let e = c.in_ok-report.ensures.taken in
-    fewer_left _ _ _ _ _ _ _ _ c.probes.invariant.way c.in_ok-report.report e.did (sym c.is_probed.ensures ∙ c.if-not-is_probed.false)
+    let i = c.probes.invariant in
+    fewer_by _ i.is _ _ _ _ _ _ _ _ i.way c.event-report.result (sym c.has_probed.ensures ∙ c.if-not-has_probed.false) c.event-report.ensures.did
 
-pub returns-in_err-report-clause-db : goal.returns-in_err-report-clause-db
-returns-in_err-report-clause-db g c =
-    on_error c.from_residual.result (lost_db _ _ _ _ _ c.probes.invariant.way c.in_err-report.ensures.taken.err)
+pub returns-then-not-has_probed-clause-answered : goal.returns-then-not-has_probed-clause-answered
+returns-then-not-has_probed-clause-answered g c =
+    let i = c.probes.invariant in
+    let e = c.event-report.ensures in
+    answered_by _ i.is _ _ _ _ _ _ _ _ i.way c.event-report.result (sym c.has_probed.ensures ∙ c.if-not-has_probed.true) c.requires e.told.1 e.did
 
-pub returns-in_err-report-clause-others : goal.returns-in_err-report-clause-others
-returns-in_err-report-clause-others g c =
-    on_error c.from_residual.result (lost_others _ _ _ _ _ c.probes.invariant.way c.in_err-report.ensures.taken.err)
+pub returns-then-not-has_probed-clause-closed : goal.returns-then-not-has_probed-clause-closed
+returns-then-not-has_probed-clause-closed g c =
+    let i = c.probes.invariant in
+    let e = c.event-report.ensures in
+    closed_by _ i.is _ _ _ _ _ _ _ _ i.way c.event-report.result (sym c.has_probed.ensures ∙ c.if-not-has_probed.true) e.did e.goes_on e.settings
 
-pub returns-in_err-report-clause-at_most : goal.returns-in_err-report-clause-at_most
-returns-in_err-report-clause-at_most g c =
-    let e = c.in_err-report.ensures.taken in
-    on_error c.from_residual.result (lost_reads _ _ _ _ _ c.probes.invariant.way e.is_desk.0 e.at_most)
+pub returns-then-not-has_probed-clause-db : goal.returns-then-not-has_probed-clause-db
+returns-then-not-has_probed-clause-db g c =
+    let i = c.probes.invariant in
+    lost_db_by _ i.is _ _ _ _ i.way _ c.event-report.result c.event-report.ensures.err
 
-pub returns-then-not-is_probed-clause-answered : goal.returns-then-not-is_probed-clause-answered
-returns-then-not-is_probed-clause-answered g c =
-    let e = c.in_ok-report.ensures.taken in
-    answered _ _ _ _ _ _ _ _ c.probes.invariant.way c.in_ok-report.report e.did (sym c.is_probed.ensures ∙ c.if-not-is_probed.true) c.requires e.is_desk.1
+pub returns-then-not-has_probed-clause-others : goal.returns-then-not-has_probed-clause-others
+returns-then-not-has_probed-clause-others g c =
+    let i = c.probes.invariant in
+    lost_others_by _ i.is _ _ _ _ i.way _ c.event-report.result c.event-report.ensures.err
+
+pub returns-then-not-has_probed-clause-at_most : goal.returns-then-not-has_probed-clause-at_most
+returns-then-not-has_probed-clause-at_most g c =
+    let i = c.probes.invariant in
+    let e = c.event-report.ensures in
+    lost_reads_by _ i.is _ _ _ _ i.way _ c.event-report.result e.told.0 e.at_most
+
+pub returns-then-not-has_probed-clause-unread : goal.returns-then-not-has_probed-clause-unread
+returns-then-not-has_probed-clause-unread g c =
+    let i = c.probes.invariant in
+    c.event-report.ensures.unread (none_waits _ i.is c.probes.desk.settings c.probes.desk.state) ∙ i.unread

@@ -23,16 +23,17 @@ returns-in-Stepped-clause-left g c =
     rw c.in-Stepped.is (event_left_step _ _ c.step.result _ _ _ _ _ _ e.is_desk.0 e.err e.at_most e.no_fewer e.loaded)
 
 pub returns-else-session-eq-UNNAMED-clause-desk : goal.returns-else-session-eq-UNNAMED-clause-desk
-returns-else-session-eq-UNNAMED-clause-desk g c = rw c.in-Said.is (desk_left_said c.in-Said.session c.in-Said.statement c.say.result c.args.desk.now c.say.new.desk c.say.ensures.err)
+returns-else-session-eq-UNNAMED-clause-desk g c =
+    let e = c.say.ensures in
+    rw c.in-Said.is (desk_left_said c.in-Said.session c.in-Said.statement c.say.result c.args.desk.now c.say.new.desk c.args.steps.now c.say.new.steps c.if-session-eq-UNNAMED.false e.err e.at_most)
 
 pub returns-in-Stepped-clause-desk : goal.returns-in-Stepped-clause-desk
-returns-in-Stepped-clause-desk g c = rw c.in-Stepped.is (desk_left_step c.in-Stepped.session c.step.result c.args.desk.now c.step.new.desk c.step.ensures.taken.err)
-
-pub returns-then-session-eq-UNNAMED-clause-goes_on : goal.returns-then-session-eq-UNNAMED-clause-goes_on
-returns-then-session-eq-UNNAMED-clause-goes_on g c = rw c.in-Said.is (goes_on_said c.in-Said.session c.in-Said.statement c.carry_out_statement.result c.args.desk.now c.carry_out_statement.new.desk c.args.steps.now c.carry_out_statement.new.steps)
+returns-in-Stepped-clause-desk g c =
+    let e = c.step.ensures.taken in
+    rw c.in-Stepped.is (desk_left_step c.in-Stepped.session c.step.result c.args.desk.now c.step.new.desk c.args.steps.now c.step.new.steps e.err e.at_most)
 
 pub returns-else-session-eq-UNNAMED-clause-goes_on : goal.returns-else-session-eq-UNNAMED-clause-goes_on
-returns-else-session-eq-UNNAMED-clause-goes_on g c = rw c.in-Said.is (goes_on_said c.in-Said.session c.in-Said.statement c.say.result c.args.desk.now c.say.new.desk c.args.steps.now c.say.new.steps)
+returns-else-session-eq-UNNAMED-clause-goes_on g c = rw c.in-Said.is (goes_on_said c.in-Said.session c.in-Said.statement c.say.result c.args.desk.now c.say.new.desk c.args.steps.now c.say.new.steps c.if-session-eq-UNNAMED.false c.say.ensures.goes_on)
 
 pub returns-in-Stepped-clause-goes_on : goal.returns-in-Stepped-clause-goes_on
 returns-in-Stepped-clause-goes_on g c = rw c.in-Stepped.is c.step.ensures.taken.goes_on
