@@ -3,18 +3,16 @@ ghost use Rattle.std.specs.Prelude.{◌≡◌};
 ghost use Rattle.std.specs.Hash.FoldHasher.{folded_multiply};
 ghost use Rattle.seeded_hash.specs.Words.{mixed, word_of};
 
-use std::hash::{BuildHasher, FoldHasher, Hasher};
+use std::hash::{BuildHasher, DefaultHasher, Hasher};
 
 /// A fast hasher that takes one multiplication for a word. A piece of eight bytes or of one is the number that these spell;
-/// any other is hashed by `FoldHasher` first. It isn't cryptographic, but who doesn't know the seed can't choose keys that
-/// collide.
+/// any other is hashed by SipHash first, which has the factor before it. Words that collide for one seed are spread under
+/// another. The multiplication isn't cryptographic.
 #[derive(Clone, Copy)]
 pub struct SeededHasher {
     state: u64,
     // It is drawn from the seed too: with a fixed one, words that collide for one seed would often do so for others.
     factor: u64,
-    // It has been fed the seed, since its own constants are fixed.
-    texts: FoldHasher,
 }
 
 /// What makes a hasher for each key of a map.
@@ -39,14 +37,15 @@ fn mixed(factor: u64, state: u64, word: u64) -> u64
 }
 
 /// The word that stands for some bytes. Eight of them, or one, are the number that they spell.
-fn word_of(texts: FoldHasher, bytes: &[u8]) -> u64
-    ensures { result ≡ word_of texts bytes.now }
+fn word_of(factor: u64, bytes: &[u8]) -> u64
+    ensures { result ≡ word_of factor bytes.now }
 {
     match bytes {
         [a, b, c, d, e, f, g, h] => u64::from_le_bytes([*a, *b, *c, *d, *e, *f, *g, *h]),
         [byte] => u64::from(*byte),
         _ => {
-            let mut hasher = texts;
+            let mut hasher = DefaultHasher::new();
+            hasher.write_u64(factor);
             hasher.write(bytes);
             hasher.finish()
         }
@@ -56,18 +55,13 @@ fn word_of(texts: FoldHasher, bytes: &[u8]) -> u64
 impl SeededHashing {
     /// The hashing of a seed.
     pub fn seeded(seed: u64) -> SeededHashing {
-        let mut texts = FoldHasher::default();
-        texts.write_u64(seed);
-        let factor = texts.finish() | 1;
-        texts.write_u64(seed);
-        let state = texts.finish();
-        texts.write_u64(seed);
+        let mut draws = DefaultHasher::new();
+        draws.write_u64(seed);
+        let factor = draws.finish() | 1;
+        draws.write_u64(seed);
+        let state = draws.finish();
         SeededHashing {
-            initial: SeededHasher {
-                state,
-                factor,
-                texts,
-            },
+            initial: SeededHasher { state, factor },
         }
     }
 }
@@ -85,7 +79,7 @@ impl BuildHasher for SeededHashing {
 impl Hasher for SeededHasher {
     ghost use Rattle.seeded_hash.specs.Words.{mixed, word_of};
 
-    ghost write = { λ s bytes. record s { state = mixed s.factor s.state (word_of s.texts bytes) } };
+    ghost write = { λ s bytes. record s { state = mixed s.factor s.state (word_of s.factor bytes) } };
 
     ghost finish = { λ s. s.state };
 
@@ -94,7 +88,7 @@ impl Hasher for SeededHasher {
     }
 
     fn write(&mut self, bytes: &[u8]) {
-        self.state = mixed(self.factor, self.state, word_of(self.texts, bytes));
+        self.state = mixed(self.factor, self.state, word_of(self.factor, bytes));
     }
 
     fn write_u8(&mut self, byte: u8) {
