@@ -52,6 +52,15 @@ pub taken_is : (w : World) (r : Route) (reads : Option ℕ) (old new : Option Wa
     (taken : Walk) → new ≡ Some taken → t.found ≡ taken
 taken_is w r reads old new before after t taken is = ap (or_walk t.found) (sym t.is ∙ is)
 
+-- what the turn of a walk asks for
+pub record IsAsked (w : World) (normal : Normal) (own : Guide) (steps : List DStep) (begun : Option Walk) : Type 0 where
+  pub classes : ClassesInRange normal
+  pub constants : ConstantsInRange normal
+  pub fits : GuideFits normal own
+  pub sound : IsSoundIn w (route normal own steps)
+  pub stands : StandsOn (route normal own steps) begun
+  pub agrees : AgreesWith w steps (walk_fetched begun)
+
 module _ (w : World) (prepared : Prepared) (world : IsWorld w prepared) (old : Course) (is : IsCourse prepared old) (place : Option ℕ)
     (at : slice_get old.operations old.place ≡ Some (Block place)) (agree : AllAgree w prepared (fetched_by old)) where
   abbrev number : ℕ
@@ -75,25 +84,35 @@ module _ (w : World) (prepared : Prepared) (world : IsWorld w prepared) (old : C
     route_is = ap (λ m. route m own steps) normal_is ∙ ap (λ g. route (normal_at prepared number) g steps) own_is
         ∙ ap (route (normal_at prepared number) guide) steps_is
 
-    pub step_classes : ClassesInRange normal
+    step_classes : ClassesInRange normal
     step_classes = subst ClassesInRange (sym normal_is) block_fits.classes
 
-    pub step_constants : ConstantsInRange normal
+    step_constants : ConstantsInRange normal
     step_constants = subst ConstantsInRange (sym normal_is) block_fits.constants
 
-    pub step_guide : GuideFits normal own
+    step_guide : GuideFits normal own
     step_guide = subst (λ (r : Route). GuideFits r.normal r.guide) (sym route_is) block_fits.fits
 
-    pub step_sound : IsSoundIn w own_route
+    step_sound : IsSoundIn w own_route
     step_sound = subst (IsSoundIn w) (sym route_is) block_fits.sound
 
     module _ (begun : Option Walk) (begun_is : begun ≡ old.walk) where
-      pub step_stands : StandsOn own_route begun
+      step_stands : StandsOn own_route begun
       step_stands = subst (StandsOn own_route) (sym begun_is) (subst (λ r. StandsOn r old.walk) (sym route_is) (standing prepared old is place at))
 
-      pub step_agrees : AgreesWith w steps (walk_fetched begun)
+      step_agrees : AgreesWith w steps (walk_fetched begun)
       step_agrees = subst (λ u. AgreesWith w steps (walk_fetched u)) (sym begun_is)
           (subst (λ ss. AgreesWith w ss (walk_fetched old.walk)) (sym steps_is) (agree_walk prepared old is place at w world agree))
+
+      pub step_asked : IsAsked w normal own steps begun
+      step_asked = record {
+        classes = step_classes;
+        constants = step_constants;
+        fits = step_guide;
+        sound = step_sound;
+        stands = step_stands;
+        agrees = step_agrees;
+      }
 
       pub step_spent : (spent now : ℕ) → SpentOnce w own_route (walk_fetched begun) spent now → QuerySpent w prepared (fetched_by old) spent now
       step_spent spent now once = lift_spent prepared old is place at w world agree spent now

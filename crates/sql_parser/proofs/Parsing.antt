@@ -158,15 +158,23 @@ one_reading tokens (Err _) h = absurd h
 
 -- ---- what an answer tells, where it is the reading
 
+pub told_answer : {A : Type 0} (Reads : Result A Refusal → Type 0) (found : Result A Refusal) → Reads found → (answer : Result A Fail) → Gives answer found
+    → IfOk answer (λ s. Reads (Ok s))
+told_answer Reads found h (Ok s) e = subst Reads e h
+told_answer Reads found h (Err why) e = tt
+
+pub told_refusal : {A : Type 0} (Reads : Result A Refusal → Type 0) (found : Result A Refusal) → Reads found → (answer : Result A Fail) → Gives answer found
+    → (why : Refusal) → IsErrOf answer (Refused why) → Reads (Err why)
+told_refusal Reads found h (Ok s) e why is = cc
+told_refusal Reads found h (Err NoMemory) e why is = cc
+told_refusal Reads found h (Err (Refused w)) e why is = let same : w ≡ why = cc in subst Reads (e ∙ ap (λ (r : Refusal). Err r) same) h
+
 pub spelled : (tokens : List Symbol) (answer : Result Statement Fail) → Gives answer (found_reading tokens) → IfOk answer (λ s. Parses tokens (Ok s))
-spelled tokens (Ok s) e = subst (Parses tokens) e (parsed-parses tokens)
-spelled tokens (Err why) e = tt
+spelled tokens = told_answer (Parses tokens) (found_reading tokens) (parsed-parses tokens)
 
 pub refused : (tokens : List Symbol) (answer : Result Statement Fail) → Gives answer (found_reading tokens) → (why : Refusal) → IsErrOf answer (Refused why)
     → Parses tokens (Err why)
-refused tokens (Ok s) e why h = cc
-refused tokens (Err NoMemory) e why h = cc
-refused tokens (Err (Refused w)) e why h = let same : w ≡ why = cc in subst (Parses tokens) (e ∙ ap (λ (r : Refusal). Err r) same) (parsed-parses tokens)
+refused tokens = told_refusal (Parses tokens) (found_reading tokens) (parsed-parses tokens)
 
 pub answered : (tokens : List Symbol) (answer : Result Statement Fail) → Gives answer (found_reading tokens) → (reading : Reading) → Parses tokens reading
     → Gives answer reading

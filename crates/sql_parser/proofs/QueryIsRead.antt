@@ -126,53 +126,39 @@ pub nothing-ends : BlockEnds []
 unfolding starts starts_join starts_id
 nothing-ends = record { source = record { dot = refl; and_ = refl; alias_ = refl; name = refl; join = refl }; comma = refl; where_ = refl }
 
-union-reserved : is_reserved (codes "union") ≡ true
-unfolding is_reserved reserved_words
-union-reserved = refl
+-- the words of a query that are no names
+record AreReserved : Type 0 where
+  pub union_word : is_reserved (codes "union") ≡ true
+  pub except_word : is_reserved (codes "except") ≡ true
+  pub where_word : is_reserved (codes "where") ≡ true
+  pub as_word : is_reserved (codes "as") ≡ true
+  pub on_word : is_reserved (codes "on") ≡ true
+  pub join_word : is_reserved (codes "join") ≡ true
+  pub inner_word : is_reserved (codes "inner") ≡ true
+  pub cross_word : is_reserved (codes "cross") ≡ true
+  pub distinct_word : is_reserved (codes "distinct") ≡ true
 
-except-reserved : is_reserved (codes "except") ≡ true
+reserved : AreReserved
 unfolding is_reserved reserved_words
-except-reserved = refl
-
-where-reserved : is_reserved (codes "where") ≡ true
-unfolding is_reserved reserved_words
-where-reserved = refl
-
-as-reserved : is_reserved (codes "as") ≡ true
-unfolding is_reserved reserved_words
-as-reserved = refl
-
-on-reserved : is_reserved (codes "on") ≡ true
-unfolding is_reserved reserved_words
-on-reserved = refl
-
-join-reserved : is_reserved (codes "join") ≡ true
-unfolding is_reserved reserved_words
-join-reserved = refl
-
-inner-reserved : is_reserved (codes "inner") ≡ true
-unfolding is_reserved reserved_words
-inner-reserved = refl
-
-cross-reserved : is_reserved (codes "cross") ≡ true
-unfolding is_reserved reserved_words
-cross-reserved = refl
-
-distinct-reserved : is_reserved (codes "distinct") ≡ true
-unfolding is_reserved reserved_words
-distinct-reserved = refl
-
-between-reserved : is_reserved (codes "between") ≡ true
-unfolding is_reserved reserved_words
-between-reserved = refl
+reserved = record {
+  union_word = refl;
+  except_word = refl;
+  where_word = refl;
+  as_word = refl;
+  on_word = refl;
+  join_word = refl;
+  inner_word = refl;
+  cross_word = refl;
+  distinct_word = refl;
+}
 
 pub union-ends : (rest : List Symbol) → BlockEnds (UNION ∷ rest)
 unfolding starts
-union-ends rest = record { source = word-ends (codes "union") rest union-reserved refl refl refl refl refl; comma = refl; where_ = refl }
+union-ends rest = record { source = word-ends (codes "union") rest reserved.union_word refl refl refl refl refl; comma = refl; where_ = refl }
 
 pub except-ends : (rest : List Symbol) → BlockEnds (EXCEPT ∷ rest)
 unfolding starts
-except-ends rest = record { source = word-ends (codes "except") rest except-reserved refl refl refl refl refl; comma = refl; where_ = refl }
+except-ends rest = record { source = word-ends (codes "except") rest reserved.except_word refl refl refl refl refl; comma = refl; where_ = refl }
 
 pub where-reads : {a : List Symbol} {cs : List Cond} → IsWhere a cs → (rest : List Symbol) → NoDot rest → Never AND rest → Never WHERE rest
     → read_where (a ++ rest) ≡ Some (cs, rest)
@@ -182,7 +168,7 @@ where-reads (where_ h) rest d a w = all_conditions-read h rest d a
 
 where-ends : {a : List Symbol} {cs : List Cond} → IsWhere a cs → (rest : List Symbol) → SourceEnds rest → SourceEnds (a ++ rest)
 where-ends no_where rest ends = ends
-where-ends (where_ {a} h) rest ends = word-ends (codes "where") (a ++ rest) where-reserved refl refl refl refl refl
+where-ends (where_ {a} h) rest ends = word-ends (codes "where") (a ++ rest) reserved.where_word refl refl refl refl refl
 
 where-no_comma : {a : List Symbol} {cs : List Cond} → IsWhere a cs → (rest : List Symbol) → Never COMMA rest → Never COMMA (a ++ rest)
 unfolding starts
@@ -196,7 +182,7 @@ item-reads : {a : List Symbol} {i : FromItem} → IsItem a i → (rest : List Sy
 unfolding read_item read_alias starts rest_of
 item-reads (alone i) rest no_as name = rw (id-reads i rest, no_as, name) refl
 item-reads (alias {a} {b} i j) rest no_as name = ap read_item (append_assoc a b rest)
-    ∙ rw (id-reads i (b ++ rest), id-no_word j (codes "as") rest as-reserved, id-starts j rest, id-reads j rest) refl
+    ∙ rw (id-reads i (b ++ rest), id-no_word j (codes "as") rest reserved.as_word, id-starts j rest, id-reads j rest) refl
 item-reads (as_alias {a} {b} i j) rest no_as name = ap read_item (append_assoc a (AS ∷ b) rest) ∙ rw (id-reads i (AS ∷ (b ++ rest)), id-reads j rest) refl
 
 item-some : {a : List Symbol} {i : FromItem} → IsItem a i → 0 < length a
@@ -212,7 +198,7 @@ joined-reads : {a b : List Symbol} {i : FromItem} {cs : List Cond} → IsItem a 
     → read_joined (a ++ (ON ∷ (b ++ rest))) ≡ Some ((i ∷ [], cs), rest)
 unfolding read_joined starts rest_of
 joined-reads {a} {b} i h rest d n =
-    rw (item-reads i (ON ∷ (b ++ rest)) (on-no_as (b ++ rest)) (no_name (codes "on") (b ++ rest) on-reserved), all_conditions-read h rest d n) refl
+    rw (item-reads i (ON ∷ (b ++ rest)) (on-no_as (b ++ rest)) (no_name (codes "on") (b ++ rest) reserved.on_word), all_conditions-read h rest d n) refl
 
 joins-no : (w : List ℕ) → bytes_eq w (codes "join") ≡ false → bytes_eq w (codes "inner") ≡ false → bytes_eq w (codes "cross") ≡ false
     → {a : List Symbol} {is : List FromItem} {cs : List Cond} → IsJoins a is cs → (rest : List Symbol) → Never (word w) rest → Never (word w) (a ++ rest)
@@ -232,9 +218,9 @@ joins-no_dot (cross_join h l) rest n = refl
 joins-no_name : {a : List Symbol} {is : List FromItem} {cs : List Cond} → IsJoins a is cs → (rest : List Symbol) → starts_id rest ≡ false
     → starts_id (a ++ rest) ≡ false
 joins-no_name no_join rest n = n
-joins-no_name (join h k l) rest n = no_name (codes "join") _ join-reserved
-joins-no_name (inner_join h k l) rest n = no_name (codes "inner") _ inner-reserved
-joins-no_name (cross_join h l) rest n = no_name (codes "cross") _ cross-reserved
+joins-no_name (join h k l) rest n = no_name (codes "join") _ reserved.join_word
+joins-no_name (inner_join h k l) rest n = no_name (codes "inner") _ reserved.inner_word
+joins-no_name (cross_join h l) rest n = no_name (codes "cross") _ reserved.cross_word
 
 both-added : (n : ℕ) (tokens : List Symbol) (first others : Source) (next rest : List Symbol) → starts_join tokens ≡ true
     → read_join tokens ≡ Some (first, next) → read_joins n next ≡ Some (others, rest)
@@ -367,7 +353,7 @@ output-no_distinct : {a : List Symbol} {star : Bool} {rs : List ColumnRef} → I
 output-no_distinct all_columns rest = star-no_distinct rest
 output-no_distinct (columns {a} {rs} h) rest =
     commas-start IsRef read_ref NoDot (λ _ _ r rest d. ref-reads r rest d) (λ _ _ r. ref-some r) (λ rest. comma-no_dot rest) DISTINCT
-    (λ _ _ r rest. ref-no_word r (codes "distinct") rest distinct-reserved) a rs h rest
+    (λ _ _ r rest. ref-no_word r (codes "distinct") rest reserved.distinct_word) a rs h rest
 
 distinct-reads : {a : List Symbol} {d : Bool} → IsDistinct a d → (rest : List Symbol) → Never DISTINCT rest
     → (starts DISTINCT (a ++ rest) ≡ d) × (after_distinct (a ++ rest) ≡ rest)
@@ -476,6 +462,22 @@ pub record Goes (n : ℕ) (a : List Symbol) (t : Tree) (rest : List Symbol) : Ty
   pub enough : n ≤ left + length a
   pub reads : read_query n Nothing (a ++ rest) ≡ goes_on left t rest
 
+-- a query, what joins it to a term, and the term
+joined-goes : (n : ℕ) (joint : Symbol) (front : Front) (a b : List Symbol) (t u : Tree) (rest : List Symbol) → length (a ++ joint ∷ b) ≤ n
+    → (g : Goes n a t (joint ∷ (b ++ rest))) → goes_on g.left t (joint ∷ (b ++ rest)) ≡ read_query g.left front (b ++ rest)
+    → read_term (read_query (g.left - 1) Nothing) (b ++ rest) ≡ Some (u, rest) → Goes n (a ++ joint ∷ b) (joined_to front u) rest
+joined-goes n joint front a b t u rest le g goes reads =
+    let sum = length-append a (joint ∷ b) in
+    let enough = g.enough in
+    let k : g.left ≡ suc (g.left - 1) = omega arith in
+    record {
+      left = g.left - 1;
+      enough = omega arith;
+      reads = ap (read_query n Nothing) (append_assoc a (joint ∷ b) rest) ∙ g.reads ∙ goes
+          ∙ ap (λ m. read_query m front (b ++ rest)) k
+          ∙ query-goes_on (g.left - 1) front (b ++ rest) u rest reads;
+    }
+
 mutual
   term-reads : (n : ℕ) {a : List Symbol} {t : Tree} → IsTerm a t → length a ≤ suc n → (rest : List Symbol) → BlockEnds rest
       → read_term (read_query n Nothing) (a ++ rest) ≡ Some (t, rest)
@@ -499,29 +501,15 @@ mutual
       let fits : length a ≤ n = omega arith in
       let g = query-goes n q fits (UNION ∷ (b ++ rest)) (union-ends (b ++ rest)) in
       let enough = g.enough in
-      let k : g.left ≡ suc (g.left - 1) = omega arith in
       let room : length b ≤ suc (g.left - 1) = omega arith in
-      record {
-        left = g.left - 1;
-        enough = omega arith;
-        reads = ap (read_query n Nothing) (append_assoc a (UNION ∷ b) rest) ∙ g.reads ∙ union-goes_on g.left t (b ++ rest)
-            ∙ ap (λ m. read_query m (BeforeUnion t) (b ++ rest)) k
-            ∙ query-goes_on (g.left - 1) (BeforeUnion t) (b ++ rest) u rest (term-reads (g.left - 1) h room rest ends);
-      }
+      joined-goes n UNION (BeforeUnion t) a b t u rest le g (union-goes_on g.left t (b ++ rest)) (term-reads (g.left - 1) h room rest ends)
   query-goes n (except {a} {b} {t} {u} q h) le rest ends =
       let sum = length-append a (EXCEPT ∷ b) in
       let fits : length a ≤ n = omega arith in
       let g = query-goes n q fits (EXCEPT ∷ (b ++ rest)) (except-ends (b ++ rest)) in
       let enough = g.enough in
-      let k : g.left ≡ suc (g.left - 1) = omega arith in
       let room : length b ≤ suc (g.left - 1) = omega arith in
-      record {
-        left = g.left - 1;
-        enough = omega arith;
-        reads = ap (read_query n Nothing) (append_assoc a (EXCEPT ∷ b) rest) ∙ g.reads ∙ except-goes_on g.left t (b ++ rest)
-            ∙ ap (λ m. read_query m (BeforeExcept t) (b ++ rest)) k
-            ∙ query-goes_on (g.left - 1) (BeforeExcept t) (b ++ rest) u rest (term-reads (g.left - 1) h room rest ends);
-      }
+      joined-goes n EXCEPT (BeforeExcept t) a b t u rest le g (except-goes_on g.left t (b ++ rest)) (term-reads (g.left - 1) h room rest ends)
 
 pub query-reads : {a : List Symbol} {t : Tree} → IsQuery a t → (rest : List Symbol) → BlockEnds rest → Never UNION rest → Never EXCEPT rest
     → read_whole_query (a ++ rest) ≡ Some (t, rest)

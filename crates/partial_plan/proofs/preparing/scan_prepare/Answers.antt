@@ -13,6 +13,7 @@ use Rattle.partial_plan.specs.Scans.{sizes_of_tables}
 use Rattle.partial_plan.specs.ScanPlans.{plan_over_lists, scan_lists, unless_too_large, used_scans}
 use Rattle.partial_plan.proofs.ListFacts.{lists_are_formed, with_lists_once}
 use Rattle.partial_plan.proofs.PreparingFacts.{fits_given, gives_planned, gives_refused, scans_listed, used_on_tables}
+use Rattle.partial_plan.proofs.preparing.scan_prepare.Goals.{After-plan_over_lists}
 use Rattle.partial_plan.proofs.preparing.scan_prepare.Goals as goal
 
 pub prepare_over-requires-clause-ids : goal.prepare_over-requires-clause-ids
@@ -71,37 +72,33 @@ plan_over_lists-requires c =
     (subst (λ lists. All (λ (scan : Access). scan.table.0 < length tables) (used_scans lists plans)) (sym (c.as_slice-3.ensures ∙ same))
     (used_on_tables schema sound tables c.requires.rows query shape c.requires.over c.in_ok-prepared.prepared))
 
+-- the lists and the plan over them, as the code has made both
+module _ (c : After-plan_over_lists) where
+  same : c.in_ok-lists.lists ≡ scan_lists c.args.catalogue.now (sizes_of_tables c.args.rows.now) c.args.query
+  same = c.in_ok-lists.ensures ∙ ap (λ ts. scan_lists c.args.catalogue.now (sizes_of_tables ts) c.args.query) c.as_slice.ensures
+
+  given : Gives c.plan_over_lists.result (unless_too_large (plan_over_lists (sizes_of_tables c.args.rows.now)
+      (scan_lists c.args.catalogue.now (sizes_of_tables c.args.rows.now) c.args.query) c.in_ok-prepared.prepared))
+  given =
+      let prepared = c.in_ok-prepared.prepared in
+      subst (λ lists. Gives c.plan_over_lists.result (unless_too_large (plan_over_lists (sizes_of_tables c.args.rows.now) lists prepared)))
+      (c.as_slice-3.ensures ∙ same)
+      (subst (λ ts. Gives c.plan_over_lists.result (unless_too_large (plan_over_lists (sizes_of_tables ts) c.as_slice-3.result.now prepared)))
+      c.as_slice-2.ensures c.plan_over_lists.ensures)
+
 pub returns-clause-prepared : goal.returns-clause-prepared
 returns-clause-prepared c =
-    let schema = c.args.catalogue.now in
-    let tables = c.args.rows.now in
-    let sizes = sizes_of_tables tables in
-    let query = c.args.query in
-    let shape = c.requires.well_formed in
-    let sound = c.accesses-live.ensures.sound in
-    let same : c.in_ok-lists.lists ≡ scan_lists schema sizes query =
-    c.in_ok-lists.ensures ∙ ap (λ ts. scan_lists schema (sizes_of_tables ts) query) c.as_slice.ensures in
+    let at = (goal.at.returns-clause-prepared c).After-plan_over_lists in
     let prepared = c.in_ok-prepared.prepared in
-    let given = subst (λ lists. Gives c.plan_over_lists.result (unless_too_large (plan_over_lists sizes lists prepared))) (c.as_slice-3.ensures ∙ same)
-    (subst (λ ts. Gives c.plan_over_lists.result (unless_too_large (plan_over_lists (sizes_of_tables ts) c.as_slice-3.result.now prepared)))
-    c.as_slice-2.ensures c.plan_over_lists.ensures) in
-    let told = subst (λ lists. preparation_over schema lists query ≡ Ok prepared) same c.in_ok-prepared.ensures.prepared in
-    gives_planned schema sizes query shape prepared c.plan_over_lists.result told given
+    let told = subst (λ lists. preparation_over c.args.catalogue.now lists c.args.query ≡ Ok prepared) (same at) c.in_ok-prepared.ensures.prepared in
+    gives_planned c.args.catalogue.now (sizes_of_tables c.args.rows.now) c.args.query c.requires.well_formed prepared c.plan_over_lists.result told (given at)
 
 pub returns-clause-fits : goal.returns-clause-fits
 returns-clause-fits c =
+    let at = (goal.at.returns-clause-fits c).After-plan_over_lists in
     let schema = c.args.catalogue.now in
-    let tables = c.args.rows.now in
-    let sizes = sizes_of_tables tables in
-    let query = c.args.query in
-    let shape = c.requires.well_formed in
-    let sound = c.accesses-live.ensures.sound in
-    let same : c.in_ok-lists.lists ≡ scan_lists schema sizes query =
-    c.in_ok-lists.ensures ∙ ap (λ ts. scan_lists schema (sizes_of_tables ts) query) c.as_slice.ensures in
     let prepared = c.in_ok-prepared.prepared in
-    let given = subst (λ lists. Gives c.plan_over_lists.result (unless_too_large (plan_over_lists sizes lists prepared))) (c.as_slice-3.ensures ∙ same)
-    (subst (λ ts. Gives c.plan_over_lists.result (unless_too_large (plan_over_lists (sizes_of_tables ts) c.as_slice-3.result.now prepared)))
-    c.as_slice-2.ensures c.plan_over_lists.ensures) in
-    let fits = subst (λ lists. (rows : TableRows) → RowsAreWide schema rows → Fits (with_lists schema.accesses lists) rows prepared) same
+    let fits = subst (λ lists. (rows : TableRows) → RowsAreWide schema rows → Fits (with_lists schema.accesses lists) rows prepared) (same at)
     c.in_ok-prepared.ensures.fits in
-    fits_given schema sound tables c.requires.rows query shape c.requires.over prepared c.plan_over_lists.result given fits
+    fits_given schema c.accesses-live.ensures.sound c.args.rows.now c.requires.rows c.args.query c.requires.well_formed c.requires.over prepared
+    c.plan_over_lists.result (given at) fits
