@@ -10,7 +10,7 @@
 --     HasPriced text before after               what EXPLAIN would report of its query is held
 --     IsUnpricedFor desk why text               the cause for which a text isn't priced stands
 --     IsPlanOf desk text plan                   the plan of its query as data, or why the query is refused
-use Rattle.std.specs.Prelude.{◌≡◌, ◌≢◌, ◌⊎◌, ◌+◌, ◌-◌, ◌^◌, ℕ, Bool, List, [], min, Option, None, Some, Result, Ok, Err}
+use Rattle.std.specs.Prelude.{◌≡◌, ◌≢◌, ◌⊎◌, ◌+◌, ◌-◌, ◌^◌, ℕ, zero, suc, Bool, List, [], min, Option, None, Some, Result, Ok, Err}
 use Rattle.beas_core.specs.declared.limits.Limits.{Limits}
 use Rattle.beas_core.specs.declared.refusal.Refusal.{Refusal}
 use Rattle.outside.specs.Contents.{content_of}
@@ -18,7 +18,7 @@ use Rattle.report.specs.declared.reports.Report.{Report}
 use Rattle.sql_tokens.specs.declared.token.Token.{Token}
 use Rattle.piece_reader.specs.declared.event.Event.TheVariants.{Said, Stepped}
 use Rattle.piece_reader.specs.Sayings.{Reading, reading_of}
-use Rattle.version_store.specs.Desks.{Seen as DeskSeen, desk_wanting, without_query_of}
+use Rattle.version_store.specs.Desks.{MayTake, Seen as DeskSeen, desk_wanting, without_query_of}
 use Rattle.beas_run.specs.Pieces.{GoesOnBy, IsDone, IsLeft}
 use Rattle.beas_run.specs.Plans.{plan_of_reading}
 use Rattle.beas_run.specs.Prices.{price_of}
@@ -79,16 +79,19 @@ pub record HasDone (tokens : List Token) (before after : Engine) (steps_before s
   pub files : AreSameFiles before.files after.files
 
 -- session 0 is that of the statements that name none: no query of it stays open
-abbrev pub DropsLost : Reading → DeskSeen → DeskSeen → Type 0
-DropsLost (Ok (Stepped session)) before after =
-    (after ≡ without_query_of 0 before) ⊎ (after ≡ without_query_of 0 (desk_wanting (Stepped session) before))
-DropsLost (Ok (Said session statement)) before after = after ≡ without_query_of 0 before
-DropsLost (Err why) before after = after ≡ without_query_of 0 before
+abbrev pub DropsLost : Reading → DeskSeen → DeskSeen → ℕ → ℕ → Type 0
+DropsLost (Ok (Said zero statement)) before after s t = after ≡ without_query_of 0 before
+DropsLost (Ok (Said (suc session) statement)) before after s t =
+    (after ≡ without_query_of 0 before) × MayTake (Said (suc session) statement) before s t
+DropsLost (Ok (Stepped session)) before after s t =
+    ((after ≡ without_query_of 0 before) × (t ≡ s))
+    ⊎ ((after ≡ without_query_of 0 (desk_wanting (Stepped session) before)) × MayTake (Stepped session) before s t)
+DropsLost (Err why) before after s t = (after ≡ without_query_of 0 before) × (t ≡ s)
 
 pub record HasLeft (tokens : List Token) (before after : Engine) (steps_before steps_after : ℕ) : Type 0 where
   pub left : IsLeft before.desk.settings (reading_of tokens) before.desk after.desk steps_before steps_after
       (seen_of before.files) (seen_of after.files)
-  pub desk : DropsLost (reading_of tokens) before.desk after.desk
+  pub desk : DropsLost (reading_of tokens) before.desk after.desk steps_before steps_after
   pub held : after ≡ record before { desk = after.desk; files = after.files }
   pub files : AreSameFiles before.files after.files
 
