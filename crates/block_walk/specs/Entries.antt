@@ -9,7 +9,7 @@
 --     IsAt entries key place     the entry at a place is of this step and key
 --     IsReached chains maps place key     the chains have at the place the hash of the step and key, or the maps keep an entry under them
 --     AreReached entries chains maps      so each entry is found again, and what the maps keep is an entry of that step and key
---     IsKnown known              so it is of each spot and of the entries, and each index that a spot names is that of its tuples
+--     IsKnown known              each spot's values are there, each entry is found again, and each index that a spot names is that of its tuples
 use Rattle.std.specs.Prelude.{◌≡◌, ℕ, zero, suc, ◌+◌, ◌*◌, ◌<◌, ◌≤◌, ◌⊎◌, List, [], drop, length, map, slice_index_or, All, IfSome, IsSome}
 use Rattle.beas_core.specs.declared.value.Value.{Value}
 use Rattle.beas_core.specs.Types.{Row}

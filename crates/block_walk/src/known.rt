@@ -39,8 +39,8 @@ pub struct TupleIndex {
 }
 
 /// What the probes of a walk found, each with its step and key, in the order in which they were made. A step and a key are found
-/// again by their hash; a map would keep each key as a piece of memory of its own. Only where keys were chosen so that many share
-/// a hash, those past the first ones are in such maps.
+/// again by their hash; a map would keep each key as a piece of memory of its own. Only where a bucket of
+/// hashes has many entries, as where keys were chosen to collide, further ones of it are in such maps.
 #[derive(Drop)]
 pub struct Known {
     /// All values of keys and tuples.
@@ -222,7 +222,7 @@ impl Known {
 
     /// Probes a key, whose hash with the step is given, and keeps what it finds, as the last entry. No value is left in `key`. It
     /// counts the greater of 1 and the number of the tuples, out of memory too. Where a piece of memory is full all that was kept
-    /// may move.
+    /// may move. After an error nothing of it may be asked.
     pub fn fetch<P: AccessPort, L: Ledger>(
         &mut self,
         alloc: Global,

@@ -27,7 +27,7 @@ fn copy_key(alloc: Global, key: &[Value]) -> Result<Vec<Value>, NoMemory>
     Ok(copy)
 }
 
-// Makes maps for all steps up to one.
+// Makes maps for all steps up to this one.
 fn reach(
     alloc: Global,
     steps: &mut Vec<BTreeMap<Vec<Value>, usize>>,
@@ -80,8 +80,8 @@ impl OrderedKeys {
         Ok(())
     }
 
-    /// The hash with which an entry goes into the chains: that of its step and key, or where a search for this one is long, a hash
-    /// that is made up, and then the entry is kept here.
+    /// The hash with which an entry goes into the chains: that of its step and key, or one that is made up, where a search for that
+    /// one is long: then the entry is kept here. Made-up hashes bring a few more places into a bucket than a search would find long.
     #[inline(always)]
     pub fn hash_for(
         &mut self,

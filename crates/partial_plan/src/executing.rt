@@ -15,7 +15,7 @@ use std::alloc::Global;
 use std::sync::ledger::Ledger;
 
 /// The full answer over the rows that the port has, in order, each row once. First each scan gets an index, and each row of
-/// its table is counted as a read, also where the index is shared, for which these rows were read before. The reads are
+/// its table is counted as a read, also where the index is shared and its rows were read for an earlier scan. The reads are
 /// those of the scans and of the derivations, which are at most the plan's bound; out of memory, at most as many were
 /// counted.
 pub fn scan_execute<P: AccessPort, L: Ledger>(

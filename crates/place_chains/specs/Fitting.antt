@@ -3,8 +3,8 @@
 --                                         them that has the hash, as places are counted from the last tuple
 --     IsHashed places tuples count post   what a call gives for the number of each of so many tuples is its hash
 --     HasNone places tuples hash i j      no tuple from the one on and before the other has the hash
---     IsNext places tuples hash old o new   what comes next, so that none is left out that has the hash, and no more than that: what comes may have
---                                         another; where nothing comes, all stays as it is
+--     IsNext places tuples hash old o new   what comes next, so that none is left out that has the hash; no more is said: a tuple that comes may have
+--                                         another hash; where nothing comes, all stays as it is
 use Rattle.std.specs.Prelude.{◌≡◌, ◌<◌, ◌≤◌, ◌+◌, ◌-◌, [], ℕ, List, Option, None, Some, IfSome, length, slice_index_or}
 use Rattle.beas_core.specs.Types.{Row}
 use Rattle.place_chains.specs.declared.fitting.Fitting.{Fitting}

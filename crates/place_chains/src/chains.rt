@@ -60,8 +60,8 @@ impl PlaceChains {
         same_from(&self.links, link.hash, link.earlier)
     }
 
-    /// Whether a search for a hash looks at sixteen places or more before it ends. It depends on where places lie, which no clause
-    /// tells: so each answer is a right one, and serves to save time alone. Where places are added only if it says no, no search
+    /// Whether the bucket in which a hash is searched has sixteen places or more. It depends on where places lie, which no clause
+    /// tells: so each answer is a right one, and serves to save time alone. If places are added only where it says no, no search
     /// looks at more than sixteen.
     pub fn is_long(&self, hash: u64) -> bool {
         let count = self.heads.len();

@@ -56,8 +56,8 @@ impl<'a> Fitting<'a> {
         }
     }
 
-    /// The next tuple. None is left out that may have the values. No more is promised: what is told may have others, with
-    /// hashes too. Where no tuple is left, nothing changes.
+    /// The next tuple. None is left out that may have the values. No more is promised: a tuple that comes may have other
+    /// values, even where there are hashes. If no tuple is left, nothing changes.
     #[inline(always)]
     pub fn next(&mut self) -> Option<usize>
         requires { (places : List ℕ) × (tuples : List Row) × (hash : ℕ) × IsFitting places tuples hash self.old }
