@@ -62,7 +62,7 @@ enum {
     BEAS_NO_STATEMENT = 6, /* the text has no statement */
     BEAS_SEVERAL = 7,      /* the text has more than one statement */
     BEAS_NOT_A_QUERY = 8,  /* what is to be priced or planned is not what could be opened: one query without GROUP BY and without a word before it */
-    BEAS_ABSENT = 9,       /* the report has no such thing, or a query that is refused no plan */
+    BEAS_ABSENT = 9,       /* the report has no such thing, or the query is refused, so it has no plan */
     BEAS_BAD_LIMIT = 10    /* a limit is greater than it may be */
 };
 
@@ -117,7 +117,7 @@ int32_t beas_say(beas_database *db, const uint8_t *text, size_t length);
 int32_t beas_price(beas_database *db, const uint8_t *text, size_t length);
 
 /* The plan of such a query as data, a text in JSON of `length` bytes, whatever the budget is; the last report stays. BEAS_ABSENT of a query
- * that is refused: beas_price reports why. Else the same statuses as beas_price. */
+ * that is refused: beas_price reports why. BEAS_NO_ROOM; else the same statuses as beas_price. */
 int32_t beas_plan_data(beas_database *db, const uint8_t *text, size_t text_length, uint8_t *into, size_t room, size_t *length);
 
 /* Drops the open query of a session, if it has one, without a report. */

@@ -33,8 +33,9 @@ class LibraryPlanner:
     def plan(self, query: str) -> Plan:
         plan = self.db.plan(query)
         if self.db.budget is not None and plan.bound > self.db.budget:
-            # The plan comes whatever the budget is; this is refused.
+            # A plan comes whatever the budget is; EXPLAIN is refused where the bound is above it.
             self.db.say(f"EXPLAIN {query}")
+            raise AssertionError(f"the bound {plan.bound} is within the budget {self.db.budget}")
         return plan
 
     def close(self) -> None:
