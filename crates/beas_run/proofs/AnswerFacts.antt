@@ -1,7 +1,6 @@
 -- How a query of session 0 that was opened comes to its answer, event by event.
-use Rattle.std.proofs.Common.{◌≡◌, ◌≤◌, ◌<◌, ◌+◌, ◌-◌, ◌∙◌, ap, subst, sym, refl, ℕ, zero, suc, Bool, true, false, not, cond, List, [], ◌∷◌, Option, None, Some, Result, Ok, Err, arith, find, length, remove, set}
+use Rattle.std.proofs.Common.{◌≡◌, ◌≤◌, ◌<◌, ◌+◌, ◌-◌, ◌∙◌, ap, subst, sym, refl, ℕ, zero, suc, Bool, true, false, Option, None, Some, Result, Ok, Err, arith, length}
 use Rattle.std.specs.Prelude.{if◌then◌else◌, nat_lt, sum, unwrap_or, IfOk, IsSomeAnd, OnErr, option_map}
-use Rattle.std.specs.List.{position_or_len}
 use Rattle.std.specs.Option.{option_map_or}
 use Rattle.std.proofs.lemmas.Bool.{lt-ltb, le-ltb, ltb-true}
 use Rattle.beas_core.specs.declared.errors.NoMemory.{NoMemory as Out}

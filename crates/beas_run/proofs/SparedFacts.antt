@@ -1,5 +1,5 @@
 -- What is spared where a session's query changes: the desk but for that query.
-use Rattle.std.proofs.Common.{◌≡◌, ◌⊎◌, ◌+◌, ◌++◌, ◌∙◌, inl, inr, ap, sym, refl, ℕ, Bool, true, false, List, [], ◌∷◌, Option, None, Some, arith, find, length, remove}
+use Rattle.std.proofs.Common.{◌≡◌, ◌⊎◌, ◌+◌, ◌++◌, ◌∙◌, inl, inr, ap, sym, refl, ℕ, true, false, List, [], ◌∷◌, None, Some, arith, length, remove}
 use Rattle.std.specs.Prelude.{slice_set}
 use Rattle.std.proofs.lemmas.List.{length-append}
 use Rattle.beas_core.specs.Queries.{BlockProbe}

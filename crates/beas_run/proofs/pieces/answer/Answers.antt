@@ -17,7 +17,8 @@ probes-preserved g c =
     let i = c.probes.invariant in
     let e = c.event-report.ensures in
     record {
-      way = on_by _ i.is _ _ _ _ _ _ _ _ i.way c.event-report.result (sym c.has_probed.ensures ∙ c.if-not-has_probed.false) e.did e.goes_on e.settings e.no_fewer;
+      way = on_by _ i.is _ _ _ _ _ _ _ _ i.way c.event-report.result (sym c.has_probed.ensures ∙ c.if-not-has_probed.false) e.did
+          e.goes_on e.settings e.no_fewer;
       is = i.is;
       unread = e.unread (none_waits _ i.is c.probes.desk.settings c.probes.desk.state) ∙ i.unread;
     }

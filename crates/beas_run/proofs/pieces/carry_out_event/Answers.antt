@@ -25,7 +25,9 @@ returns-in-Stepped-clause-left g c =
 pub returns-else-session-eq-UNNAMED-clause-desk : goal.returns-else-session-eq-UNNAMED-clause-desk
 returns-else-session-eq-UNNAMED-clause-desk g c =
     let e = c.say.ensures in
-    rw c.in-Said.is (desk_left_said c.in-Said.session c.in-Said.statement c.say.result c.args.desk.now c.say.new.desk c.args.steps.now c.say.new.steps c.if-session-eq-UNNAMED.false e.err e.at_most)
+    rw c.in-Said.is
+    (desk_left_said c.in-Said.session c.in-Said.statement c.say.result c.args.desk.now c.say.new.desk c.args.steps.now c.say.new.steps
+    c.if-session-eq-UNNAMED.false e.err e.at_most)
 
 pub returns-in-Stepped-clause-desk : goal.returns-in-Stepped-clause-desk
 returns-in-Stepped-clause-desk g c =
@@ -33,7 +35,10 @@ returns-in-Stepped-clause-desk g c =
     rw c.in-Stepped.is (desk_left_step c.in-Stepped.session c.step.result c.args.desk.now c.step.new.desk c.args.steps.now c.step.new.steps e.err e.at_most)
 
 pub returns-else-session-eq-UNNAMED-clause-goes_on : goal.returns-else-session-eq-UNNAMED-clause-goes_on
-returns-else-session-eq-UNNAMED-clause-goes_on g c = rw c.in-Said.is (goes_on_said c.in-Said.session c.in-Said.statement c.say.result c.args.desk.now c.say.new.desk c.args.steps.now c.say.new.steps c.if-session-eq-UNNAMED.false c.say.ensures.goes_on)
+returns-else-session-eq-UNNAMED-clause-goes_on g c =
+    rw c.in-Said.is
+    (goes_on_said c.in-Said.session c.in-Said.statement c.say.result c.args.desk.now c.say.new.desk c.args.steps.now c.say.new.steps
+    c.if-session-eq-UNNAMED.false c.say.ensures.goes_on)
 
 pub returns-in-Stepped-clause-goes_on : goal.returns-in-Stepped-clause-goes_on
 returns-in-Stepped-clause-goes_on g c = rw c.in-Stepped.is c.step.ensures.taken.goes_on

@@ -67,7 +67,10 @@ returns-then-is_opened-clause-goes_on g c =
     has_opened c.args.desk.now.settings c.args.statement c.args.desk.now c.say.new.desk _ _ _ _ _ e.did
     (sym c.is_opened.ensures ∙ c.if-is_opened.true) in
     answer_stays c.args.statement c.args.desk.now c.say.new.desk c.answer.new.desk c.answer.result c.args.steps.now c.answer.new.steps e.is_desk.0
-    opened.idle (opened_spared c.args.desk.now.settings c.args.statement c.in_ok-report.report c.args.desk.now c.say.new.desk c.args.steps.now c.say.new.steps opened e.is_desk.0 e.is_desk.1 e.settings e.goes_on) c.answer.ensures.closed
+    opened.idle
+    (opened_spared c.args.desk.now.settings c.args.statement c.in_ok-report.report c.args.desk.now c.say.new.desk c.args.steps.now c.say.new.steps
+    opened e.is_desk.0 e.is_desk.1 e.settings e.goes_on)
+    c.answer.ensures.closed
 
 pub returns-else-is_opened-clause-goes_on : goal.returns-else-is_opened-clause-goes_on
 returns-else-is_opened-clause-goes_on g c =
