@@ -12,7 +12,7 @@ use Rattle.beas_library.specs.HandedFiles.{Handed, seen_of}
 
 module _ (before middle after : DeskSeen) (m n : ℕ) (dropped : after ≡ without_query_of 0 middle) where
   drops : (reading : Reading) → LeavesDesk reading before middle m n → DropsLost reading before after m n
-  drops (Ok (Said zero statement)) left = dropped ∙ left
+  drops (Ok (Said zero statement)) left = (dropped ∙ left.0, left.1)
   drops (Ok (Said (suc session) statement)) left = (dropped ∙ ap (without_query_of 0) left.0, left.1)
   drops (Ok (Stepped session)) (inl same) = inl (dropped ∙ ap (without_query_of 0) same.0, same.1)
   drops (Ok (Stepped session)) (inr lost) = inr (dropped ∙ ap (without_query_of 0) lost.0, lost.1)

@@ -19,7 +19,7 @@ use Rattle.sql_tokens.specs.declared.token.Token.{Token}
 use Rattle.piece_reader.specs.declared.event.Event.TheVariants.{Said, Stepped}
 use Rattle.piece_reader.specs.Sayings.{Reading, reading_of}
 use Rattle.version_store.specs.Desks.{MayTake, Seen as DeskSeen, desk_wanting, without_query_of}
-use Rattle.beas_run.specs.Pieces.{GoesOnBy, IsDone, IsLeft}
+use Rattle.beas_run.specs.Pieces.{GoesOnBy, IsDone, IsLeft, MayTakeUnnamed}
 use Rattle.beas_run.specs.Plans.{plan_of_reading}
 use Rattle.beas_run.specs.Prices.{price_of}
 use Rattle.beas_library.specs.declared.engine.Engine.{Engine}
@@ -80,7 +80,7 @@ pub record HasDone (tokens : List Token) (before after : Engine) (steps_before s
 
 -- session 0 is that of the statements that name none: no query of it stays open
 abbrev pub DropsLost : Reading → DeskSeen → DeskSeen → ℕ → ℕ → Type 0
-DropsLost (Ok (Said zero statement)) before after s t = after ≡ without_query_of 0 before
+DropsLost (Ok (Said zero statement)) before after s t = (after ≡ without_query_of 0 before) × MayTakeUnnamed statement before s t
 DropsLost (Ok (Said (suc session) statement)) before after s t =
     (after ≡ without_query_of 0 before) × MayTake (Said (suc session) statement) before s t
 DropsLost (Ok (Stepped session)) before after s t =

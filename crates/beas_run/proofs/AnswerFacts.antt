@@ -14,13 +14,13 @@ use Rattle.piece_reader.specs.declared.event.Event.TheVariants.{Stepped}
 use Rattle.desk_model.specs.Desks.{AtOnce, DeskEffect, State, action_of_event, answered_effect, is_of, probed_effect, query_effect, query_of, stepped_effect, with_query}
 use Rattle.desk_model.specs.Pieces.{after_cost, and_step, and_steps, probes_due}
 use Rattle.desk_model.proofs.Places.{find_passes}
-use Rattle.version_store.specs.Desks.{GoesOn, IsDesk, MayTake, Seen as DeskSeen, Takes, TakesSome, desk_wanting, waits_for_file, without_query_of}
+use Rattle.version_store.specs.Desks.{GoesOn, IsDesk, MayTake, Seen as DeskSeen, Takes, TakesSome, desk_wanting, share_at, waits_for_file, without_query_of}
 use Rattle.beas_run.specs.Pieces.{Reaches, answered_from, has_probed}
 use Rattle.beas_run.specs.Shares.{open_reads}
 use Rattle.beas_run.proofs.FoundFacts.{find-set-found, remove-set-found, sum_by-set-found}
 use Rattle.beas_run.proofs.LeftFacts.{wanting_db}
 use Rattle.beas_run.proofs.SparedFacts.{dropped, spared_lost, spared_probed}
-use Rattle.beas_run.proofs.ShareFacts.{may_take, shares_fit}
+use Rattle.beas_run.proofs.ShareFacts.{may_take, own_counts, own_take, shares_fit}
 
 abbrev is_probed : Report → Bool
 is_probed report = has_probed (Ok report)
@@ -65,6 +65,14 @@ reached (suc left) k effect q made is was e =
     ∙ reached left k one next (made + 1) there refl fewer
     ∙ ap (λ n. after_cost n (answered_effect one.state k next)) free
     ∙ ap (after_cost effect.cost) (answer_stays effect.state k q (Some (made + 1)) is)
+
+-- the cost of them all
+pub answered_cost : (first : DeskEffect) (q : OpenQuery) → query_of 0 first.state ≡ Some q → q.made ≡ Some 0
+    → (answered_from first).cost ≡ first.cost + reads_of q
+answered_cost first q is made =
+    let due : probes_due 0 first.state ≡ length (probes_of q) = ap (λ p. option_map_or (λ (r : OpenQuery). length (probes_of r)) p 0) is in
+    let one : probes_due 0 first.state + 1 ≡ suc (length (probes_of q)) = omega (arith, due) in
+    ap (λ m. (and_steps 0 m first).cost) one ∙ ap (λ (e : DeskEffect). e.cost) (reached (length (probes_of q)) 0 first q 0 is made (omega arith))
 
 -- ---- the events of a query that was opened
 
@@ -227,6 +235,18 @@ lost_reads start now s t u way told may =
     let same = way.reads in
     omega (arith, most, before, same)
 
+-- what the query itself may have read, and nothing of the others
+abbrev OwnReads : DeskSeen → ℕ → ℕ → Type 0
+OwnReads start s u = IsSomeAnd (query_of 0 start.state) (λ query. u + share_at 0 start ≤ s + reads_of query)
+
+lost_own : (start now : DeskSeen) (s t u : ℕ) → OnTheWay start now s t → IsDesk now → MayTake (Stepped 0) now t u → OwnReads start s u
+lost_own start now s t u way told may =
+    let most = own_take 0 now t u way.query told way.is may in
+    let before = own_counts 0 start now s t way.others way.counts in
+    let same : reads_of way.query ≡ reads_of way.opened = ap (λ (e : DeskEffect). e.cost) way.last in
+    let own : u + share_at 0 start ≤ s + reads_of way.opened = omega (arith, most, before, same) in
+    subst (λ o. IsSomeAnd o (λ (query : OpenQuery). u + share_at 0 start ≤ s + reads_of query)) (sym way.was) own
+
 lost_others : (start now after : DeskSeen) (s t : ℕ) → OnTheWay start now s t → after ≡ desk_wanting (Stepped 0) now
     → without_query_of 0 after ≡ without_query_of 0 start
 lost_others start now after s t way e =
@@ -291,3 +311,8 @@ module _ (event : Event) (is : event ≡ Stepped 0) where
         → OnErr r (u + sum start.shares ≤ s + open_reads start.state)
     lost_reads_by u (Ok report) told may = tt
     lost_reads_by u (Err none) told may = lost_reads start now s t u way told (subst (λ e. MayTake e now t u) is may)
+
+    pub lost_own_by : (u : ℕ) (r : Result Report Out) → IsDesk now → OnErr r (MayTake event now t u)
+        → OnErr r (IsSomeAnd (query_of 0 start.state) (λ (query : OpenQuery). u + share_at 0 start ≤ s + reads_of query))
+    lost_own_by u (Ok report) told may = tt
+    lost_own_by u (Err none) told may = lost_own start now s t u way told (subst (λ e. MayTake e now t u) is may)

@@ -1,5 +1,5 @@
 -- The first element that passes a test: what a sum over the list is where another takes its place, or where it goes, and where it stands.
-use Rattle.std.proofs.Common.{◌≡◌, ◌<◌, ◌≤◌, ◌+◌, ◌-◌, ◌++◌, ◌∙◌, ℕ, Bool, true, false, not, cond, List, [], ◌∷◌, set, remove, find, None, Some, refl, ap, sym, subst, arith, suc, get_or, length, append-nil}
+use Rattle.std.proofs.Common.{◌≡◌, ◌<◌, ◌≤◌, ◌+◌, ◌-◌, ◌++◌, ◌∙◌, ℕ, zero, Bool, true, false, not, cond, List, [], ◌∷◌, set, remove, find, None, Some, refl, ap, sym, subst, arith, suc, get_or, length, append-nil}
 use Rattle.std.specs.Prelude.{sum, sum_by}
 use Rattle.std.specs.List.{AllZip, position_or_len}
 use Rattle.std.proofs.lemmas.List.Edits.{remove-append_right}
@@ -89,6 +89,30 @@ module _ {X : Type 0} (f : X → ℕ) where
           let c = sum_by-cons f z xs in
           let d = sum_by-cons (λ k. k) n ns in
           omega (arith, h, c, d, w.0)
+
+  -- and for the first that passes
+  pub within-found : (p : X → Bool) (xs : List X) (ns : List ℕ) (x : X) → Within xs ns → find p xs ≡ Some x
+      → get_or ns (position_or_len p xs) 0 ≤ f x
+  within-found p [] ns x w h = cc
+  within-found p (z ∷ xs) [] x w h = absurd w
+  within-found p (z ∷ xs) (n ∷ ns) x w h = by (p z) refl h (λ g. within-found p xs ns x w.1 g)
+    where
+      by : (b : Bool) → p z ≡ b → cond b (Some z) (find p xs) ≡ Some x
+          → (find p xs ≡ Some x → get_or ns (position_or_len p xs) 0 ≤ f x)
+          → get_or (n ∷ ns) (cond (not b) (1 + position_or_len p xs) 0) 0 ≤ f x
+      by true e g later = let is : z ≡ x = cc in subst (λ v. n ≤ f v) is w.0
+      by false e g later = subst (λ i. get_or (n ∷ ns) i 0 ≤ f x) (sym (one_on p xs)) (later g)
+
+-- a sum, and what goes from it; past the end nothing goes
+pub sum-remove : (ns : List ℕ) (i : ℕ) → sum (remove ns i) + get_or ns i 0 ≡ sum ns
+sum-remove [] zero = refl
+sum-remove [] (suc i) = refl
+sum-remove (n ∷ ns) zero = let c = sum_by-cons (λ k. k) n ns in omega (arith, c)
+sum-remove (n ∷ ns) (suc i) =
+    let h = sum-remove ns i in
+    let c = sum_by-cons (λ k. k) n ns in
+    let d = sum_by-cons (λ k. k) n (remove ns i) in
+    omega (arith, h, c, d)
 
 -- what holds at each place holds place by place
 pub all_zip : {A B : Type 0} (R : A → B → Type 0) (xs : List A) (ys : List B) (e : B) → length ys ≡ length xs

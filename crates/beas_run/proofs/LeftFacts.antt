@@ -162,7 +162,7 @@ event_left_step s k (Err none) before after m n x y told e may no_fewer loaded =
 -- ---- what is left of the desk
 
 pub desk_left_alone : (reading : Reading) (desk : DeskSeen) (m : ℕ) → LeavesDesk reading desk desk m m
-desk_left_alone (Ok (Said zero statement)) desk m = refl
+desk_left_alone (Ok (Said zero statement)) desk m = (refl, λ outcome. omega arith)
 desk_left_alone (Ok (Said (suc session) statement)) desk m = (refl, λ outcome. omega arith)
 desk_left_alone (Ok (Stepped session)) desk m = inl (refl, refl)
 desk_left_alone (Err why) desk m = (refl, refl)

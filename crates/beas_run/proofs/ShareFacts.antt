@@ -1,12 +1,12 @@
 -- The shares of the queries that are open at a desk.
-use Rattle.std.proofs.Common.{◌≡◌, ◌≤◌, ◌+◌, inl, inr, subst, sym, refl, ℕ, List, [], ◌∷◌, Option, None, Some, arith, get_or, length}
-use Rattle.std.specs.Prelude.{sum, unwrap_or}
+use Rattle.std.proofs.Common.{◌≡◌, ◌≤◌, ◌+◌, inl, inr, ap, subst, sym, refl, ℕ, List, [], ◌∷◌, Option, None, Some, arith, get_or, length}
+use Rattle.std.specs.Prelude.{remove, sum, unwrap_or}
 use Rattle.kept_facts.specs.OpenQueries.{OpenQuery, reads_of, share_of}
 use Rattle.piece_reader.specs.declared.event.Event.TheVariants.{Stepped}
-use Rattle.desk_model.specs.Desks.{State, is_of}
-use Rattle.version_store.specs.Desks.{IsDesk, MayTake, Seen as DeskSeen}
+use Rattle.desk_model.specs.Desks.{State, is_of, query_of}
+use Rattle.version_store.specs.Desks.{IsDesk, MayTake, Seen as DeskSeen, place_in, share_at, without_query_of}
 use Rattle.beas_run.specs.Shares.{AreShares, IsShare, open_reads}
-use Rattle.beas_run.proofs.FoundFacts.{Within, all_zip, sum-within, sum-within-more}
+use Rattle.beas_run.proofs.FoundFacts.{Within, all_zip, sum-remove, sum-within, sum-within-more, within-found}
 
 share_fits : (query : OpenQuery) (share made : ℕ) → ((n : ℕ) → query.made ≡ Some n → made ≡ n) → made ≤ share → share ≤ reads_of query
     → reads_of query ≤ query.prepared.bound → IsShare query share
@@ -40,3 +40,27 @@ may_take k desk m n told (inr spends) =
     let more = share_of spends.query spends.probe in
     let h = sum-within-more reads_of (is_of k) desk.state.queries desk.shares spends.query more w spends.is spends.within in
     omega (arith, h, steps)
+
+-- and no more than the query itself has left
+pub own_take : (k : ℕ) (desk : DeskSeen) (m n : ℕ) (q : OpenQuery) → IsDesk desk → query_of k desk.state ≡ Some q → MayTake (Stepped k) desk m n
+    → n + share_at k desk ≤ m + reads_of q
+own_take k desk m n q told is (inl same) =
+    let h : share_at k desk ≤ reads_of q = within-found reads_of (is_of k) desk.state.queries desk.shares q
+    (within_reads desk.state.queries desk.shares (shares_fit desk told)) is in
+    omega (arith, h, same)
+own_take k desk m n q told is (inr spends) =
+    let it : spends.query ≡ q = let e = spends.is in cc in
+    let h : share_at k desk + share_of q spends.probe ≤ reads_of q =
+    subst (λ o. share_at k desk + share_of o spends.probe ≤ reads_of o) it spends.within in
+    let steps : n ≡ m + share_of q spends.probe = subst (λ o. n ≡ m + share_of o spends.probe) it spends.steps in
+    omega (arith, h, steps)
+
+-- where all else is as it was, what was counted is the query's
+pub own_counts : (k : ℕ) (before after : DeskSeen) (m n : ℕ) → without_query_of k after ≡ without_query_of k before
+    → n + sum before.shares ≡ m + sum after.shares → n + share_at k before ≡ m + share_at k after
+own_counts k before after m n others counts =
+    let same : sum (remove after.shares (place_in k after)) ≡ sum (remove before.shares (place_in k before)) =
+    ap (λ (d : DeskSeen). sum d.shares) others in
+    let b : sum (remove before.shares (place_in k before)) + share_at k before ≡ sum before.shares = sum-remove before.shares (place_in k before) in
+    let a : sum (remove after.shares (place_in k after)) + share_at k after ≡ sum after.shares = sum-remove after.shares (place_in k after) in
+    omega (arith, same, b, a, counts)

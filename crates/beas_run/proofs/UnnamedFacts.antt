@@ -1,11 +1,11 @@
 -- What is done for a statement that names no session: it is said by session 0, and a query that it opens is answered.
-use Rattle.std.proofs.Common.{◌≡◌, ◌≤◌, ◌+◌, ◌++◌, ◌⊎◌, ◌∙◌, inl, inr, ap, subst, sym, refl, ℕ, Bool, true, false, [], ◌∷◌, None, Some, Result, Ok, Err, arith, find}
+use Rattle.std.proofs.Common.{◌≡◌, ◌≤◌, ◌+◌, ◌++◌, ◌⊎◌, ◌∙◌, inl, inr, ap, subst, sym, refl, ℕ, Bool, true, false, [], ◌∷◌, Option, None, Some, Result, Ok, Err, arith, find}
 use Rattle.std.specs.Prelude.{IfOk, OnErr, IsSomeAnd, if◌then◌else◌, is_some, not, sum, ◌&&◌}
 use Rattle.beas_core.specs.declared.errors.NoMemory.{NoMemory as Out}
 use Rattle.outside.specs.Counts.{raised}
 use Rattle.outside.specs.Seen.{Seen}
 use Rattle.outside.proofs.Counts.{raised_none}
-use Rattle.kept_facts.specs.OpenQueries.{OpenQuery}
+use Rattle.kept_facts.specs.OpenQueries.{OpenQuery, reads_of}
 use Rattle.report.specs.declared.reports.Report.{Report}
 use Rattle.report.specs.declared.reports.Report.TheVariants.{Opened}
 use Rattle.session.specs.declared.loading.LoadOutcome.{LoadOutcome}
@@ -16,12 +16,13 @@ use Rattle.desk_model.specs.Answers.{effect_by}
 use Rattle.desk_model.specs.Desks.{DeskAction, AtOnce, ByLoad, DeskEffect, State, is_of, new_query, opened_effect, query_of, said_action}
 use Rattle.desk_model.specs.Pieces.{next, opens, piece_action, with_answer}
 use Rattle.piece_reader.specs.declared.event.Event.TheVariants.{Said}
-use Rattle.version_store.specs.Desks.{GoesOn, IsDesk, Seen as DeskSeen, Takes, without_query_of}
-use Rattle.beas_run.specs.Pieces.{GoesOnBy, IsDone, IsLeft, LeavesDesk, Reaches, answered_from, is_opened, reads_by, turn_alone}
+use Rattle.version_store.specs.Desks.{GoesOn, IsDesk, MayCost, Seen as DeskSeen, Takes, share_at, without_query_of}
+use Rattle.beas_run.specs.Pieces.{GoesOnBy, IsDone, IsLeft, LeavesDesk, MayTakeUnnamed, Reaches, answered_from, is_opened, reads_by, turn_alone}
 use Rattle.beas_run.specs.Shares.{open_reads}
 use Rattle.desk_model.proofs.Places.{find-last}
-use Rattle.beas_run.proofs.SaidFacts.{SaidIs, said_is}
-use Rattle.beas_run.proofs.ShareFacts.{shares_fit}
+use Rattle.beas_run.proofs.AnswerFacts.{answered_cost}
+use Rattle.beas_run.proofs.SaidFacts.{KeepsQueries, SaidIs, said_is}
+use Rattle.beas_run.proofs.ShareFacts.{own_counts, shares_fit}
 use Rattle.beas_run.proofs.SparedFacts.{none_dropped, spared_opened, stays}
 use Rattle.beas_run.proofs.DoneFacts.{done_by_action}
 use Rattle.beas_run.proofs.LeftFacts.{LeftBy, answer_none, answer_reads}
@@ -49,6 +50,11 @@ module _ (s : Settings) (statement : Statement) (before : DeskSeen) where
   never true = refl
   never false = refl
 
+  unopened : (outcome : LoadOutcome) → KeepsQueries before.state said → opens 0 before.state (effect_by said outcome).state ≡ false
+  unopened outcome keeps =
+      ap (λ qs. is_some (find (is_of 0) qs) && not (is_some (query_of 0 before.state))) (keeps.queries outcome)
+      ∙ never (is_some (query_of 0 before.state))
+
   -- no query was opened
   not_answered : (action : DeskAction) (outcome : LoadOutcome) → opens 0 before.state (effect_by action outcome).state ≡ false
       → with_answer before.state action ≡ action
@@ -63,10 +69,20 @@ module _ (s : Settings) (statement : Statement) (before : DeskSeen) where
       (ap (λ a. Some a) (not_answered said took.outcome (by (said_is s before.state 0 statement)))) told within took
     where
       by : SaidIs s.explain before.state 0 said → opens 0 before.state (effect_by said took.outcome).state ≡ false
-      by (inl keeps) = ap (λ qs. is_some (find (is_of 0) qs) && not (is_some (query_of 0 before.state))) (keeps.queries took.outcome)
-          ∙ never (is_some (query_of 0 before.state))
+      by (inl keeps) = unopened took.outcome keeps
       by (inr opens) =
           let other : true ≡ false = ap (λ a. is_opened (effect_by a took.outcome).report) (sym opens.is) ∙ ap is_opened (sym took.report_is) ∙ none in cc
+
+  -- its one event counted no more than the piece costs
+  pub take_unnamed : (m n : ℕ) → MayCost said m n → MayCost (with_answer before.state said) m n
+  take_unnamed m n may outcome = by (said_is s before.state 0 statement)
+    where
+      by : SaidIs s.explain before.state 0 said → n ≤ m + (effect_by (with_answer before.state said) outcome).cost
+      by (inl keeps) =
+          subst (λ a. n ≤ m + (effect_by a outcome).cost) (sym (not_answered said outcome (unopened outcome keeps))) (may outcome)
+      by (inr opens) =
+          let free : n ≤ m + 0 = subst (λ a. n ≤ m + (effect_by a outcome).cost) opens.is (may outcome) in
+          omega (arith, free)
 
 -- what a statement opens where it reports so
 pub record HasOpened (s : Settings) (statement : Statement) (report : Report) (before after : DeskSeen) : Type 0 where
@@ -128,8 +144,11 @@ module _ (s : Settings) (statement : Statement) (before mid after : DeskSeen) (o
   at_once : DeskAction
   at_once = AtOnce o.first
 
+  answer_is : with_answer before.state (said s statement before) ≡ AtOnce (answered_from o.first)
+  answer_is = ap (with_answer before.state) o.is ∙ ap (λ b. AtOnce (if b then answered_from o.first else o.first)) o.opened
+
   action_is : piece_action s before.state (Ok (Said 0 statement)) ≡ Some (AtOnce (answered_from o.first))
-  action_is = ap (λ a. Some (with_answer before.state a)) o.is ∙ ap (λ b. Some (AtOnce (if b then answered_from o.first else o.first))) o.opened
+  action_is = ap (λ a. Some a) answer_is
 
   pub done_answered : (earlier report : Report) → Takes s.limits.file (said s statement before) earlier before mid m l x y → IsDesk mid → IsWithin report
       → Reaches (answered_from o.first) report mid after l n → IsDone s (Ok (Said 0 statement)) report before after m n x y
@@ -166,6 +185,28 @@ module _ (s : Settings) (statement : Statement) (before mid after : DeskSeen) (o
         db = db ∙ o.db;
       }
 
+  -- the query was opened without a read, and counted no more than its own reads
+  take_answered : (earlier : Report) → Takes s.limits.file (said s statement before) earlier before mid m l x y
+      → without_query_of 0 mid ≡ without_query_of 0 before
+      → IsSomeAnd (query_of 0 mid.state) (λ (query : OpenQuery). n + share_at 0 mid ≤ l + reads_of query)
+      → MayCost (with_answer before.state (said s statement before)) m n
+  take_answered earlier took spared own outcome = by (query_of 0 mid.state) refl own
+    where
+      by : (p : Option OpenQuery) → query_of 0 mid.state ≡ p → IsSomeAnd p (λ (query : OpenQuery). n + share_at 0 mid ≤ l + reads_of query)
+          → n ≤ m + (effect_by (with_answer before.state (said s statement before)) outcome).cost
+      by None is none = absurd none
+      by (Some q) is most =
+          let first : Takes s.limits.file (AtOnce o.first) earlier before mid m l x y =
+          subst (λ a. Takes s.limits.file a earlier before mid m l x y) o.is took in
+          let counted : l + sum before.shares ≡ m + o.first.cost + sum mid.shares = first.counts in
+          let free = o.free in
+          let own : l + share_at 0 before ≡ m + share_at 0 mid = own_counts 0 before mid m l spared (omega (arith, counted, free)) in
+          let there : query_of 0 o.first.state ≡ Some q = ap (λ st. query_of 0 st) (sym o.state) ∙ is in
+          let made : q.made ≡ Some 0 = subst (λ p. IsSomeAnd p (λ (r : OpenQuery). r.made ≡ Some 0)) is o.new in
+          let cost : (answered_from o.first).cost ≡ o.first.cost + reads_of q = answered_cost o.first q there made in
+          let all : n ≤ m + (answered_from o.first).cost = omega (arith, own, cost, most, free) in
+          subst (λ a. n ≤ m + (effect_by a outcome).cost) (sym answer_is) all
+
   -- whatever its last event answers
   pub answer_done : (earlier : Report) (r : Result Report Out) → Takes s.limits.file (said s statement before) earlier before mid m l x y → IsDesk mid
       → IfOk r IsWithin → IfOk r (λ report. (first : DeskEffect) → first.state ≡ mid.state → first.cost ≡ 0 → Reaches (answered_from first) report mid after l n)
@@ -179,6 +220,13 @@ module _ (s : Settings) (statement : Statement) (before mid after : DeskSeen) (o
       → OnErr r (IsLeft s (Ok (Said 0 statement)) before after m n x y)
   answer_left earlier (Ok report) took begun later most db = tt
   answer_left earlier (Err e) took begun later most db = left_answered earlier took begun later most db
+
+  pub answer_take : (earlier : Report) (r : Result Report Out) → Takes s.limits.file (said s statement before) earlier before mid m l x y
+      → without_query_of 0 mid ≡ without_query_of 0 before
+      → OnErr r (IsSomeAnd (query_of 0 mid.state) (λ (query : OpenQuery). n + share_at 0 mid ≤ l + reads_of query))
+      → OnErr r (MayCost (with_answer before.state (said s statement before)) m n)
+  answer_take earlier (Ok report) took spared own = tt
+  answer_take earlier (Err e) took spared own = take_answered earlier took spared own
 
 -- ---- what becomes of the desk
 
@@ -194,6 +242,6 @@ answer_stays statement before mid after (Err none) m n told idle opened e = tt
 
 pub answer_spared : (statement : Statement) (before mid after : DeskSeen) (r : Result Report Out) (m n : ℕ)
     → without_query_of 0 mid ≡ without_query_of 0 before → OnErr r (without_query_of 0 after ≡ without_query_of 0 mid)
-    → OnErr r (LeavesDesk (Ok (Said 0 statement)) before after m n)
-answer_spared statement before mid after (Ok report) m n opened e = tt
-answer_spared statement before mid after (Err none) m n opened e = e ∙ opened
+    → OnErr r (MayTakeUnnamed statement before m n) → OnErr r (LeavesDesk (Ok (Said 0 statement)) before after m n)
+answer_spared statement before mid after (Ok report) m n opened e may = tt
+answer_spared statement before mid after (Err none) m n opened e may = (e ∙ opened, may)

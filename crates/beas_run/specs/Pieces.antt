@@ -2,7 +2,7 @@
 --     Scene                             a desk, the steps, the output and the files; scene makes one
 --     moment_of scene                   what a run comes to that ends there
 --     answered_from first               the effect of going on, to its answer, with a query of session 0 that was opened
---     is_opened report                  the event opened a query, by its report; has_probed report: it made a probe
+--     is_opened report                  the event opened a query, by its report; has_probed result: it made a probe
 --     IsTaken event result ..           what a desk tells of an event that was to be done there
 --     Reaches last report ..            what was done came to this effect
 --     IsTurn settings reading turn ..   the piece was carried out in this turn
@@ -13,7 +13,8 @@
 --     reads_by state turn               what is read at most for all that was opened, where this turn comes next
 --     IsLeft settings reading ..        out of memory the piece wasn't carried out, and the database is as it was
 --     IsUndone ..                       the same, and nothing was sent
---     LeavesDesk reading before after ..     and what is left of the desk, with the reads that may have been counted
+--     MayTakeUnnamed statement before ..      how many reads a statement that names no session may have counted before memory ran out
+--     LeavesDesk reading before after ..      what is left of the desk there, with the reads that may have been counted
 --     GoesOnBy reading report ..        what becomes of the probes and the shares
 use Rattle.std.specs.Prelude.{◌≡◌, ◌≤◌, ◌+◌, ◌++◌, ◌⊎◌, ℕ, zero, suc, Bool, true, false, List, [], ◌∷◌, length, sum, Option, None, Some, Result, Ok, Err, IfOk, OnErr}
 use Rattle.std.specs.Option.{option_map_or}
@@ -30,10 +31,11 @@ use Rattle.session.specs.Ties.{AreTied}
 use Rattle.session.specs.Turns.{loads_of, is_refusal, IsWithin}
 use Rattle.piece_reader.specs.declared.event.Event.{Event}
 use Rattle.piece_reader.specs.declared.event.Event.TheVariants.{Said, Stepped}
-use Rattle.desk_model.specs.Desks.{DeskEffect, State, action_of_event}
-use Rattle.desk_model.specs.Pieces.{DeskTurn, Next, and_steps, next, piece_action, probes_due, seen_turn}
+use Rattle.sql_text.specs.declared.tree.Statement.{Statement}
+use Rattle.desk_model.specs.Desks.{DeskEffect, State, action_of_event, query_of, said_action}
+use Rattle.desk_model.specs.Pieces.{DeskTurn, Next, and_steps, next, piece_action, probes_due, seen_turn, with_answer}
 use Rattle.piece_reader.specs.Sayings.{Reading}
-use Rattle.version_store.specs.Desks.{GoesOn, IsDesk, MayLoad, MayTake, Seen as DeskSeen, Stays, TakesSome, desk_wanting, without_query_of}
+use Rattle.version_store.specs.Desks.{GoesOn, IsDesk, MayCost, MayLoad, MayTake, Seen as DeskSeen, Stays, TakesSome, desk_wanting, without_query_of}
 use Rattle.beas_run.specs.declared.ending.Ending.{Ending}
 use Rattle.beas_run.specs.declared.ending.Ending.TheVariants.{NoMemory as Want}
 use Rattle.beas_run.specs.Shares.{AreShares, open_reads}
@@ -144,16 +146,22 @@ pub record IsUndone (settings : Settings) (reading : Reading) (before after : Sc
   pub sent : before.out.told ≡ true → after.out.bytes ≡ before.out.bytes
   pub puts : after.out.puts ≡ before.out.puts
 
--- a statement that names no session may leave a query of session 0 open; what it may have counted says IsLeft. Any other leaves the desk as it
--- was. A STEP loses its query, unless memory ran out before the piece was read
+-- no more than the piece costs, with the answer of a query that it opens, whatever the load of its file gave: nothing of other open queries
+abbrev pub MayTakeUnnamed : Statement → DeskSeen → ℕ → ℕ → Type 0
+MayTakeUnnamed statement before s t =
+    MayCost (with_answer before.state (said_action before.settings before.state 0 (query_of 0 before.state) statement)) s t
+
+-- a statement that names no session may leave a query of session 0 open. It counted at most what its piece costs. Any other statement leaves the
+-- desk as it was. A STEP loses its query, unless memory ran out before the piece was read
 abbrev pub LeavesDesk : Reading → DeskSeen → DeskSeen → ℕ → ℕ → Type 0
-LeavesDesk (Ok (Said zero statement)) before after s t = without_query_of 0 after ≡ without_query_of 0 before
+LeavesDesk (Ok (Said zero statement)) before after s t =
+    (without_query_of 0 after ≡ without_query_of 0 before) × MayTakeUnnamed statement before s t
 LeavesDesk (Ok (Said (suc session) statement)) before after s t = (after ≡ before) × MayTake (Said (suc session) statement) before s t
 LeavesDesk (Ok (Stepped session)) before after s t =
     ((after ≡ before) × (t ≡ s)) ⊎ ((after ≡ desk_wanting (Stepped session) before) × MayTake (Stepped session) before s t)
 LeavesDesk (Err why) before after s t = (after ≡ before) × (t ≡ s)
 
--- where a statement names no session, all of them stay: a query that it opened was answered, and so closed again
+-- where a statement names no session, the probes and shares of all open queries stay: a query that it opened was answered, and so closed again
 abbrev pub GoesOnBy : Reading → Report → DeskSeen → DeskSeen → ℕ → ℕ → Type 0
 GoesOnBy (Ok (Said zero statement)) report before after s t = Stays before after
 GoesOnBy (Ok (Said (suc session) statement)) report before after s t = GoesOn (Said (suc session) statement) report before after s t

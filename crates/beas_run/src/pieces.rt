@@ -1,13 +1,14 @@
 // One piece of a script, at a desk.
 ghost use Rattle.std.specs.Prelude.{◌≡◌, ◌<◌, ◌≤◌, ◌+◌, ◌-◌, ◌^◌, length, sum, IfOk, OnErr, IsSomeAnd, Some, Ok};
 ghost use Rattle.outside.specs.Seen.{IsLater};
+ghost use Rattle.kept_facts.specs.OpenQueries.{reads_of};
 ghost use Rattle.desk_model.specs.Desks.{DeskEffect, query_of};
 ghost use Rattle.piece_reader.specs.Sayings.{reading_of};
 ghost use Rattle.session.specs.Statements.{StatementIsWellFormed};
 ghost use Rattle.session.specs.Turns.{IsWithin};
 ghost use Rattle.beas_run.specs.Pieces.{GoesOnBy, IsDone, IsLeft, IsTaken, LeavesDesk, Reaches, answered_from, has_probed, is_opened};
 ghost use Rattle.beas_run.specs.Shares.{open_reads};
-ghost use Rattle.version_store.specs.Desks.{EventIsWellFormed, session_in, without_query_of};
+ghost use Rattle.version_store.specs.Desks.{EventIsWellFormed, session_in, share_at, without_query_of};
 
 use beas_core::{Fail, NoMemory, Steps};
 use outside::Files;
@@ -88,6 +89,8 @@ fn answer<F: Files, L: Ledger>(
     ensures db { OnErr result (desk.new.state.db ≡ desk.old.state.db) }
     ensures others { OnErr result (without_query_of 0 desk.new ≡ without_query_of 0 desk.old) }
     ensures at_most { OnErr result (steps.new + sum desk.old.shares ≤ steps.old + open_reads desk.old.state) }
+    ensures own_reads { OnErr result (IsSomeAnd (query_of 0 desk.old.state)
+        (λ query. steps.new + share_at 0 desk.old ≤ steps.old + reads_of query)) }
     ensures no_fewer { steps.old ≤ steps.new }
     ensures settings { desk.new.settings ≡ desk.old.settings }
     ensures unread { files.new ≡ files.old }

@@ -1,6 +1,6 @@
 use Rattle.std.proofs.Common.{◌≤◌, ◌∙◌, arith, refl, subst, sym}
 use Rattle.version_store.specs.Desks.{EventIsWellFormed, session_in}
-use Rattle.beas_run.proofs.AnswerFacts.{answered_by, closed_by, fewer_by, lost_db_by, lost_others_by, lost_reads_by, none_waits, on_by, on_the_way}
+use Rattle.beas_run.proofs.AnswerFacts.{answered_by, closed_by, fewer_by, lost_db_by, lost_others_by, lost_own_by, lost_reads_by, none_waits, on_by, on_the_way}
 use Rattle.beas_run.proofs.pieces.answer.Goals as goal
 
 pub probes-init : goal.probes-init
@@ -55,6 +55,12 @@ returns-then-not-has_probed-clause-at_most g c =
     let i = c.probes.invariant in
     let e = c.event-report.ensures in
     lost_reads_by _ i.is _ _ _ _ i.way _ c.event-report.result e.told.0 e.at_most
+
+pub returns-then-not-has_probed-clause-own_reads : goal.returns-then-not-has_probed-clause-own_reads
+returns-then-not-has_probed-clause-own_reads g c =
+    let i = c.probes.invariant in
+    let e = c.event-report.ensures in
+    lost_own_by _ i.is _ _ _ _ i.way _ c.event-report.result e.told.0 e.at_most
 
 pub returns-then-not-has_probed-clause-unread : goal.returns-then-not-has_probed-clause-unread
 returns-then-not-has_probed-clause-unread g c =

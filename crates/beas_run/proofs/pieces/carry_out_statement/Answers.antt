@@ -1,8 +1,8 @@
-use Rattle.std.proofs.Common.{◌∙◌, ap, refl, sym}
+use Rattle.std.proofs.Common.{◌≡◌, ◌∙◌, ap, refl, sym}
 use Rattle.version_store.specs.Desks.{without_query_of}
 use Rattle.beas_run.proofs.DoneFacts.{on_error}
 use Rattle.beas_run.proofs.LeftFacts.{left_by_statement}
-use Rattle.beas_run.proofs.UnnamedFacts.{HasOpened, answer_done, answer_left, answer_spared, answer_stays, done_unopened, has_opened, left_unnamed, opened_spared, unopened_stays}
+use Rattle.beas_run.proofs.UnnamedFacts.{HasOpened, answer_done, answer_left, answer_spared, answer_stays, answer_take, done_unopened, has_opened, left_unnamed, opened_spared, take_unnamed, unopened_stays}
 use Rattle.beas_run.proofs.pieces.carry_out_statement.Goals as goal
 
 pub returns-in_err-report-clause-left : goal.returns-in_err-report-clause-left
@@ -14,7 +14,9 @@ returns-in_err-report-clause-left g c =
 
 pub returns-in_err-report-clause-desk : goal.returns-in_err-report-clause-desk
 returns-in_err-report-clause-desk g c =
-    on_error c.from_residual.result (ap (without_query_of 0) c.in_err-report.ensures.err)
+    let e = c.in_err-report.ensures in
+    on_error c.from_residual.result
+    (ap (without_query_of 0) e.err, take_unnamed c.args.desk.now.settings c.args.statement c.args.desk.now _ _ e.at_most)
 
 pub answer-requires : goal.answer-requires
 answer-requires g c =
@@ -51,8 +53,13 @@ returns-then-is_opened-clause-desk g c =
     let opened : HasOpened c.args.desk.now.settings c.args.statement c.in_ok-report.report c.args.desk.now c.say.new.desk =
     has_opened c.args.desk.now.settings c.args.statement c.args.desk.now c.say.new.desk _ _ _ _ _ e.did
     (sym c.is_opened.ensures ∙ c.if-is_opened.true) in
+    let spared : without_query_of 0 c.say.new.desk ≡ without_query_of 0 c.args.desk.now =
+    opened_spared c.args.desk.now.settings c.args.statement c.in_ok-report.report c.args.desk.now c.say.new.desk c.args.steps.now c.say.new.steps
+    opened e.is_desk.0 e.is_desk.1 e.settings e.goes_on in
     answer_spared c.args.statement c.args.desk.now c.say.new.desk c.answer.new.desk c.answer.result c.args.steps.now c.answer.new.steps
-    (opened_spared c.args.desk.now.settings c.args.statement c.in_ok-report.report c.args.desk.now c.say.new.desk c.args.steps.now c.say.new.steps opened e.is_desk.0 e.is_desk.1 e.settings e.goes_on) c.answer.ensures.others
+    spared c.answer.ensures.others
+    (answer_take c.args.desk.now.settings c.args.statement _ _ c.answer.new.desk _ opened _ _ _ _ _ c.in_ok-report.report c.answer.result e.did spared
+    c.answer.ensures.own_reads)
 
 pub returns-else-is_opened-clause-done : goal.returns-else-is_opened-clause-done
 returns-else-is_opened-clause-done g c =
