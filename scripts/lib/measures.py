@@ -148,3 +148,18 @@ def found_of(program: str, row: Row, sizes: list[int], measure: Measure) -> Foun
             except TooLong:
                 break
     return Found(row, sizes, work, measure)
+
+
+def rounded(work: float) -> str:
+    return f"{work:.0f}" if work >= 100 else f"{work:.2g}"
+
+
+def table_of(founds: list[Found]) -> str:
+    """As a page has it: each kind of input with its sizes, what they took, and the exponent."""
+    lines = ["| Input | n | Took | Exponent |", "|---|---|---|---|"]
+    for it in founds:
+        took = [f"{rounded(work)} {it.measure.unit}" for work in it.work]
+        took += [f"over {SECONDS_OF_A_RUN} s"] * (len(it.work) < len(it.sizes))
+        exponent = "not known" if math.isinf(it.exponent) else f"{it.exponent:.2f}"
+        lines.append(f"| {it.row.name} | {', '.join(f'{size:,}' for size in it.sizes)} | {', '.join(took)} | {exponent} |")
+    return "\n".join(lines)

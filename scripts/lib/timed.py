@@ -8,6 +8,7 @@ import time
 from collections.abc import Iterable, Sequence
 from typing import Any, TypeVar
 
+from .measures import refuse_broken
 from .place import TOP
 
 sys.path.insert(0, str(TOP / "examples"))
@@ -19,8 +20,10 @@ EMPTY_KEY = "CREATE TABLE r (a INTEGER, b INTEGER); CREATE ACCESS all_rows ON r 
 SMALL_GROUPS = "CREATE TABLE r (a INTEGER, b INTEGER); CREATE ACCESS ab ON r (a) FETCH (b) LIMIT 100;\n"
 Kind = TypeVar("Kind")
 Row = tuple[Any, ...]
-# processor seconds, refused statements, and what another took, where one does the same: SQLite, unless it is named
-Timed = tuple[float, int] | tuple[float, int, float] | tuple[float, int, float, str]
+# Whatever takes longer is broken.
+SECONDS_OF_A_RUN = 300
+# what was measured first, refused statements, and what was measured besides: mostly processor seconds, and those of SQLite for the same
+Timed = tuple[float, int] | tuple[float, int, float] | tuple[float, int, float, float]
 
 
 def written(name: str, lines: Iterable[str]) -> None:
@@ -42,14 +45,15 @@ def seconds_of(program: str, script: str) -> float:
     """Processor seconds of a run. What it writes goes nowhere, as SQLite's rows are fetched and not written: a pipe and whoever reads it
     would be measured too."""
     before = resource.getrusage(resource.RUSAGE_CHILDREN)
-    subprocess.run([program, script], stdout=subprocess.DEVNULL, check=False)
+    run = subprocess.run([program, script], stdout=subprocess.DEVNULL, timeout=SECONDS_OF_A_RUN, check=False)
+    refuse_broken(run.returncode)
     after = resource.getrusage(resource.RUSAGE_CHILDREN)
     return after.ru_utime + after.ru_stime - before.ru_utime - before.ru_stime
 
 
 def refusals_of(program: str, script: str) -> int:
     """How many statements of a run were refused."""
-    out = subprocess.run([program, script], stdout=subprocess.PIPE, check=False).stdout
+    out = subprocess.run([program, script], stdout=subprocess.PIPE, timeout=SECONDS_OF_A_RUN, check=False).stdout
     return sum(it.outcome == "refused" for it in reports_in(out.decode()))
 
 

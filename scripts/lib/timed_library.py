@@ -97,7 +97,7 @@ def beside_script(program: str, begun: list[str], queries: list[str], files: lis
     spent, answers = seconds_by_c("beas", len(queries), *files)
     within, refusals = beyond(program, begun, [f"{it};\n" for it in queries])
     see_equal(answers_of(program, "whole.beas"), answers)
-    return spent, refusals, within / len(queries), "within a script"
+    return spent, refusals, within / len(queries)
 
 
 def small_beside_script(program: str, queries: int = QUERIES) -> Timed:
@@ -152,11 +152,14 @@ def if_built(workload: Callable[[str], Timed]) -> Callable[[str], Timed | None]:
     return lambda program: workload(program) if LIBRARY.exists() else None
 
 
-WORKLOADS: dict[str, Callable[[str], Timed | None]] = {
+Workloads = dict[str, Callable[[str], Timed | None]]
+BESIDE_SQLITE: Workloads = {
     "a small query by the C library, from its text to its cells": if_built(lambda _: by_c(False)),
-    "the same, beside a statement that SQLite prepared once": if_built(lambda _: by_c(True)),
-    "a small query by the C library, beside the same within a script": if_built(small_beside_script),
-    "a query of the cafes by the C library, beside the same within a script": if_built(cafes_beside_script),
-    "a small query by the Python package, from its text to its rows": if_built(lambda _: by_python(False)),
-    "the same with a value for its place, which sqlite3 keeps prepared": if_built(lambda _: by_python(True)),
+    "the same by the C library, SQLite by a statement that it prepared once": if_built(lambda _: by_c(True)),
+    "a small query by the Python package, from its text to its rows, beside Python's `sqlite3`": if_built(lambda _: by_python(False)),
+    "the same by the package with a value for its place, which `sqlite3` keeps prepared": if_built(lambda _: by_python(True)),
+}
+BESIDE_A_SCRIPT: Workloads = {
+    "a small query: one probe with its five tuples": if_built(small_beside_script),
+    "a query of the cafés by C": if_built(cafes_beside_script),
 }

@@ -1,15 +1,21 @@
 """Workloads of queries: chains, the cafés, UNION, EXCEPT and EXPLAIN."""
+import operator
 import random
 from collections.abc import Iterator
+from itertools import accumulate
 
 from .timed import MILLION, SMALL_GROUPS, Timed, beyond, rows_of, sqlite_seconds, written
 
 
-def chain(program: str, output: str) -> Timed:
-    """Four tables, of which each value leads to ten in the next, and at the end to a hundred."""
-    query = f"SELECT DISTINCT {output} FROM r0 p, r1 q, r2 s, r3 t WHERE p.a = 0 AND p.b = q.a AND q.b = s.a AND s.b = t.a"
-    fans = (10, 10, 10, 100)
-    tables = [[(i // fan, i) for i in range(count)] for fan, count in zip(fans, (10, 100, 1_000, 100_000))]
+FAN = (10, 10, 10, 100)
+# of each of 10,000 probes at the end ten tuples are found, of which a comparison leaves ten in all
+WIDE_FAN, FEW = (100, 10, 10, 10), " AND t.b < 10"
+
+
+def chain(program: str, output: str, fans: tuple[int, ...] = FAN, more: str = "") -> Timed:
+    """Four tables, of which each value leads to some in the next: 100,000 valuations."""
+    query = f"SELECT DISTINCT {output} FROM r0 p, r1 q, r2 s, r3 t WHERE p.a = 0 AND p.b = q.a AND q.b = s.a AND s.b = t.a{more}"
+    tables = [[(i // fan, i) for i in range(count)] for fan, count in zip(fans, accumulate(fans, operator.mul))]
     begun = []
     for at, (rows, fan) in enumerate(zip(tables, fans)):
         rows_of(f"r{at}.csv", rows)
