@@ -9,8 +9,9 @@ import time
 from collections.abc import Callable
 from typing import Any
 
+from . import timed
 from .place import TOP
-from .timed import RUNS, SMALL_GROUPS, Timed, beyond, reports_in, rows_of, written
+from .timed import SMALL_GROUPS, Timed, beyond, reports_in, rows_of, written
 from .timed_queries import CAFE_QUERY, TABLES, cafe_draws, cafes_begun, cafes_of
 
 LIBRARY = TOP / "out/libbeas.so"
@@ -56,7 +57,7 @@ def compiled() -> None:
 
 def seconds_by_c(way: str, queries: int, *files: str) -> tuple[float, str]:
     """The least processor seconds of a query, and the number of all rows with the sum of their cells."""
-    told = subprocess.run(["./timed_library", way, str(RUNS), *files], capture_output=True, text=True, check=True).stdout
+    told = subprocess.run(["./timed_library", way, str(timed.RUNS), *files], capture_output=True, text=True, check=True).stdout
     seconds, _, answers = told.strip().partition(" ")
     return float(seconds) / queries, answers
 
@@ -86,7 +87,7 @@ def answers_of(program: str, script: str) -> str:
     """The number of rows that a script's queries give with the sum of their cells, as often as the library asks them."""
     out = subprocess.run([program, script], stdout=subprocess.PIPE, check=False).stdout.decode()
     found = [row for it in reports_in(out) if it.outcome == "answer" for row in it.records]
-    return f"{RUNS * len(found)} {RUNS * sum(int(cell) for row in found for cell in row)}"
+    return f"{timed.RUNS * len(found)} {timed.RUNS * sum(int(cell) for row in found for cell in row)}"
 
 
 def beside_script(program: str, begun: list[str], queries: list[str], files: list[str]) -> Timed:
@@ -117,7 +118,7 @@ def cafes_beside_script(program: str, queries: int = CAFE_QUERIES) -> Timed:
 def best(ask: Callable[[int], Any], queries: int) -> float:
     """The least processor seconds of a query, of some runs of them all."""
     least = float("inf")
-    for _ in range(RUNS):
+    for _ in range(timed.RUNS):
         began = time.process_time()
         for value in values(queries):
             ask(value)

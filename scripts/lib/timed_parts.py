@@ -101,9 +101,10 @@ MEMORY: dict[str, Workload] = {
 }
 OPEN: dict[str, Workload] = {}
 for count, size in ((8, MILLION), (64, 100_000)):
-    OPEN[f"{count} queries over {size:,} rows, opened"] = lambda program, of=(count, size): memory.open_queries(program, *of)
-    OPEN[f"{count} queries over {size:,} rows, opened, and one INSERT"] = lambda program, of=(count, size): memory.open_and_insert(program, *of)
-    OPEN[f"the turns of the {count} queries after that, with their answers"] = lambda program, of=(count, size): memory.turns_after_insert(program, *of)
+    queries, of = f"{count} queries over {size:,} rows", (count, size)
+    OPEN[f"{queries}, opened"] = lambda program, of=of: memory.open_queries(program, *of)
+    OPEN[f"{queries}, opened, and one INSERT"] = lambda program, of=of: memory.open_and_insert(program, *of)
+    OPEN[f"the turns of the {count} queries after that, with their answers"] = lambda program, of=of: memory.turns_after_insert(program, *of)
 TURNS: dict[str, Workload] = {
     "a query with one probe, which finds five tuples": lambda program: memory.by_turns(program, memory.ONE_PROBE, 1),
     "a query with six probes, each of which finds five tuples": lambda program: memory.by_turns(program, memory.SIX_PROBES, 6),
