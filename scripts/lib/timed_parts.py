@@ -8,7 +8,7 @@ from . import timed_rows as rows
 from . import timed_scans as scans
 from .timed import MILLION, Timed
 from .timed_counts import WAYS, counts_of
-from .timed_queries import FEW, WIDE_FAN, cafes, chain, explain_under_many_constraints, guided_except, union
+from .timed_queries import FEW, WIDE_FAN, cafes, cafes_as_started, chain, explain_under_many_constraints, guided_except, union
 
 Workload = Callable[[str], Timed | None]
 
@@ -78,6 +78,7 @@ BESIDE: dict[str, Workload] = {
     **library.BESIDE_SQLITE,
 }
 ALONE: dict[str, Workload] = {
+    "a query of the cafés over 1,000,000 rows, in the pages that the system gives": cafes_as_started,
     "a probe that finds nothing, 100,000 of them in one step": rows.probes_of_nothing,
     "100,000 small statements, half of them queries": rows.small_statements,
     "LOAD of 1,000,000 rows under a constraint with an empty key, in ascending order": rows.load_ascending,

@@ -1,5 +1,6 @@
 """Workloads of queries: chains, the cafés, UNION, EXCEPT and EXPLAIN."""
 import operator
+import os
 import random
 from collections.abc import Iterator
 from itertools import accumulate
@@ -94,6 +95,20 @@ def cafes(program: str, count: int, is_prepared: bool = False) -> Timed:
         asked,
     )
     return spent / times, refusals, beside / times
+
+
+def cafes_as_started(program: str) -> Timed:
+    """The queries over a million rows, by the program without what the launcher asks of the C library."""
+    people, rows = cafes_of(MILLION)
+    begun, draws = cafes_begun(rows), cafe_draws(people, 80_000)
+    asked = [CAFE_QUERY.format(person, month, f"'c{city}'") + ";\n" for person, month, city in draws]
+    settings = os.environ.pop("GLIBC_TUNABLES", None)
+    try:
+        spent, refusals = beyond(program, begun, asked)
+    finally:
+        if settings is not None:
+            os.environ["GLIBC_TUNABLES"] = settings
+    return spent / len(asked), refusals
 
 
 def union(program: str) -> Timed:
