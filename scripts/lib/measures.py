@@ -151,7 +151,7 @@ def found_of(program: str, row: Row, sizes: list[int], measure: Measure) -> Foun
 
 
 def rounded(work: float) -> str:
-    return f"{work:.0f}" if work >= 100 else f"{work:.2g}"
+    return f"{work:,.0f}" if work >= 10 else f"{work:.2g}"
 
 
 def table_of(founds: list[Found]) -> str:

@@ -58,7 +58,8 @@ def head(rows: Iterable[Row]) -> str:
     span = f"{loads[0]:.1f}" + (f" to {loads[-1]:.1f}" if len(loads) > 1 else "")
     last = its[-1]
     text = f"Taken on {' and '.join(days)} on {last['machine']}, with SQLite {last['sqlite']}. The machine's load at the beginning was {span}."
-    text += f" Of times the best of {' or '.join(map(str, sorted({it['runs'] for it in its})))} runs counts, since other work on the machine only adds."
+    runs = " or ".join(map(str, sorted({it["runs"] for it in its})))
+    text += f" Of times the best of {runs} runs counts, since other work on the machine only adds."
     if loads[-1] > QUIET:
         text += " **The times are to be taken again**, as other work went on."
     return paragraph(text)
@@ -86,4 +87,5 @@ def write(kept: Kept, into: Callable[[str, str, str], None] = put) -> int:
 
 
 def here(load: float, machine: str) -> Row:
-    return {"taken": time.strftime("%Y-%m-%d %H:%M"), "load": round(load, 2), "machine": machine, "sqlite": sqlite3.sqlite_version, "runs": timed.RUNS}
+    taken = time.strftime("%Y-%m-%d %H:%M")
+    return {"taken": taken, "load": round(load, 2), "machine": machine, "sqlite": sqlite3.sqlite_version, "runs": timed.RUNS}
