@@ -117,7 +117,7 @@ static void no_plans(beas_database *db, const uint8_t *many, size_t count)
     CHECK(plan_data(db, "SELECT", bytes, 8, &length) == BEAS_ABSENT);
     CHECK(plan_data(db, "SELECT DISTINCT nothing FROM cards", bytes, 8, &length) == BEAS_ABSENT);
     CHECK(plan_data(db, "SELECT DISTINCT account FROM cards WHERE card = 1", bytes, 8, &length) == BEAS_ABSENT);
-    CHECK(is(bytes, 8, "#######") && length == 82);
+    CHECK(is(bytes, 7, "#######") && length == 82);
 }
 
 /* Plans as data, whatever the budget is, with one byte too few and with just enough. */
