@@ -24,11 +24,11 @@ def told(seconds: float | None) -> str:
 
 
 def picture(path: str, title: str, unit: Callable[[float], str], series: list[tuple[str, str, Points]]) -> None:
-    """A chart on logarithmic axes; series are (name, colour, points)."""
+    """A chart on logarithmic axes; series are (name, colour, points). What is 0, as memory below a megabyte, has no place there."""
+    series = [(name, colour, shown) for name, colour, its in series if (shown := [it for it in its if it[1] > 0])]
     points = [it for _, _, its in series for it in its]
-    seen = [it for _, _, its in series for it in its if it[1] > 0]
     low_x, high_x = (f(math.log10(x) for x, _ in points) for f in (min, max))
-    low_y, high_y = math.floor(min(math.log10(y) for _, y in seen)), math.ceil(max(math.log10(y) for _, y in seen) + 0.01)
+    low_y, high_y = math.floor(min(math.log10(y) for _, y in points)), math.ceil(max(math.log10(y) for _, y in points) + 0.01)
     place_x = lambda x: 70 + 420 * (math.log10(x) - low_x) / max(high_x - low_x, 1e-9)
     place_y = lambda y: 300 - 240 * (math.log10(y) - low_y) / (high_y - low_y)
     parts = ['<svg xmlns="http://www.w3.org/2000/svg" viewBox="0 0 640 350" font-family="sans-serif" font-size="12">',
