@@ -71,7 +71,7 @@ WORDS = {
         {
             "beas_core": "Place place",
             "attribute_closure": "open_place",
-            "binder": "place_of all_places",
+            "name_resolution": "place_of all_places",
             "named_blocks": "place_at",
             "normal_form": "Places",
             "reference_coverage": "blocks_have_few_places",

@@ -18,18 +18,18 @@ use Rattle.sql_text.specs.declared.tree.FromItem.{FromItem}
 use Rattle.sql_text.specs.declared.tree.Literal.{Literal}
 use Rattle.sql_text.specs.Symbols.{Symbol, symbols}
 use Rattle.sql_text.specs.Trees as tree
-use Rattle.binder.specs.declared.kinds.Flaw.{Flaw}
-use Rattle.binder.specs.declared.kinds.Flaw.TheVariants.{UnknownColumn, AmbiguousColumn, NumberRange, TextTooLong as LongText}
-use Rattle.binder.specs.declared.kinds.Kind.{Kind}
-use Rattle.binder.specs.declared.kinds.Kind.TheVariants as kind
-use Rattle.binder.specs.declared.meaning.LookedUp.{LookedUp}
-use Rattle.binder.specs.declared.meaning.Meaning.{Meaning}
-use Rattle.binder.specs.declared.meaning.Meaning.TheVariants.{Fixed, Unknown, Ambiguous, OutOfRange}
-use Rattle.binder.specs.Binding.{blocks_of, delete_block, delete_kinds, delete_refusals, kinds, looked_refusals, number_refusals, places_in_all, refusals, row_refusals, shape_of, text_refusals}
-use Rattle.binder.specs.LookedUp.{looked_up}
-use Rattle.binder.specs.Meanings.{literal_meaning}
-use Rattle.binder.specs.Refusing.{ambiguous_column, flaws, is_mixed, meanings, number_range, places, repeated_aliases, repeated_among, table_refusals, text_too_long, unknown_column, unknown_tables}
-use Rattle.binder.proofs.Ranges.{Each, each_append}
+use Rattle.name_resolution.specs.declared.kinds.Flaw.{Flaw}
+use Rattle.name_resolution.specs.declared.kinds.Flaw.TheVariants.{UnknownColumn, AmbiguousColumn, NumberRange, TextTooLong as LongText}
+use Rattle.name_resolution.specs.declared.kinds.Kind.{Kind}
+use Rattle.name_resolution.specs.declared.kinds.Kind.TheVariants as kind
+use Rattle.name_resolution.specs.declared.meaning.LookedUp.{LookedUp}
+use Rattle.name_resolution.specs.declared.meaning.Meaning.{Meaning}
+use Rattle.name_resolution.specs.declared.meaning.Meaning.TheVariants.{Fixed, Unknown, Ambiguous, OutOfRange}
+use Rattle.name_resolution.specs.Binding.{blocks_of, delete_block, delete_kinds, delete_refusals, kinds, looked_refusals, number_refusals, places_in_all, refusals, row_refusals, shape_of, text_refusals}
+use Rattle.name_resolution.specs.LookedUp.{looked_up}
+use Rattle.name_resolution.specs.Meanings.{literal_meaning}
+use Rattle.name_resolution.specs.Refusing.{ambiguous_column, flaws, is_mixed, meanings, number_range, places, repeated_aliases, repeated_among, table_refusals, text_too_long, unknown_column, unknown_tables}
+use Rattle.name_resolution.proofs.Ranges.{Each, each_append}
 use Rattle.sql_parser.specs.Outcome.{Parses, Reading as StatementReading}
 use Rattle.piece_reader.specs.declared.event.Event.{Event}
 use Rattle.piece_reader.specs.declared.event.Event.TheVariants.{Said, Stepped}

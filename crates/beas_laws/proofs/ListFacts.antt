@@ -7,8 +7,8 @@ use Rattle.beas_core.specs.declared.refusal.Refusal.{Refusal}
 use Rattle.beas_core.specs.Results.{refused_if}
 use Rattle.catalogue.specs.Refusing.{first_of}
 use Rattle.csv_load.specs.CsvRows.{first_some}
-use Rattle.binder.specs.Refusing.{refusals_if}
-use Rattle.binder.proofs.Ranges.{Each, each_append}
+use Rattle.name_resolution.specs.Refusing.{refusals_if}
+use Rattle.name_resolution.proofs.Ranges.{Each, each_append}
 use Rattle.session.specs.Announced.{and_then, unless_refused}
 use Rattle.session.specs.Effects.{or_refusal}
 use Rattle.beas_laws.specs.Unreadable.{unreadable_file}

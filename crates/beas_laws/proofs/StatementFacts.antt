@@ -11,7 +11,7 @@ use Rattle.beas_core.specs.declared.schema.Column.{Column}
 use Rattle.beas_core.specs.declared.schema.TableId.{TableId}
 use Rattle.beas_core.specs.Spelling.{limit_in}
 use Rattle.beas_core.specs.Types.{Row}
-use Rattle.binder.specs.Binding.{bound_delete, bound_query, bound_rows, delete_refusals, refusals, row_refusals}
+use Rattle.name_resolution.specs.Binding.{bound_delete, bound_query, bound_rows, delete_refusals, refusals, row_refusals}
 use Rattle.catalogue.specs.Database.{Database, rows_at, schema_of}
 use Rattle.catalogue.specs.Refusing.{new_access, resolve_refusal}
 use Rattle.catalogue.specs.Schema.{Schema, accesses_on, columns_at, table_named}

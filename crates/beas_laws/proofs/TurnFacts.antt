@@ -6,7 +6,7 @@ use Rattle.std.specs.Option.{option_map, option_map_or}
 use Rattle.std.proofs.lemmas.List.Elements.{All-cons, All-nil}
 use Rattle.beas_core.specs.declared.plan.Prepared.{Prepared}
 use Rattle.beas_core.specs.declared.refusal.Refusal.{Refusal}
-use Rattle.binder.proofs.Ranges.{Each}
+use Rattle.name_resolution.proofs.Ranges.{Each}
 use Rattle.catalogue.specs.Database.{schema_of}
 use Rattle.sql_tokens.specs.declared.token.Token.{Token}
 use Rattle.sql_text.specs.declared.tree.Statement.{Statement}

@@ -35,27 +35,27 @@ use Rattle.sql_text.specs.declared.tree.Literal.TheVariants.{Number, Words}
 use Rattle.sql_text.specs.declared.tree.Side.{Side}
 use Rattle.sql_text.specs.declared.tree.Side.TheVariants as side
 use Rattle.sql_text.specs.Trees as tree
-use Rattle.binder.specs.declared.kinds.Kind.{Kind}
-use Rattle.binder.specs.declared.kinds.Kind.TheVariants.{Types, Shapes, Blocks, Atoms, Outputs}
-use Rattle.binder.specs.declared.meaning.BoundColumn.{BoundColumn}
-use Rattle.binder.specs.declared.meaning.Condition.{Condition}
-use Rattle.binder.specs.declared.meaning.Condition.TheVariants.{Compare, Between}
-use Rattle.binder.specs.declared.meaning.LookedUp.{LookedUp}
-use Rattle.binder.specs.declared.meaning.Meaning.{Meaning}
-use Rattle.binder.specs.declared.meaning.Meaning.TheVariants.{At}
+use Rattle.name_resolution.specs.declared.kinds.Kind.{Kind}
+use Rattle.name_resolution.specs.declared.kinds.Kind.TheVariants.{Types, Shapes, Blocks, Atoms, Outputs}
+use Rattle.name_resolution.specs.declared.meaning.BoundColumn.{BoundColumn}
+use Rattle.name_resolution.specs.declared.meaning.Condition.{Condition}
+use Rattle.name_resolution.specs.declared.meaning.Condition.TheVariants.{Compare, Between}
+use Rattle.name_resolution.specs.declared.meaning.LookedUp.{LookedUp}
+use Rattle.name_resolution.specs.declared.meaning.Meaning.{Meaning}
+use Rattle.name_resolution.specs.declared.meaning.Meaning.TheVariants.{At}
 use Rattle.binder.specs.AtOnce.{AddsSound, ArePlacesOf, IsSoundOutput, IsSoundOver, found_over}
-use Rattle.binder.specs.Binding.{blocks_of, places_in_all, shape_of, looked_refusals, refusals, bound_query}
-use Rattle.binder.specs.Literals.{number_value}
-use Rattle.binder.specs.LookedUp.{Adds, IsSmall, all_places, atom_of, column_of, looked_up, bound_block, outputs, part_of, parts, place_of}
-use Rattle.binder.specs.Meanings.{sources, columns_named, meaning, condition, side_meaning, literal_meaning, or_out_of_range}
-use Rattle.binder.specs.Refusing.{first, refusals_if, table_refusals, unknown_tables, repeated_among, repeated_aliases, has_flaw, condition_has_flaw, block_has_flaw, kind_of, kinds_differ, is_mixed, same_kinds, places}
-use Rattle.binder.proofs.BindFacts.{small, none_left, none_right}
-use Rattle.binder.proofs.FirstFacts.{first_none}
-use Rattle.binder.proofs.FlawFacts.{not_left, not_right, joined, other_refusals}
-use Rattle.binder.proofs.PartFacts.{adds_none, adds_both, bound_is}
-use Rattle.binder.proofs.Ranges.{ref_fits, widths_few}
-use Rattle.binder.proofs.WellFormed.{query_fits}
-use Rattle.binder.proofs.OverTables.{query_over}
+use Rattle.name_resolution.specs.Binding.{blocks_of, places_in_all, shape_of, looked_refusals, refusals, bound_query}
+use Rattle.name_resolution.specs.Literals.{number_value}
+use Rattle.name_resolution.specs.LookedUp.{Adds, IsSmall, all_places, atom_of, column_of, looked_up, bound_block, outputs, part_of, parts, place_of}
+use Rattle.name_resolution.specs.Meanings.{sources, columns_named, meaning, condition, side_meaning, literal_meaning, or_out_of_range}
+use Rattle.name_resolution.specs.Refusing.{first, refusals_if, table_refusals, unknown_tables, repeated_among, repeated_aliases, has_flaw, condition_has_flaw, block_has_flaw, kind_of, kinds_differ, is_mixed, same_kinds, places}
+use Rattle.name_resolution.proofs.BindFacts.{small, none_left, none_right}
+use Rattle.name_resolution.proofs.FirstFacts.{first_none}
+use Rattle.name_resolution.proofs.FlawFacts.{not_left, not_right, joined, other_refusals}
+use Rattle.name_resolution.proofs.PartFacts.{adds_none, adds_both, bound_is}
+use Rattle.name_resolution.proofs.Ranges.{ref_fits, widths_few}
+use Rattle.name_resolution.proofs.WellFormed.{query_fits}
+use Rattle.name_resolution.proofs.OverTables.{query_over}
 
 -- ---- conditions
 

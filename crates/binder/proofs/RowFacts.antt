@@ -5,8 +5,8 @@ use Rattle.std.proofs.lemmas.List.{take_more}
 use Rattle.std.proofs.lemmas.List.Elements.{filter_map-append}
 use Rattle.beas_core.specs.declared.value.Value.{Value}
 use Rattle.sql_text.specs.declared.tree.Literal.{Literal}
-use Rattle.binder.specs.Binding.{value_of, bound_row}
-use Rattle.binder.specs.Meanings.{literal_meaning}
+use Rattle.name_resolution.specs.Binding.{value_of, bound_row}
+use Rattle.name_resolution.specs.Meanings.{literal_meaning}
 
 pub row_to : (literals : List Literal) (i : ℕ) (literal : Literal) (value : Value) → i < length literals → literal ≡ get_or literals i literal
     → value_of (literal_meaning literal) ≡ Some value → bound_row (take i literals) ++ value ∷ [] ≡ bound_row (take (i + 1) literals)

@@ -18,17 +18,17 @@ use Rattle.beas_core.specs.declared.query.Sign.{Sign}
 use Rattle.beas_core.specs.declared.value.Value.TheVariants.{Int, Str}
 use Rattle.sql_text.specs.declared.tree.BlockTree.{BlockTree}
 use Rattle.sql_text.specs.declared.tree.ColumnRef.{ColumnRef}
-use Rattle.binder.specs.declared.found.NamedAtom.{NamedAtom}
-use Rattle.binder.specs.declared.meaning.Condition.{Condition}
-use Rattle.binder.specs.declared.meaning.LookedUp.{LookedUp}
-use Rattle.binder.specs.declared.meaning.Meaning.{Meaning}
-use Rattle.binder.specs.declared.meaning.Meaning.TheVariants.{At, Fixed}
+use Rattle.name_resolution.specs.declared.found.NamedAtom.{NamedAtom}
+use Rattle.name_resolution.specs.declared.meaning.Condition.{Condition}
+use Rattle.name_resolution.specs.declared.meaning.LookedUp.{LookedUp}
+use Rattle.name_resolution.specs.declared.meaning.Meaning.{Meaning}
+use Rattle.name_resolution.specs.declared.meaning.Meaning.TheVariants.{At, Fixed}
 use Rattle.binder.specs.declared.sound.Sound.{Sound}
 use Rattle.binder.specs.declared.sound.Sound.TheVariants as sound
-use Rattle.binder.specs.LookedUp.{Adds, bound_block, column_of, outputs, part_of, parts, place_of}
-use Rattle.binder.specs.Meanings.{condition, named_by}
-use Rattle.binder.specs.Refusing.{condition_has_flaw, has_flaw, is_mixed, kind_of, kinds_differ}
-use Rattle.binder.specs.Scopes.{found_in, meaning_by, source_of}
+use Rattle.name_resolution.specs.LookedUp.{Adds, bound_block, column_of, outputs, part_of, parts, place_of}
+use Rattle.name_resolution.specs.Meanings.{condition, named_by}
+use Rattle.name_resolution.specs.Refusing.{condition_has_flaw, has_flaw, is_mixed, kind_of, kinds_differ}
+use Rattle.name_resolution.specs.Scopes.{found_in, meaning_by, source_of}
 
 abbrev pub told_among : List NamedAtom → ColumnRef → Meaning
 told_among atoms ref = meaning_by ref (found_in (named_by (map source_of atoms) ref))

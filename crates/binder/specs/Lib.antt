@@ -1,7 +1,1 @@
 pub mod AtOnce
-pub mod Binding
-pub mod Literals
-pub mod LookedUp
-pub mod Meanings
-pub mod Refusing
-pub mod Scopes

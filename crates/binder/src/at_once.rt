@@ -8,23 +8,22 @@ ghost use Rattle.beas_core.specs.Trees.{QueryTree};
 ghost use Rattle.sql_text.specs.Trees as written;
 ghost use Rattle.catalogue.specs.Schema.{SchemaIsSound};
 ghost use Rattle.binder.specs.AtOnce.{AddsSound, ArePlacesOf, IsSoundOutput, IsSoundOver, PairAdds, meaning_of, told_among};
-ghost use Rattle.binder.specs.Binding.{refusals, bound_query};
-ghost use Rattle.binder.specs.declared.meaning.Condition.TheVariants.{Between, Compare};
-ghost use Rattle.binder.specs.declared.meaning.Meaning.TheVariants.{At, Fixed};
-ghost use Rattle.binder.specs.LookedUp.{looked_up, bound_block, IsSmall};
-ghost use Rattle.binder.specs.Meanings.{condition, side_meaning};
-ghost use Rattle.binder.specs.Refusing.{first};
+ghost use Rattle.name_resolution.specs.Binding.{refusals, bound_query};
+ghost use Rattle.name_resolution.specs.declared.meaning.Condition.TheVariants.{Between, Compare};
+ghost use Rattle.name_resolution.specs.declared.meaning.Meaning.TheVariants.{At, Fixed};
+ghost use Rattle.name_resolution.specs.LookedUp.{looked_up, bound_block, IsSmall};
+ghost use Rattle.name_resolution.specs.Meanings.{condition, side_meaning};
+ghost use Rattle.name_resolution.specs.Refusing.{first};
 
-use crate::building::{add_part, all_places, mirrored_sign, place_of, with_column, with_value};
-use crate::found::NamedAtom;
-use crate::meaning::BoundColumn;
-use crate::names::{FEW, atoms_in_order};
-use crate::refusing::same_kind;
 use crate::sound::{Sound, column_among, sound_side};
 use beas_core::{
     Atom, Block, ColType, Fail, Limits, List, NoMemory, Place, Query, QueryNode, Sign, Text, Value,
 };
 use catalogue::Catalogue;
+use name_resolution::{
+    BoundColumn, FEW, NamedAtom, add_part, all_places, atoms_in_order, mirrored_sign, place_of,
+    same_kind, with_column, with_value,
+};
 use sql_text::{BlockTree, ColumnRef, Cond, SelectNode, SelectTree, Side};
 use std::alloc::Global;
 

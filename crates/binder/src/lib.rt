@@ -1,8 +1,8 @@
 //! Names become places: queries, the rows of an INSERT and the conditions of a DELETE are bound to a catalogue.
 //!
-//! The contracts speak in `specs/Binding`: why something is refused, and what it is bound to where it isn't. This
-//! stands on `Meanings`, what a name stands for, `LookedUp`, blocks with their names looked up, and `Refusing`, the
-//! places of each kind of refusal in their order.
+//! The contracts speak in `specs/Binding` of `name_resolution`: why something is refused, and what it is bound to if it
+//! isn't. A query of one block is bound here in one walk if nothing in it is to be refused; else `name_resolution` finds
+//! out what.
 //!
 //! Scripts and sessions with lowered limits test it (`session_cases/data`), and so do drawn queries
 //! (`drawn_queries`). It doesn't promise that a query is covered, nor that the rows of an INSERT fit their table, since
@@ -11,19 +11,9 @@
 
 mod at_once;
 mod binding;
-mod building;
-mod deleting;
-mod found;
-mod kinds;
-mod literals;
-mod looking_up;
-mod meaning;
-mod names;
-mod refusing;
 mod rows;
-mod scope;
 mod sound;
 
 pub use binding::bind;
-pub use deleting::bind_delete;
+pub use name_resolution::bind_delete;
 pub use rows::bind_rows;

@@ -1,13 +1,12 @@
 // Binds the rows of an INSERT.
 ghost use Rattle.std.specs.Prelude.{◌≡◌, IfOk};
 ghost use Rattle.std.specs.List.{flat_map};
-ghost use Rattle.binder.specs.Binding.{number_refusals, text_refusals, row_refusals, bound_row, bound_rows};
+ghost use Rattle.name_resolution.specs.Binding.{number_refusals, text_refusals, row_refusals, bound_row, bound_rows};
 ghost use Rattle.beas_core.specs.Results.{IsRefusedAs};
-ghost use Rattle.binder.specs.Refusing.{first};
+ghost use Rattle.name_resolution.specs.Refusing.{first};
 
-use crate::literals::literal_value;
-use crate::refusing::refuse_text;
 use beas_core::{Fail, Limits, List, Row};
+use name_resolution::{literal_value, refuse_text};
 use sql_text::Literal;
 use std::alloc::Global;
 
@@ -62,7 +61,7 @@ fn refuse_long_rows(limit: u32, rows: &[List<Literal>]) -> Result<(), Fail>
 }
 
 /// Binds the rows of an INSERT. Numbers that no i64 has are refused before texts that are too long.
-#[tactic(auto, unfolding(crate::specs::Binding::row_refusals))]
+#[tactic(auto, unfolding(name_resolution::specs::Binding::row_refusals))]
 pub fn bind_rows(
     alloc: Global,
     limits: &Limits,

@@ -1,13 +1,10 @@
 // What the refs and the literals of a block of few atoms stand for, where they have no flaw. Nothing is copied.
 ghost use Rattle.std.specs.Prelude.{◌≡◌, MatchOption};
-ghost use Rattle.binder.specs.declared.meaning.Meaning.TheVariants.{At};
+ghost use Rattle.name_resolution.specs.declared.meaning.Meaning.TheVariants.{At};
 ghost use Rattle.binder.specs.AtOnce.{IsSoundly, told_among};
-ghost use Rattle.binder.specs.Meanings.{literal_meaning, side_meaning};
+ghost use Rattle.name_resolution.specs.Meanings.{literal_meaning, side_meaning};
 
-use crate::found::{Found, NamedAtom};
-use crate::literals::signed_number;
-use crate::meaning::BoundColumn;
-use crate::names::find_among;
+use name_resolution::{BoundColumn, Found, NamedAtom, find_among, signed_number};
 use sql_text::{ColumnRef, Literal, Side};
 
 /// What a side of a condition stands for, where it has no flaw.

@@ -28,11 +28,11 @@ use Rattle.evaluation_facts.proofs.TaskFacts.{task_normals}
 use Rattle.catalogue.specs.Queries.{QueryIsOver}
 use Rattle.catalogue.specs.Schema.{Schema, SchemaIsSound}
 use Rattle.sql_text.specs.Trees.{Tree}
-use Rattle.binder.specs.Binding.{blocks_of as blocks_in, bound_query, looked_refusals, refusals}
-use Rattle.binder.specs.LookedUp.{looked_up}
-use Rattle.binder.specs.Refusing.{first, repeated_aliases, unknown_tables}
-use Rattle.binder.proofs.OverTables.{query_over}
-use Rattle.binder.proofs.WellFormed.{query_fits}
+use Rattle.name_resolution.specs.Binding.{blocks_of as blocks_in, bound_query, looked_refusals, refusals}
+use Rattle.name_resolution.specs.LookedUp.{looked_up}
+use Rattle.name_resolution.specs.Refusing.{first, repeated_aliases, unknown_tables}
+use Rattle.name_resolution.proofs.OverTables.{query_over}
+use Rattle.name_resolution.proofs.WellFormed.{query_fits}
 use Rattle.plan_builder.specs.declared.blocks.BlockAt.{BlockAt}
 use Rattle.plan_builder.specs.Parts.{blocks_at, task_at}
 use Rattle.plan_builder.specs.Preparation.{announced_number, constraints_with, plans_of, preparation, preparation_over, prepared_query, unless_uncovered, with_lists}

@@ -23,9 +23,9 @@ use Rattle.sql_text.specs.declared.tree.Cond.{Cond}
 use Rattle.sql_text.specs.declared.tree.Literal.{Literal}
 use Rattle.sql_text.specs.declared.tree.Statement.{Statement}
 use Rattle.sql_text.specs.declared.tree.Statement.TheVariants.{CreateTable, CreateAccess, DropAccess, Load, Insert, Delete, DiscoverGroup, DiscoverPairs, Select, Explain, ScanOk, Grouped, Specialise}
-use Rattle.binder.specs.Binding.{bound_delete, delete_refusals}
-use Rattle.binder.specs.Refusing.{table_refusals}
-use Rattle.binder.specs.LookedUp.{atom_of, bound_block, looked_up}
+use Rattle.name_resolution.specs.Binding.{bound_delete, delete_refusals}
+use Rattle.name_resolution.specs.Refusing.{table_refusals}
+use Rattle.name_resolution.specs.LookedUp.{atom_of, bound_block, looked_up}
 use Rattle.session.specs.declared.loading.LoadOutcome.{LoadOutcome}
 use Rattle.session.specs.declared.loading.LoadOutcome.TheVariants.{Content, Failed, TooLong}
 use Rattle.specialise.specs.Specialised.{specialised}

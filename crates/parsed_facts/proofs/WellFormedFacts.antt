@@ -15,9 +15,9 @@ use Rattle.sql_text.specs.Grouping.{grouped_block}
 use Rattle.sql_text.specs.Symbols.{Symbol, symbol_of, symbols}
 use Rattle.sql_text.specs.Trees.{Tree, Block}
 use Rattle.sql_text.specs.Words.{BY, GROUP, OPEN, CLOSE, COMMA, INSERT, INTO, VALUES, DELETE, FROM, SELECT, STAR}
-use Rattle.binder.specs.Binding.{blocks_of}
-use Rattle.binder.proofs.BindFacts.{all_of}
-use Rattle.binder.proofs.SpelledTrees.{IsFew, query_few}
+use Rattle.name_resolution.specs.Binding.{blocks_of}
+use Rattle.name_resolution.proofs.BindFacts.{all_of}
+use Rattle.name_resolution.proofs.SpelledTrees.{IsFew, query_few}
 use Rattle.piece_reader.specs.declared.event.Event.{Event}
 use Rattle.piece_reader.specs.Sayings.{IsReadAs, statement_in}
 use Rattle.piece_reader.proofs.SayingFacts.{statement_is_in}

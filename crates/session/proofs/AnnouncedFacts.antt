@@ -10,8 +10,8 @@ use Rattle.beas_core.specs.Trees.{QueryTree}
 use Rattle.beas_core.specs.Results.{Gives, IsRefusedAs}
 use Rattle.catalogue.specs.Schema.{Schema}
 use Rattle.sql_text.specs.Trees.{Tree}
-use Rattle.binder.specs.Binding.{refusals, bound_query}
-use Rattle.binder.specs.Refusing.{first}
+use Rattle.name_resolution.specs.Binding.{refusals, bound_query}
+use Rattle.name_resolution.specs.Refusing.{first}
 use Rattle.plan_builder.specs.Preparation.{preparation}
 use Rattle.session.specs.Announced.{and_then, announcement, binding, within_budget}
 use Rattle.session.proofs.CarryFacts.{failed}

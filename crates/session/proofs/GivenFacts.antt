@@ -5,7 +5,7 @@ use Rattle.beas_core.specs.declared.errors.Fail.{Fail}
 use Rattle.beas_core.specs.declared.errors.Fail.TheVariants.{NoMemory, Refused}
 use Rattle.beas_core.specs.declared.refusal.Refusal.{Refusal}
 use Rattle.beas_core.specs.Results.{Gives, IsRefusedAs}
-use Rattle.binder.specs.Refusing.{first}
+use Rattle.name_resolution.specs.Refusing.{first}
 use Rattle.session.specs.Announced.{and_then, unless_refused}
 use Rattle.session.specs.Effects.{or_refusal}
 use Rattle.session.proofs.CarryFacts.{failed}

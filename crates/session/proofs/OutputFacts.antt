@@ -19,16 +19,16 @@ use Rattle.sql_text.specs.declared.tree.ColumnRef.{ColumnRef}
 use Rattle.sql_text.specs.declared.tree.GroupItem.{GroupItem}
 use Rattle.sql_text.specs.Grouping.{IsGroupedOver, column_in, grouped_block}
 use Rattle.sql_text.specs.Trees.{Tree, Block as BlockOf}
-use Rattle.binder.specs.declared.kinds.Flaw.TheVariants.{UnknownColumn, AmbiguousColumn}
-use Rattle.binder.specs.declared.kinds.Kind.TheVariants.{OfMeaning, Outputs}
-use Rattle.binder.specs.declared.meaning.BoundColumn.{BoundColumn}
-use Rattle.binder.specs.declared.meaning.LookedUp.{LookedUp}
-use Rattle.binder.specs.Binding.{bound_query, kinds, looked_refusals, places_in_all, refusals}
-use Rattle.binder.specs.LookedUp.{all_places, atom_of, bound_block, column_of, looked_up, place_of}
-use Rattle.binder.specs.Meanings.{Source, meaning, named_by, sources, the_one}
-use Rattle.binder.specs.Refusing.{ambiguous_column, first, flaws, meanings, places, repeated_aliases, sides, unknown_column, unknown_tables}
-use Rattle.binder.proofs.BindFacts.{none_each, none_left, not_over}
-use Rattle.binder.proofs.Ranges.{Each}
+use Rattle.name_resolution.specs.declared.kinds.Flaw.TheVariants.{UnknownColumn, AmbiguousColumn}
+use Rattle.name_resolution.specs.declared.kinds.Kind.TheVariants.{OfMeaning, Outputs}
+use Rattle.name_resolution.specs.declared.meaning.BoundColumn.{BoundColumn}
+use Rattle.name_resolution.specs.declared.meaning.LookedUp.{LookedUp}
+use Rattle.name_resolution.specs.Binding.{bound_query, kinds, looked_refusals, places_in_all, refusals}
+use Rattle.name_resolution.specs.LookedUp.{all_places, atom_of, bound_block, column_of, looked_up, place_of}
+use Rattle.name_resolution.specs.Meanings.{Source, meaning, named_by, sources, the_one}
+use Rattle.name_resolution.specs.Refusing.{ambiguous_column, first, flaws, meanings, places, repeated_aliases, sides, unknown_column, unknown_tables}
+use Rattle.name_resolution.proofs.BindFacts.{none_each, none_left, not_over}
+use Rattle.name_resolution.proofs.Ranges.{Each}
 use Rattle.plan_builder.specs.Preparation.{announced_number, prepared_query, preparation, unless_uncovered}
 use Rattle.session.specs.Announced.{and_then, announcement, unless_refused, within_budget}
 use Rattle.session.specs.Grouping.{HasOutputs}

@@ -18,12 +18,12 @@ use Rattle.catalogue.specs.Database.{Table}
 use Rattle.catalogue.specs.Schema.{Schema}
 use Rattle.catalogue.specs.Stored.{tables_with}
 use Rattle.sql_text.specs.Trees.{Tree}
-use Rattle.binder.specs.declared.kinds.Kind.TheVariants.{Blocks}
-use Rattle.binder.specs.declared.meaning.LookedUp.{LookedUp}
-use Rattle.binder.specs.Binding.{blocks_of, kinds, looked_refusals, places_in_all, refusals, shape_of}
-use Rattle.binder.specs.LookedUp.{looked_up}
-use Rattle.binder.specs.Refusing.{first, places, repeated_aliases, unknown_tables}
-use Rattle.binder.proofs.BindFacts.{none_each, none_left, not_over}
+use Rattle.name_resolution.specs.declared.kinds.Kind.TheVariants.{Blocks}
+use Rattle.name_resolution.specs.declared.meaning.LookedUp.{LookedUp}
+use Rattle.name_resolution.specs.Binding.{blocks_of, kinds, looked_refusals, places_in_all, refusals, shape_of}
+use Rattle.name_resolution.specs.LookedUp.{looked_up}
+use Rattle.name_resolution.specs.Refusing.{first, places, repeated_aliases, unknown_tables}
+use Rattle.name_resolution.proofs.BindFacts.{none_each, none_left, not_over}
 use Rattle.partial_plan.specs.declared.plan.ScanPlan.{ScanPlan}
 use Rattle.partial_plan.specs.ScanPlans.{scan_preparation}
 use Rattle.partial_plan.specs.Scans.{TableSizes, sizes_of_tables}

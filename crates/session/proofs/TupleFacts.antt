@@ -5,8 +5,8 @@ use Rattle.std.proofs.lemmas.List.Elements.{All-map, All-weaker}
 use Rattle.std.specs.List.{filter_map, cons_option}
 use Rattle.beas_core.specs.declared.value.Value.{Value}
 use Rattle.sql_text.specs.declared.tree.Literal.{Literal}
-use Rattle.binder.specs.Binding.{bound_row, bound_rows, value_of}
-use Rattle.binder.specs.Meanings.{literal_meaning}
+use Rattle.name_resolution.specs.Binding.{bound_row, bound_rows, value_of}
+use Rattle.name_resolution.specs.Meanings.{literal_meaning}
 
 pub fewer : {X Y : Type 0} (f : X → Option Y) (xs : List X) → length (filter_map f xs) ≤ length xs
 fewer f [] = omega arith

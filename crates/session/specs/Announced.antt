@@ -11,7 +11,7 @@ use Rattle.beas_core.specs.declared.refusal.Refusal.TheVariants.{OverBudget}
 use Rattle.beas_core.specs.Trees.{QueryTree}
 use Rattle.catalogue.specs.Schema.{Schema}
 use Rattle.sql_text.specs.Trees.{Tree}
-use Rattle.binder.specs.Binding.{refusals, bound_query}
+use Rattle.name_resolution.specs.Binding.{refusals, bound_query}
 use Rattle.partial_plan.specs.declared.plan.ScanPlan.{ScanPlan}
 use Rattle.partial_plan.specs.ScanPlans.{scan_preparation}
 use Rattle.plan_builder.specs.Preparation.{preparation}

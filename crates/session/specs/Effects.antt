@@ -34,7 +34,7 @@ use Rattle.sql_text.specs.declared.tree.ColumnRef.{ColumnRef}
 use Rattle.sql_text.specs.declared.tree.GroupItem.{GroupItem}
 use Rattle.sql_text.specs.declared.tree.Statement.TheVariants as statement
 use Rattle.sql_text.specs.Trees.{Tree}
-use Rattle.binder.specs.Binding.{row_refusals, bound_rows, delete_refusals, bound_delete}
+use Rattle.name_resolution.specs.Binding.{row_refusals, bound_rows, delete_refusals, bound_delete}
 use Rattle.csv_load.specs.CsvRows.{fault_of, rows_in}
 use Rattle.constraint_miner.specs.Pairs.{pairs_in}
 use Rattle.report.specs.declared.reports.Report.{Report}

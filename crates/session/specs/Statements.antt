@@ -10,7 +10,7 @@ use Rattle.sql_text.specs.declared.tree.Statement.{Statement}
 use Rattle.sql_text.specs.declared.tree.Statement.TheVariants.{CreateTable, CreateAccess, DropAccess, Load, Insert, Delete, DiscoverGroup, DiscoverPairs, Select, Explain, ScanOk, Grouped, Specialise}
 use Rattle.sql_text.specs.Grouping.{IsGroupedOver}
 use Rattle.sql_text.specs.Trees.{Tree}
-use Rattle.binder.specs.Binding.{blocks_of}
+use Rattle.name_resolution.specs.Binding.{blocks_of}
 
 pub record TreeIsWellFormed (tree : Tree) : Type 0 where
   pub few_blocks : length (blocks_of tree) < 2 ^ 32

@@ -8,8 +8,8 @@ use Rattle.beas_core.specs.Results.{Gives, IsRefusedAs}
 use Rattle.beas_core.specs.Trees.{QueryTree}
 use Rattle.catalogue.specs.Database.{Database, schema_of}
 use Rattle.catalogue.specs.Schema.{Schema}
-use Rattle.binder.specs.Binding.{bound_query, refusals}
-use Rattle.binder.specs.Refusing.{first}
+use Rattle.name_resolution.specs.Binding.{bound_query, refusals}
+use Rattle.name_resolution.specs.Refusing.{first}
 use Rattle.plan_builder.specs.Preparation.{preparation}
 use Rattle.report.specs.declared.reports.Report.TheVariants.{Explained, Refused}
 use Rattle.report.specs.Plans.{plan_text}

@@ -1,4 +1,4 @@
-use Rattle.binder.specs.Meanings.{condition}
+use Rattle.name_resolution.specs.Meanings.{condition}
 use Rattle.binder.specs.AtOnce.{told_among}
 use Rattle.binder.proofs.AtOnceFacts.{sound_to}
 use Rattle.binder.proofs.at_once.add_all_if_sound.Goals as goal

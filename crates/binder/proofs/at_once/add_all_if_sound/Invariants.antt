@@ -1,5 +1,5 @@
 use Rattle.std.proofs.Common.{take, map}
-use Rattle.binder.specs.Meanings.{condition}
+use Rattle.name_resolution.specs.Meanings.{condition}
 use Rattle.binder.specs.AtOnce.{AddsSound, told_among}
 use Rattle.binder.proofs.at_once.add_all_if_sound.Given as goal
 

@@ -2,14 +2,14 @@ use Rattle.std.proofs.Common.{◌≡◌, ◌≤◌, ◌==◌, length, map, ap, s
 use Rattle.std.specs.List.{list_any}
 use Rattle.std.proofs.lemmas.Result.{IfOk-weaker}
 use Rattle.beas_core.specs.declared.query.Atom.{Atom}
-use Rattle.binder.specs.declared.found.NamedAtom.{NamedAtom}
+use Rattle.name_resolution.specs.declared.found.NamedAtom.{NamedAtom}
 use Rattle.binder.specs.AtOnce.{told_among}
-use Rattle.binder.specs.LookedUp.{IsSmall, atom_of}
-use Rattle.binder.specs.Meanings.{sources}
-use Rattle.binder.specs.Refusing.{first, repeated_among}
-use Rattle.binder.specs.Scopes.{source_of}
+use Rattle.name_resolution.specs.LookedUp.{IsSmall, atom_of}
+use Rattle.name_resolution.specs.Meanings.{sources}
+use Rattle.name_resolution.specs.Refusing.{first, repeated_among}
+use Rattle.name_resolution.specs.Scopes.{source_of}
 use Rattle.binder.proofs.AtOnceFacts.{bound_sound, none_refused, ref_small}
-use Rattle.binder.proofs.FewFacts.{few_names}
+use Rattle.name_resolution.proofs.FewFacts.{few_names}
 use Rattle.binder.proofs.at_once.block_at_once.Goals as goal
 
 pub bound_over-requires-clause-small : goal.bound_over-requires-clause-small

@@ -1,10 +1,10 @@
 use Rattle.std.proofs.Common.{◌∙◌, map, ap, subst, refl}
 use Rattle.beas_core.specs.declared.query.Block.{Block}
 use Rattle.sql_text.specs.declared.tree.ColumnRef.{ColumnRef}
-use Rattle.binder.specs.declared.meaning.Meaning.{Meaning}
+use Rattle.name_resolution.specs.declared.meaning.Meaning.{Meaning}
 use Rattle.binder.specs.AtOnce.{AddsSound, IsSoundOutput, found_over, told_among}
-use Rattle.binder.specs.LookedUp.{outputs}
-use Rattle.binder.specs.Meanings.{condition}
+use Rattle.name_resolution.specs.LookedUp.{outputs}
+use Rattle.name_resolution.specs.Meanings.{condition}
 use Rattle.binder.proofs.AtOnceFacts.{of_some, sound_over}
 use Rattle.binder.proofs.at_once.bound_over.Goals as goal
 

@@ -1,8 +1,8 @@
 use Rattle.std.proofs.Common.{◌≡◌, length, sym, ◌∙◌, ap, subst}
 use Rattle.std.proofs.lemmas.Result.{IfOk-weaker}
-use Rattle.binder.specs.Binding.{bound_query}
-use Rattle.binder.proofs.FirstFacts.{if_answered}
-use Rattle.binder.proofs.OverTables.{as_many_blocks}
+use Rattle.name_resolution.specs.Binding.{bound_query}
+use Rattle.name_resolution.proofs.FirstFacts.{if_answered}
+use Rattle.name_resolution.proofs.OverTables.{as_many_blocks}
 use Rattle.beas_core.specs.Shapes.{QueryIsWellFormed}
 use Rattle.beas_core.specs.Trees as query
 use Rattle.catalogue.specs.Queries.{QueryIsOver}

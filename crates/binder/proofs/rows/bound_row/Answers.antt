@@ -1,8 +1,8 @@
 use Rattle.std.proofs.Common.{sym, ◌∙◌, ap, ◌++◌, ◌∷◌, [], arith}
 use Rattle.std.proofs.lemmas.Result.{err_from_is_err_and}
-use Rattle.binder.specs.Binding.{number_refusals}
+use Rattle.name_resolution.specs.Binding.{number_refusals}
 use Rattle.binder.proofs.RowFacts.{row_to}
-use Rattle.binder.proofs.FirstFacts.{from_start, next_ok, err_next, at_end}
+use Rattle.name_resolution.proofs.FirstFacts.{from_start, next_ok, err_next, at_end}
 use Rattle.binder.proofs.rows.bound_row.Goals as goal
 
 pub loop-literal-init : goal.loop-literal-init

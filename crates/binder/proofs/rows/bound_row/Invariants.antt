@@ -1,8 +1,8 @@
 use Rattle.std.proofs.Common.{◌≡◌, take}
 use Rattle.std.specs.List.{flat_map}
-use Rattle.binder.specs.Binding.{number_refusals, bound_row}
-use Rattle.binder.specs.Refusing.{first}
-use Rattle.binder.proofs.FirstFacts.{first_from}
+use Rattle.name_resolution.specs.Binding.{number_refusals, bound_row}
+use Rattle.name_resolution.specs.Refusing.{first}
+use Rattle.name_resolution.proofs.FirstFacts.{first_from}
 use Rattle.binder.proofs.rows.bound_row.Given as goal
 
 abbrev pub invariant-loop-literal : goal.invariant-loop-literal

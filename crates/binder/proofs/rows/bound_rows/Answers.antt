@@ -2,8 +2,8 @@ use Rattle.std.proofs.Common.{sym, ◌∙◌, ap, ◌++◌, ◌∷◌, [], take,
 use Rattle.std.specs.List.{flat_map}
 use Rattle.std.proofs.lemmas.List.{map_more}
 use Rattle.std.proofs.lemmas.Result.{err_from_is_err_and}
-use Rattle.binder.specs.Binding.{number_refusals, bound_row, bound_rows}
-use Rattle.binder.proofs.FirstFacts.{from_start, next_ok, err_next, at_end}
+use Rattle.name_resolution.specs.Binding.{number_refusals, bound_row, bound_rows}
+use Rattle.name_resolution.proofs.FirstFacts.{from_start, next_ok, err_next, at_end}
 use Rattle.binder.proofs.rows.bound_rows.Goals as goal
 
 pub loop-row-init : goal.loop-row-init

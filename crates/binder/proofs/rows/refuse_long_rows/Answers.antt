@@ -1,8 +1,8 @@
 use Rattle.std.proofs.Common.{sym, ◌∙◌, arith}
 use Rattle.std.specs.List.{flat_map}
 use Rattle.std.proofs.lemmas.Result.{err_from_is_err_and}
-use Rattle.binder.specs.Binding.{text_refusals}
-use Rattle.binder.proofs.FirstFacts.{from_start, next_ok, err_next, at_end}
+use Rattle.name_resolution.specs.Binding.{text_refusals}
+use Rattle.name_resolution.proofs.FirstFacts.{from_start, next_ok, err_next, at_end}
 use Rattle.binder.proofs.rows.refuse_long_rows.Goals as goal
 
 pub loop-row-init : goal.loop-row-init

@@ -1,7 +1,7 @@
 use Rattle.std.proofs.Common.{◌≡◌, ◌^◌, ◌<◌, All, length, List, subst, sym}
 use Rattle.std.proofs.lemmas.Result.{IfOk-weaker}
 use Rattle.beas_core.specs.declared.value.Value.{Value}
-use Rattle.binder.specs.Binding.{bound_rows}
+use Rattle.name_resolution.specs.Binding.{bound_rows}
 use Rattle.session.proofs.TupleFacts.{tuples_give_narrow}
 use Rattle.session.proofs.changes.bound_tuples.Goals as goal
 

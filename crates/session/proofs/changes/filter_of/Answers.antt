@@ -2,7 +2,7 @@ use Rattle.std.proofs.Common.{◌≡◌, ◌<◌, length, subst, sym}
 use Rattle.beas_core.specs.declared.query.Block.{Block}
 use Rattle.beas_core.specs.Shapes.{width_of}
 use Rattle.beas_core.specs.Results.{Gives}
-use Rattle.binder.specs.Binding.{bound_delete, delete_refusals}
+use Rattle.name_resolution.specs.Binding.{bound_delete, delete_refusals}
 use Rattle.catalogue.specs.Database.{block_table, schema_of}
 use Rattle.catalogue.specs.Queries.{BlockIsOver}
 use Rattle.catalogue.specs.Schema.{columns_at}

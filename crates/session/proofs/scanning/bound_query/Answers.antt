@@ -2,7 +2,7 @@ use Rattle.std.proofs.Common.{◌≤◌, All, length, arith}
 use Rattle.std.proofs.lemmas.Result.{IfOk-weaker}
 use Rattle.beas_core.specs.Shapes.{QueryIsWellFormed}
 use Rattle.beas_core.specs.Trees.{QueryTree}
-use Rattle.binder.specs.Binding.{blocks_of, bound_query, refusals}
+use Rattle.name_resolution.specs.Binding.{blocks_of, bound_query, refusals}
 use Rattle.session.proofs.GivenFacts.{given}
 use Rattle.session.proofs.ScanFacts.{few_bound}
 use Rattle.session.proofs.scanning.bound_query.Goals as goal

@@ -3,7 +3,7 @@ use Rattle.std.proofs.lemmas.Result.{IfOk-weaker}
 use Rattle.beas_core.specs.Results.{Gives}
 use Rattle.beas_core.specs.Shapes.{BlockIsWellFormed, QueryIsWellFormed}
 use Rattle.beas_core.specs.Trees.{QueryTree}
-use Rattle.binder.specs.Binding.{blocks_of, bound_query, refusals}
+use Rattle.name_resolution.specs.Binding.{blocks_of, bound_query, refusals}
 use Rattle.catalogue.specs.Queries.{BlockIsOver, QueryIsOver}
 use Rattle.session.specs.Announced.{binding}
 use Rattle.session.specs.Grouping.{first_block}

@@ -1,6 +1,0 @@
-use Rattle.std.proofs.Common.{◌≡◌, map, take}
-use Rattle.binder.specs.LookedUp.{bound_block}
-use Rattle.binder.proofs.binding.bound_blocks.Given as goal
-
-abbrev pub invariant-loop-block : goal.invariant-loop-block
-invariant-loop-block l = l.all.items ≡ map bound_block (take l.block-index l.blocks)

@@ -1,9 +1,0 @@
-use Rattle.std.proofs.Common.{◌≡◌}
-use Rattle.std.specs.List.{flat_map}
-use Rattle.binder.specs.Refusing.{first, unknown_tables}
-use Rattle.binder.proofs.FirstFacts.{first_from}
-use Rattle.binder.proofs.binding.want_all_tables.Given as goal
-
-abbrev pub invariant-loop-block : goal.invariant-loop-block
-invariant-loop-block l = first_from (λ b. unknown_tables l.catalogue b.now) l.blocks l.block-index ≡ first (flat_map
-    (λ b. unknown_tables l.catalogue b.now) l.blocks)

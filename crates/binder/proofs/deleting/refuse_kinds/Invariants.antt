@@ -1,8 +1,0 @@
-use Rattle.std.proofs.Common.{◌≡◌, []}
-use Rattle.binder.specs.Binding.{places_of_kinds}
-use Rattle.binder.specs.Refusing.{first, places}
-use Rattle.binder.proofs.FirstFacts.{first_from}
-use Rattle.binder.proofs.deleting.refuse_kinds.Given as goal
-
-abbrev pub invariant-loop-kind : goal.invariant-loop-kind
-invariant-loop-kind l = first_from (λ kind. places kind l.limits [] (1, l.block)) l.kinds l.kind-index ≡ first (places_of_kinds l.limits l.block l.kinds)

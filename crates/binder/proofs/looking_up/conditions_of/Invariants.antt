@@ -1,7 +1,0 @@
-use Rattle.std.proofs.Common.{◌≡◌, map, take}
-use Rattle.binder.specs.Meanings.{condition}
-use Rattle.binder.specs.Scopes.{told_by}
-use Rattle.binder.proofs.looking_up.conditions_of.Given as goal
-
-abbrev pub invariant-loop-condition : goal.invariant-loop-condition
-invariant-loop-condition l = l.all ≡ map (condition (told_by l.names)) (take l.condition-index l.conditions)

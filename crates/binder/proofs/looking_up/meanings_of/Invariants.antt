@@ -1,6 +1,0 @@
-use Rattle.std.proofs.Common.{◌≡◌, map, take}
-use Rattle.binder.specs.Scopes.{told_by}
-use Rattle.binder.proofs.looking_up.meanings_of.Given as goal
-
-abbrev pub invariant-loop-reference : goal.invariant-loop-reference
-invariant-loop-reference l = l.meanings ≡ map (told_by l.names) (take l.reference-index l.references)

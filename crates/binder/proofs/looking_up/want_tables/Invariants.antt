@@ -1,9 +1,0 @@
-use Rattle.std.proofs.Common.{◌≡◌}
-use Rattle.std.specs.List.{flat_map}
-use Rattle.binder.specs.Refusing.{first, table_refusals}
-use Rattle.binder.proofs.FirstFacts.{first_from}
-use Rattle.binder.proofs.looking_up.want_tables.Given as goal
-
-abbrev pub invariant-loop-item : goal.invariant-loop-item
-invariant-loop-item l = first_from (λ item. table_refusals l.catalogue item.table) l.items l.item-index ≡ first (flat_map
-    (λ item. table_refusals l.catalogue item.table) l.items)

@@ -1,7 +1,0 @@
-use Rattle.std.proofs.Common.{◌≡◌, take, false}
-use Rattle.std.specs.List.{list_any}
-use Rattle.binder.specs.Refusing.{condition_has_flaw}
-use Rattle.binder.proofs.refusing.any_condition_has_flaw.Given as goal
-
-abbrev pub invariant-loop-condition : goal.invariant-loop-condition
-invariant-loop-condition l = list_any (condition_has_flaw l.limit) (take l.condition-index l.conditions) ≡ false

@@ -1,9 +1,0 @@
-use Rattle.std.proofs.Common.{◌≡◌}
-use Rattle.std.specs.List.{flat_map}
-use Rattle.binder.specs.Refusing.{first, flaws, sides}
-use Rattle.binder.proofs.FirstFacts.{first_from}
-use Rattle.binder.proofs.refusing.refuse_conditions.Given as goal
-
-abbrev pub invariant-loop-condition : goal.invariant-loop-condition
-invariant-loop-condition l = first_from (λ condition. flat_map (flaws l.flaw l.limit) (sides condition)) l.conditions l.condition-index
-    ≡ first (flat_map (λ condition. flat_map (flaws l.flaw l.limit) (sides condition)) l.conditions)
