@@ -3,12 +3,14 @@
 
 mod classes;
 mod closure;
+mod columns;
 mod keys;
 mod reasons;
 mod uses;
 
 pub use classes::{add_constants, constant_classes, has_class, holds_columns};
 pub use closure::{close, close_from};
+pub use columns::are_same_columns;
 pub use keys::Keys;
 pub use reasons::{holds_needed, open_place, reason, serves, why_not};
 pub use uses::{UseAt, uses_of, uses_within};

@@ -1,7 +1,5 @@
 -- An index stands for each scan of its columns.
-use Rattle.std.proofs.Common.{◌≡◌, ◌<◌, ◌≤◌, ◌+◌, ◌++◌, ◌∷◌, [], ℕ, List, length, map, take, get_or, ap, sym, ◌∙◌, subst, arith, add-one}
-use Rattle.std.proofs.Math.Seq.{take-suc}
-use Rattle.std.proofs.lemmas.List.{take_all}
+use Rattle.std.proofs.Common.{◌≡◌, ◌+◌, ◌++◌, List, length, map, ap, sym, ◌∙◌, subst, arith}
 use Rattle.std.specs.List.{All, filter, flat_map}
 use Rattle.std.specs.Prelude.{count_by}
 use Rattle.std.proofs.lemmas.List.Elements.{All-contains}
@@ -46,15 +44,3 @@ shared_is tables indexes scan found alike all =
     let own = All-contains (λ (index : Index). IsIndexOf index (rows_of_tables tables index.access.table)) indexes found all alike.among in
     stands_under scan found (rows_of_tables tables scan.table) alike.columns
     (subst (λ (table : TableId). IsIndexOf found (rows_of_tables tables table)) alike.table own)
-
--- ---- columns that are compared one by one
-
-pub columns_same : (xs ys : List ColumnId) (i : ℕ) → length xs ≡ length ys → length xs ≤ i → take i xs ≡ take i ys → xs ≡ ys
-columns_same xs ys i long all e = sym (take_all i xs all) ∙ e ∙ take_all i ys (omega (arith, all, long))
-
-pub column_more : (xs ys : List ColumnId) (i : ℕ) (d : ColumnId) → i < length xs → i < length ys → (get_or xs i d).0 ≡ (get_or ys i d).0
-    → take i xs ≡ take i ys → take (i + 1) xs ≡ take (i + 1) ys
-column_more xs ys i d l m e h =
-    let same : get_or xs i d ≡ get_or ys i d = ap (λ (n : ℕ). record { 0 = n }) e in
-    ap (λ k. take k xs) (add-one i) ∙ take-suc xs i d l ∙ ap (λ zs. zs ++ get_or xs i d ∷ []) h
-    ∙ ap (λ z. take i ys ++ z ∷ []) same ∙ sym (ap (λ k. take k ys) (add-one i) ∙ take-suc ys i d m)

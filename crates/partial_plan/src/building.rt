@@ -4,30 +4,17 @@ ghost use Rattle.access_index.specs.Index.{IsIndexOf};
 ghost use Rattle.partial_plan.specs.Scans.{AreBuilt, HaveSameColumns, IsAlike, rows_of_tables, scanned_rows, sizes_of_tables};
 
 use crate::sharing::ScanIndex;
-use beas_core::{Access, ColumnId, List, NoMemory, Steps};
+use attribute_closure::are_same_columns;
+use beas_core::{Access, List, NoMemory, Steps};
 use row_store::Rows;
 use std::alloc::Global;
 use std::sync::ledger::Ledger;
 
-fn are_same(one: &[ColumnId], other: &[ColumnId]) -> bool
-    ensures { IsTrue result → one.now ≡ other.now }
-{
-    if one.len() != other.len() {
-        return false;
-    }
-    for i in 0..one.len() {
-        if one[i].0 != other[i].0 {
-            return false;
-        }
-    }
-    true
-}
-
 fn have_same_columns(one: &Access, other: &Access) -> bool
     ensures { IsTrue result → HaveSameColumns one.now other.now }
 {
-    are_same(one.key.as_slice(), other.key.as_slice())
-        && are_same(one.fetched.as_slice(), other.fetched.as_slice())
+    are_same_columns(one.key.as_slice(), other.key.as_slice())
+        && are_same_columns(one.fetched.as_slice(), other.fetched.as_slice())
 }
 
 // An index of the same columns of the same table.

@@ -2,7 +2,7 @@
 use Rattle.std.proofs.Common.{◌≡◌, ◌==◌, ◌&&◌, ◌||◌, ◌<◌, ◌+◌, ◌≤◌, ℕ, zero, suc, Bool, true, false, not, cond, nat_lt, List, [], ◌∷◌, ◌++◌, length, map, take, get_or, Option, Some, Result, Ok, Err, ◌⊎◌, inl, inr, refl, ap, sym, ◌∙◌, subst, arith, add-one}
 use Rattle.std.specs.List.{Contains, filter, find, flat_map, enumerate_from, list_any, list_all, range_with_len}
 use Rattle.std.specs.Option.{option_map}
-use Rattle.std.proofs.Math.Seq.{take-suc, take-length}
+use Rattle.std.proofs.Math.Seq.{take-suc}
 use Rattle.std.proofs.lemmas.Bool.{eqb-true}
 use Rattle.std.proofs.lemmas.List.{take_all}
 use Rattle.std.specs.Prelude.{pos}
@@ -19,7 +19,7 @@ use Rattle.beas_core.specs.Classes.{normal_of}
 use Rattle.beas_core.specs.Coverage.{atoms_of, class_at, constant_classes, covered_set, grow, grow_times, has, holds_classes, is_covered, is_open, is_served, key_classes, needed_of, needed_places, own_cover, own_is_covered, place_class, uses}
 use Rattle.beas_core.specs.Groups.{has_column}
 use Rattle.beas_core.specs.Types.{ClassSet, Use}
-use Rattle.beas_core.proofs.Sets.{Has, Has-append_left, Has-append_right, Has-append_cases, Has-filter, Has-from_filter, Has-map, Has-from_map, Has-from_contains, Contains-from_has, Has-get_or}
+use Rattle.beas_core.proofs.Sets.{Has, Has-append_left, Has-append_right, Has-append_cases, Has-filter, Has-from_filter, Has-map, Has-from_map, Has-from_contains, Contains-from_has}
 use Rattle.evaluation_facts.proofs.MemberTests.{Has-flat_map, Has-from_flat_map, any_by, any_has}
 use Rattle.evaluation_facts.proofs.UseFacts.{same_number}
 use Rattle.specialise.specs.Alike.{AreAlike, IsStoodFor, StandFor}
@@ -189,15 +189,6 @@ module _ (few all : List Access) (stand : StandFor few all) where
 
 -- ---- how the few are found
 
-pub same_columns : (xs ys : List ColumnId) (i : ℕ) → length xs ≡ length ys → length xs ≤ i → take i xs ≡ take i ys → xs ≡ ys
-same_columns xs ys i long all e =
-    let first : take i xs ≡ xs = whole xs i all in
-    let second : take i ys ≡ ys = whole ys i (omega (arith, all, long)) in
-    sym first ∙ e ∙ second
-  where
-    whole : (zs : List ColumnId) (k : ℕ) → length zs ≤ k → take k zs ≡ zs
-    whole zs k l = take_all k zs l
-
 module _ (few accesses : List Access) (i : ℕ) (d : Access) (l : i < length accesses) (stand : StandFor few (take i accesses)) where
   abbrev x : Access
   x = get_or accesses i d
@@ -281,13 +272,6 @@ stood_wider few n a s = record {
     of_take [] (suc k) y h = absurd h
     of_take (x ∷ xs) (suc k) y (inl e) = inl e
     of_take (x ∷ xs) (suc k) y (inr h) = inr (of_take xs k y h)
-
-pub column_more : (xs ys : List ColumnId) (i : ℕ) (d : ColumnId) → i < length xs → i < length ys → (get_or xs i d).0 ≡ (get_or ys i d).0
-    → take i xs ≡ take i ys → take (i + 1) xs ≡ take (i + 1) ys
-column_more xs ys i d l m e h =
-    let same : get_or xs i d ≡ get_or ys i d = ap (λ (n : ℕ). record { 0 = n }) e in
-    ap (λ k. take k xs) (add-one i) ∙ take-suc xs i d l ∙ ap (λ zs. zs ++ get_or xs i d ∷ []) h
-    ∙ ap (λ z. take i ys ++ z ∷ []) same ∙ sym (ap (λ k. take k ys) (add-one i) ∙ take-suc ys i d m)
 
 pub stood_by : (few : List Access) (i : ℕ) (other a : Access) → i < length few → other ≡ get_or few i other → AreAlike other a → IsStoodFor few a
 stood_by few i other a l e alike = record { by = other; among = (i, l, sym e); alike = alike }

@@ -2,25 +2,12 @@
 ghost use Rattle.std.specs.Prelude.{◌≡◌, ◌++◌, ◌∷◌, ◌⊎◌, [], IfOk, IsTrue, OnOk};
 ghost use Rattle.specialise.specs.Alike.{AreAlike, IsStoodFor, StandFor};
 
-use beas_core::{Access, ColumnId, Duplicate, List, NoMemory};
+use attribute_closure::are_same_columns;
+use beas_core::{Access, Duplicate, List, NoMemory};
 use std::alloc::Global;
 
 /// A constraint is compared with so many others at most, so that many that differ take no time that grows with their square.
 const COMPARED: usize = 256;
-
-fn are_same(one: &[ColumnId], other: &[ColumnId]) -> bool
-    ensures { IsTrue result → one.now ≡ other.now }
-{
-    if one.len() != other.len() {
-        return false;
-    }
-    for i in 0..one.len() {
-        if one[i].0 != other[i].0 {
-            return false;
-        }
-    }
-    true
-}
 
 fn are_alike(one: &Access, other: &Access) -> bool
     ensures { IsTrue result → AreAlike one.now other.now }
@@ -28,10 +15,10 @@ fn are_alike(one: &Access, other: &Access) -> bool
     if one.table.0 != other.table.0 {
         return false;
     }
-    if !are_same(one.key.as_slice(), other.key.as_slice()) {
+    if !are_same_columns(one.key.as_slice(), other.key.as_slice()) {
         return false;
     }
-    are_same(one.fetched.as_slice(), other.fetched.as_slice())
+    are_same_columns(one.fetched.as_slice(), other.fetched.as_slice())
 }
 
 // Whether one of the first constraints is like this one.

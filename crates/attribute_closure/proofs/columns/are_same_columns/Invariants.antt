@@ -1,5 +1,5 @@
 use Rattle.std.proofs.Common.{◌≡◌, take}
-use Rattle.specialise.proofs.alike.are_same.Given as goal
+use Rattle.attribute_closure.proofs.columns.are_same_columns.Given as goal
 
 -- the first columns are the same
 abbrev pub invariant-loop-i : goal.invariant-loop-i

@@ -1,6 +1,0 @@
-use Rattle.std.proofs.Common.{◌≡◌, take}
-use Rattle.partial_plan.proofs.building.are_same.Given as goal
-
--- the first columns are the same
-abbrev pub invariant-loop-i : goal.invariant-loop-i
-invariant-loop-i l = take l.i l.one ≡ take l.i l.other
