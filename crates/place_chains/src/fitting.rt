@@ -1,23 +1,12 @@
 // The tuples of a group that may have some values.
-ghost use Rattle.std.specs.Prelude.{◌≡◌, ◌<◌, ℕ, List, IfOk, IfSome, length};
+ghost use Rattle.std.specs.Prelude.{◌≡◌, ◌<◌, ℕ, List, IfSome, length};
 ghost use Rattle.std.specs.Option.{option_copied};
 ghost use Rattle.beas_core.specs.Types.{Row};
-ghost use Rattle.place_chains.specs.Fitting.{IsFitting, IsHashed, IsNext};
-ghost use Rattle.place_chains.specs.Hashing.{hash_at, hashes_back};
+ghost use Rattle.place_chains.specs.Fitting.{IsFitting, IsNext};
+ghost use Rattle.place_chains.specs.TupleOrder.{IsOrder, IsReading, values_at};
 
-use crate::chains::PlaceChains;
-use crate::hashing::hash_at;
-use beas_core::{NoMemory, Value};
-use std::alloc::Global;
-
-/// The places of one hash, on the way back from some place.
-#[derive(Clone, Copy)]
-pub struct Chain<'a> {
-    /// The hashes of tuples, from the last tuple to the first: so a chain is read in the order of the tuples.
-    pub hashes: &'a PlaceChains,
-    /// The place that comes next, or none.
-    pub ahead: Option<usize>,
-}
+use crate::ordering::TupleOrder;
+use beas_core::Value;
 
 /// Goes through the tuples of a group that may have some values, from the first one on.
 #[derive(Drop)]
@@ -25,53 +14,53 @@ pub struct Fitting<'a> {
     pub count: usize,
     /// So many tuples were gone through.
     pub from: usize,
-    /// Where there are hashes, those alone are told that have the hash of the values.
-    pub chain: Option<Chain<'a>>,
+    /// Where the tuples are in order, the numbers of those alone that have the values and are still to come.
+    pub run: Option<&'a [usize]>,
 }
 
 impl<'a> Fitting<'a> {
-    /// So many tuples. If there are hashes of theirs, told are those that may have a row's values at some places.
+    /// So many tuples. If they are in an order by their values at their own places, told are those that have there a row's values
+    /// at some places, and else all. `value` reads the value of a tuple at a place.
     #[inline(always)]
-    pub fn among(
+    pub fn among<'b, F: Fn(usize, usize) -> &'b Value>(
         count: usize,
-        hashes: Option<&'a PlaceChains>,
+        value: &F,
+        zero: &'b Value,
+        order: Option<&'a TupleOrder>,
+        own: &[usize],
         places: &[usize],
         row: &[Value],
     ) -> Fitting<'a>
+        requires { (i at : ℕ) → i < count → F.pre value.now i at }
         ensures first { result.from ≡ 0 }
-        ensures fits { (own : List ℕ) (tuples : List Row) → count ≡ length tuples
-            → IfSome (option_copied hashes.entry) (λ hs. hs ≡ hashes_back own tuples) → IsFitting own tuples (hash_at places.now row.now) result }
+        ensures fits { (tuples : List Row) → IsReading tuples count (F.post value.now) zero.now
+            → IfSome (option_copied order.entry) (IsOrder own.now tuples)
+            → IsFitting own.now tuples (values_at places.now row.now) result }
     {
-        let chain = match hashes {
-            Some(hashes) => Some(Chain {
-                hashes,
-                ahead: hashes.latest(hash_at(places, row)),
-            }),
+        let run = match order {
+            Some(order) => Some(order.run(count, value, zero, own, places, row)),
             None => None,
         };
         Fitting {
             count,
             from: 0,
-            chain,
+            run,
         }
     }
 
-    /// The next tuple. None is left out that may have the values. No more is promised: a tuple that comes may have other
-    /// values, even where there are hashes. If no tuple is left, nothing changes.
+    /// The next tuple. None is left out that has the values. A tuple that comes has them where the tuples are in order, and may
+    /// have others where they aren't. If no tuple is left, nothing changes.
     #[inline(always)]
     pub fn next(&mut self) -> Option<usize>
-        requires { (places : List ℕ) × (tuples : List Row) × (hash : ℕ) × IsFitting places tuples hash self.old }
-        ensures { (places : List ℕ) (tuples : List Row) (hash : ℕ) → IsFitting places tuples hash self.old
-            → IsNext places tuples hash self.old result self.new }
+        requires { (places : List ℕ) × (tuples : List Row) × (values : Row) × IsFitting places tuples values self.old }
+        ensures { (places : List ℕ) (tuples : List Row) (values : Row) → IsFitting places tuples values self.old
+            → IsNext places tuples values self.old result self.new }
     {
-        let at = match self.chain {
-            Some(chain) => {
-                let back = chain.ahead?;
-                self.chain = Some(Chain {
-                    ahead: chain.hashes.earlier(back),
-                    ..chain
-                });
-                self.count - 1 - back
+        let at = match self.run {
+            Some(run) => {
+                let (first, others) = run.split_first()?;
+                self.run = Some(others);
+                *first
             }
             None if self.from < self.count => self.from,
             None => return None,
@@ -79,21 +68,4 @@ impl<'a> Fitting<'a> {
         self.from = at + 1;
         Some(at)
     }
-}
-
-/// The hashes of so many tuples, from the last one to the first, where that of each is asked for by its number.
-pub fn hashed_back<F: Fn(usize) -> u64>(
-    alloc: Global,
-    count: usize,
-    hash: F,
-) -> Result<PlaceChains, NoMemory>
-    requires { (i : ℕ) → i < count → F.pre hash i }
-    ensures { (places : List ℕ) (tuples : List Row) → IsHashed places tuples count (F.post hash)
-        → IfOk result (λ hashes. hashes ≡ hashes_back places tuples) }
-{
-    let mut hashes = PlaceChains::new(alloc);
-    for i in 0..count {
-        hashes.push(alloc, hash(count - 1 - i))?;
-    }
-    Ok(hashes)
 }
