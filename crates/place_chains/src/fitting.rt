@@ -56,13 +56,14 @@ impl<'a> Fitting<'a> {
         ensures { (places : List ℕ) (tuples : List Row) (values : Row) → IsFitting places tuples values self.old
             → IsNext places tuples values self.old result self.new }
     {
+        let count = self.count;
         let at = match self.run {
             Some(run) => {
                 let (first, others) = run.split_first()?;
                 self.run = Some(others);
                 *first
             }
-            None if self.from < self.count => self.from,
+            None if self.from < count => self.from,
             None => return None,
         };
         self.from = at + 1;

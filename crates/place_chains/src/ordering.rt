@@ -1,8 +1,8 @@
 // The tuples of a group in the order of their values at some places.
-ghost use Rattle.std.specs.Prelude.{◌≡◌, ◌<◌, [], ℕ, pos, List, IfOk, slice_index_or};
+ghost use Rattle.std.specs.Prelude.{◌≡◌, ◌<◌, [], ℕ, List, IfOk, slice_index_or};
+ghost use Rattle.std.specs.Ordering.{is_le, is_lt};
 ghost use Rattle.beas_core.specs.Order.{row_cmp};
 ghost use Rattle.beas_core.specs.Types.{Row};
-ghost use Rattle.beas_core.specs.declared.value.Value.TheVariants.{Int};
 ghost use Rattle.place_chains.specs.Fitting.{IsRun};
 ghost use Rattle.place_chains.specs.TupleOrder.{IsOrder, IsReading, number_cmp, value_of, values_at};
 
@@ -120,7 +120,13 @@ impl TupleOrder {
         for number in 0..count {
             numbers.push_reserved(number);
         }
-        numbers.sort_unstable_by(|left, right| compare_numbers(count, value, zero, places, *left, *right));
+        numbers.sort_unstable_by(
+            |left: &usize, right: &usize|
+                requires { (i at : ℕ) → i < count → F.pre value.now i at }
+                ensures { (tuples : List Row) → IsReading tuples count (F.post value.entry.now) zero.entry.now
+                    → result ≡ number_cmp places.entry.now tuples left.now right.now }
+            { compare_numbers(count, value, zero, places, *left, *right) },
+        );
         Ok(TupleOrder { numbers })
     }
 
@@ -139,13 +145,21 @@ impl TupleOrder {
         ensures { (tuples : List Row) → IsReading tuples count (F.post value.now) zero.now → IsOrder own.now tuples self.now
             → IsRun own.now tuples (values_at places.now row.now) 0 result.now }
     {
-        let from = self.numbers.partition_point(|number| {
-            compare_to_row(count, value, zero, own, *number, places, row) == Ordering::Less
-        });
+        let from = self.numbers.partition_point(
+            |number: &usize|
+                requires { (i at : ℕ) → i < count → F.pre value.now i at }
+                ensures { (tuples : List Row) → IsReading tuples count (F.post value.entry.now) zero.entry.now
+                    → result ≡ is_lt (row_cmp (values_at own.entry.now (slice_index_or tuples number.now [])) (values_at places.entry.now row.entry.now)) }
+            { compare_to_row(count, value, zero, own, *number, places, row).is_lt() },
+        );
         let others = &self.numbers[from..];
-        let len = others.partition_point(|number| {
-            compare_to_row(count, value, zero, own, *number, places, row) != Ordering::Greater
-        });
+        let len = others.partition_point(
+            |number: &usize|
+                requires { (i at : ℕ) → i < count → F.pre value.now i at }
+                ensures { (tuples : List Row) → IsReading tuples count (F.post value.entry.now) zero.entry.now
+                    → result ≡ is_le (row_cmp (values_at own.entry.now (slice_index_or tuples number.now [])) (values_at places.entry.now row.entry.now)) }
+            { compare_to_row(count, value, zero, own, *number, places, row).is_le() },
+        );
         &others[..len]
     }
 }

@@ -2,7 +2,7 @@ use Rattle.std.proofs.Common.{◌≡◌, ◌++◌, ◌∷◌, ◌∙◌, [], ap,
 use Rattle.std.specs.List.{filter}
 use Rattle.std.proofs.lemmas.List.{map-append}
 use Rattle.place_chains.specs.Fitting.{IsFitting}
-use Rattle.place_chains.specs.Hashing.{hash_at}
+use Rattle.place_chains.specs.TupleOrder.{values_at}
 use Rattle.place_chains.proofs.FittingFacts.{none_passes, none_passes_more, pass_more}
 use Rattle.plan_ops.specs.Joins.{fits_by, joined_by, joins}
 use Rattle.plan_ops.specs.Matching.{IsIndexed}
@@ -16,7 +16,7 @@ tuples-init g c =
     let tuples = g.P.AccessPort.members c.args.port.now c.args.hits.now in
     let start = c.args.found.now.items in
     record {
-      fits = subst (λ ps. IsFitting join.shared.tuple.items tuples (hash_at ps row) c.among-fitting.result) c.deref.ensures.value
+      fits = subst (λ ps. IsFitting join.shared.tuple.items tuples (values_at ps row) c.among-fitting.result) c.deref.ensures.value
           (c.among-fitting.ensures.fits join.shared.tuple.items tuples (c.len-count.ensures ∙ c.requires.hits.count)
           (subst (IsIndexed join.shared.tuple.items tuples) (sym c.as_ref.ensures.value) c.requires.index));
       found = subst (λ n. start ≡ start ++ joins join.sources.items join.checks.items row (take n tuples)) (sym c.among-fitting.ensures.first) (sym (append-nil start));
@@ -33,9 +33,9 @@ tuples-preserved g c =
     let i = c.in-Some.i in
     let t = get_or tuples i [] in
     let was = c.tuples.invariant in
-    let next = c.in-Some.ensures join.shared.tuple.items tuples (hash_at join.shared.row.items row) was.fits in
+    let next = c.in-Some.ensures join.shared.tuple.items tuples (values_at join.shared.row.items row) was.fits in
     let within = next.1 in
-    let passed = none_passes p tuples join.shared.tuple.items (hash_at join.shared.row.items row) (fits_only join row c.requires.sharing tuples)
+    let passed = none_passes p tuples join.shared.tuple.items (values_at join.shared.row.items row) (fits_only join row c.requires.sharing tuples)
     c.tuples.fitting.from i next.0 (omega (arith, within)) next.2 in
     record {
       fits = next.4;
@@ -54,7 +54,7 @@ returns g c =
     let tuples = g.P.AccessPort.members c.args.port.now c.args.hits.now in
     let p = fits_by join.checks.items row in
     let was = c.tuples.invariant in
-    let none = (c.in_default.ensures join.shared.tuple.items tuples (hash_at join.shared.row.items row) was.fits).0 in
+    let none = (c.in_default.ensures join.shared.tuple.items tuples (values_at join.shared.row.items row) was.fits).0 in
     was.found ∙ ap (λ xs. c.args.found.now.items ++ map (joined_by join.sources.items row) xs)
-    (sym (none_passes_more p tuples join.shared.tuple.items (hash_at join.shared.row.items row) (fits_only join row c.requires.sharing tuples)
+    (sym (none_passes_more p tuples join.shared.tuple.items (values_at join.shared.row.items row) (fits_only join row c.requires.sharing tuples)
     c.tuples.fitting.from was.fits.from none))
