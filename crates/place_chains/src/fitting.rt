@@ -1,12 +1,7 @@
 // The tuples of a group that may have some values.
-ghost use Rattle.std.specs.Prelude.{◌≡◌, ◌<◌, ℕ, List, IfSome, length};
-ghost use Rattle.std.specs.Option.{option_copied};
+ghost use Rattle.std.specs.Prelude.{◌≡◌, ℕ, List, IfSome, length};
 ghost use Rattle.beas_core.specs.Types.{Row};
-ghost use Rattle.place_chains.specs.Fitting.{IsFitting, IsNext};
-ghost use Rattle.place_chains.specs.TupleOrder.{IsOrder, IsReading, values_at};
-
-use crate::ordering::TupleOrder;
-use beas_core::Value;
+ghost use Rattle.place_chains.specs.Fitting.{IsFitting, IsNext, IsRun};
 
 /// Goes through the tuples of a group that may have some values, from the first one on.
 #[derive(Drop)]
@@ -19,28 +14,13 @@ pub struct Fitting<'a> {
 }
 
 impl<'a> Fitting<'a> {
-    /// So many tuples. If they are in an order by their values at their own places, told are those that have there a row's values
-    /// at some places, and else all. `value` reads the value of a tuple at a place.
+    /// So many tuples: all, or those of a run alone.
     #[inline(always)]
-    pub fn among<'b, F: Fn(usize, usize) -> &'b Value>(
-        count: usize,
-        value: &F,
-        zero: &'b Value,
-        order: Option<&'a TupleOrder>,
-        own: &[usize],
-        places: &[usize],
-        row: &[Value],
-    ) -> Fitting<'a>
-        requires { (i at : ℕ) → i < count → F.pre value.now i at }
+    pub fn among(count: usize, run: Option<&'a [usize]>) -> Fitting<'a>
         ensures first { result.from ≡ 0 }
-        ensures fits { (tuples : List Row) → IsReading tuples count (F.post value.now) zero.now
-            → IfSome (option_copied order.entry) (IsOrder own.now tuples)
-            → IsFitting own.now tuples (values_at places.now row.now) result }
+        ensures fits { (places : List ℕ) (tuples : List Row) (values : Row) → count ≡ length tuples
+            → IfSome run.entry (λ numbers. IsRun places tuples values 0 numbers.now) → IsFitting places tuples values result }
     {
-        let run = match order {
-            Some(order) => Some(order.run(count, value, zero, own, places, row)),
-            None => None,
-        };
         Fitting {
             count,
             from: 0,
