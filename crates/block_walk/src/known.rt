@@ -7,7 +7,7 @@ ghost use Rattle.beas_core.specs.Reads.{probe_reads};
 ghost use Rattle.beas_core.proofs.Sets.{Has};
 ghost use Rattle.block_walk.specs.Kept.{Entry};
 ghost use Rattle.block_walk.specs.Entries.{IsIndex, IsKnown, entries_in, entry_of, key_alone};
-ghost use Rattle.place_chains.specs.Fitting.{IsFitting};
+ghost use Rattle.place_chains.specs.Fitting.{IsFitting, IsRun};
 ghost use Rattle.place_chains.specs.Hashing.{hash_of};
 ghost use Rattle.place_chains.specs.TupleOrder.{IsOrder, values_at};
 
@@ -209,13 +209,18 @@ impl Known {
         }
     }
 
-    /// The tuples of an entry that may share a row's values: all, or by an index those alone that do.
-    #[inline(always)]
-    pub fn fitting(&self, place: usize, shared: &Shared, row: &[Value]) -> Fitting<'_>
+    // The numbers of an entry's tuples that share a row's values, where this is their order.
+    fn run<'a>(
+        &self,
+        place: usize,
+        order: &'a TupleOrder,
+        shared: &Shared,
+        row: &[Value],
+    ) -> &'a [usize]
         requires known { IsKnown self.now }
         requires place { place < length (entries_in self.now) }
-        ensures first { result.from ≡ 0 }
-        ensures fits { IsFitting shared.now.tuple.items (entry_of self.now place).1 (values_at shared.now.row.items row.now) result }
+        requires order { IsOrder shared.now.tuple.items (entry_of self.now place).1 order.now }
+        ensures { IsRun shared.now.tuple.items (entry_of self.now place).1 (values_at shared.now.row.items row.now) 0 result.now }
     {
         let zero = Value::Int(0);
         let value = |i: usize, at: usize|
@@ -224,9 +229,23 @@ impl Known {
             requires tuple { i < length (entry_of self.now place).1 }
             ensures { result.now ≡ slice_index_or (slice_index_or (entry_of self.entry.now place).1 i []) at zero.entry.now }
         { value_or(self.tuple(place, i), at, &zero) };
-        let order = self.order(place, &shared.tuple);
         let count = self.count(place);
-        Fitting::among(count, &value, &zero, order, &shared.tuple, &shared.row, row)
+        order.run(count, &value, &zero, &shared.tuple, &shared.row, row)
+    }
+
+    /// The tuples of an entry that may share a row's values: all, or by an index those alone that do.
+    #[inline(always)]
+    pub fn fitting(&self, place: usize, shared: &Shared, row: &[Value]) -> Fitting<'_>
+        requires known { IsKnown self.now }
+        requires place { place < length (entries_in self.now) }
+        ensures first { result.from ≡ 0 }
+        ensures fits { IsFitting shared.now.tuple.items (entry_of self.now place).1 (values_at shared.now.row.items row.now) result }
+    {
+        let run = match self.order(place, &shared.tuple) {
+            Some(order) => Some(self.run(place, order, shared, row)),
+            None => None,
+        };
+        Fitting::among(self.count(place), run)
     }
 
     /// Probes a key, whose hash with the step is given, and keeps what it finds, as the last entry. No value is left in `key`. It

@@ -2,6 +2,8 @@
 ghost use Rattle.std.specs.Prelude.{◌≡◌, ◌<◌, ◌≤◌, ◌+◌, ◌++◌, ◌∷◌, [], length, slice_index_or, All, IfOk, OnOk};
 ghost use Rattle.beas_core.specs.Derivations.{access_in};
 ghost use Rattle.beas_core.specs.Groups.{member_columns};
+ghost use Rattle.place_chains.specs.Fitting.{IsRun};
+ghost use Rattle.place_chains.specs.TupleOrder.{IsOrder, values_at};
 ghost use Rattle.plan_ops.specs.Joins.{HitsAre, IsSharing, IsWithin, joins};
 ghost use Rattle.plan_ops.specs.Matching.{AreIndexes, IsIndexed};
 
@@ -107,6 +109,33 @@ fn push_if_fits<P: AccessPort>(
     Ok(())
 }
 
+// The numbers of the tuples that have the valuation's values at the places that both share.
+fn run_of<'a, P: AccessPort>(
+    port: &P,
+    join: &Join,
+    row: &[Value],
+    hits: &Hits,
+    order: &'a TupleOrder,
+) -> &'a [usize]
+    requires hits { HitsAre (P.accesses port.now) (P.stands port.now) (P.members port.now) hits.now }
+    requires columns { join.now.columns.items ≡ member_columns (access_in (P.accesses port.now) hits.now.access) }
+    requires order { IsOrder join.now.shared.tuple.items (P.members port.now hits.now) order.now }
+    ensures { let shared = join.now.shared in
+        IsRun shared.tuple.items (P.members port.now hits.now) (values_at shared.row.items row.now) 0 result.now }
+{
+    let zero = Value::Int(0);
+    let columns = join.columns.as_slice();
+    let value = |i: usize, place: usize|
+        requires hits { HitsAre (P.accesses port.now) (P.stands port.now) (P.members port.now) hits.now }
+        requires columns { columns.now ≡ member_columns (access_in (P.accesses port.now) hits.now.access) }
+        requires member { i < hits.now.len }
+        requires few { i < 4294967296 }
+        ensures { result.now ≡ slice_index_or (slice_index_or (P.members port.entry.now hits.entry.now) i []) place zero.entry.now }
+    { tuple_value(port, columns, hits, i as u32, place, &zero) };
+    let (count, shared) = (hits.len() as usize, &join.shared);
+    order.run(count, &value, &zero, &shared.tuple, &shared.row, row)
+}
+
 /// Adds the valuation with each tuple that fits it, by the order of the tuples where there is one.
 pub fn push_from_group<P: AccessPort>(
     alloc: Global,
@@ -126,25 +155,11 @@ pub fn push_from_group<P: AccessPort>(
         ≡ found.old.items ++ joins join.now.sources.items join.now.checks.items row.now (P.members port.now hits.now)) }
 {
     let count = hits.len() as usize;
-    let zero = Value::Int(0);
-    let columns = &join.columns;
-    let value = |i: usize, place: usize|
-        requires hits { HitsAre (P.accesses port.now) (P.stands port.now) (P.members port.now) hits.now }
-        requires columns { columns.now.items ≡ member_columns (access_in (P.accesses port.now) hits.now.access) }
-        requires member { i < hits.now.len }
-        requires few { i < 4294967296 }
-        ensures { result.now ≡ slice_index_or (slice_index_or (P.members port.entry.now hits.entry.now) i []) place zero.entry.now }
-    { tuple_value(port, columns, hits, i as u32, place, &zero) };
-    let shared = &join.shared;
-    let mut fitting = Fitting::among(
-        count,
-        &value,
-        &zero,
-        index.as_ref(),
-        &shared.tuple,
-        &shared.row,
-        row,
-    );
+    let run = match index {
+        Some(order) => Some(run_of(port, join, row, hits, order)),
+        None => None,
+    };
+    let mut fitting = Fitting::among(count, run);
     'tuples: while let Some(i) = fitting.next() {
         push_if_fits(alloc, port, join, row, hits, i as u32, found)?;
     }
