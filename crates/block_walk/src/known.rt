@@ -154,7 +154,7 @@ impl Known {
             requires known { IsKnown self.now }
             requires place { place < length (entries_in self.now) }
             requires tuple { i < length (entry_of self.now place).1 }
-            ensures { result.now ≡ slice_index_or (slice_index_or (entry_of self.entry.now place).1 i []) at zero.entry.now }
+            ensures { result.now ≡ slice_index_or (slice_index_or (entry_of self.entry.now place).1 i []) at zero }
         { value_or(self.tuple(place, i), at, &zero) };
         let order = TupleOrder::new(alloc, self.count(place), &value, &zero, places)?;
         let places = places.to_vec(alloc)?;
@@ -227,7 +227,7 @@ impl Known {
             requires known { IsKnown self.now }
             requires place { place < length (entries_in self.now) }
             requires tuple { i < length (entry_of self.now place).1 }
-            ensures { result.now ≡ slice_index_or (slice_index_or (entry_of self.entry.now place).1 i []) at zero.entry.now }
+            ensures { result.now ≡ slice_index_or (slice_index_or (entry_of self.entry.now place).1 i []) at zero }
         { value_or(self.tuple(place, i), at, &zero) };
         let count = self.count(place);
         order.run(count, &value, &zero, &shared.tuple, &shared.row, row)

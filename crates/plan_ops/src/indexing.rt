@@ -60,7 +60,7 @@ fn index_of<P: AccessPort>(
         requires columns { columns.now ≡ member_columns (access_in (P.accesses port.now) hits.now.access) }
         requires member { i < hits.now.len }
         requires few { i < 4294967296 }
-        ensures { result.now ≡ slice_index_or (slice_index_or (P.members port.entry.now hits.entry.now) i []) place zero.entry.now }
+        ensures { result.now ≡ slice_index_or (slice_index_or (P.members port.entry.now hits.entry.now) i []) place zero }
     { tuple_value(port, columns, hits, i as u32, place, &zero) };
     let count = hits.len() as usize;
     Ok(Some(TupleOrder::new(alloc, count, &value, &zero, places)?))
@@ -130,7 +130,7 @@ fn run_of<'a, P: AccessPort>(
         requires columns { columns.now ≡ member_columns (access_in (P.accesses port.now) hits.now.access) }
         requires member { i < hits.now.len }
         requires few { i < 4294967296 }
-        ensures { result.now ≡ slice_index_or (slice_index_or (P.members port.entry.now hits.entry.now) i []) place zero.entry.now }
+        ensures { result.now ≡ slice_index_or (slice_index_or (P.members port.entry.now hits.entry.now) i []) place zero }
     { tuple_value(port, columns, hits, i as u32, place, &zero) };
     let (count, shared) = (hits.len() as usize, &join.shared);
     order.run(count, &value, &zero, &shared.tuple, &shared.row, row)
