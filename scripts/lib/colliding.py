@@ -39,9 +39,10 @@ def pairs_of_a_key(size: int) -> Iterator[tuple[int, int]]:
             yield first, second - OWN
 
 
-def pairs_of_a_step(size: int) -> Iterator[tuple[int, int]]:
-    """Two integers that are the key of a query's second step."""
-    state, found = folded(1, FACTOR), 0
+def pairs_of_a_step(size: int, step: int = 1) -> Iterator[tuple[int, int]]:
+    """Two integers that are the key of a query's step, the second one unless it is named. Those of the first collided too as values by which
+    the tuples of one key are joined, as long as these had a hash."""
+    state, found = folded(step, FACTOR), 0
     for first in count(1):
         if found == size:
             return

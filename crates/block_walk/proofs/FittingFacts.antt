@@ -8,7 +8,7 @@ use Rattle.beas_core.specs.Valuations.{output_row}
 use Rattle.beas_core.proofs.Sets.{Has, Has-append_right, Has-filter, Has-from_map, Has-get_or, Has-map, SameMembers}
 use Rattle.place_chains.specs.declared.fitting.Fitting.{Fitting}
 use Rattle.place_chains.specs.Fitting.{HasNone, IsNext}
-use Rattle.place_chains.specs.Hashing.{hash_at}
+use Rattle.place_chains.specs.TupleOrder.{values_at}
 use Rattle.place_chains.proofs.FittingFacts.{none_passes, none_passes_more}
 use Rattle.plan_ops.specs.declared.stages.Stage.{Stage}
 use Rattle.plan_ops.specs.Stages.{IsPair, IsStage, bound_with, joined_row, leads_to, next_by, set_before, use_at}
@@ -20,8 +20,8 @@ module _ (normal : Normal) (stage : Stage) (is : IsStage normal stage) (v : Row)
   abbrev pub places : List ℕ
   places = stage.join.shared.tuple.items
 
-  abbrev pub hash : ℕ
-  hash = hash_at stage.join.shared.row.items v
+  abbrev pub values : Row
+  values = values_at stage.join.shared.row.items v
 
   abbrev pub p : Row → Bool
   p = leads_to normal (use_at stage) (set_before normal stage) v
@@ -35,7 +35,7 @@ module _ (normal : Normal) (stage : Stage) (is : IsStage normal stage) (v : Row)
   abbrev pub out : Row → Row
   out = output_row normal (bound_with normal (use_at stage) (set_before normal stage))
 
-  only : (k : ℕ) → k < length tuples → p (get_or tuples k []) ≡ true → hash_at places (get_or tuples k []) ≡ hash
+  only : (k : ℕ) → k < length tuples → p (get_or tuples k []) ≡ true → values_at places (get_or tuples k []) ≡ values
   only k l t = pair_shares normal stage is v (get_or tuples k []) (pairs k [] l) t
 
   -- where the step is settled, all tuples give one output
@@ -46,9 +46,9 @@ module _ (normal : Normal) (stage : Stage) (is : IsStage normal stage) (v : Row)
       let k = Has-from_map f (filter p ts) m.0 m.1 in
       m.2 ∙ ap out k.2 ∙ output_settled normal stage is settled v k.0 wide
 
-  module _ (old new : Fitting) (i : ℕ) (comes : IsNext places tuples hash old (Some i) new) (t : Row) (read : t ≡ get_or tuples i []) where
+  module _ (old new : Fitting) (i : ℕ) (comes : IsNext places tuples values old (Some i) new) (t : Row) (read : t ≡ get_or tuples i []) where
     upto : filter p (take i tuples) ≡ filter p (take old.from tuples)
-    upto = let l = comes.1 in none_passes p tuples places hash only old.from i comes.0 (omega (arith, l)) comes.2
+    upto = let l = comes.1 in none_passes p tuples places values only old.from i comes.0 (omega (arith, l)) comes.2
 
     pub next_taken : p t ≡ true → next (take new.from tuples) ≡ next (take old.from tuples) ++ f t ∷ []
     next_taken e = ap (λ n. next (take n tuples)) comes.3 ∙ child_more f p tuples i [] t comes.1 read e ∙ ap (λ xs. map f xs ++ f t ∷ []) upto
@@ -79,5 +79,5 @@ module _ (normal : Normal) (stage : Stage) (is : IsStage normal stage) (v : Row)
           same_one start now (map out some) (map out (next tuples)) (out (f t)) outputs_taken (is_one (take new.from tuples)) (is_one tuples)
           (Has-map out some (f t) in_some) (Has-map out (next tuples) (f t) in_all)
 
-  pub next_all : (from : ℕ) → from ≤ length tuples → HasNone places tuples hash from (length tuples) → next (take from tuples) ≡ next tuples
-  next_all from l none = ap (map f) (sym (none_passes_more p tuples places hash only from l none))
+  pub next_all : (from : ℕ) → from ≤ length tuples → HasNone places tuples values from (length tuples) → next (take from tuples) ≡ next tuples
+  next_all from l none = ap (map f) (sym (none_passes_more p tuples places values only from l none))

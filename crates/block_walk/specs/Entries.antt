@@ -4,7 +4,7 @@
 --     entries_in known           the entries of all spots
 --     entry_of known place       the entry at a place
 --     IsSpot values s            its values are there
---     IsIndex tuples index       the index has the hashes of these tuples at its places
+--     IsIndex tuples index       the index has the order of these tuples by their values at its places
 --     IsIndexed tuples all k     so has the one at place k of all
 --     IsAt entries key place     the entry at a place is of this step and key
 --     IsReached chains maps place key     the chains have at the place the hash of the step and key, or the maps keep an entry under them
@@ -17,7 +17,8 @@ use Rattle.plan_ops.specs.Fetched.{rows_in}
 use Rattle.block_walk.specs.declared.known.Spot.{Spot}
 use Rattle.block_walk.specs.declared.known.TupleIndex.{TupleIndex}
 use Rattle.block_walk.specs.declared.known.Known.{Known}
-use Rattle.place_chains.specs.Hashing.{hash_of, hashes_back}
+use Rattle.place_chains.specs.Hashing.{hash_of}
+use Rattle.place_chains.specs.TupleOrder.{IsOrder}
 use Rattle.block_walk.specs.Kept.{Entry, part}
 use Rattle.block_walk.specs.Ordered.{Maps, kept_under}
 
@@ -39,7 +40,7 @@ pub record IsSpot (values : List Value) (s : Spot) : Type 0 where
   pub tuples : s.from + s.count * s.width ≤ length values
 
 abbrev pub IsIndex : List Row → TupleIndex → Type 0
-IsIndex tuples index = index.hashes ≡ hashes_back index.places.items tuples
+IsIndex tuples index = IsOrder index.places.items tuples index.order
 
 pub record IsIndexed (tuples : List Row) (indexes : List TupleIndex) (k : ℕ) : Type 0 where
   pub there : k < length indexes

@@ -7,12 +7,13 @@ ghost use Rattle.beas_core.specs.Reads.{probe_reads};
 ghost use Rattle.beas_core.proofs.Sets.{Has};
 ghost use Rattle.block_walk.specs.Kept.{Entry};
 ghost use Rattle.block_walk.specs.Entries.{IsIndex, IsKnown, entries_in, entry_of, key_alone};
-ghost use Rattle.place_chains.specs.Fitting.{IsFitting};
-ghost use Rattle.place_chains.specs.Hashing.{hash_at, hash_of, hashes_back};
+ghost use Rattle.place_chains.specs.Fitting.{IsFitting, IsRun};
+ghost use Rattle.place_chains.specs.Hashing.{hash_of};
+ghost use Rattle.place_chains.specs.TupleOrder.{IsOrder, values_at};
 
 use crate::ordered::OrderedKeys;
 use beas_core::{AccessId, AccessPort, ColumnId, NoMemory, Steps, Value};
-use place_chains::{Fitting, PlaceChains, hash_at, hashed_back};
+use place_chains::{Fitting, PlaceChains, TupleOrder, value_or};
 use plan_ops::{Shared, fetch};
 use std::alloc::Global;
 use std::sync::ledger::Ledger;
@@ -30,12 +31,11 @@ pub struct Spot {
     pub index: Option<usize>,
 }
 
-/// The hashes of an entry's tuples at some places, from the last tuple to the first: so a chain of them is read in the order of the
-/// tuples.
+/// The order of an entry's tuples by their values at some places.
 #[derive(Drop)]
 pub struct TupleIndex {
     pub places: Vec<usize>,
-    pub hashes: PlaceChains,
+    pub order: TupleOrder,
 }
 
 /// What the probes of a walk found, each with its step and key, in the order in which they were made. A step and a key are found
@@ -149,15 +149,16 @@ impl Known {
         requires place { place < length (entries_in self.now) }
         ensures { IfOk result (IsIndex (entry_of self.now place).1) }
     {
-        let hash = |i: usize|
+        let zero = Value::Int(0);
+        let value = |i: usize, at: usize|
             requires known { IsKnown self.now }
             requires place { place < length (entries_in self.now) }
             requires tuple { i < length (entry_of self.now place).1 }
-            ensures { result ≡ hash_at places.entry.now (slice_index_or (entry_of self.entry.now place).1 i []) }
-        { hash_at(places, self.tuple(place, i)) };
-        let hashes = hashed_back(alloc, self.count(place), hash)?;
+            ensures { result.now ≡ slice_index_or (slice_index_or (entry_of self.entry.now place).1 i []) at zero }
+        { value_or(self.tuple(place, i), at, &zero) };
+        let order = TupleOrder::new(alloc, self.count(place), &value, &zero, places)?;
         let places = places.to_vec(alloc)?;
-        Ok(TupleIndex { places, hashes })
+        Ok(TupleIndex { places, order })
     }
 
     // Makes the index of an entry's tuples at some places.
@@ -192,32 +193,59 @@ impl Known {
         self.make_index(alloc, place, places)
     }
 
-    // The hashes of an entry's tuples at some places, from the last tuple to the first, if there is an index of these places.
+    // The order of an entry's tuples by their values at some places, if there is an index of these places.
     #[inline(always)]
-    fn hashes(&self, place: usize, places: &[usize]) -> Option<&PlaceChains>
+    fn order(&self, place: usize, places: &[usize]) -> Option<&TupleOrder>
         requires known { IsKnown self.now }
         requires place { place < length (entries_in self.now) }
-        ensures { IfSome (option_copied result) (λ hashes. hashes ≡ hashes_back places.now (entry_of self.now place).1) }
+        ensures { IfSome (option_copied result) (IsOrder places.now (entry_of self.now place).1) }
     {
         let at = self.spots[place].index?;
         let index = &self.indexes[at];
         if index.places.as_slice() == places {
-            Some(&index.hashes)
+            Some(&index.order)
         } else {
             None
         }
     }
 
-    /// The tuples of an entry that may share a row's values: all, or by an index those alone whose hash says so.
+    // The numbers of an entry's tuples that share a row's values, where this is their order.
+    fn run<'a>(
+        &self,
+        place: usize,
+        order: &'a TupleOrder,
+        shared: &Shared,
+        row: &[Value],
+    ) -> &'a [usize]
+        requires known { IsKnown self.now }
+        requires place { place < length (entries_in self.now) }
+        requires order { IsOrder shared.now.tuple.items (entry_of self.now place).1 order.now }
+        ensures { IsRun shared.now.tuple.items (entry_of self.now place).1 (values_at shared.now.row.items row.now) 0 result.now }
+    {
+        let zero = Value::Int(0);
+        let value = |i: usize, at: usize|
+            requires known { IsKnown self.now }
+            requires place { place < length (entries_in self.now) }
+            requires tuple { i < length (entry_of self.now place).1 }
+            ensures { result.now ≡ slice_index_or (slice_index_or (entry_of self.entry.now place).1 i []) at zero }
+        { value_or(self.tuple(place, i), at, &zero) };
+        let count = self.count(place);
+        order.run(count, &value, &zero, &shared.tuple, &shared.row, row)
+    }
+
+    /// The tuples of an entry that may share a row's values: all, or by an index those alone that do.
     #[inline(always)]
     pub fn fitting(&self, place: usize, shared: &Shared, row: &[Value]) -> Fitting<'_>
         requires known { IsKnown self.now }
         requires place { place < length (entries_in self.now) }
         ensures first { result.from ≡ 0 }
-        ensures fits { IsFitting shared.now.tuple.items (entry_of self.now place).1 (hash_at shared.now.row.items row.now) result }
+        ensures fits { IsFitting shared.now.tuple.items (entry_of self.now place).1 (values_at shared.now.row.items row.now) result }
     {
-        let hashes = self.hashes(place, &shared.tuple);
-        Fitting::among(self.count(place), hashes, &shared.row, row)
+        let run = match self.order(place, &shared.tuple) {
+            Some(order) => Some(self.run(place, order, shared, row)),
+            None => None,
+        };
+        Fitting::among(self.count(place), run)
     }
 
     /// Probes a key, whose hash with the step is given, and keeps what it finds, as the last entry. No value is left in `key`. It

@@ -1,4 +1,5 @@
 pub mod FittingFacts
 pub mod HashFacts
 mod Linking
+pub mod OrderFacts
 mod Search

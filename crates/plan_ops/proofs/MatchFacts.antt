@@ -1,4 +1,4 @@
--- Tuples that fit a valuation share its values at some places, and so have the hash of these.
+-- Tuples that fit a valuation share its values at some places.
 use Rattle.std.proofs.Common.{ltb, ◌≡◌, ◌&&◌, ◌<◌, ◌≤◌, ◌+◌, ◌-◌, ◌++◌, ◌∷◌, [], ℕ, pos, Bool, true, false, cond, List, Option, All, length, map, take, get_or, inl, inr, refl, ap, sym, subst, ◌∙◌, arith}
 use Rattle.std.proofs.Math.Seq.{get_or-append_right}
 use Rattle.std.proofs.lemmas.Bool.{cases_lt, ltb-true}
@@ -12,7 +12,7 @@ use Rattle.beas_core.specs.Types.{Row}
 use Rattle.evaluation_facts.proofs.BindingFacts.{same_from}
 use Rattle.plan_ops.specs.declared.joining.Join.{Join}
 use Rattle.plan_ops.specs.declared.joining.Shared.{Shared}
-use Rattle.place_chains.specs.Hashing.{hash_at, hash_of, values_at}
+use Rattle.place_chains.specs.TupleOrder.{values_at}
 use Rattle.plan_ops.specs.Joins.{IsSharing, at_place, fits_by}
 use Rattle.plan_ops.specs.Matching.{AreIndexes, IsIndexed, IsShared, shared_in}
 
@@ -81,16 +81,16 @@ module _ (row tuple : Row) where
 
 pub shared_agree : (checks : List (ℕ × ℕ)) (shared : Shared) (width : ℕ) → IsShared width checks shared → All (λ c. width ≤ c.0) checks
     → (row tuple : Row) → length row ≡ width → fits_by checks row tuple ≡ true
-    → hash_at shared.tuple.items tuple ≡ hash_at shared.row.items row
+    → values_at shared.tuple.items tuple ≡ values_at shared.row.items row
 shared_agree checks shared width is behind row tuple wide fits =
     let at_row = subst (λ n. IsShared n checks shared) (sym wide) is in
     let far = subst (λ n. All (λ (c : ℕ × ℕ). n ≤ c.0) checks) (sym wide) behind in
-    ap (hash_of 0) (ap (λ ps. values_at ps tuple) at_row.tuples_are ∙ sym (agree row tuple checks far fits)
-    ∙ ap (λ ps. values_at ps row) (sym at_row.rows_are))
+    ap (λ ps. values_at ps tuple) at_row.tuples_are ∙ sym (agree row tuple checks far fits)
+    ∙ ap (λ ps. values_at ps row) (sym at_row.rows_are)
 
 pub fits_only : (join : Join) (row : Row) → IsSharing (length row) join → (tuples : List Row) (k : ℕ) → k < length tuples
     → fits_by join.checks.items row (get_or tuples k []) ≡ true
-    → hash_at join.shared.tuple.items (get_or tuples k []) ≡ hash_at join.shared.row.items row
+    → values_at join.shared.tuple.items (get_or tuples k []) ≡ values_at join.shared.row.items row
 fits_only join row sharing tuples k l t =
     shared_agree join.checks.items join.shared (length row) sharing.shared_are sharing.behind row (get_or tuples k []) refl t
 

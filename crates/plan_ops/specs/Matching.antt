@@ -1,12 +1,12 @@
 -- How the tuples that fit a valuation are found by the values that they share.
 --     shared_in width checks          the checks that compare a tuple with a valuation of this width, and not with itself
---     IsIndexed places tuples o       where there are hashes, they are those of these tuples
+--     IsIndexed places tuples o       where there is an order, it is that of these tuples
 --     AreIndexes ..                   so it is of each of some groups
 --     IsShared width checks shared    the places of these checks in the valuation, and those in the tuple
 use Rattle.std.specs.Prelude.{◌≡◌, ◌<◌, ◌-◌, ℕ, List, Option, IfSome, length, map, filter, nat_lt, slice_index_or}
 use Rattle.beas_core.specs.Found.{Found}
 use Rattle.beas_core.specs.Types.{Row}
-use Rattle.place_chains.specs.Hashing.{hashes_back}
+use Rattle.place_chains.specs.TupleOrder.{IsOrder}
 use Rattle.plan_ops.specs.declared.joining.Shared.{Shared}
 
 abbrev pub shared_in : ℕ → List (ℕ × ℕ) → List (ℕ × ℕ)
@@ -17,7 +17,7 @@ pub record IsShared (width : ℕ) (checks : List (ℕ × ℕ)) (shared : Shared)
   pub tuples_are : shared.tuple.items ≡ map (λ c. c.0 - width) (shared_in width checks)
 
 abbrev pub IsIndexed : List ℕ → List Row → Option (List ℕ) → Type 0
-IsIndexed places tuples o = IfSome o (λ hashes. hashes ≡ hashes_back places tuples)
+IsIndexed places tuples o = IfSome o (IsOrder places tuples)
 
 pub record AreIndexes (places : List ℕ) (members : Found → List Row) (groups : List Found) (indexes : List (Option (List ℕ))) : Type 0 where
   pub count : length indexes ≡ length groups

@@ -2,14 +2,15 @@
 ghost use Rattle.std.specs.Prelude.{◌≡◌, ◌<◌, ◌≤◌, ◌+◌, ◌++◌, ◌∷◌, [], length, slice_index_or, All, IfOk, OnOk};
 ghost use Rattle.beas_core.specs.Derivations.{access_in};
 ghost use Rattle.beas_core.specs.Groups.{member_columns};
-ghost use Rattle.place_chains.specs.Hashing.{hash_at};
+ghost use Rattle.place_chains.specs.Fitting.{IsRun};
+ghost use Rattle.place_chains.specs.TupleOrder.{IsOrder, values_at};
 ghost use Rattle.plan_ops.specs.Joins.{HitsAre, IsSharing, IsWithin, joins};
 ghost use Rattle.plan_ops.specs.Matching.{AreIndexes, IsIndexed};
 
 use crate::joining::Join;
 use crate::matching::{fits, joined_row};
-use beas_core::{AccessPort, ColumnId, Hits, NoMemory, Row, Value, mixed};
-use place_chains::{Fitting, PlaceChains, hashed_back, number_of};
+use beas_core::{AccessPort, ColumnId, Hits, NoMemory, Row, Value};
+use place_chains::{Fitting, TupleOrder};
 use std::alloc::Global;
 
 // Fewer tuples are soon read one after another.
@@ -36,32 +37,8 @@ fn tuple_value<'a, P: AccessPort>(
     }
 }
 
-// The hash of a tuple's values at some places.
-fn tuple_hash<P: AccessPort>(
-    port: &P,
-    columns: &[ColumnId],
-    places: &[usize],
-    hits: &Hits,
-    i: u32,
-) -> u64
-    requires hits { HitsAre (P.accesses port.now) (P.stands port.now) (P.members port.now) hits.now }
-    requires columns { columns.now ≡ member_columns (access_in (P.accesses port.now) hits.now.access) }
-    requires member { i < hits.now.len }
-    ensures { result ≡ hash_at places.now (slice_index_or (P.members port.now hits.now) i []) }
-{
-    let zero = Value::Int(0);
-    let mut hash = mixed(0, 0);
-    for place in places {
-        hash = mixed(
-            hash,
-            number_of(tuple_value(port, columns, hits, i, *place, &zero)),
-        );
-    }
-    hash
-}
-
-// The hashes of a group's tuples at some places, from the last tuple to the first, where they are wanted, the group has
-// many tuples, and there are places.
+// The order of a group's tuples by their values at some places, where it is wanted, the group has many tuples, and there
+// are places.
 fn index_of<P: AccessPort>(
     alloc: Global,
     port: &P,
@@ -69,7 +46,7 @@ fn index_of<P: AccessPort>(
     places: &[usize],
     hits: &Hits,
     wanted: bool,
-) -> Result<Option<PlaceChains>, NoMemory>
+) -> Result<Option<TupleOrder>, NoMemory>
     requires hits { HitsAre (P.accesses port.now) (P.stands port.now) (P.members port.now) hits.now }
     requires columns { columns.now ≡ member_columns (access_in (P.accesses port.now) hits.now.access) }
     ensures { IfOk result (IsIndexed places.now (P.members port.now hits.now)) }
@@ -77,17 +54,19 @@ fn index_of<P: AccessPort>(
     if !wanted || hits.len() < MANY || places.is_empty() {
         return Ok(None);
     }
-    let hash = |i: usize|
+    let zero = Value::Int(0);
+    let value = |i: usize, place: usize|
         requires hits { HitsAre (P.accesses port.now) (P.stands port.now) (P.members port.now) hits.now }
         requires columns { columns.now ≡ member_columns (access_in (P.accesses port.now) hits.now.access) }
         requires member { i < hits.now.len }
         requires few { i < 4294967296 }
-        ensures { result ≡ hash_at places.entry.now (slice_index_or (P.members port.entry.now hits.entry.now) i []) }
-    { tuple_hash(port, columns, places, hits, i as u32) };
-    Ok(Some(hashed_back(alloc, hits.len() as usize, hash)?))
+        ensures { result.now ≡ slice_index_or (slice_index_or (P.members port.entry.now hits.entry.now) i []) place zero }
+    { tuple_value(port, columns, hits, i as u32, place, &zero) };
+    let count = hits.len() as usize;
+    Ok(Some(TupleOrder::new(alloc, count, &value, &zero, places)?))
 }
 
-/// For each group the hashes of its tuples at some places, where they are wanted and the tuples are many.
+/// For each group the order of its tuples by their values at some places, where it is wanted and the tuples are many.
 pub fn indexes_of<P: AccessPort>(
     alloc: Global,
     port: &P,
@@ -95,7 +74,7 @@ pub fn indexes_of<P: AccessPort>(
     places: &[usize],
     groups: &[Hits],
     wanted: bool,
-) -> Result<Vec<Option<PlaceChains>>, NoMemory>
+) -> Result<Vec<Option<TupleOrder>>, NoMemory>
     requires hits { All (HitsAre (P.accesses port.now) (P.stands port.now) (P.members port.now)) groups.now }
     requires columns { All (λ hits. columns.now ≡ member_columns (access_in (P.accesses port.now) hits.access)) groups.now }
     ensures { IfOk result (λ indexes. AreIndexes places.now (P.members port.now) groups.now indexes.items) }
@@ -130,14 +109,41 @@ fn push_if_fits<P: AccessPort>(
     Ok(())
 }
 
-/// Adds the valuation with each tuple that fits it, by the hashes of the tuples where there are some.
+// The numbers of the tuples that have the valuation's values at the places that both share.
+fn run_of<'a, P: AccessPort>(
+    port: &P,
+    join: &Join,
+    row: &[Value],
+    hits: &Hits,
+    order: &'a TupleOrder,
+) -> &'a [usize]
+    requires hits { HitsAre (P.accesses port.now) (P.stands port.now) (P.members port.now) hits.now }
+    requires columns { join.now.columns.items ≡ member_columns (access_in (P.accesses port.now) hits.now.access) }
+    requires order { IsOrder join.now.shared.tuple.items (P.members port.now hits.now) order.now }
+    ensures { let shared = join.now.shared in
+        IsRun shared.tuple.items (P.members port.now hits.now) (values_at shared.row.items row.now) 0 result.now }
+{
+    let zero = Value::Int(0);
+    let columns = join.columns.as_slice();
+    let value = |i: usize, place: usize|
+        requires hits { HitsAre (P.accesses port.now) (P.stands port.now) (P.members port.now) hits.now }
+        requires columns { columns.now ≡ member_columns (access_in (P.accesses port.now) hits.now.access) }
+        requires member { i < hits.now.len }
+        requires few { i < 4294967296 }
+        ensures { result.now ≡ slice_index_or (slice_index_or (P.members port.entry.now hits.entry.now) i []) place zero }
+    { tuple_value(port, columns, hits, i as u32, place, &zero) };
+    let (count, shared) = (hits.len() as usize, &join.shared);
+    order.run(count, &value, &zero, &shared.tuple, &shared.row, row)
+}
+
+/// Adds the valuation with each tuple that fits it, by the order of the tuples where there is one.
 pub fn push_from_group<P: AccessPort>(
     alloc: Global,
     port: &P,
     join: &Join,
     row: &[Value],
     hits: &Hits,
-    index: &Option<PlaceChains>,
+    index: &Option<TupleOrder>,
     found: &mut Vec<Row>,
 ) -> Result<(), NoMemory>
     requires hits { HitsAre (P.accesses port.now) (P.stands port.now) (P.members port.now) hits.now }
@@ -149,7 +155,11 @@ pub fn push_from_group<P: AccessPort>(
         ≡ found.old.items ++ joins join.now.sources.items join.now.checks.items row.now (P.members port.now hits.now)) }
 {
     let count = hits.len() as usize;
-    let mut fitting = Fitting::among(count, index.as_ref(), &join.shared.row, row);
+    let run = match index {
+        Some(order) => Some(run_of(port, join, row, hits, order)),
+        None => None,
+    };
+    let mut fitting = Fitting::among(count, run);
     'tuples: while let Some(i) = fitting.next() {
         push_if_fits(alloc, port, join, row, hits, i as u32, found)?;
     }

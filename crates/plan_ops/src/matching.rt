@@ -13,7 +13,7 @@ use crate::indexing::{indexes_of, push_from_group};
 use crate::joining::Join;
 use crate::probing::place_of_key;
 use beas_core::{AccessId, AccessPort, ColumnId, Duplicate, Hits, List, NoMemory, Row, Value};
-use place_chains::PlaceChains;
+use place_chains::TupleOrder;
 use std::alloc::Global;
 
 // The value of a joined row at a place.
@@ -108,7 +108,7 @@ fn rows_from_groups<P: AccessPort>(
     key: &[ColumnId],
     keys: &[Row],
     groups: &[Hits],
-    indexes: &[Option<PlaceChains>],
+    indexes: &[Option<TupleOrder>],
     rows: &[Row],
 ) -> Result<Vec<Row>, NoMemory>
     requires columns { join.now.columns.items ≡ member_columns (access_in (P.accesses port.now) id) }

@@ -1,12 +1,12 @@
-use Rattle.std.proofs.Common.{◌≡◌, ◌++◌, ◌∷◌, ◌∙◌, [], ap, sym, subst, map, take, get_or, append-nil, append_assoc, arith}
+use Rattle.std.proofs.Common.{◌≡◌, ◌++◌, ℕ, List, Option, Bor, IfSome, ◌∷◌, ◌∙◌, [], ap, sym, subst, map, take, get_or, append-nil, append_assoc, arith}
 use Rattle.std.specs.List.{filter}
 use Rattle.std.proofs.lemmas.List.{map-append}
-use Rattle.place_chains.specs.Fitting.{IsFitting}
-use Rattle.place_chains.specs.Hashing.{hash_at}
+use Rattle.place_chains.specs.Fitting.{IsRun}
+use Rattle.place_chains.specs.TupleOrder.{values_at}
 use Rattle.place_chains.proofs.FittingFacts.{none_passes, none_passes_more, pass_more}
 use Rattle.plan_ops.specs.Joins.{fits_by, joined_by, joins}
-use Rattle.plan_ops.specs.Matching.{IsIndexed}
 use Rattle.plan_ops.proofs.MatchFacts.{fits_only}
+use Rattle.plan_ops.proofs.indexing.push_from_group.Goals.{in-Some, in-None}
 use Rattle.plan_ops.proofs.indexing.push_from_group.Goals as goal
 
 pub tuples-init : goal.tuples-init
@@ -15,10 +15,16 @@ tuples-init g c =
     let row = c.args.row.now in
     let tuples = g.P.AccessPort.members c.args.port.now c.args.hits.now in
     let start = c.args.found.now.items in
+    let Runs : Option (Bor (List ℕ)) → Type 0 = λ o.
+      IfSome o (λ numbers. IsRun join.shared.tuple.items tuples (values_at join.shared.row.items row) 0 numbers.now) in
+    let run_is : Runs c.match-index.run =
+      elim c.match-index.branch [
+        | in-Some w ↦ subst Runs (sym w.run-is) w.run_of.ensures
+        | in-None w ↦ subst Runs (sym w.run-is) tt
+      ] in
     record {
-      fits = subst (λ ps. IsFitting join.shared.tuple.items tuples (hash_at ps row) c.among-fitting.result) c.deref.ensures.value
-          (c.among-fitting.ensures.fits join.shared.tuple.items tuples (c.len-count.ensures ∙ c.requires.hits.count)
-          (subst (IsIndexed join.shared.tuple.items tuples) (sym c.as_ref.ensures.value) c.requires.index));
+      fits = c.among-fitting.ensures.fits join.shared.tuple.items tuples (values_at join.shared.row.items row)
+          (c.len-count.ensures ∙ c.requires.hits.count) run_is;
       found = subst (λ n. start ≡ start ++ joins join.sources.items join.checks.items row (take n tuples)) (sym c.among-fitting.ensures.first) (sym (append-nil start));
     }
 
@@ -30,12 +36,12 @@ tuples-preserved g c =
     let start = c.args.found.now.items in
     let p = fits_by join.checks.items row in
     let f = joined_by join.sources.items row in
-    let i = c.in-Some.i in
+    let i = c.in-Some-next.i in
     let t = get_or tuples i [] in
     let was = c.tuples.invariant in
-    let next = c.in-Some.ensures join.shared.tuple.items tuples (hash_at join.shared.row.items row) was.fits in
+    let next = c.in-Some-next.ensures join.shared.tuple.items tuples (values_at join.shared.row.items row) was.fits in
     let within = next.1 in
-    let passed = none_passes p tuples join.shared.tuple.items (hash_at join.shared.row.items row) (fits_only join row c.requires.sharing tuples)
+    let passed = none_passes p tuples join.shared.tuple.items (values_at join.shared.row.items row) (fits_only join row c.requires.sharing tuples)
     c.tuples.fitting.from i next.0 (omega (arith, within)) next.2 in
     record {
       fits = next.4;
@@ -54,7 +60,7 @@ returns g c =
     let tuples = g.P.AccessPort.members c.args.port.now c.args.hits.now in
     let p = fits_by join.checks.items row in
     let was = c.tuples.invariant in
-    let none = (c.in_default.ensures join.shared.tuple.items tuples (hash_at join.shared.row.items row) was.fits).0 in
+    let none = (c.in_default.ensures join.shared.tuple.items tuples (values_at join.shared.row.items row) was.fits).0 in
     was.found ∙ ap (λ xs. c.args.found.now.items ++ map (joined_by join.sources.items row) xs)
-    (sym (none_passes_more p tuples join.shared.tuple.items (hash_at join.shared.row.items row) (fits_only join row c.requires.sharing tuples)
+    (sym (none_passes_more p tuples join.shared.tuple.items (values_at join.shared.row.items row) (fits_only join row c.requires.sharing tuples)
     c.tuples.fitting.from was.fits.from none))

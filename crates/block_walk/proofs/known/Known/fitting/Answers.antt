@@ -1,14 +1,19 @@
-use Rattle.std.proofs.Common.{◌≡◌, IfSome, subst}
-use Rattle.std.specs.Option.{option_copied}
-use Rattle.place_chains.specs.Fitting.{IsFitting}
-use Rattle.place_chains.specs.Hashing.{hash_at, hashes_back}
+use Rattle.std.proofs.Common.{ℕ, List, Option, Bor, IfSome, sym, subst}
+use Rattle.place_chains.specs.Fitting.{IsRun}
+use Rattle.place_chains.specs.TupleOrder.{values_at}
 use Rattle.block_walk.specs.Entries.{entry_of}
+use Rattle.block_walk.proofs.known.Known.fitting.Goals.{in-Some, in-None}
 use Rattle.block_walk.proofs.known.Known.fitting.Goals as goal
 
 pub returns-clause-fits : goal.returns-clause-fits
 returns-clause-fits c =
     let shared = c.args.shared.now in
     let tuples = (entry_of c.args.self.now c.args.place).1 in
-    subst (λ ps. IsFitting shared.tuple.items tuples (hash_at ps c.args.row.now) c.among.result) c.deref-2.ensures.value
-    (c.among.ensures.fits shared.tuple.items tuples c.count.ensures
-    (subst (λ ps. IfSome (option_copied c.hashes-hashes.result) (λ hashes. hashes ≡ hashes_back ps tuples)) c.deref.ensures.value c.hashes-hashes.ensures))
+    let values = values_at shared.row.items c.args.row.now in
+    let Runs : Option (Bor (List ℕ)) → Type 0 = λ o. IfSome o (λ numbers. IsRun shared.tuple.items tuples values 0 numbers.now) in
+    let run_is : Runs c.match-order.run =
+      elim c.match-order.branch [
+        | in-Some w ↦ subst Runs (sym w.run-is) w.run.ensures
+        | in-None w ↦ subst Runs (sym w.run-is) tt
+      ] in
+    c.among.ensures.fits shared.tuple.items tuples values c.count.ensures run_is

@@ -1,11 +1,11 @@
-use Rattle.std.proofs.Common.{◌==◌, ◌∙◌, ap, sym}
+use Rattle.std.proofs.Common.{◌==◌, ◌∙◌, ap, sym, subst}
 use Rattle.std.proofs.lemmas.Bool.Decides.{Decides-eqb}
 use Rattle.std.proofs.lemmas.Slice.Eq.{slice_eq-Decides}
-use Rattle.place_chains.specs.Hashing.{hashes_back}
+use Rattle.place_chains.specs.TupleOrder.{IsOrder}
 use Rattle.block_walk.specs.declared.known.TupleIndex.{TupleIndex}
-use Rattle.block_walk.specs.Entries.{entry_of}
+use Rattle.block_walk.specs.Entries.{IsIndex, entry_of}
 use Rattle.block_walk.proofs.KnownFacts.{index_read}
-use Rattle.block_walk.proofs.known.Known.hashes.Goals as goal
+use Rattle.block_walk.proofs.known.Known.order.Goals as goal
 
 pub returns-then-eq : goal.returns-then-eq
 returns-then-eq c =
@@ -15,4 +15,5 @@ returns-then-eq c =
     let index = c.index-index.result.now in
     let indexed = index_read known c.requires.known c.args.place s c.requires.place c.index.ensures c.in_ok-at.at c.in_ok-at.was in
     let same = slice_eq-Decides {E = ◌==◌} Decides-eqb c.as_slice.result.now c.args.places.now c.eq.result c.eq.ensures in
-    ap (λ (i : TupleIndex). i.hashes) c.index-index.ensures ∙ indexed.is index ∙ ap (λ ps. hashes_back ps tuples) (ap (λ (i : TupleIndex). i.places.items) (sym c.index-index.ensures) ∙ sym c.as_slice.ensures.value ∙ same.0 c.if-eq.true)
+    let here = subst (IsIndex tuples) (sym c.index-index.ensures) (indexed.is index) in
+    subst (λ ps. IsOrder ps tuples index.order) (sym c.as_slice.ensures.value ∙ same.0 c.if-eq.true) here
