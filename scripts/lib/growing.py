@@ -3,8 +3,6 @@ import random
 from collections.abc import Callable, Iterable
 from typing import NamedTuple
 
-from .colliding import names_in_one_slot, pairs_of_a_key, pairs_of_a_step, texts_of_32_bytes
-
 MANY = 16_777_216
 LATE = 99_991_231
 ONE_GROUP = f"CREATE TABLE t (a INTEGER); CREATE ACCESS k ON t () FETCH (a) LIMIT {MANY};\n"
@@ -135,33 +133,6 @@ def wide_deleted(size: int) -> Input:
 def wide_loaded_twice(size: int) -> Input:
     access = f"CREATE ACCESS k ON t (c0) FETCH ({', '.join(WIDE)}) LIMIT {size};\n"
     return Input(WIDE_TABLE + access + "LOAD t FROM 'rows.csv';\n" * 2, wide_rows(size))
-
-
-# ---- rows and names that collide
-
-
-def colliding_texts(size: int) -> Input:
-    """Fields in quotes, whose own are doubled."""
-    rows = ('"' + text.replace('"', '""') + '"' for text in texts_of_32_bytes(size))
-    return Input("CREATE TABLE t (a TEXT); CREATE ACCESS k ON t (a) FETCH (a) LIMIT 1;\nLOAD t FROM 'rows.csv';\n", {"rows.csv": lines_of("a", rows)})
-
-
-def colliding_keys(size: int) -> Input:
-    rows = (f"{a},{b}" for a, b in pairs_of_a_key(size))
-    script = "CREATE TABLE t (a INTEGER, b INTEGER); CREATE ACCESS k ON t (a, b) FETCH (a) LIMIT 1;\nLOAD t FROM 'rows.csv';\n"
-    return Input(script, {"rows.csv": lines_of("a,b", rows)})
-
-
-def colliding_join(size: int) -> Input:
-    script = f"""CREATE TABLE t (a INTEGER, b INTEGER); CREATE ACCESS k ON t () FETCH (a, b) LIMIT {MANY}; LOAD t FROM 'rows.csv';
-CREATE TABLE s (a INTEGER, b INTEGER, c INTEGER); CREATE ACCESS sk ON s (a, b) FETCH (c) LIMIT 1; INSERT INTO s VALUES (1, 2, 3);
-SELECT DISTINCT s.c FROM t, s WHERE t.a = s.a AND t.b = s.b;
-"""
-    return Input(script, {"rows.csv": lines_of("a,b", (f"{a},{b}" for a, b in pairs_of_a_step(size)))})
-
-
-def colliding_names(size: int) -> Input:
-    return Input(constraints(names_in_one_slot(size)))
 
 
 # ---- one kind of text
