@@ -1,7 +1,8 @@
 """Values whose hashes collide, by the fixed functions of hashing of the program and its library.
 
 A word is taken into the state by a folded multiplication: the two halves of the product are put together by exclusive or. So a second word
-can be found for each first one that leads to a state that was chosen. Where the program hashes otherwise, nothing collides."""
+can be found for each first one that leads to a state that was chosen. Where words can't be chosen freely, some are looked for whose states
+end alike, so that they share a place of a table. Where the program hashes otherwise, nothing collides."""
 from collections.abc import Iterator
 from itertools import count
 
@@ -68,14 +69,32 @@ def texts_of_32_bytes(size: int) -> Iterator[str]:
             yield (head + text + tail).decode("ascii")
 
 
+def is_in_slot(state: int, size: int) -> bool:
+    """Whether a hash leads to a slot that was chosen of a table with so many keys, of which each slot takes some."""
+    mask = (1 << (size // 8).bit_length()) - 1
+    return (state ^ state >> 32 ^ 7) & mask == 0
+
+
 def names_in_one_slot(size: int) -> Iterator[str]:
-    """Names whose hashes end alike, so that they share a slot of a table of their number."""
-    mask, found = (1 << (size.bit_length() - 1)) - 1, 0
+    """Names that share a slot of a table of their number."""
+    found = 0
     for number in count():
         if found == size:
             return
         name = b"q" + spelled(number, 7)
-        state = folded(folded(SEED ^ int.from_bytes(name, "little"), FACTOR ^ 16) ^ 0xFFFFFF, FACTOR ^ 2)
-        if (state ^ state >> 32) & mask == 7 & mask:
+        if is_in_slot(folded(folded(SEED ^ int.from_bytes(name, "little"), FACTOR ^ 16) ^ 0xFFFFFF, FACTOR ^ 2), size):
             found += 1
             yield name.decode("ascii")
+
+
+def codes_in_one_slot(size: int) -> Iterator[tuple[int, int]]:
+    """Two codes that are a tuple, so that tuples share a slot of a table of their number. Codes are given from 0 on."""
+    begun, found = folded(SEED ^ 2, FACTOR ^ 16), 0
+    for first in count():
+        state = folded(begun ^ first, FACTOR ^ 16)
+        for second in range(size):
+            if found == size:
+                return
+            if is_in_slot(folded(state ^ second, FACTOR ^ 16), size):
+                found += 1
+                yield first, second

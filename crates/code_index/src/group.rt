@@ -131,7 +131,7 @@ pub fn count_up(
         }
         Err(at) => {
             let words = tuple_words(alloc, access, words)?;
-            group.insert(alloc, at, Coded { words, count: 1 })
+            group.insert(alloc, codes.hashing(), at, Coded { words, count: 1 })
         }
     }
 }

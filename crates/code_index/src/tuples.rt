@@ -14,6 +14,7 @@ use crate::words::is_tuple;
 use beas_core::{Access, Duplicate, NoMemory};
 use blocked_list::{Before, BlockedList};
 use marked_list::{Coded, MarkedList, TupleWords};
+use seeded_hash::SeededHashing;
 use std::alloc::Global;
 use std::marker::Model;
 
@@ -177,8 +178,8 @@ impl Group {
         }
     }
 
-    /// Gives a short group that is full the form of a long one. The tuples stay.
-    fn widen(&mut self, alloc: Global) -> Result<(), NoMemory>
+    /// Gives a short group that is full the form of a long one, whose words are hashed in this way. The tuples stay.
+    fn widen(&mut self, alloc: Global, hashing: SeededHashing) -> Result<(), NoMemory>
         requires few { length self.old < 2 ^ 32 }
         requires distinct { AreDistinct self.old }
         ensures { self.new ≡ self.old }
@@ -189,15 +190,22 @@ impl Group {
                 if tuples.len() < SHORT {
                     return Ok(());
                 }
-                MarkedList::over(alloc, tuples)?
+                MarkedList::over(alloc, hashing, tuples)?
             }
         };
         self.form = Form::Marked(Box::new(alloc, tuples)?);
         Ok(())
     }
 
-    /// Puts a tuple that isn't there in at a place. After an error all is as before.
-    pub fn insert(&mut self, alloc: Global, at: usize, tuple: Coded) -> Result<(), NoMemory>
+    /// Puts a tuple that isn't there in at a place. If it makes the group a long one, words will be hashed in this way. After
+    /// an error all is as before.
+    pub fn insert(
+        &mut self,
+        alloc: Global,
+        hashing: SeededHashing,
+        at: usize,
+        tuple: Coded,
+    ) -> Result<(), NoMemory>
         requires within { at ≤ length self.old }
         requires room { length self.old + 1 < 2 ^ 32 }
         requires distinct { AreDistinct self.old }
@@ -205,7 +213,7 @@ impl Group {
         ensures ok { OnOk result (self.new ≡ insert self.old at tuple) }
         ensures err { OnErr result (self.new ≡ self.old) }
     {
-        self.widen(alloc)?;
+        self.widen(alloc, hashing)?;
         match &mut self.form {
             Form::Short(tuples) => tuples.insert(alloc, at, tuple),
             Form::Marked(tuples) => tuples.insert(alloc, at, tuple),

@@ -14,6 +14,7 @@ use crate::words::TupleWords;
 use beas_core::{Duplicate, NoMemory};
 use blocked_list::{Before, BlockedList, Walk};
 use indexmap::IndexMap;
+use seeded_hash::SeededHashing;
 use std::alloc::Global;
 use std::marker::Model;
 
@@ -21,7 +22,7 @@ use std::marker::Model;
 #[derive(Drop)]
 pub struct MarkedList {
     slots: BlockedList<Slot>,
-    tuples: IndexMap<TupleWords, Standing>,
+    tuples: Tuples,
 }
 
 impl Model for MarkedList {
@@ -83,7 +84,7 @@ fn copy_of(
     requires { IsMarked tuples.now.entries slots.now }
     ensures { IfOk result (λ copy. copy ≡ items_of tuples.now.entries slots.now) }
 {
-    let mut copy = MarkedList::new(alloc);
+    let mut copy = MarkedList::new(alloc, *tuples.hasher());
     let mut walk = Walk::over(slots);
     for i in 0..tuples.len() {
         copy.insert(alloc, i, item_of_slot(alloc, tuples, walk.get(i))?)?;
@@ -92,13 +93,13 @@ fn copy_of(
 }
 
 impl MarkedList {
-    /// A list of no tuples, which takes no memory.
-    pub fn new(alloc: Global) -> MarkedList
+    /// A list of no tuples, whose words will be hashed in this way. It takes no memory.
+    pub fn new(alloc: Global, hashing: SeededHashing) -> MarkedList
         ensures { result ≡ [] }
     {
         MarkedList {
             slots: BlockedList::new(alloc),
-            tuples: IndexMap::new(alloc),
+            tuples: IndexMap::with_hasher(alloc, hashing),
         }
     }
 
@@ -197,13 +198,17 @@ impl MarkedList {
         self.tuples.swap_remove_index(entry as usize);
     }
 
-    /// A list of these tuples, in a time that grows with their number.
-    pub fn over(alloc: Global, tuples: &BlockedList<Coded>) -> Result<MarkedList, NoMemory>
+    /// A list of these tuples, whose words are hashed in this way, in a time that grows with their number.
+    pub fn over(
+        alloc: Global,
+        hashing: SeededHashing,
+        tuples: &BlockedList<Coded>,
+    ) -> Result<MarkedList, NoMemory>
         requires few { length tuples.now < 2 ^ 32 }
         requires distinct { AreDistinct tuples.now }
         ensures { IfOk result (λ list. list ≡ tuples.now) }
     {
-        let mut list = MarkedList::new(alloc);
+        let mut list = MarkedList::new(alloc, hashing);
         let mut walk = Walk::over(tuples);
         for i in 0..tuples.len() {
             list.insert(alloc, i, walk.get(i).copy(alloc)?)?;
@@ -211,7 +216,7 @@ impl MarkedList {
         Ok(list)
     }
 
-    /// An equal list, in a time that grows with its length.
+    /// An equal list, hashed alike, in a time that grows with its length.
     pub fn copy(&self, alloc: Global) -> Result<MarkedList, NoMemory>
         ensures { IfOk result (λ copy. copy ≡ self.now) }
     {

@@ -10,10 +10,11 @@ use crate::words::TupleWords;
 use beas_core::NoMemory;
 use blocked_list::{Before, BlockedList};
 use indexmap::IndexMap;
+use seeded_hash::SeededHashing;
 use std::alloc::Global;
 
 /// Each tuple's count and mark by its words.
-pub type Tuples = IndexMap<TupleWords, Standing>;
+pub type Tuples = IndexMap<TupleWords, Standing, SeededHashing>;
 
 /// The place of a mark.
 #[derive(Drop)]

@@ -7,8 +7,10 @@
 use Rattle.std.specs.Prelude.{◌≡◌, ℕ, List, [], ◌∷◌, map, filter, Option, Some, None}
 use Rattle.std.specs.Option.{option_map_or, is_some}
 use Rattle.std.specs.Borrow.{Bor}
-use Rattle.std.specs.HashMap.{HashMap, get_by}
+use Rattle.std.specs.BTreeMap.{BTreeMap, get_by}
+use Rattle.std.specs.Cmp.Lexicographic.{slice_cmp}
 use Rattle.std.specs.List.{enumerate_from, flat_map, list_any}
+use Rattle.std.specs.Ordering.{nat_cmp}
 use Rattle.std.specs.Str.{bytes_eq}
 use Rattle.sql_text.specs.declared.tree.ColumnRef.{ColumnRef}
 use Rattle.name_resolution.specs.declared.found.Found.{Found}
@@ -33,8 +35,8 @@ one_more None column = One column
 one_more (Some found) column = Several
 
 -- what a map has at a name
-abbrev pub found_at : {X S : Type 0} → HashMap (Bor (List ℕ)) X S → List ℕ → Option X
-found_at map name = get_by (λ key. bytes_eq name key.now) map
+abbrev pub found_at : {X : Type 0} → BTreeMap (Bor (List ℕ)) X → List ℕ → Option X
+found_at map name = get_by (λ key. slice_cmp nat_cmp name key.now) map
 
 -- what a ref with or without an alias finds, where columns finds names, and atoms aliases
 abbrev pub found_among : (List ℕ → Option Found) → (List ℕ → Option AtomColumns) → Option (List ℕ) → List ℕ

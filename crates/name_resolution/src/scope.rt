@@ -1,7 +1,7 @@
 // The names of a block as two maps: its atoms by alias, and its columns by name.
 ghost use Rattle.std.specs.List.{list_any};
 ghost use Rattle.std.specs.Prelude.{false, Some, ◌≡◌, ◌++◌, ◌∷◌, ◌≤◌, [], ℕ, List, Option, IfOk, OnOk, if◌then◌else◌, bytes_eq, take, length};
-ghost use Rattle.std.specs.HashMap.{get_by, HashMap};
+ghost use Rattle.std.specs.BTreeMap.{get_by, BTreeMap};
 ghost use Rattle.catalogue.specs.Schema.{table_named};
 ghost use Rattle.sql_text.specs.declared.tree.ColumnRef.{ColumnRef};
 ghost use Rattle.name_resolution.specs.declared.meaning.BoundColumn.{BoundColumn};
@@ -16,15 +16,16 @@ use beas_core::{Column, Duplicate, Fail, Name, NoMemory, Refusal, is_text};
 use catalogue::Catalogue;
 use sql_text::{ColumnRef, FromItem};
 use std::alloc::Global;
-use std::collections::HashMap;
+use std::collections::BTreeMap;
 
-/// The atoms of a block by alias, and its columns by name.
+/// The atoms of a block by alias, and its columns by name. Both are found by the order of the names, so that no names take
+/// longer than others.
 #[derive(Drop)]
 pub struct Scope<'a> {
     /// For each alias its atom with that atom's columns.
-    pub atoms: HashMap<&'a str, AtomColumns<'a>>,
+    pub atoms: BTreeMap<&'a str, AtomColumns<'a>>,
     /// For each name of a column, over all atoms, the one column that has it, or that there are several.
-    pub columns: HashMap<&'a str, Found>,
+    pub columns: BTreeMap<&'a str, Found>,
 }
 
 /// The columns of the table with this name, none where there is no such table.
@@ -72,7 +73,7 @@ pub fn find_in(atom: usize, columns: &[Column], name: &str) -> Option<Found>
 
 /// Adds a column to those with its name.
 fn add_column<'a>(
-    by_name: &mut HashMap<&'a str, Found>,
+    by_name: &mut BTreeMap<&'a str, Found>,
     name: &'a str,
     column: BoundColumn,
 ) -> Result<(), NoMemory>
@@ -87,7 +88,7 @@ fn add_column<'a>(
 
 /// Adds the columns of an atom to those with their names.
 fn add_columns<'a>(
-    by_name: &mut HashMap<&'a str, Found>,
+    by_name: &mut BTreeMap<&'a str, Found>,
     atom: usize,
     columns: &'a [Column],
 ) -> Result<(), NoMemory>
@@ -140,8 +141,8 @@ impl<'a> Scope<'a> {
         ensures { IsScope [] result }
     {
         Scope {
-            atoms: HashMap::new(alloc),
-            columns: HashMap::new(alloc),
+            atoms: BTreeMap::new(alloc),
+            columns: BTreeMap::new(alloc),
         }
     }
 

@@ -52,8 +52,8 @@ impl Session {
         Session::seeded(alloc, limits, budget, explain, 0)
     }
 
-    /// A session without tables, whose maps will hash with a seed. It makes no difference to what is answered, but who
-    /// doesn't know it can't choose values that collide. It takes no memory.
+    /// A session without tables, whose maps will hash with a seed. It makes no difference to what is answered. It is meant
+    /// to keep whoever doesn't know it from choosing values that collide, which no clause promises. It takes no memory.
     pub fn seeded(
         alloc: Global,
         limits: Limits,

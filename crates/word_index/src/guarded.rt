@@ -55,8 +55,8 @@ impl WordGuarded {
         WordGuarded::seeded(alloc, 0)
     }
 
-    /// A database without tables, whose maps will hash with a seed. It makes no difference to what is answered, but who
-    /// doesn't know it can't choose values that collide. It takes no memory.
+    /// A database without tables, whose maps will hash with a seed. It makes no difference to what is answered. It is meant
+    /// to keep whoever doesn't know it from choosing values that collide, which no clause promises. It takes no memory.
     pub fn seeded(alloc: Global, seed: u64) -> WordGuarded
         ensures { database_in result ≡ record { tables = []; accesses = []; created = 0 } }
     {
