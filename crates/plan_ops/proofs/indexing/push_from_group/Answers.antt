@@ -16,12 +16,12 @@ tuples-init g c =
     let tuples = g.P.AccessPort.members c.args.port.now c.args.hits.now in
     let start = c.args.found.now.items in
     let Runs : Option (Bor (List ℕ)) → Type 0 = λ o.
-      IfSome o (λ numbers. IsRun join.shared.tuple.items tuples (values_at join.shared.row.items row) 0 numbers.now) in
+    IfSome o (λ numbers. IsRun join.shared.tuple.items tuples (values_at join.shared.row.items row) 0 numbers.now) in
     let run_is : Runs c.match-index.run =
-      elim c.match-index.branch [
-        | in-Some w ↦ subst Runs (sym w.run-is) w.run_of.ensures
-        | in-None w ↦ subst Runs (sym w.run-is) tt
-      ] in
+    elim c.match-index.branch [
+      | in-Some w ↦ subst Runs (sym w.run-is) w.run_of.ensures
+      | in-None w ↦ subst Runs (sym w.run-is) tt
+    ] in
     record {
       fits = c.among-fitting.ensures.fits join.shared.tuple.items tuples (values_at join.shared.row.items row)
           (c.len-count.ensures ∙ c.requires.hits.count) run_is;

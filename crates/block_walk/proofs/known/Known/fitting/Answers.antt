@@ -12,8 +12,8 @@ returns-clause-fits c =
     let values = values_at shared.row.items c.args.row.now in
     let Runs : Option (Bor (List ℕ)) → Type 0 = λ o. IfSome o (λ numbers. IsRun shared.tuple.items tuples values 0 numbers.now) in
     let run_is : Runs c.match-order.run =
-      elim c.match-order.branch [
-        | in-Some w ↦ subst Runs (sym w.run-is) w.run.ensures
-        | in-None w ↦ subst Runs (sym w.run-is) tt
-      ] in
+    elim c.match-order.branch [
+      | in-Some w ↦ subst Runs (sym w.run-is) w.run.ensures
+      | in-None w ↦ subst Runs (sym w.run-is) tt
+    ] in
     c.among.ensures.fits shared.tuple.items tuples values c.count.ensures run_is
