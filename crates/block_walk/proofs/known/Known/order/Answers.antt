@@ -1,8 +1,7 @@
-use Rattle.std.proofs.Common.{◌==◌, ◌∙◌, ap, sym, subst}
+use Rattle.std.proofs.Common.{◌==◌, ◌∙◌, sym, subst}
 use Rattle.std.proofs.lemmas.Bool.Decides.{Decides-eqb}
 use Rattle.std.proofs.lemmas.Slice.Eq.{slice_eq-Decides}
 use Rattle.place_chains.specs.TupleOrder.{IsOrder}
-use Rattle.block_walk.specs.declared.known.TupleIndex.{TupleIndex}
 use Rattle.block_walk.specs.Entries.{IsIndex, entry_of}
 use Rattle.block_walk.proofs.KnownFacts.{index_read}
 use Rattle.block_walk.proofs.known.Known.order.Goals as goal
