@@ -21,8 +21,8 @@ use Rattle.beas_core.specs.Hashing.{equal_from}
 use Rattle.beas_core.specs.Order.{value_cmp, value_cmp_total}
 use Rattle.beas_core.specs.Telling.{value_cmp_tells}
 use Rattle.beas_core.specs.Types.{Row}
-use Rattle.plan_ops.specs.Fetched.{rows_in}
-use Rattle.plan_ops.proofs.FetchedFacts.{length-rows_in, row_at, row_within}
+use Rattle.block_walk.specs.Fetched.{rows_in}
+use Rattle.block_walk.proofs.FetchedFacts.{length-rows_in, row_at, row_within}
 use Rattle.place_chains.specs.Chains.{IsLast}
 use Rattle.place_chains.specs.Hashing.{hash_of}
 use Rattle.block_walk.specs.Kept.{Entry, part}

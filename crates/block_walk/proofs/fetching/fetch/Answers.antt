@@ -2,7 +2,7 @@ use Rattle.std.proofs.Common.{◌≡◌, ◌∙◌, All, length, subst, sym, tak
 use Rattle.std.proofs.lemmas.List.{length-append}
 use Rattle.beas_core.specs.Derivations.{access_in}
 use Rattle.plan_ops.proofs.ProbeFacts.{group_of_hits, group_takes}
-use Rattle.plan_ops.proofs.fetching.fetch.Goals as goal
+use Rattle.block_walk.proofs.fetching.fetch.Goals as goal
 
 pub push_tuples-requires-clause-hits : goal.push_tuples-requires-clause-hits
 push_tuples-requires-clause-hits g c =
