@@ -1,7 +1,7 @@
 -- What a tuple tells by its own values: one that leads on passes its step's sieve, and where one tuple is enough all that pass lead on alike.
 use Rattle.std.proofs.Common.{◌≡◌, ◌&&◌, ◌||◌, ◌==◌, ◌<◌, ◌+◌, ◌++◌, ◌∷◌, [], ℕ, zero, suc, pos, Bool, true, false, not, List, length, get_or, map, All, inl, inr, refl, ap, sym, subst, ◌∙◌, arith}
 use Rattle.std.specs.List.{list_all, zip}
-use Rattle.std.proofs.lemmas.Bool.{eqb-true}
+use Rattle.std.proofs.lemmas.Bool.{cases_lt, eqb-true}
 use Rattle.std.proofs.lemmas.List.{get_or_default, length-map}
 use Rattle.std.proofs.lemmas.Slice.Zip.{firsts-zip}
 use Rattle.beas_core.specs.declared.value.Value.{Value}
@@ -12,7 +12,7 @@ use Rattle.beas_core.specs.declared.query.Operand.{Operand}
 use Rattle.beas_core.specs.declared.query.Operand.TheVariants.{At, Fixed}
 use Rattle.beas_core.specs.declared.query.Comparison.{Comparison}
 use Rattle.beas_core.specs.declared.plan.Normal.{Normal}
-use Rattle.beas_core.specs.Types.{Row, Bindings, ClassSet}
+use Rattle.beas_core.specs.Types.{Row, Binding, Bindings, ClassSet}
 use Rattle.beas_core.specs.Order.{value_cmp}
 use Rattle.beas_core.specs.Full.{comparison_holds, operand_value, sign_holds}
 use Rattle.beas_core.specs.Groups.{member_columns}
@@ -30,7 +30,10 @@ use Rattle.plan_ops.specs.declared.stages.Stage.{Stage}
 use Rattle.plan_ops.specs.Joins.{fits_by}
 use Rattle.plan_ops.specs.Sieves.{AreRest, IsOwn, IsRest, IsRight, IsSide, comparison_at, is_met_alone, is_plain, no_column, no_comparison, own_right, passes}
 use Rattle.plan_ops.specs.Stages.{IsPair, IsStage, bound_with, joined_bindings, joined_row, leads_to, set_before, use_at}
+use Rattle.plan_ops.specs.Over.{set_of}
+use Rattle.plan_ops.specs.Places.{place_of}
 use Rattle.plan_ops.proofs.BoundSets.{counted}
+use Rattle.plan_ops.proofs.PlaceFacts.{bound_place}
 use Rattle.plan_ops.proofs.RowFacts.{pair_joined}
 
 -- what is true of all is true of each
@@ -49,6 +52,24 @@ has_zip f [] t k l m = absurd (omega (arith, l))
 has_zip f (c ∷ columns) [] k l m = absurd (omega (arith, m))
 has_zip f (c ∷ columns) (x ∷ t) zero l m = inl refl
 has_zip f (c ∷ columns) (x ∷ t) (suc k) l m = inr (has_zip f columns t k (omega (arith, l)) (omega (arith, m)))
+
+-- a class that has a place among the classes of a set is in it
+pub bound_there : (normal : Normal) (classes : List ℕ) → classes ≡ classes_in (set_of normal classes) → (class : ℕ)
+    → place_of classes class < length classes → has (set_of normal classes) class ≡ true
+bound_there normal classes are class l = bound_place (set_of normal classes) class (subst (λ cs. place_of cs class < length cs) are l)
+
+-- a comparison that is listed, or bound before, is so where more are listed
+pub rest_more : (normal : Normal) (set : ClassSet) (old new : List Own) (i : ℕ) → ((o : Own) → Has old o → Has new o)
+    → IsRest normal set old i → IsRest normal set new i
+rest_more normal set old new i stay (inl bound) = inl bound
+rest_more normal set old new i stay (inr listed) = inr (listed.0, stay listed.0 listed.1, listed.2)
+
+pub all_rest : (normal : Normal) (set : ClassSet) (old new : List Own) (n : ℕ) → ((o : Own) → Has old o → Has new o)
+    → AreRest normal set old n → IsRest normal set new n → AreRest normal set new (n + 1)
+all_rest normal set old new n stay rest here i l = elim (cases_lt i n) [
+  | inl before ↦ rest_more normal set old new i stay (rest i before)
+  | inr past ↦ subst (IsRest normal set new) (let same : n ≡ i = omega (arith, l, past) in same) here
+]
 
 no_checks : (checks : List (ℕ × ℕ)) → length checks ≡ 0 → checks ≡ []
 no_checks [] e = refl
@@ -83,7 +104,7 @@ module _ (normal : Normal) (stage : Stage) (is : IsStage normal stage) (v t : Ro
       → value_of (as_bindings after (joined_row normal (use_at stage) set v t)) class ≡ get_or t k (Int (pos 0))
   side_value agree class k side =
       let own = zip (member_classes normal (use_at stage)) t in
-      let b = (class_at normal stage.atom (get_or columns k no_column), get_or t k (Int (pos 0))) in
+      let b : Binding = (class_at normal stage.atom (get_or columns k no_column), get_or t k (Int (pos 0))) in
       let wide = pair.found.wide in
       let there = side.there in
       let h : Has bindings b = Has-append_right (as_bindings set v) own b
