@@ -28,7 +28,7 @@ module _ (rows : TableRows) (accesses : List Access) (id : AccessId) (step : ℕ
   last_found key none new entries tuples kept at last told before after cost =
       let long : length (entries_in new) ≡ length (entries_in old) + 1 = ap length entries ∙ length_push (entries_in old) (found key) in
       let entry : entry_of new at.place ≡ found key =
-      ap (λ (es : List Entry). get_or es at.place ((0, []), [])) entries ∙ get_or_push (entries_in old) (found key) ((0, []), []) at.place last in
+      ap (λ (es : List Entry). get_or es at.place ((0, []), [])) entries ∙ get_or_push (entries_in old) (found key) ((0, []), []) at.place (sym last) in
       record {
         there = omega (arith, long, last);
         is_key = ap (λ (e : Entry). e.0) entry;

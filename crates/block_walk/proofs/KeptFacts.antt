@@ -6,6 +6,8 @@ use Rattle.beas_core.specs.declared.schema.Access.{Access}
 use Rattle.beas_core.specs.declared.schema.AccessId.{AccessId}
 use Rattle.beas_core.specs.declared.plan.Normal.{Normal}
 use Rattle.beas_core.specs.Types.{Row, TableRows}
+use Rattle.beas_core.specs.Derivations.{access_in}
+use Rattle.beas_core.specs.Groups.{group_of}
 use Rattle.plan_ops.specs.declared.stages.Stage.{Stage}
 use Rattle.plan_ops.specs.Sieves.{sieved}
 use Rattle.block_walk.specs.Kept.{Entry}
@@ -48,8 +50,8 @@ module _ (old new : Known) where
           let n = length-kept_in old in
           let many = ap length entries ∙ length_push (entries_in old) one in
           let last : length (entries_in old) ≡ i = omega (arith, l, past, many) in
-          let lies : entry_of new i ≡ one = ap (λ es. get_or es i ((0, []), [])) entries ∙ get_or_push (entries_in old) one ((0, []), []) i (sym last) in
-          ap (λ ks. get_or ks i []) kept ∙ get_or_push (kept_in old) tuples [] i (sym last ∙ sym n) ∙ here
+          let lies : entry_of new i ≡ one = ap (λ es. get_or es i ((0, []), [])) entries ∙ get_or_push (entries_in old) one ((0, []), []) i last in
+          ap (λ ks. get_or ks i []) kept ∙ get_or_push (kept_in old) tuples [] i (n ∙ last) ∙ here
           ∙ ap (λ (x : Entry). sieved normal stage.sieve (is_last && stage.sieve.one) x.1) (sym lies))
     ]
 
@@ -57,6 +59,9 @@ module _ (old new : Known) where
 module _ (rows : TableRows) (accesses : List Access) (id : AccessId) (step : ℕ) (key : Row) (found : Found) (old new : Known) (before now : ℕ)
     (finds : Finds rows accesses id step key found old new before now) (normal : Normal) (stage : Stage) (is_last : Bool) (other : ℕ)
     (differ : other ≡ step → ⊥) (was : AreKept normal stage is_last old other) where
+  abbrev one : Entry
+  one = ((step, key), group_of (rows (access_in accesses id).table) (access_in accesses id) key)
+
   at_old : (i : ℕ) → i < length (entries_in old) → entry_of new i ≡ entry_of old i → (entry_of new i).0.0 ≡ other
       → kept_of new i ≡ sieved normal stage.sieve (is_last && stage.sieve.one) (entry_of new i).1
   at_old i l same e =
@@ -71,10 +76,10 @@ module _ (rows : TableRows) (accesses : List Access) (id : AccessId) (step : ℕ
       by None grew = at_old i (subst (λ (es : List Entry). i < length es) grew.0 l) (ap (λ es. get_or es i ((0, []), [])) grew.0) e
       by (Some reads) grew = elim (cases_lt i (length (entries_in old))) [
         | inl before ↦ at_old i before (ap (λ es. get_or es i ((0, []), [])) grew.1
-            ∙ get_or_append_left (entries_in old) (((step, key), _) ∷ []) ((0, []), []) i before) e
+            ∙ get_or_append_left (entries_in old) (one ∷ []) ((0, []), []) i before) e
         | inr past ↦ (
-            let many = ap length grew.1 ∙ length_push (entries_in old) _ in
-            let last : i ≡ length (entries_in old) = omega (arith, l, past, many) in
-            let lies = ap (λ es. get_or es i ((0, []), [])) grew.1 ∙ get_or_push (entries_in old) _ ((0, []), []) i last in
+            let many = ap length grew.1 ∙ length_push (entries_in old) one in
+            let last : length (entries_in old) ≡ i = omega (arith, l, past, many) in
+            let lies = ap (λ es. get_or es i ((0, []), [])) grew.1 ∙ get_or_push (entries_in old) one ((0, []), []) i last in
             absurd (differ (sym e ∙ ap (λ (x : Entry). x.0.0) lies)))
       ]

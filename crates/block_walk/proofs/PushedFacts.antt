@@ -14,6 +14,10 @@ use Rattle.plan_ops.specs.declared.sieving.Own.{Own}
 use Rattle.block_walk.specs.Fetched.{Pushed, rows_in}
 use Rattle.block_walk.proofs.FetchedFacts.{rows_more}
 
+pub nothing : {K : Type 0} (xs : List K) → length xs ≡ 0 → xs ≡ []
+nothing [] e = refl
+nothing (x ∷ xs) e = absurd (omega (arith, e))
+
 pub pushed_none : (width : ℕ) (values : List Value) → Pushed width values values [] 0
 pushed_none width values = record { front = take_all (length values) values (omega arith); whole = omega arith; cut = refl }
 

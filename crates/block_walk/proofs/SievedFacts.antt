@@ -1,16 +1,21 @@
 -- The tuples that a step's sieve keeps lead to what all tuples lead to.
-use Rattle.std.proofs.Common.{◌≡◌, ◌<◌, ◌++◌, ◌∷◌, ◌∙◌, [], Bool, true, false, cond, List, All, length, map, take, get_or, inl, inr, refl, ap, sym, subst, arith}
+use Rattle.std.proofs.Common.{◌≡◌, ◌==◌, ◌<◌, ℕ, ◌++◌, ◌∷◌, ◌∙◌, [], Bool, true, false, cond, List, All, length, map, take, get_or, inl, inr, refl, ap, sym, subst, arith}
 use Rattle.std.specs.List.{filter}
+use Rattle.std.proofs.lemmas.Bool.{eqb-true}
 use Rattle.beas_core.specs.declared.plan.Normal.{Normal}
 use Rattle.beas_core.specs.Types.{Row}
 use Rattle.beas_core.specs.Valuations.{output_row}
 use Rattle.beas_core.proofs.Sets.{Has, Has-append_left, Has-append_right, Has-append_cases, Has-filter, Has-from_filter, Has-from_map, Has-get_or, Has-map, SameMembers}
+use Rattle.evaluation_facts.proofs.MemberTests.{which}
 use Rattle.plan_ops.specs.declared.sieving.Sieve.{Sieve}
 use Rattle.plan_ops.specs.declared.stages.Stage.{Stage}
 use Rattle.plan_ops.specs.Sieves.{passes, sieved}
 use Rattle.plan_ops.specs.Stages.{IsPair, IsStage, bound_with, joined_row, leads_to, next_by, set_before, use_at}
 use Rattle.plan_ops.proofs.RowFacts.{output_settled}
 use Rattle.plan_ops.proofs.SieveFacts.{all_member, leads_alike, leads_pass, one_settled}
+
+pub below_differs : (a b : ℕ) → a < b → (a == b) ≡ false
+below_differs a b l = elim (which (a == b)) [ inl e ↦ (let k = eqb-true a b e in absurd (omega (arith, k, l))) | inr e ↦ e ]
 
 -- what a test passes is passed by one that is never stricter
 filter_within : {K : Type 0} (p q : K → Bool) (xs : List K) → ((x : K) → Has xs x → p x ≡ true → q x ≡ true) → filter p (filter q xs) ≡ filter p xs
@@ -79,9 +84,9 @@ module _ (normal : Normal) (stage : Stage) (is : IsStage normal stage) (v : Row)
   next_kept kept one e all = ap next (e ∙ ap (λ b. sieved normal stage.sieve b tuples) all) ∙ next_passing
 
   -- all tuples that pass are alike, where one is enough
-  module _ (one : stage.sieve.one ≡ true) (wide : length v ≡ length stage.from.value) where
-    one_output : (t : Row) → out (f t) ≡ output_row normal (set_before normal stage) v
-    one_output t = output_settled normal stage is (one_settled normal stage is one) v t wide
+  module _ (one : stage.sieve.one ≡ true) where
+    one_output : (t : Row) → Has tuples t → out (f t) ≡ output_row normal (set_before normal stage) v
+    one_output t h = output_settled normal stage is (one_settled normal stage is one) v t (pair_of t h).wide
 
     -- if one of them leads on, the first one does, to the same output
     first_output : (ts : List Row) → ((t : Row) → Has ts t → Has passing t) → (y : Row) → Has (map out (next ts)) y → Has (map out (next (take 1 ts))) y
@@ -94,7 +99,7 @@ module _ (normal : Normal) (stage : Stage) (is : IsStage normal stage) (v : Row)
         let first = Has-from_filter (passes normal stage.sieve) tuples t (in_all t (inl refl)) in
         let led : leads t ≡ true =
         leads_alike normal stage is one v t k.0 (pair_of t first.0) (pair_of k.0 there.0) first.1 there.1 ∙ g.1 in
-        let same : out (f t) ≡ y = one_output t ∙ sym (one_output k.0) ∙ ap out (sym k.2) ∙ sym m.2 in
+        let same : out (f t) ≡ y = one_output t first.0 ∙ sym (one_output k.0 there.0) ∙ ap out (sym k.2) ∙ sym m.2 in
         subst (Has (map out (next (t ∷ [])))) same
         (Has-map out (next (t ∷ [])) (f t) (Has-map f (filter leads (t ∷ [])) t (Has-filter leads (t ∷ []) t (inl refl) led)))
 
@@ -112,17 +117,17 @@ module _ (normal : Normal) (stage : Stage) (is : IsStage normal stage) (v : Row)
       λ h. first_output passing (λ t k. k) y (subst (λ ts. Has (map out ts) y) (sym next_passing) h),
     )
 
-  outputs_by : (one : Bool) → (one ≡ true → stage.sieve.one ≡ true) → length v ≡ length stage.from.value
+  outputs_by : (one : Bool) → (one ≡ true → stage.sieve.one ≡ true)
       → SameMembers (map out (next (sieved normal stage.sieve one tuples))) (map out (next tuples))
-  outputs_by true enough wide = outputs_first (enough refl) wide
-  outputs_by false enough wide y = (
+  outputs_by true enough y = outputs_first (enough refl) y
+  outputs_by false enough y = (
     λ h. subst (λ ts. Has (map out ts) y) next_passing h,
     λ h. subst (λ ts. Has (map out ts) y) (sym next_passing) h,
   )
 
   pub outputs_kept : (kept : List Row) (one : Bool) → kept ≡ sieved normal stage.sieve one tuples → (one ≡ true → stage.sieve.one ≡ true)
-      → length v ≡ length stage.from.value → (now start : List Row) → SameMembers now (start ++ map out (next kept))
+      → (now start : List Row) → SameMembers now (start ++ map out (next kept))
       → SameMembers now (start ++ map out (next tuples))
-  outputs_kept kept one e enough wide now start was =
-      same_behind now start (map out (next (sieved normal stage.sieve one tuples))) (map out (next tuples)) (outputs_by one enough wide)
+  outputs_kept kept one e enough now start was =
+      same_behind now start (map out (next (sieved normal stage.sieve one tuples))) (map out (next tuples)) (outputs_by one enough)
       (subst (λ ts. SameMembers now (start ++ map out (next ts))) e was)

@@ -315,7 +315,8 @@ fn visit_again<P: AccessPort, L: Ledger>(
     let stage = &walk.stages[at.step];
     let id = plan[at.step].access;
     let (pending, known, key) = (&walk.pending, &mut walk.known, &mut walk.key);
-    let is_last = at.step + 1 == plan.len();
+    let count = plan.len();
+    let is_last = at.step + 1 == count;
     let found = entry_for(
         alloc, port, block, id, stage, is_last, at, pending, known, key, steps,
     )?;
@@ -324,7 +325,7 @@ fn visit_again<P: AccessPort, L: Ledger>(
         block,
         stage,
         at,
-        plan.len(),
+        count,
         &walk.known,
         found.place,
         &mut walk.pending,
@@ -369,7 +370,8 @@ fn visit_first<P: AccessPort, L: Ledger>(
     let step = &plan[at.step];
     let stage = next_stage(alloc, port, block, step, &walk.first, &walk.stages)?;
     let (pending, known, key) = (&walk.pending, &mut walk.known, &mut walk.key);
-    let is_last = at.step + 1 == plan.len();
+    let count = plan.len();
+    let is_last = at.step + 1 == count;
     let found = entry_for(
         alloc,
         port,
@@ -388,7 +390,7 @@ fn visit_first<P: AccessPort, L: Ledger>(
         block,
         &stage,
         at,
-        plan.len(),
+        count,
         &walk.known,
         found.place,
         &mut walk.pending,

@@ -16,20 +16,21 @@ use Rattle.block_walk.specs.Ordered.{IsPlaced}
 use Rattle.block_walk.proofs.SievedFacts.{all_kept}
 use Rattle.block_walk.proofs.KnownFacts.{Added, entries_added, kept_added, known_added, values_behind}
 use Rattle.block_walk.proofs.known.Known.fetch.Given
+use Rattle.block_walk.proofs.known.Known.fetch.Goals.{After-max}
 use Rattle.block_walk.proofs.known.Known.fetch.Goals as goal
 
-abbrev spot_of : (g : Given.Over) → goal.In_ok-push-2 g → Spot
+abbrev spot_of : (g : Given.Over) → After-max g → Spot
 spot_of g c = record {
   step = c.args.step;
   from = c.len-from.result;
   width = length c.args.stage.now.join.columns.items;
-  count = c.in_ok-fetch.kept;
+  count = c.in_ok-found.kept;
   key_width = c.len-key_width.result;
   index = None;
-  all = c.in_ok-fetch.all;
+  all = c.in_ok-found.all;
 }
 
-added : (g : Given.Over) (c : goal.In_ok-push-2 g)
+added : (g : Given.Over) (c : After-max g)
     → Added c.args.self.now (drop (length c.args.self.now.values.items) c.fetch.new.values.items) c.args.key.now.items (spot_of g c)
     c.keep_key.new.values.items c.push.new.self.items
 added g c =
@@ -39,7 +40,7 @@ added g c =
     let key = c.args.key.now.items in
     let access = access_in (g.P.AccessPort.accesses c.args.port.now) c.args.id in
     let stage = c.args.stage.now in
-    let pushed = c.in_ok-fetch.ensures.kept in
+    let pushed = c.in_ok-found.ensures.kept in
     let whole = pushed.whole in
     let columns = ap length c.requires.stage.join_is.columns_are ∙ ap (λ (a : Access). length (member_columns a)) c.requires.access
     ∙ length-append access.key access.fetched in
@@ -51,9 +52,9 @@ added g c =
       key_wide = grind (arith, common_steps);
       narrow = (let w = c.requires.width in omega (arith, columns, w));
       begin = all_kept (λ tuple. take (length key) tuple ≡ key) c.args.block.now stage.sieve c.args.one (group key)
-          (rows_in (length stage.join.columns.items) c.in_ok-fetch.kept (drop (length old) fetched)) tuples
+          (rows_in (length stage.join.columns.items) c.in_ok-found.kept (drop (length old) fetched)) tuples
           (group_takes (g.P.AccessPort.rows c.args.port.now access.table) access key c.requires.width);
-      values_are = values_behind old fetched (key_alone c.in_ok-fetch.kept key) c.keep_key.new.values.items pushed.front
+      values_are = values_behind old fetched (key_alone c.in_ok-found.kept key) c.keep_key.new.values.items pushed.front
           c.in_ok-keep_key.ensures.values;
       spots_are = c.in_ok-push.ensures.items;
       plain = refl;
@@ -83,7 +84,7 @@ returns-clause-entries g c =
     let found = drop (length known.values.items) c.fetch.new.values.items in
     let key = c.args.key.now.items in
     let access = access_in (g.P.AccessPort.accesses c.args.port.now) c.args.id in
-    let all = c.in_ok-fetch.ensures.all ∙ ap (group_of (g.P.AccessPort.rows c.args.port.now access.table) access) c.deref.ensures.value in
+    let all = c.in_ok-found.ensures.all ∙ ap (group_of (g.P.AccessPort.rows c.args.port.now access.table) access) c.deref.ensures.value in
     entries_added known c.requires.known found key (spot_of g c) c.keep_key.new.values.items c.push.new.self.items (added g c)
     ∙ ap (λ rows. entries_in known ++ ((c.args.step, key), rows) ∷ []) all
 
@@ -94,6 +95,6 @@ returns-clause-kept g c =
     let key = c.args.key.now.items in
     let access = access_in (g.P.AccessPort.accesses c.args.port.now) c.args.id in
     let group = group_of (g.P.AccessPort.rows c.args.port.now access.table) access in
-    let tuples = c.in_ok-fetch.ensures.kept.cut ∙ ap (λ k. sieved c.args.block.now c.args.stage.now.sieve c.args.one (group k)) c.deref.ensures.value in
+    let tuples = c.in_ok-found.ensures.kept.cut ∙ ap (λ k. sieved c.args.block.now c.args.stage.now.sieve c.args.one (group k)) c.deref.ensures.value in
     kept_added known c.requires.known found key (spot_of g c) c.keep_key.new.values.items c.push.new.self.items (added g c)
     ∙ ap (λ rows. kept_in known ++ rows ∷ []) tuples
