@@ -1,5 +1,5 @@
 -- Tuples that are copied one after another, where a sieve passes them.
-use Rattle.std.proofs.Common.{◌≡◌, ◌+◌, ◌*◌, ◌<◌, ◌≤◌, ◌++◌, ◌∷◌, ◌∙◌, [], ℕ, zero, suc, Bool, true, false, cond, List, length, take, drop, get_or, refl, ap, sym, subst, arith, add-one, length-append, length-drop}
+use Rattle.std.proofs.Common.{◌≡◌, ◌+◌, ◌*◌, ◌<◌, ◌≤◌, ◌++◌, ◌∷◌, ◌∙◌, [], ℕ, Bool, true, false, cond, List, length, take, drop, get_or, refl, ap, sym, subst, arith, add-one, length-append, length-drop}
 use Rattle.std.specs.List.{filter, list_all}
 use Rattle.std.proofs.Math.Seq.{take-suc}
 use Rattle.std.proofs.lemmas.List.{append-nil, drop-append-le, take-append-drop, take-append-le, take_all}

@@ -1,5 +1,5 @@
 -- The tuples that a step's sieve keeps lead to what all tuples lead to.
-use Rattle.std.proofs.Common.{◌≡◌, ◌==◌, ◌<◌, ℕ, ◌++◌, ◌∷◌, ◌∙◌, [], Bool, true, false, cond, List, All, length, map, take, get_or, inl, inr, refl, ap, sym, subst, arith}
+use Rattle.std.proofs.Common.{◌≡◌, ◌==◌, ◌<◌, ℕ, ◌++◌, ◌∷◌, ◌∙◌, [], Bool, true, false, cond, List, All, map, take, get_or, inl, inr, refl, ap, sym, subst, arith}
 use Rattle.std.specs.List.{filter}
 use Rattle.std.proofs.lemmas.Bool.{eqb-true}
 use Rattle.beas_core.specs.declared.plan.Normal.{Normal}

@@ -20,7 +20,7 @@ use Rattle.block_walk.specs.Worlds.{World, Fetched, AgreesWith, in_order, made, 
 use Rattle.block_walk.specs.Turns.{fetched_reads, GoesOn, outputs_at, Visited, VisitCosts, VisitSpent, probed}
 use Rattle.block_walk.specs.Routes.{Route, is_last, step_at, probe_at}
 use Rattle.block_walk.specs.Kept.{Entry, Pending, pending_at}
-use Rattle.block_walk.specs.Entries.{AreKept, IsKnown, entries_in, entry_of, kept_of}
+use Rattle.block_walk.specs.Entries.{AreKept, IsKnown, entries_in, entry_of}
 use Rattle.block_walk.specs.Finding.{Finds, FindSpent, Grew, WasNotProbed}
 use Rattle.block_walk.specs.Stacks.{IsStack, pending_in}
 use Rattle.block_walk.specs.declared.known.Known.{Known}

@@ -274,8 +274,9 @@ impl Known {
     {
         let from = self.values.len();
         let values = &mut self.values;
-        let Gathered { found, kept, all } =
-            fetch(alloc, port, block, id, stage, one, key, values, steps)?;
+        let Gathered { found, kept, all } = fetch(
+            alloc, port, block, id, stage, one, key, values, steps,
+        )?;
         let place = self.spots.len();
         let hash = self
             .ordered

@@ -1,4 +1,4 @@
-use Rattle.std.proofs.Common.{rules, ◌≡◌, ◌∙◌, [], length, sym, subst}
+use Rattle.std.proofs.Common.{rules, ◌≡◌, [], length, sym, subst}
 use Rattle.block_walk.specs.Fetched.{Pushed}
 use Rattle.block_walk.proofs.PushedFacts.{all_kept_by, nothing}
 use Rattle.block_walk.proofs.fetching.push_kept.Goals as goal

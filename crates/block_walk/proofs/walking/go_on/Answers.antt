@@ -1,4 +1,4 @@
-use Rattle.std.proofs.Common.{◌≡◌, ◌&&◌, ◌==◌, ◌<◌, ◌+◌, ◌++◌, ◌∙◌, All, Bool, false, List, inl, inr, refl, ap, map, sym, subst, arith}
+use Rattle.std.proofs.Common.{◌≡◌, ◌&&◌, ◌==◌, ◌+◌, ◌++◌, ◌∙◌, All, Bool, false, List, inl, inr, refl, ap, map, sym, subst, arith}
 use Rattle.beas_core.specs.Types.{Row}
 use Rattle.beas_core.specs.Valuations.{output_row}
 use Rattle.beas_core.proofs.Sets.{SameMembers}

@@ -1,7 +1,6 @@
-use Rattle.std.proofs.Common.{◌∙◌, refl, ap, sym, length, ◌==◌, ◌+◌, ℕ, subst}
+use Rattle.std.proofs.Common.{◌∙◌, refl, ap, sym, length, ℕ}
 use Rattle.std.specs.Option.{option_copied}
 use Rattle.beas_core.specs.Types.{Row}
-use Rattle.block_walk.specs.Entries.{AreKept}
 use Rattle.block_walk.specs.Worlds.{world}
 use Rattle.block_walk.specs.Routes.{route}
 use Rattle.block_walk.specs.Stacks.{pending_of}

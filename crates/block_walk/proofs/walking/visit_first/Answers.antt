@@ -1,11 +1,10 @@
-use Rattle.std.proofs.Common.{◌≡◌, ◌∙◌, true, length, refl, ap, sym, subst, arith, ◌==◌, ◌+◌, ℕ}
+use Rattle.std.proofs.Common.{◌≡◌, ◌∙◌, true, length, refl, ap, sym, subst, arith, ℕ}
 use Rattle.std.specs.Option.{option_copied}
 use Rattle.beas_core.specs.Coverage.{holds_classes, key_classes}
 use Rattle.beas_core.specs.Derivations.{access_in}
 use Rattle.beas_core.specs.Valuations.{classes_in}
 use Rattle.plan_ops.specs.Over.{set_of}
 use Rattle.beas_core.specs.Types.{Row}
-use Rattle.block_walk.specs.Entries.{AreKept}
 use Rattle.block_walk.specs.Worlds.{world}
 use Rattle.block_walk.specs.Routes.{route, step_at}
 use Rattle.block_walk.specs.Stacks.{pending_of}
