@@ -21,12 +21,12 @@ use Rattle.beas_core.specs.Hashing.{equal_from}
 use Rattle.beas_core.specs.Order.{value_cmp, value_cmp_total}
 use Rattle.beas_core.specs.Telling.{value_cmp_tells}
 use Rattle.beas_core.specs.Types.{Row}
-use Rattle.plan_ops.specs.Fetched.{rows_in}
-use Rattle.plan_ops.proofs.FetchedFacts.{length-rows_in, row_at, row_within}
+use Rattle.block_walk.specs.Fetched.{rows_in}
+use Rattle.block_walk.proofs.FetchedFacts.{length-rows_in, row_at, row_within}
 use Rattle.place_chains.specs.Chains.{IsLast}
 use Rattle.place_chains.specs.Hashing.{hash_of}
 use Rattle.block_walk.specs.Kept.{Entry, part}
-use Rattle.block_walk.specs.Entries.{AreReached, IsAt, IsIndex, IsIndexed, IsKnown, IsReached, IsSpot, entries_in, entry_at, entry_of, key_alone}
+use Rattle.block_walk.specs.Entries.{AreReached, IsAt, IsIndex, IsIndexed, IsKnown, IsReached, IsSpot, entries_in, entry_at, entry_of, kept_at, kept_in, kept_of, key_alone}
 use Rattle.block_walk.specs.Ordered.{IsPlaced, kept_under}
 use Rattle.block_walk.proofs.OrderedFacts.{reached_more, some_weaker}
 use Rattle.block_walk.specs.declared.known.Known.{Known}
@@ -47,14 +47,24 @@ entry_read known place s l is =
     get_or-map (entry_at known.values.items) known.spots.items place s ((0, []), []) (omega (arith, l, n))
     ∙ ap (entry_at known.values.items) (sym is)
 
+pub length-kept_in : (known : Known) → length (kept_in known) ≡ length (entries_in known)
+length-kept_in known = length-map known.spots.items (kept_at known.values.items) ∙ sym (length-entries_in known)
+
+-- its tuples that are kept
+pub kept_read : (known : Known) (place : ℕ) (s : Spot) → place < length (entries_in known) → s ≡ get_or known.spots.items place s
+    → kept_of known place ≡ kept_at known.values.items s
+kept_read known place s l is =
+    let n = length-entries_in known in
+    get_or-map (kept_at known.values.items) known.spots.items place s [] (omega (arith, l, n)) ∙ ap (kept_at known.values.items) (sym is)
+
 pub count_read : (known : Known) (place : ℕ) (s : Spot) → place < length (entries_in known) → s ≡ get_or known.spots.items place s
-    → s.count ≡ length (entry_of known place).1
+    → s.count ≡ length (kept_of known place)
 count_read known place s l is =
-    sym (ap (λ (e : Entry). length e.1) (entry_read known place s l is) ∙ length-rows_in s.width s.count (drop s.from known.values.items))
+    sym (ap (λ (ts : List Row). length ts) (kept_read known place s l is) ∙ length-rows_in s.width s.count (drop s.from known.values.items))
 
 -- a tuple's values are there
 pub tuple_within : (known : Known) → IsKnown known → (place : ℕ) (s : Spot) → place < length (entries_in known) → s ≡ get_or known.spots.items place s
-    → (at : ℕ) → at < length (entry_of known place).1 → (s.from + at * s.width) + s.width ≤ length known.values.items
+    → (at : ℕ) → at < length (kept_of known place) → (s.from + at * s.width) + s.width ≤ length known.values.items
 tuple_within known stands place s l is at below =
     let n = length-entries_in known in
     let spot : IsSpot known.values.items s =
@@ -64,15 +74,15 @@ tuple_within known stands place s l is at below =
     omega (arith, spot.tuples, row)
 
 pub tuple_read : (known : Known) (place : ℕ) (s : Spot) → place < length (entries_in known) → s ≡ get_or known.spots.items place s
-    → (at : ℕ) → at < length (entry_of known place).1 → (n : ℕ) → n ≡ s.width
-    → part known.values.items (s.from + at * s.width) n ≡ slice_index_or (entry_of known place).1 at []
+    → (at : ℕ) → at < length (kept_of known place) → (n : ℕ) → n ≡ s.width
+    → part known.values.items (s.from + at * s.width) n ≡ slice_index_or (kept_of known place) at []
 tuple_read known place s l is at below n wide =
     let values = known.values.items in
     let count = count_read known place s l is in
     ap (part values (s.from + at * s.width)) wide
     ∙ ap (take s.width) (sym (drop-drop (at * s.width) s.from values))
     ∙ sym (row_at s.width s.count (drop s.from values) at (omega (arith, below, count)))
-    ∙ ap (λ (e : Entry). slice_index_or e.1 at []) (sym (entry_read known place s l is))
+    ∙ ap (λ (ts : List Row). slice_index_or ts at []) (sym (kept_read known place s l is))
 
 -- ---- entries stay where values are added
 
@@ -99,10 +109,7 @@ rows_at-append values more from width count l =
     ∙ rows_in-append width count (drop from values) more (omega (arith, l, d))
 
 pub entry_at-append : (values more : List Value) (s : Spot) → IsSpot values s → entry_at (values ++ more) s ≡ entry_at values s
-entry_at-append values more s is =
-    ap (λ k. ((s.step, k), rows_in s.width s.count (drop s.from (values ++ more)))) (part-append values more s.from s.key_width is.key)
-    ∙ ap (λ rows. ((s.step, part values s.from s.key_width), rows))
-    (rows_at-append values more s.from s.width s.count is.tuples)
+entry_at-append values more s is = ap (λ k. ((s.step, k), s.all.rows)) (part-append values more s.from s.key_width is.key)
 
 pub entries-append : (values more : List Value) (spots : List Spot) → All (IsSpot values) spots
     → map (entry_at (values ++ more)) spots ≡ map (entry_at values) spots
@@ -110,6 +117,14 @@ entries-append values more [] all = refl
 entries-append values more (s ∷ spots) all =
     ap (λ e. e ∷ map (entry_at (values ++ more)) spots) (entry_at-append values more s (All-head (IsSpot values) s spots all))
     ∙ ap (λ es. entry_at values s ∷ es) (entries-append values more spots (All-tail (IsSpot values) s spots all))
+
+pub kept-append : (values more : List Value) (spots : List Spot) → All (IsSpot values) spots
+    → map (kept_at (values ++ more)) spots ≡ map (kept_at values) spots
+kept-append values more [] all = refl
+kept-append values more (s ∷ spots) all =
+    ap (λ rows. rows ∷ map (kept_at (values ++ more)) spots)
+    (rows_at-append values more s.from s.width s.count (All-head (IsSpot values) s spots all).tuples)
+    ∙ ap (λ rs. kept_at values s ∷ rs) (kept-append values more spots (All-tail (IsSpot values) s spots all))
 
 pub spots-append : (values more : List Value) (spots : List Spot) → All (IsSpot values) spots → All (IsSpot (values ++ more)) spots
 spots-append values more spots all =
@@ -162,16 +177,18 @@ module _ (old : Known) (is : IsKnown old) (found : List Value) (key : Row) (s : 
   behind_old : drop s.from (front ++ alone) ≡ found ++ alone
   behind_old = ap (drop s.from) (append_assoc old.values.items found alone) ∙ drop_at old.values.items (found ++ alone) s.from (sym added.from)
 
-  entry_added : entry_at (front ++ alone) s ≡ ((s.step, key), rows_in s.width s.count found)
+  entry_added : entry_at (front ++ alone) s ≡ ((s.step, key), s.all.rows)
   entry_added =
-      let n = length-append old.values.items found in
       let kept : part (front ++ alone) s.from s.key_width ≡ key =
       ap (λ k. part (front ++ alone) s.from k) added.key_wide ∙ ap (take (length key)) behind_old
       ∙ key_kept key found s.width s.count added.wide added.narrow added.begin in
-      let rows : rows_in s.width s.count (drop s.from (front ++ alone)) ≡ rows_in s.width s.count found =
+      ap (λ k. ((s.step, k), s.all.rows)) kept
+
+  tuples_added : kept_at (front ++ alone) s ≡ rows_in s.width s.count found
+  tuples_added =
+      let n = length-append old.values.items found in
       rows_at-append front alone s.from s.width s.count (omega (arith, n, added.from, added.wide))
-      ∙ ap (rows_in s.width s.count) (drop_at old.values.items found s.from (sym added.from)) in
-      ap (λ k. ((s.step, k), rows_in s.width s.count (drop s.from (front ++ alone)))) kept ∙ ap (λ rs. ((s.step, key), rs)) rows
+      ∙ ap (rows_in s.width s.count) (drop_at old.values.items found s.from (sym added.from))
 
   spot_added : IsSpot (front ++ alone) s
   spot_added =
@@ -188,44 +205,57 @@ module _ (old : Known) (is : IsKnown old) (found : List Value) (key : Row) (s : 
       All-push (IsSpot (front ++ alone)) old.spots.items s
       (spots-append front alone old.spots.items (spots-append old.values.items found old.spots.items is.spots)) spot_added
 
-  pub entries_added : map (entry_at values) spots ≡ entries_in old ++ ((s.step, key), rows_in s.width s.count found) ∷ []
+  pub entries_added : map (entry_at values) spots ≡ entries_in old ++ ((s.step, key), s.all.rows) ∷ []
   entries_added =
       ap (λ vs. map (entry_at vs) spots) added.values_are
       ∙ ap (map (entry_at (front ++ alone))) added.spots_are
       ∙ map-append (entry_at (front ++ alone)) old.spots.items (s ∷ [])
       ∙ ap (λ e. map (entry_at (front ++ alone)) old.spots.items ++ e ∷ []) entry_added
-      ∙ ap (λ es. es ++ ((s.step, key), rows_in s.width s.count found) ∷ [])
+      ∙ ap (λ es. es ++ ((s.step, key), s.all.rows) ∷ [])
       (entries-append front alone old.spots.items (spots-append old.values.items found old.spots.items is.spots)
       ∙ entries-append old.values.items found old.spots.items is.spots)
 
+  pub kept_added : map (kept_at values) spots ≡ kept_in old ++ rows_in s.width s.count found ∷ []
+  kept_added =
+      ap (λ vs. map (kept_at vs) spots) added.values_are
+      ∙ ap (map (kept_at (front ++ alone))) added.spots_are
+      ∙ map-append (kept_at (front ++ alone)) old.spots.items (s ∷ [])
+      ∙ ap (λ rows. map (kept_at (front ++ alone)) old.spots.items ++ rows ∷ []) tuples_added
+      ∙ ap (λ rs. rs ++ rows_in s.width s.count found ∷ [])
+      (kept-append front alone old.spots.items (spots-append old.values.items found old.spots.items is.spots)
+      ∙ kept-append old.values.items found old.spots.items is.spots)
+
   -- each index that was there stays, and the new entry has none
-  indexes_kept : (new : Known) → new.spots.items ≡ old.spots.items ++ s ∷ [] → (e : Entry) → entries_in new ≡ entries_in old ++ e ∷ []
+  indexes_kept : (new : Known) → new.spots.items ≡ old.spots.items ++ s ∷ [] → (ts : List Row) → kept_in new ≡ kept_in old ++ ts ∷ []
       → new.indexes.items ≡ old.indexes.items → (i : ℕ) (d : Spot) → i < length new.spots.items
-      → IfSome (get_or new.spots.items i d).index (IsIndexed (entry_of new i).1 new.indexes.items)
-  indexes_kept new p e entries same i d l = elim (cases_lt i (length old.spots.items)) [
+      → IfSome (get_or new.spots.items i d).index (IsIndexed (kept_of new i) new.indexes.items)
+  indexes_kept new p ts kept same i d l = elim (cases_lt i (length old.spots.items)) [
     | inl before ↦ (
         let n = length-entries_in old in
+        let m = length-kept_in old in
         let spot : get_or new.spots.items i d ≡ get_or old.spots.items i d =
         ap (λ ss. get_or ss i d) p ∙ get_or_append_left old.spots.items (s ∷ []) d i before in
-        let entry : entry_of new i ≡ entry_of old i =
-        ap (λ es. get_or es i ((0, []), [])) entries ∙ get_or_append_left (entries_in old) (e ∷ []) ((0, []), []) i (omega (arith, before, n)) in
-        subst (λ t. IfSome t.index (IsIndexed (entry_of new i).1 new.indexes.items)) (sym spot)
-        (subst (λ (x : Entry). IfSome (get_or old.spots.items i d).index (IsIndexed x.1 new.indexes.items)) (sym entry)
-        (subst (λ xs. IfSome (get_or old.spots.items i d).index (IsIndexed (entry_of old i).1 xs)) (sym same) (is.indexes i d before))))
+        let tuples : kept_of new i ≡ kept_of old i =
+        ap (λ es. get_or es i []) kept ∙ get_or_append_left (kept_in old) (ts ∷ []) [] i (omega (arith, before, n, m)) in
+        subst (λ t. IfSome t.index (IsIndexed (kept_of new i) new.indexes.items)) (sym spot)
+        (subst (λ (x : List Row). IfSome (get_or old.spots.items i d).index (IsIndexed x new.indexes.items)) (sym tuples)
+        (subst (λ xs. IfSome (get_or old.spots.items i d).index (IsIndexed (kept_of old i) xs)) (sym same) (is.indexes i d before))))
     | inr past ↦ (
         let n = ap length p in
         let m = length_push old.spots.items s in
         let spot : get_or new.spots.items i d ≡ s =
         ap (λ ss. get_or ss i d) p ∙ get_or_push old.spots.items s d i (omega (arith, l, past, n, m)) in
-        subst (λ t. IfSome t.index (IsIndexed (entry_of new i).1 new.indexes.items)) (sym spot)
-        (subst (λ o. IfSome o (IsIndexed (entry_of new i).1 new.indexes.items)) (sym added.plain) tt))
+        subst (λ t. IfSome t.index (IsIndexed (kept_of new i) new.indexes.items)) (sym spot)
+        (subst (λ o. IfSome o (IsIndexed (kept_of new i) new.indexes.items)) (sym added.plain) tt))
   ]
 
   pub known_added : (new : Known) → new.values.items ≡ values → new.spots.items ≡ spots → (place hash : ℕ) → place ≡ length old.spots.items
       → IsPlaced old.ordered.steps.items new.ordered.steps.items s.step key place (hash_of s.step key) hash → new.chains ≡ old.chains ++ hash ∷ []
       → new.indexes.items ≡ old.indexes.items → IsKnown new
   known_added new v p place hash last placed h x =
-      let added_entry : Entry = ((s.step, key), rows_in s.width s.count found) in
+      let added_entry : Entry = ((s.step, key), s.all.rows) in
+      let kept : kept_in new ≡ kept_in old ++ rows_in s.width s.count found ∷ [] =
+      ap (λ vs. map (kept_at vs) new.spots.items) v ∙ ap (map (kept_at values)) p ∙ kept_added in
       let entries : entries_in new ≡ entries_in old ++ added_entry ∷ [] =
       ap (λ vs. map (entry_at vs) new.spots.items) v ∙ ap (map (entry_at values)) p ∙ entries_added in
       record {
@@ -233,15 +263,15 @@ module _ (old : Known) (is : IsKnown old) (found : List Value) (key : Row) (s : 
             (subst (All (IsSpot (front ++ alone))) (sym (p ∙ added.spots_are)) spots_added);
         reached = subst (λ es. AreReached es new.chains new.ordered.steps.items) (sym entries)
             (subst (λ hs. AreReached (entries_in old ++ added_entry ∷ []) hs new.ordered.steps.items) (sym h)
-            (reached_more (entries_in old) old.chains old.ordered.steps.items new.ordered.steps.items s.step key (rows_in s.width s.count found) place hash
+            (reached_more (entries_in old) old.chains old.ordered.steps.items new.ordered.steps.items s.step key s.all.rows place hash
             (last ∙ sym (length-entries_in old)) placed is.reached));
-        indexes = indexes_kept new (p ∙ added.spots_are) added_entry entries x;
+        indexes = indexes_kept new (p ∙ added.spots_are) (rows_in s.width s.count found) kept x;
       }
 
 -- ---- an entry gets an index
 
 module _ (old : Known) (is : IsKnown old) (place : ℕ) (l : place < length (entries_in old)) (s t : Spot) (was : s ≡ get_or old.spots.items place s)
-    (index : TupleIndex) (good : IsIndex (entry_of old place).1 index) (t_is : t ≡ record s { index = Some (length old.indexes.items) })
+    (index : TupleIndex) (good : IsIndex (kept_of old place) index) (t_is : t ≡ record s { index = Some (length old.indexes.items) })
     (new : Known) (values : new.values.items ≡ old.values.items) (spots : new.spots.items ≡ set old.spots.items place t) (chains : new.chains ≡ old.chains)
     (ordered : new.ordered ≡ old.ordered) (indexes : new.indexes.items ≡ old.indexes.items ++ index ∷ []) where
   there : place < length old.spots.items
@@ -254,6 +284,13 @@ module _ (old : Known) (is : IsKnown old) (place : ℕ) (l : place < length (ent
   pub same_entries : entries_in new ≡ entries_in old
   same_entries = ap (λ vs. map (entry_at vs) new.spots.items) values ∙ ap (map (entry_at old.values.items)) spots
       ∙ map-set_same (entry_at old.values.items) old.spots.items place t s same_entry
+
+  same_tuples : kept_at old.values.items t ≡ kept_at old.values.items (get_or old.spots.items place s)
+  same_tuples = ap (kept_at old.values.items) t_is ∙ ap (kept_at old.values.items) was
+
+  pub same_kept : kept_in new ≡ kept_in old
+  same_kept = ap (λ vs. map (kept_at vs) new.spots.items) values ∙ ap (map (kept_at old.values.items)) spots
+      ∙ map-set_same (kept_at old.values.items) old.spots.items place t s same_tuples
 
   spot_stays : IsSpot old.values.items t
   spot_stays =
@@ -274,27 +311,27 @@ module _ (old : Known) (is : IsKnown old) (place : ℕ) (l : place < length (ent
   all_longer tuples (Some k) h = longer tuples k h
 
   indexes_stay : (i : ℕ) (d : Spot) → i < length new.spots.items
-      → IfSome (get_or new.spots.items i d).index (IsIndexed (entry_of new i).1 new.indexes.items)
+      → IfSome (get_or new.spots.items i d).index (IsIndexed (kept_of new i) new.indexes.items)
   indexes_stay i d m =
       let n = ap length spots ∙ length-set old.spots.items place t in
-      subst (λ (es : List Entry). IfSome (get_or new.spots.items i d).index (IsIndexed (get_or es i ((0, []), [])).1 new.indexes.items)) (sym same_entries)
+      subst (λ (es : List (List Row)). IfSome (get_or new.spots.items i d).index (IsIndexed (get_or es i []) new.indexes.items)) (sym same_kept)
       (elim (cases_eq i place) [
         | inl e ↦ (
             let spot : get_or new.spots.items i d ≡ record s { index = Some (length old.indexes.items) } =
             ap (λ ss. get_or ss i d) spots ∙ ap (λ j. get_or (set old.spots.items place t) j d) e
             ∙ get_or-set_same old.spots.items place t d there ∙ t_is in
             let many = length_push old.indexes.items index in
-            subst (λ (x : Spot). IfSome x.index (IsIndexed (entry_of old i).1 new.indexes.items)) (sym spot)
-            (subst (λ xs. IsIndexed (entry_of old i).1 xs (length old.indexes.items)) (sym indexes) (record {
+            subst (λ (x : Spot). IfSome x.index (IsIndexed (kept_of old i) new.indexes.items)) (sym spot)
+            (subst (λ xs. IsIndexed (kept_of old i) xs (length old.indexes.items)) (sym indexes) (record {
               there = omega (arith, many);
-              is = λ x. subst (IsIndex (entry_of old i).1) (sym (get_or_push old.indexes.items index x (length old.indexes.items) refl))
-                  (subst (λ j. IsIndex (entry_of old j).1 index) (sym e) good);
+              is = λ x. subst (IsIndex (kept_of old i)) (sym (get_or_push old.indexes.items index x (length old.indexes.items) refl))
+                  (subst (λ j. IsIndex (kept_of old j) index) (sym e) good);
             })))
         | inr ne ↦ (
             let spot : get_or new.spots.items i d ≡ get_or old.spots.items i d =
             ap (λ ss. get_or ss i d) spots ∙ get_or-set_other old.spots.items place i t d ne in
-            subst (λ (x : Spot). IfSome x.index (IsIndexed (entry_of old i).1 new.indexes.items)) (sym spot)
-            (all_longer (entry_of old i).1 (get_or old.spots.items i d).index (is.indexes i d (omega (arith, m, n)))))
+            subst (λ (x : Spot). IfSome x.index (IsIndexed (kept_of old i) new.indexes.items)) (sym spot)
+            (all_longer (kept_of old i) (get_or old.spots.items i d).index (is.indexes i d (omega (arith, m, n)))))
       ])
 
   pub known_indexed : IsKnown new
@@ -309,11 +346,11 @@ module _ (old : Known) (is : IsKnown old) (place : ℕ) (l : place < length (ent
 
 -- the hashes that the index of an entry has, where it is at these places
 pub index_read : (known : Known) → IsKnown known → (place : ℕ) (s : Spot) → place < length (entries_in known) → s ≡ get_or known.spots.items place s
-    → (k : ℕ) → s.index ≡ Some k → IsIndexed (entry_of known place).1 known.indexes.items k
+    → (k : ℕ) → s.index ≡ Some k → IsIndexed (kept_of known place) known.indexes.items k
 index_read known is place s l was k e =
     let n = length-entries_in known in
-    subst (λ o. IfSome o (IsIndexed (entry_of known place).1 known.indexes.items)) e
-    (subst (λ (x : Spot). IfSome x.index (IsIndexed (entry_of known place).1 known.indexes.items)) (sym was) (is.indexes place s (omega (arith, l, n))))
+    subst (λ o. IfSome o (IsIndexed (kept_of known place) known.indexes.items)) e
+    (subst (λ (x : Spot). IfSome x.index (IsIndexed (kept_of known place) known.indexes.items)) (sym was) (is.indexes place s (omega (arith, l, n))))
 
 -- ---- equal values
 

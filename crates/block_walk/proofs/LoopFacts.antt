@@ -43,6 +43,7 @@ part_tidy r before after tidy stack into = record {
   pending = λ p h. tidy.pending p (into p h);
   wide = λ p h. tidy.wide p (into p h);
   known = tidy.known;
+  kept = tidy.kept;
   stack = stack;
   ordered = tidy.ordered;
 }

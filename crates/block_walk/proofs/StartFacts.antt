@@ -132,6 +132,7 @@ module _ (normal : Normal) (guide : Guide) (from : Valuations) (over : IsOver (s
         subst (λ (q : Pending). length q.row ≡ length (classes_at walk.first walk.stages.items q.step)) (sym m.2)
         (wide_member (length from.classes) from.rows m.0 over.widths m.1 ∙ ap length (sym first)));
     known = known;
+    kept = λ n d l. (let z = ap length stages in absurd (omega (arith, l, z)));
     stack = stack;
     ordered = subst (λ fs. IsInOrder probe_cmp (made fs)) (sym first_fetched) tt;
   }

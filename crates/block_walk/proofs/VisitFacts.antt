@@ -1,6 +1,7 @@
 -- What a visit of a valuation does, by the entries that are known.
 use Rattle.std.proofs.Common.{◌≡◌, ◌+◌, ◌<◌, ◌≤◌, ℕ, zero, suc, true, false, All, List, [], ◌∷◌, ◌++◌, length, map, get_or, Option, Some, None, ◌⊎◌, inl, inr, refl, ap, sym, ◌∙◌, subst, arith, add-one, Bool}
 use Rattle.std.specs.List.{filter}
+use Rattle.std.proofs.lemmas.Bool.{cases_eq}
 use Rattle.std.proofs.lemmas.List.{get_or-map, length-append, length-map, map-append}
 use Rattle.beas_core.specs.declared.schema.Access.{Access}
 use Rattle.beas_core.specs.declared.plan.Normal.{Normal}
@@ -17,15 +18,16 @@ use Rattle.plan_ops.specs.declared.stages.Stage.{Stage}
 use Rattle.plan_ops.specs.Stages.{IsPair, IsStage, bound_with, joined_bindings, joined_row, key_by, leads_to, next_by, set_before, use_at}
 use Rattle.block_walk.specs.Worlds.{World, Fetched, AgreesWith, in_order, made, probe_cmp, put_in}
 use Rattle.block_walk.specs.Turns.{fetched_reads, GoesOn, outputs_at, Visited, VisitCosts, VisitSpent, probed}
-use Rattle.block_walk.specs.Routes.{Route, step_at, probe_at}
+use Rattle.block_walk.specs.Routes.{Route, is_last, step_at, probe_at}
 use Rattle.block_walk.specs.Kept.{Entry, Pending, pending_at}
-use Rattle.block_walk.specs.Entries.{IsKnown, entries_in, entry_of}
+use Rattle.block_walk.specs.Entries.{AreKept, IsKnown, entries_in, entry_of}
 use Rattle.block_walk.specs.Finding.{Finds, FindSpent, Grew, WasNotProbed}
 use Rattle.block_walk.specs.Stacks.{IsStack, pending_in}
 use Rattle.block_walk.specs.declared.known.Known.{Known}
-use Rattle.block_walk.specs.declared.walking.Found.{Found}
+use Rattle.block_walk.specs.declared.known.Found.{Found}
 use Rattle.block_walk.specs.declared.walking.Walk.{Walk}
 use Rattle.block_walk.specs.Walks.{accesses_in, no_access, classes_at, fetched_at, fetched_in, IsTidy, IsStageAt, WasMade, set_at, children, probe_of, found_at, next_at}
+use Rattle.block_walk.proofs.KeptFacts.{kept_elsewhere}
 use Rattle.block_walk.proofs.OrderFacts.{Has-put, Has-put_old, Has-from_put, IsInOrder-put, fetched_from, fetched_here, in_order_more, length-put, reads-put}
 use Rattle.block_walk.proofs.WorldFacts.{next_kept, set_is, set_more, stage_access, step_access, use_by}
 
@@ -214,7 +216,8 @@ module _ (w : World) (r : Route) (at : Pending) (old new : Walk) (tidy : IsTidy 
     (agree : AgreesWith w r.steps (fetched_in old)) (found : Found) (before now : ℕ)
     (stage_finds : Finds w.rows w.accesses (step_at r at.step).access at.step (key_by r.normal (use_at s) (set_before r.normal s) at.row)
     found old.known new.known before now)
-    (goes : Goes r at s (entry_of new.known found.place).1 old new) (known_new : IsKnown new.known) (stack_new : IsStack new.pending) where
+    (goes : Goes r at s (entry_of new.known found.place).1 old new) (known_new : IsKnown new.known)
+    (kept_here : AreKept r.normal s (is_last r at.step) new.known at.step) (stack_new : IsStack new.pending) where
   abbrev n : ℕ
   n = at.step
 
@@ -262,6 +265,19 @@ module _ (w : World) (r : Route) (at : Pending) (old new : Walk) (tidy : IsTidy 
           atom = is_at_step.atom;
           from = is_at_step.from ∙ sym (classes_alike n reach);
         }))
+  ]
+
+  -- what is kept of each step's tuples
+  kept_new : (j : ℕ) (d : Stage) → j < length new.stages.items → AreKept r.normal (get_or new.stages.items j d) (is_last r j) new.known j
+  kept_new j d l = elim (cases_eq j n) [
+    | inl e ↦ subst (λ k. AreKept r.normal (get_or new.stages.items k d) (is_last r k) new.known k) (sym e)
+        (subst (λ (x : Stage). AreKept r.normal x (is_last r n) new.known n) (sym (here d)) kept_here)
+    | inr ne ↦ elim (only j l) [
+      | inl b ↦ subst (λ (x : Stage). AreKept r.normal x (is_last r j) new.known j) (sym (alike j d b))
+          (kept_elsewhere w.rows w.accesses (step_at r n).access n (key_by r.normal (use_at s) (set_before r.normal s) at.row) found old.known new.known
+          before now stage_finds r.normal (get_or old.stages.items j d) (is_last r j) j ne (tidy.kept j d b))
+      | inr e ↦ absurd (ne e)
+    ]
   ]
 
   abbrev rows : List Row
@@ -332,6 +348,7 @@ module _ (w : World) (r : Route) (at : Pending) (old new : Walk) (tidy : IsTidy 
         pending = λ p h. (pending_new p h).0;
         wide = λ p h. (pending_new p h).1;
         known = known_new;
+        kept = kept_new;
         stack = stack_new;
         ordered = subst (λ fs. IsInOrder probe_cmp (made fs)) (sym all_same) tidy.ordered;
       };
@@ -388,6 +405,7 @@ module _ (w : World) (r : Route) (at : Pending) (old new : Walk) (tidy : IsTidy 
         pending = λ p h. (pending_new p h).0;
         wide = λ p h. (pending_new p h).1;
         known = known_new;
+        kept = kept_new;
         stack = stack_new;
         ordered = subst (λ fs. IsInOrder probe_cmp (made fs)) (sym all_new)
             (IsInOrder-put (found_at w r at) (fetched_in old) tidy.ordered (not_known w r at old none));
@@ -439,14 +457,18 @@ module _ (w : World) (r : Route) (at : Pending) (old new : Walk) (tidy : IsTidy 
   inside_again : at.step < length new.stages.items
   inside_again = subst (λ ss. at.step < length ss) (sym stages) begun
 
+  pub kept_again : AreKept r.normal s (is_last r at.step) old.known at.step
+  kept_again = subst (λ (x : Stage). AreKept r.normal x (is_last r at.step) old.known at.step) here (tidy.kept at.step s begun)
+
   pub visited_again : (found : Found) (before now : ℕ)
       → Finds w.rows w.accesses (step_at r at.step).access at.step (key_by r.normal (use_at s) (set_before r.normal s) at.row)
       found old.known new.known before now
-      → Goes r at s (entry_of new.known found.place).1 old new → IsKnown new.known → IsStack new.pending → Outcome w r at (probed found.reads) old new
-  visited_again found before now stage_finds goes known stack =
+      → Goes r at s (entry_of new.known found.place).1 old new → IsKnown new.known → AreKept r.normal s (is_last r at.step) new.known at.step
+      → IsStack new.pending → Outcome w r at (probed found.reads) old new
+  visited_again found before now stage_finds goes known kept stack =
       outcome w r at old new tidy s serves_again at_again reach_again first few_again (λ j d l. ap (λ ss. get_or ss j d) stages) longer_again
       (λ j l. inl (subst (λ ss. j < length ss) stages l)) inside_again
-      (λ d. ap (λ ss. get_or ss at.step d) stages ∙ get_or_any old.stages.items at.step d s begun ∙ here) agree found before now stage_finds goes known stack
+      (λ d. ap (λ ss. get_or ss at.step d) stages ∙ get_or_any old.stages.items at.step d s begun ∙ here) agree found before now stage_finds goes known kept stack
 
 -- the first visit before a step
 module _ (w : World) (r : Route) (at : Pending) (old : Walk) (tidy : IsTidy r old) (agree : AgreesWith w r.steps (fetched_in old)) (s : Stage)
@@ -466,17 +488,24 @@ module _ (w : World) (r : Route) (at : Pending) (old : Walk) (tidy : IsTidy r ol
     before = ap (set_of r.normal) at_first.from ∙ set_is w r old tidy agree at.step reach_first;
   }
 
+  -- no key was probed at the step
+  pub kept_first : AreKept r.normal s (is_last r at.step) old.known at.step
+  kept_first i l e =
+      let b = tidy.steps (entry_of old.known i) (Has-get_or (entries_in old.known) i ((0, []), []) l) in
+      absurd (omega (arith, b, e, next))
+
   pub visited_first : (new : Walk) → new.first ≡ old.first → new.stages.items ≡ old.stages.items ++ s ∷ [] → (found : Found) (before now : ℕ)
       → Finds w.rows w.accesses (step_at r at.step).access at.step (key_by r.normal (use_at s) (set_before r.normal s) at.row)
       found old.known new.known before now
-      → Goes r at s (entry_of new.known found.place).1 old new → IsKnown new.known → IsStack new.pending → Outcome w r at (probed found.reads) old new
-  visited_first new first stages found before now stage_finds goes known stack =
+      → Goes r at s (entry_of new.known found.place).1 old new → IsKnown new.known → AreKept r.normal s (is_last r at.step) new.known at.step
+      → IsStack new.pending → Outcome w r at (probed found.reads) old new
+  visited_first new first stages found before now stage_finds goes known kept stack =
       let counted : length new.stages.items ≡ length old.stages.items + 1 = ap length stages ∙ length-append old.stages.items (s ∷ []) in
       outcome w r at old new tidy s serves_first at_first reach_first first (omega (arith, counted, next, below))
       (λ j d l. ap (λ ss. get_or ss j d) stages ∙ get_or-front old.stages.items s d j l) (omega (arith, counted))
       (λ j l. below_or j l counted) (omega (arith, counted, next))
       (λ d. ap (λ ss. get_or ss at.step d) stages ∙ ap (λ n. get_or (old.stages.items ++ s ∷ []) n d) next ∙ get_or-last old.stages.items s d)
-      agree found before now stage_finds goes known stack
+      agree found before now stage_finds goes known kept stack
     where
       below_or : (j : ℕ) → j < length new.stages.items → length new.stages.items ≡ length old.stages.items + 1
           → (j < length old.stages.items) ⊎ (j ≡ at.step)

@@ -1,5 +1,6 @@
 pub mod Descents
 pub mod Entries
+pub mod Fetched
 pub mod Finding
 pub mod Kept
 pub mod Ordered

@@ -2,7 +2,7 @@
 --     Route                  a block's normal form, what guides it, and the steps of its derivation
 --     IsSoundIn w route      what is asked of a route in a world
 --     all_probes w route     the probes of the derivation
-use Rattle.std.specs.Prelude.{ℕ, false, List, slice_index_or, is_some}
+use Rattle.std.specs.Prelude.{◌+◌, ◌==◌, ℕ, Bool, length, false, List, slice_index_or, is_some}
 use Rattle.beas_core.specs.declared.plan.DStep.{DStep}
 use Rattle.beas_core.specs.declared.plan.Normal.{Normal}
 use Rattle.beas_core.specs.Types.{Row, ClassSet, Guide}
@@ -32,6 +32,10 @@ all_probes w r = probes w.rows r.normal w.accesses r.guide r.steps
 -- the step at a place
 abbrev pub step_at : Route → ℕ → DStep
 step_at r n = slice_index_or r.steps n (record { atom = 0; access = record { 0 = 0 }; adds = false })
+
+-- no step comes after this one
+abbrev pub is_last : Route → ℕ → Bool
+is_last r n = n + 1 == length r.steps
 
 abbrev pub probe_at : ℕ → Row → Probe
 probe_at n key = record { step = n; key = key }

@@ -4,7 +4,8 @@
 --     classes_at first stages n     the classes that are bound before step n, where the steps before it were begun
 --     IsStageAt ..                  what is kept of a step that was begun is as the block says
 --     IsTidy route walk             so it is of each step that was begun, which has probed some key; what is known and what is pending stands
---                                   where it is said to, and no step and key was probed twice
+--                                   where it is said to, no step and key was probed twice, and of each entry's tuples those are kept that
+--                                   its step's sieve keeps
 --     set_at w route n              the classes that are bound before step n, as a set
 --     children at rows              the valuations before the step after that of `at`
 --     probe_of, found_at, next_at   the probe that a pending valuation wants, what it finds, and the valuations that it leads to
@@ -30,9 +31,9 @@ use Rattle.evaluation_facts.specs.Extensions.{group_for}
 use Rattle.plan_ops.specs.declared.stages.Stage.{Stage}
 use Rattle.plan_ops.specs.Stages.{IsStage}
 use Rattle.block_walk.specs.Worlds.{World, Fetched, made, AgreesWith, in_order, probe_cmp}
-use Rattle.block_walk.specs.Routes.{Route, route, first_classes, IsSoundIn, all_probes, step_at, probe_at}
+use Rattle.block_walk.specs.Routes.{Route, route, first_classes, IsSoundIn, all_probes, is_last, step_at, probe_at}
 use Rattle.block_walk.specs.Kept.{Entry, Pending, pending_at}
-use Rattle.block_walk.specs.Entries.{IsKnown, entries_in}
+use Rattle.block_walk.specs.Entries.{AreKept, IsKnown, entries_in}
 use Rattle.block_walk.specs.Stacks.{IsStack, pending_in}
 use Rattle.block_walk.specs.declared.walking.Walk.{Walk}
 use Rattle.block_walk.specs.Descents.{kept_from, reached, wanted, work}
@@ -74,6 +75,8 @@ pub record IsTidy (r : Route) (walk : Walk) : Type 0 where
   pub pending : (p : Pending) → Has (pending_in walk.pending) p → p.step ≤ length walk.stages.items
   pub wide : (p : Pending) → Has (pending_in walk.pending) p → length p.row ≡ length (classes_at walk.first walk.stages.items p.step)
   pub known : IsKnown walk.known
+  pub kept : (n : ℕ) (d : Stage) → n < length walk.stages.items
+      → AreKept r.normal (slice_index_or walk.stages.items n d) (is_last r n) walk.known n
   pub stack : IsStack walk.pending
   -- strictly, so that no step and key was probed twice
   pub ordered : IsInOrder probe_cmp (made (fetched_in walk))

@@ -1,26 +1,30 @@
 // What the probes of a walk found.
-ghost use Rattle.std.specs.Prelude.{◌≡◌, ◌+◌, ◌<◌, ◌++◌, ◌∷◌, ◌↔◌, [], length, IfOk, IfSome, IfNone, IsTrue, OnOk, slice_index_or};
+ghost use Rattle.std.specs.Prelude.{◌≡◌, ◌+◌, ◌<◌, ◌++◌, ◌∷◌, ◌↔◌, [], length, IfOk, IfSome, IfNone, IsTrue, OnOk, Some, slice_index_or};
 ghost use Rattle.std.specs.Option.{option_copied};
 ghost use Rattle.beas_core.specs.Derivations.{access_in, is_live};
-ghost use Rattle.beas_core.specs.Groups.{group_of, member_columns};
+ghost use Rattle.beas_core.specs.Groups.{group_of};
 ghost use Rattle.beas_core.specs.Reads.{probe_reads};
 ghost use Rattle.beas_core.proofs.Sets.{Has};
 ghost use Rattle.block_walk.specs.Kept.{Entry};
-ghost use Rattle.block_walk.specs.Entries.{IsIndex, IsKnown, entries_in, entry_of, key_alone};
+ghost use Rattle.plan_ops.specs.Sieves.{sieved};
+ghost use Rattle.plan_ops.specs.Stages.{IsStage};
+ghost use Rattle.block_walk.specs.Entries.{IsIndex, IsKnown, entries_in, entry_of, kept_in, kept_of, key_alone};
 ghost use Rattle.place_chains.specs.Fitting.{IsFitting, IsRun};
 ghost use Rattle.place_chains.specs.Hashing.{hash_of};
 ghost use Rattle.place_chains.specs.TupleOrder.{IsOrder, values_at};
 
+use crate::fetching::{Gathered, fetch};
+use crate::group::Group;
 use crate::ordered::OrderedKeys;
-use beas_core::{AccessId, AccessPort, ColumnId, NoMemory, Steps, Value};
+use beas_core::{AccessId, AccessPort, NoMemory, Normal, Steps, Value};
 use place_chains::{Fitting, PlaceChains, TupleOrder, value_or};
-use plan_ops::{Shared, fetch};
+use plan_ops::{Shared, Stage};
 use std::alloc::Global;
 use std::sync::ledger::Ledger;
 
-/// Where the values of an entry stand: its tuples one after another from a place on. Each begins with the key; where there is
-/// none, the key stands there by itself.
-#[derive(Clone, Copy)]
+/// Where the values of an entry stand: those of its tuples that are kept, one after another from a place on. Each begins with the
+/// key; where there is none, the key stands there by itself.
+#[derive(Drop)]
 pub struct Spot {
     pub step: usize,
     pub from: usize,
@@ -29,6 +33,8 @@ pub struct Spot {
     pub key_width: usize,
     /// Which of the indexes is that of its tuples, if they have one.
     pub index: Option<usize>,
+    /// All tuples that were found.
+    pub all: Group,
 }
 
 /// The order of an entry's tuples by their values at some places.
@@ -50,6 +56,14 @@ pub struct Known {
     pub chains: PlaceChains,
     pub ordered: OrderedKeys,
     pub indexes: Vec<TupleIndex>,
+}
+
+/// Where the entry stands that a key finds, and how many reads the probe took that was made for it: none where the key was probed
+/// before.
+#[derive(Clone, Copy)]
+pub struct Found {
+    pub place: usize,
+    pub reads: Option<usize>,
 }
 
 // For so many values and entries there is room from the start, so that a small query's walk seldom moves them.
@@ -95,7 +109,7 @@ impl Known {
         requires place { place < length (entries_in self.now) }
         ensures { IsTrue result ↔ ((entry_of self.now place).0 ≡ (step, key.now)) }
     {
-        let spot = self.spots[place];
+        let spot = &self.spots[place];
         spot.step == step && &self.values[spot.from..spot.from + spot.key_width] == key
     }
 
@@ -118,22 +132,22 @@ impl Known {
         self.ordered.get(step, key)
     }
 
-    /// How many tuples an entry has.
+    /// How many of an entry's tuples are kept.
     pub fn count(&self, place: usize) -> usize
         requires { place < length (entries_in self.now) }
-        ensures { result ≡ length (entry_of self.now place).1 }
+        ensures { result ≡ length (kept_of self.now place) }
     {
         self.spots[place].count
     }
 
-    /// A tuple of an entry.
+    /// A tuple of an entry that is kept.
     pub fn tuple(&self, place: usize, at: usize) -> &[Value]
         requires known { IsKnown self.now }
         requires place { place < length (entries_in self.now) }
-        requires at { at < length (entry_of self.now place).1 }
-        ensures { result.now ≡ slice_index_or (entry_of self.now place).1 at [] }
+        requires at { at < length (kept_of self.now place) }
+        ensures { result.now ≡ slice_index_or (kept_of self.now place) at [] }
     {
-        let spot = self.spots[place];
+        let spot = &self.spots[place];
         let from = spot.from + at * spot.width;
         &self.values[from..from + spot.width]
     }
@@ -147,14 +161,14 @@ impl Known {
     ) -> Result<TupleIndex, NoMemory>
         requires known { IsKnown self.now }
         requires place { place < length (entries_in self.now) }
-        ensures { IfOk result (IsIndex (entry_of self.now place).1) }
+        ensures { IfOk result (IsIndex (kept_of self.now place)) }
     {
         let zero = Value::Int(0);
         let value = |i: usize, at: usize|
             requires known { IsKnown self.now }
             requires place { place < length (entries_in self.now) }
-            requires tuple { i < length (entry_of self.now place).1 }
-            ensures { result.now ≡ slice_index_or (slice_index_or (entry_of self.entry.now place).1 i []) at zero }
+            requires tuple { i < length (kept_of self.now place) }
+            ensures { result.now ≡ slice_index_or (slice_index_or (kept_of self.entry.now place) i []) at zero }
         { value_or(self.tuple(place, i), at, &zero) };
         let order = TupleOrder::new(alloc, self.count(place), &value, &zero, places)?;
         let places = places.to_vec(alloc)?;
@@ -167,6 +181,7 @@ impl Known {
         requires place { place < length (entries_in self.old) }
         ensures known { OnOk result (IsKnown self.new) }
         ensures entries { OnOk result (entries_in self.new ≡ entries_in self.old) }
+        ensures kept { OnOk result (kept_in self.new ≡ kept_in self.old) }
     {
         let index = self.index_of(alloc, place, places)?;
         let at = self.indexes.len();
@@ -182,11 +197,12 @@ impl Known {
         requires place { place < length (entries_in self.old) }
         ensures known { OnOk result (IsKnown self.new) }
         ensures entries { OnOk result (entries_in self.new ≡ entries_in self.old) }
+        ensures kept { OnOk result (kept_in self.new ≡ kept_in self.old) }
     {
         if places.is_empty() {
             return Ok(());
         }
-        let spot = self.spots[place];
+        let spot = &self.spots[place];
         if spot.count < MANY || spot.index.is_some() {
             return Ok(());
         }
@@ -198,7 +214,7 @@ impl Known {
     fn order(&self, place: usize, places: &[usize]) -> Option<&TupleOrder>
         requires known { IsKnown self.now }
         requires place { place < length (entries_in self.now) }
-        ensures { IfSome (option_copied result) (IsOrder places.now (entry_of self.now place).1) }
+        ensures { IfSome (option_copied result) (IsOrder places.now (kept_of self.now place)) }
     {
         let at = self.spots[place].index?;
         let index = &self.indexes[at];
@@ -219,15 +235,15 @@ impl Known {
     ) -> &'a [usize]
         requires known { IsKnown self.now }
         requires place { place < length (entries_in self.now) }
-        requires order { IsOrder shared.now.tuple.items (entry_of self.now place).1 order.now }
-        ensures { IsRun shared.now.tuple.items (entry_of self.now place).1 (values_at shared.now.row.items row.now) 0 result.now }
+        requires order { IsOrder shared.now.tuple.items (kept_of self.now place) order.now }
+        ensures { IsRun shared.now.tuple.items (kept_of self.now place) (values_at shared.now.row.items row.now) 0 result.now }
     {
         let zero = Value::Int(0);
         let value = |i: usize, at: usize|
             requires known { IsKnown self.now }
             requires place { place < length (entries_in self.now) }
-            requires tuple { i < length (entry_of self.now place).1 }
-            ensures { result.now ≡ slice_index_or (slice_index_or (entry_of self.entry.now place).1 i []) at zero }
+            requires tuple { i < length (kept_of self.now place) }
+            ensures { result.now ≡ slice_index_or (slice_index_or (kept_of self.entry.now place) i []) at zero }
         { value_or(self.tuple(place, i), at, &zero) };
         let count = self.count(place);
         order.run(count, &value, &zero, &shared.tuple, &shared.row, row)
@@ -239,7 +255,7 @@ impl Known {
         requires known { IsKnown self.now }
         requires place { place < length (entries_in self.now) }
         ensures first { result.from ≡ 0 }
-        ensures fits { IsFitting shared.now.tuple.items (entry_of self.now place).1 (values_at shared.now.row.items row.now) result }
+        ensures fits { IsFitting shared.now.tuple.items (kept_of self.now place) (values_at shared.now.row.items row.now) result }
     {
         let run = match self.order(place, &shared.tuple) {
             Some(order) => Some(self.run(place, order, shared, row)),
@@ -248,51 +264,64 @@ impl Known {
         Fitting::among(self.count(place), run)
     }
 
-    /// Probes a key, whose hash with the step is given, and keeps what it finds, as the last entry. No value is left in `key`. It
-    /// counts the greater of 1 and the number of the tuples, out of memory too. Where a piece of memory is full all that was kept
-    /// may move. After an error nothing of it may be asked.
+    /// Probes a key, whose hash with the step is given, and keeps what it finds, as the last entry: of its tuples those that the
+    /// step's sieve keeps. No value is left in `key`. It counts the greater of 1 and the number of all tuples, out of memory too.
+    /// Where a piece of memory is full all that was kept may move. After an error nothing of it may be asked.
     pub fn fetch<P: AccessPort, L: Ledger>(
         &mut self,
         alloc: Global,
         port: &P,
+        block: &Normal,
         id: AccessId,
-        columns: &[ColumnId],
+        stage: &Stage,
+        one: bool,
         step: usize,
         key: &mut Vec<Value>,
         hash: u64,
         steps: &mut Steps<L>,
-    ) -> Result<usize, NoMemory>
+    ) -> Result<Found, NoMemory>
         requires known { IsKnown self.old }
         requires live { IsTrue (is_live (P.accesses port.now) id) }
-        requires columns { columns.now ≡ member_columns (access_in (P.accesses port.now) id) }
+        requires access { stage.now.access.value ≡ access_in (P.accesses port.now) id }
+        requires stage { IsStage block.now stage.now }
         requires width { length key.old.items ≡ length (access_in (P.accesses port.now) id).key }
         requires hash { hash ≡ hash_of step key.old.items }
         ensures known { OnOk result (IsKnown self.new) }
-        ensures place { IfOk result (λ place. place ≡ length (entries_in self.old)) }
+        ensures place { IfOk result (λ found. found.place ≡ length (entries_in self.old)) }
+        ensures reads { IfOk result (λ found. found.reads
+            ≡ Some (probe_reads (P.rows port.now) (access_in (P.accesses port.now) id) key.old.items)) }
         ensures key { OnOk result (key.new.items ≡ []) }
         ensures entries { let access = access_in (P.accesses port.now) id in
             OnOk result (entries_in self.new ≡ entries_in self.old
             ++ ((step, key.old.items), group_of (P.rows port.now access.table) access key.old.items) ∷ []) }
+        ensures kept { let access = access_in (P.accesses port.now) id in
+            OnOk result (kept_in self.new ≡ kept_in self.old ++ sieved block.now stage.now.sieve one
+            (group_of (P.rows port.now access.table) access key.old.items) ∷ []) }
         ensures cost { steps.new
             ≡ steps.old + probe_reads (P.rows port.now) (access_in (P.accesses port.now) id) key.old.items }
     {
         let from = self.values.len();
-        let count = fetch(alloc, port, id, columns, key, &mut self.values, steps)?;
+        let values = &mut self.values;
+        let Gathered { found, kept, all } = fetch(
+            alloc, port, block, id, stage, one, key, values, steps,
+        )?;
         let place = self.spots.len();
         let hash = self
             .ordered
             .hash_for(alloc, &self.chains, step, key, place, hash)?;
         let key_width = key.len();
-        keep_key(count, key, &mut self.values)?;
+        keep_key(kept, key, &mut self.values)?;
         self.spots.push(Spot {
             step,
             from,
-            width: columns.len(),
-            count,
+            width: stage.join.columns.len(),
+            count: kept,
             key_width,
             index: None,
+            all,
         })?;
         self.chains.push(alloc, hash)?;
-        Ok(place)
+        let reads = Some(found.max(1));
+        Ok(Found { place, reads })
     }
 }

@@ -1,7 +1,9 @@
 //! The walk of one block through its derivation, depth first, one probe a turn.
 #![tactic(auto)]
 
+mod fetching;
 mod fields;
+mod group;
 mod known;
 mod laws;
 mod ordered;

@@ -1,5 +1,5 @@
 // The walk of a block, depth first.
-ghost use Rattle.std.specs.Prelude.{◌≡◌, ◌<◌, ◌≤◌, ◌+◌, ◌++◌, ◌∷◌, [], length, map, All, IfOk, IsTrue, OnErr, OnOk, is_some};
+ghost use Rattle.std.specs.Prelude.{◌≡◌, ◌==◌, ◌&&◌, ◌<◌, ◌≤◌, ◌+◌, ◌++◌, ◌∷◌, [], length, map, All, IfOk, IsTrue, OnErr, OnOk, is_some};
 ghost use Rattle.std.specs.Option.{option_copied};
 ghost use Rattle.beas_core.specs.Coverage.{ClassesInRange, ConstantsInRange, holds_classes, key_classes, start_classes};
 ghost use Rattle.beas_core.specs.Derivations.{access_in, is_live, IsSound};
@@ -7,16 +7,17 @@ ghost use Rattle.beas_core.specs.Valuations.{answers_of, classes_in, output_row}
 ghost use Rattle.beas_core.proofs.Sets.{SameMembers};
 ghost use Rattle.evaluation_facts.specs.Guides.{GuideFits};
 ghost use Rattle.plan_ops.specs.Over.{set_of};
+ghost use Rattle.plan_ops.specs.Sieves.{sieved};
 ghost use Rattle.plan_ops.specs.Stages.{IsPair, IsStage, bound_with, joined_row, key_by, next_by, set_before, use_at};
 ghost use Rattle.block_walk.specs.Worlds.{AgreesWith, World, world};
 ghost use Rattle.block_walk.specs.Routes.{IsSoundIn, route};
 ghost use Rattle.block_walk.specs.Walks.{HasEnded, IsTidy, IsTidyForAll, Stands, StandsForAll, children, classes_at, fetched_in};
-ghost use Rattle.block_walk.specs.Entries.{IsKnown, entries_in, entry_of};
+ghost use Rattle.block_walk.specs.Entries.{AreKept, IsKnown, entries_in, entry_of, kept_of};
 ghost use Rattle.block_walk.specs.Stacks.{IsInside, IsStack, pending_in, pending_of, row_of};
 ghost use Rattle.block_walk.specs.Finding.{FindSpent, Finds};
 ghost use Rattle.block_walk.specs.Turns.{SpentOnce, GoesOn, TurnIs, VisitCosts, VisitSpent, Visited, probed};
 
-use crate::known::Known;
+use crate::known::{Found, Known};
 use crate::stack::{Mark, Stack};
 use beas_core::{
     AccessId, AccessPort, DStep, List, NoMemory, Normal, Row, Steps, Value, sort_distinct,
@@ -67,8 +68,8 @@ pub fn begin(alloc: Global, block: &Normal, guide: Option<&List<Row>>) -> Result
     })
 }
 
-// Puts the valuations on top that one and the tuples of an entry make, which its key has found. Those tuples alone are tried
-// that may share the valuation's values.
+// Puts the valuations on top that one and the kept tuples of an entry make, which its key has found. Those tuples alone are
+// tried that may share the valuation's values.
 fn push_children(
     alloc: Global,
     block: &Normal,
@@ -83,13 +84,13 @@ fn push_children(
     requires place { place < length (entries_in known.now) }
     requires stack { IsStack pending.old }
     requires inside { IsInside pending.old.values.items at }
-    requires pairs { All (IsPair block.now stage.now (row_of pending.old at)) (entry_of known.now place).1 }
+    requires pairs { All (IsPair block.now stage.now (row_of pending.old at)) (kept_of known.now place) }
     requires room { at.step + 1 < 18446744073709551616 }
     ensures stack { OnOk result (IsStack pending.new) }
     ensures pending { OnOk result (pending_in pending.new ≡ pending_in pending.old
         ++ children (pending_of pending.old.values.items at)
         (next_by block.now (use_at stage.now) (set_before block.now stage.now) (row_of pending.old at)
-        (entry_of known.now place).1)) }
+        (kept_of known.now place))) }
 {
     let mut fitting = known.fitting(place, &stage.join.shared, pending.row(at));
     'tuples: while let Some(i) = fitting.next() {
@@ -127,7 +128,7 @@ fn push_output_once(
     Ok(())
 }
 
-// Adds the outputs of the valuations after the last step that one before it and the tuples of an entry make. Where the step is
+// Adds the outputs of the valuations after the last step that one before it and the kept tuples of an entry make. Where the step is
 // settled, all of them give the same output, so that no tuple is looked at after the first one that leads on.
 fn push_outputs(
     alloc: Global,
@@ -141,10 +142,10 @@ fn push_outputs(
     requires stage { IsStage block.now stage.now }
     requires known { IsKnown known.now }
     requires place { place < length (entries_in known.now) }
-    requires pairs { All (IsPair block.now stage.now row.now) (entry_of known.now place).1 }
+    requires pairs { All (IsPair block.now stage.now row.now) (kept_of known.now place) }
     ensures { OnOk result (SameMembers through.new (through.old
         ++ map (output_row block.now (bound_with block.now (use_at stage.now) (set_before block.now stage.now)))
-        (next_by block.now (use_at stage.now) (set_before block.now stage.now) row.now (entry_of known.now place).1))) }
+        (next_by block.now (use_at stage.now) (set_before block.now stage.now) row.now (kept_of known.now place)))) }
 {
     let mut fitting = known.fitting(place, &stage.join.shared, row);
     'tuples: while let Some(i) = fitting.next() {
@@ -179,6 +180,8 @@ fn go_on(
     requires stack { IsStack pending.old }
     requires inside { IsInside pending.old.values.items at }
     requires pairs { All (IsPair block.now stage.now (row_of pending.old at)) (entry_of known.now place).1 }
+    requires kept { let is_last = at.step + 1 == count in
+        kept_of known.now place ≡ sieved block.now stage.now.sieve (is_last && stage.now.sieve.one) (entry_of known.now place).1 }
     requires below { at.step < count }
     requires room { at.step + 1 < 18446744073709551616 }
     ensures stack { OnOk result (IsStack pending.new) }
@@ -233,15 +236,8 @@ fn next_stage<P: AccessPort>(
     stage_of(alloc, block, step.atom, access, classes)
 }
 
-// Where the entry stands that the key of a valuation finds, and how many reads the probe took that was made for it: none where
-// the key was probed before.
-#[derive(Clone, Copy)]
-struct Found {
-    place: usize,
-    reads: Option<usize>,
-}
-
-// Finds the entry of the key that a valuation gives to a step. The key is probed where it wasn't yet.
+// Finds the entry of the key that a valuation gives to a step, after which another one comes or not. The key is probed where it
+// wasn't yet.
 #[inline(always)]
 fn entry_for<P: AccessPort, L: Ledger>(
     alloc: Global,
@@ -249,6 +245,7 @@ fn entry_for<P: AccessPort, L: Ledger>(
     block: &Normal,
     id: AccessId,
     stage: &Stage,
+    is_last: bool,
     at: Mark,
     pending: &Stack,
     known: &mut Known,
@@ -261,7 +258,9 @@ fn entry_for<P: AccessPort, L: Ledger>(
     requires wide { length (row_of pending.now at) ≡ length stage.now.from.value }
     requires inside { IsInside pending.now.values.items at }
     requires known { IsKnown known.old }
+    requires kept { AreKept block.now stage.now is_last known.old at.step }
     ensures known { OnOk result (IsKnown known.new) }
+    ensures kept { OnOk result (AreKept block.now stage.now is_last known.new at.step) }
     ensures found { IfOk result (λ found. Finds (P.rows port.now) (P.accesses port.now) id at.step
         (key_by block.now (use_at stage.now) (set_before block.now stage.now) (row_of pending.now at))
         found known.old known.new steps.old steps.new) }
@@ -276,12 +275,10 @@ fn entry_for<P: AccessPort, L: Ledger>(
         known.index(alloc, place, &stage.join.shared.tuple)?;
         return Ok(Found { place, reads: None });
     }
-    let columns = &stage.join.columns;
-    let place = known.fetch(alloc, port, id, columns, at.step, key, hash, steps)?;
-    Ok(Found {
-        place,
-        reads: Some(known.count(place).max(1)),
-    })
+    let one = is_last & stage.sieve.one;
+    known.fetch(
+        alloc, port, block, id, stage, one, at.step, key, hash, steps,
+    )
 }
 
 // Visits a valuation before a step that was begun.
@@ -318,15 +315,17 @@ fn visit_again<P: AccessPort, L: Ledger>(
     let stage = &walk.stages[at.step];
     let id = plan[at.step].access;
     let (pending, known, key) = (&walk.pending, &mut walk.known, &mut walk.key);
+    let count = plan.len();
+    let is_last = at.step + 1 == count;
     let found = entry_for(
-        alloc, port, block, id, stage, at, pending, known, key, steps,
+        alloc, port, block, id, stage, is_last, at, pending, known, key, steps,
     )?;
     go_on(
         alloc,
         block,
         stage,
         at,
-        plan.len(),
+        count,
         &walk.known,
         found.place,
         &mut walk.pending,
@@ -371,12 +370,15 @@ fn visit_first<P: AccessPort, L: Ledger>(
     let step = &plan[at.step];
     let stage = next_stage(alloc, port, block, step, &walk.first, &walk.stages)?;
     let (pending, known, key) = (&walk.pending, &mut walk.known, &mut walk.key);
+    let count = plan.len();
+    let is_last = at.step + 1 == count;
     let found = entry_for(
         alloc,
         port,
         block,
         step.access,
         &stage,
+        is_last,
         at,
         pending,
         known,
@@ -388,7 +390,7 @@ fn visit_first<P: AccessPort, L: Ledger>(
         block,
         &stage,
         at,
-        plan.len(),
+        count,
         &walk.known,
         found.place,
         &mut walk.pending,

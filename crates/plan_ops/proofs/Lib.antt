@@ -1,7 +1,6 @@
 pub mod BoundSets
 mod ConstantFacts
 mod ExtendFacts
-pub mod FetchedFacts
 pub mod FrontFacts
 mod GuidedStarts
 pub mod HeldFacts
@@ -13,5 +12,6 @@ pub mod MergeFacts
 pub mod PlaceFacts
 pub mod ProbeFacts
 pub mod RowFacts
+pub mod SieveFacts
 mod TableFacts
 pub mod TreeFacts

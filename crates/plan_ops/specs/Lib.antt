@@ -1,11 +1,12 @@
 pub mod Asked
 pub mod Comparing
-pub mod Fetched
 pub mod Held
 pub mod Joins
 pub mod Matching
 pub mod Merging
 pub mod Over
 pub mod Places
+pub mod Sieves
+pub mod SievesMade
 pub mod Stages
 pub mod Started

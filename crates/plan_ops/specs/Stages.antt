@@ -20,6 +20,7 @@ use Rattle.plan_ops.specs.Comparing.{sides_at}
 use Rattle.plan_ops.specs.Joins.{IsJoin}
 use Rattle.plan_ops.specs.Over.{set_of}
 use Rattle.plan_ops.specs.Places.{column_of}
+use Rattle.plan_ops.specs.Sieves.{IsSieve, is_plain}
 
 abbrev pub key_by : Normal → Use → ClassSet → Row → Row
 key_by normal u set v = map (λ c. value_of (as_bindings set v) (class_at normal u.atom c)) u.access.key
@@ -59,6 +60,8 @@ pub record IsStage (normal : Normal) (stage : Stage) : Type 0 where
   pub sides_are : stage.sides.items ≡ map (sides_at normal stage.join.classes) normal.comparisons
   pub output_is : stage.picked.1 ≡ map (λ p. column_of stage.join.classes (place_class normal p)) normal.output
   pub settled_is : stage.settled ≡ holds_classes (set_before normal stage) (output_classes normal)
+  pub sieve_is : IsSieve normal (set_before normal stage) stage.atom (member_columns stage.access.value)
+      (is_plain stage.settled stage.join.checks.items) stage.sieve
 
 -- a valuation before the step, and a tuple that its key finds
 pub record IsPair (normal : Normal) (stage : Stage) (v tuple : Row) : Type 0 where

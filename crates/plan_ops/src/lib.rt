@@ -9,7 +9,6 @@ mod asking;
 mod comparing;
 mod copying;
 mod extending;
-mod fetching;
 mod indexing;
 mod joining;
 mod keeping;
@@ -21,18 +20,20 @@ mod places;
 mod probing;
 mod projecting;
 mod sets;
+mod sieving;
 mod stages;
 mod starting;
 mod tables;
 mod valuations;
 
 pub use asking::ask_for_all;
+pub use copying::push_copy;
 pub use extending::extend;
-pub use fetching::fetch;
 pub use joining::{Join, Shared};
-pub use keeping::keep;
+pub use keeping::{keep, sign_holds};
 pub use projecting::project;
 pub use sets::{subtract, unite};
+pub use sieving::{Own, Sieve};
 pub use stages::{
     Stage, is_joined_output, joined_output, key_into, leads, output_of, push_joined, stage_of,
 };

@@ -17,6 +17,7 @@ use crate::pairs::{pair_fits, push_pair, value_in_pair};
 use crate::picked::Picked;
 use crate::picking::{push_values, values_in};
 use crate::places::{are_bound, columns_at};
+use crate::sieving::{Sieve, sieve_of};
 use beas_core::{
     Access, ColumnId, Comparison, Duplicate, List, NoMemory, Normal, Operand, Row, Value, compare,
 };
@@ -40,6 +41,8 @@ pub struct Stage {
     pub picked: Picked,
     /// Whether all classes of the block's output are bound before it: then none of its tuples changes the output of a valuation.
     pub settled: bool,
+    /// Which of its tuples are kept.
+    pub sieve: Sieve,
 }
 
 /// The stage of a step on an atom by a constraint, after valuations of these classes.
@@ -65,6 +68,8 @@ pub fn stage_of(
     let sides = all_sides(alloc, block, after)?;
     let picked = Picked::of(alloc, block, before, after, atom, access.key.as_slice())?;
     let settled = are_bound(block, before, block.output.as_slice());
+    let plain = settled & join.checks.is_empty();
+    let sieve = sieve_of(alloc, block, before, atom, &join.columns, plain)?;
     Ok(Stage {
         atom,
         access: Snapshot::of(access),
@@ -73,6 +78,7 @@ pub fn stage_of(
         sides,
         picked,
         settled,
+        sieve,
     })
 }
 

@@ -4,7 +4,7 @@ use Rattle.beas_core.specs.Types.{Row}
 use Rattle.place_chains.specs.Fitting.{IsFitting}
 use Rattle.place_chains.specs.TupleOrder.{values_at}
 use Rattle.plan_ops.specs.Stages.{joined_row, leads_to, next_by, set_before, use_at}
-use Rattle.block_walk.specs.Entries.{entry_of}
+use Rattle.block_walk.specs.Entries.{kept_of}
 use Rattle.block_walk.specs.Kept.{Pending, pending_at}
 use Rattle.block_walk.specs.Stacks.{pending_in, pending_of, row_of}
 use Rattle.block_walk.specs.Walks.{children}
@@ -16,7 +16,7 @@ tuples-init c =
     let stage = c.args.stage.now in
     let at = c.args.at in
     let start = pending_in c.args.pending.now in
-    let tuples = (entry_of c.args.known.now c.args.place).1 in
+    let tuples = kept_of c.args.known.now c.args.place in
     record {
       stack = c.requires.stack;
       inside = c.requires.inside;
@@ -39,7 +39,7 @@ tuples-preserved-in-Continue-1 c =
     let row = row_of c.args.pending.now at in
     let f = joined_row normal u set row in
     let t = c.tuple-tuple.result.now in
-    let tuples = (entry_of c.args.known.now c.args.place).1 in
+    let tuples = kept_of c.args.known.now c.args.place in
     let start = pending_in c.args.pending.now in
     let is = pending_of c.args.pending.now.values.items at in
     let was = c.tuples.invariant in
@@ -69,7 +69,7 @@ tuples-preserved c =
     let stage = c.args.stage.now in
     let row = row_of c.args.pending.now c.args.at in
     let t = c.tuple-tuple.result.now in
-    let tuples = (entry_of c.args.known.now c.args.place).1 in
+    let tuples = kept_of c.args.known.now c.args.place in
     let was = c.tuples.invariant in
     let comes = c.in-Some.ensures stage.join.shared.tuple.items tuples (values_at stage.join.shared.row.items row) was.fits in
     let led : leads_to normal (use_at stage) (set_before normal stage) row t ≡ false =
@@ -90,7 +90,7 @@ returns-clause-pending c =
     let stage = c.args.stage.now in
     let at = c.args.at in
     let row = row_of c.args.pending.now at in
-    let tuples = (entry_of c.args.known.now c.args.place).1 in
+    let tuples = kept_of c.args.known.now c.args.place in
     let was = c.tuples.invariant in
     let none = (c.in_default.ensures stage.join.shared.tuple.items tuples (values_at stage.join.shared.row.items row) was.fits).0 in
     was.pending ∙ ap (λ (rows : List Row). pending_in c.args.pending.now ++ children (pending_of c.args.pending.now.values.items at) rows)

@@ -2,7 +2,7 @@ use Rattle.std.proofs.Common.{◌≡◌, ◌-◌, ◌++◌, length, take}
 use Rattle.place_chains.specs.Fitting.{IsFitting}
 use Rattle.place_chains.specs.TupleOrder.{values_at}
 use Rattle.plan_ops.specs.Stages.{next_by, set_before, use_at}
-use Rattle.block_walk.specs.Entries.{entry_of}
+use Rattle.block_walk.specs.Entries.{kept_of}
 use Rattle.block_walk.specs.Stacks.{IsInside, IsStack, pending_in, pending_of, row_of}
 use Rattle.block_walk.specs.Walks.{children}
 use Rattle.block_walk.proofs.walking.push_children.Given as goal
@@ -14,11 +14,11 @@ invariant-tuples l =
       stack : IsStack l.pending;
       inside : IsInside l.pending.values.items l.at;
       same : row_of l.pending l.at ≡ row;
-      fits : IsFitting l.stage.join.shared.tuple.items (entry_of l.known l.place).1 (values_at l.stage.join.shared.row.items row) l.fitting;
+      fits : IsFitting l.stage.join.shared.tuple.items (kept_of l.known l.place) (values_at l.stage.join.shared.row.items row) l.fitting;
       pending : pending_in l.pending ≡ pending_in l.fn.pending
           ++ children (pending_of l.fn.pending.values.items l.at)
-          (next_by l.block (use_at l.stage) (set_before l.block l.stage) row (take l.fitting.from (entry_of l.known l.place).1));
+          (next_by l.block (use_at l.stage) (set_before l.block l.stage) row (take l.fitting.from (kept_of l.known l.place)));
     }
 
 abbrev pub decreases-tuples : goal.decreases-tuples
-decreases-tuples l = length (entry_of l.known l.place).1 - l.fitting.from
+decreases-tuples l = length (kept_of l.known l.place) - l.fitting.from

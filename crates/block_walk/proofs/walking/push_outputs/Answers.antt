@@ -3,7 +3,7 @@ use Rattle.beas_core.specs.Valuations.{output_row}
 use Rattle.beas_core.proofs.Sets.{SameMembers}
 use Rattle.place_chains.specs.TupleOrder.{values_at}
 use Rattle.plan_ops.specs.Stages.{bound_with, next_by, set_before, use_at}
-use Rattle.block_walk.specs.Entries.{entry_of}
+use Rattle.block_walk.specs.Entries.{kept_of}
 use Rattle.block_walk.proofs.FittingFacts.{next_all, next_left, outputs_settled, outputs_taken}
 use Rattle.block_walk.proofs.SameFacts.{same_equal}
 use Rattle.block_walk.proofs.walking.push_outputs.Goals as goal
@@ -13,7 +13,7 @@ tuples-init c =
     let normal = c.args.block.now in
     let stage = c.args.stage.now in
     let start = c.args.through.now in
-    let tuples = (entry_of c.args.known.now c.args.place).1 in
+    let tuples = kept_of c.args.known.now c.args.place in
     let out = output_row normal (bound_with normal (use_at stage) (set_before normal stage)) in
     record {
       fits = c.fitting-fitting.ensures.fits;
@@ -26,7 +26,7 @@ pub tuples-preserved-else-stage : goal.tuples-preserved-else-stage
 tuples-preserved-else-stage c =
     let stage = c.args.stage.now in
     let row = c.args.row.now in
-    let tuples = (entry_of c.args.known.now c.args.place).1 in
+    let tuples = kept_of c.args.known.now c.args.place in
     let was = c.tuples.invariant in
     let comes = c.in-Some.ensures stage.join.shared.tuple.items tuples (values_at stage.join.shared.row.items row) was.fits in
     record {
@@ -41,7 +41,7 @@ pub returns-then-stage : goal.returns-then-stage
 returns-then-stage c =
     let stage = c.args.stage.now in
     let row = c.args.row.now in
-    let tuples = (entry_of c.args.known.now c.args.place).1 in
+    let tuples = kept_of c.args.known.now c.args.place in
     let was = c.tuples.invariant in
     let comes = c.in-Some.ensures stage.join.shared.tuple.items tuples (values_at stage.join.shared.row.items row) was.fits in
     outputs_settled c.args.block.now stage c.requires.stage row tuples c.requires.pairs c.tuples.fitting c.next.new.self c.in-Some.i comes
@@ -54,7 +54,7 @@ tuples-preserved c =
     let stage = c.args.stage.now in
     let row = c.args.row.now in
     let out = output_row normal (bound_with normal (use_at stage) (set_before normal stage)) in
-    let tuples = (entry_of c.args.known.now c.args.place).1 in
+    let tuples = kept_of c.args.known.now c.args.place in
     let comes = c.in-Some.ensures stage.join.shared.tuple.items tuples (values_at stage.join.shared.row.items row) c.tuples.invariant.fits in
     record {
       fits = comes.4;
@@ -70,7 +70,7 @@ returns c =
     let stage = c.args.stage.now in
     let row = c.args.row.now in
     let start = c.args.through.now in
-    let tuples = (entry_of c.args.known.now c.args.place).1 in
+    let tuples = kept_of c.args.known.now c.args.place in
     let out = output_row normal (bound_with normal (use_at stage) (set_before normal stage)) in
     let fits = c.tuples.invariant.fits in
     let none = (c.in_default.ensures stage.join.shared.tuple.items tuples (values_at stage.join.shared.row.items row) fits).0 in

@@ -4,16 +4,16 @@ use Rattle.place_chains.specs.Fitting.{IsFitting}
 use Rattle.place_chains.specs.TupleOrder.{values_at}
 use Rattle.plan_ops.specs.Stages.{bound_with, next_by, set_before, use_at}
 use Rattle.beas_core.proofs.Sets.{SameMembers}
-use Rattle.block_walk.specs.Entries.{entry_of}
+use Rattle.block_walk.specs.Entries.{kept_of}
 use Rattle.block_walk.proofs.walking.push_outputs.Given as goal
 
 abbrev pub invariant-tuples : goal.invariant-tuples
 invariant-tuples l = record {
-  fits : IsFitting l.stage.join.shared.tuple.items (entry_of l.known l.place).1 (values_at l.stage.join.shared.row.items l.row) l.fitting;
+  fits : IsFitting l.stage.join.shared.tuple.items (kept_of l.known l.place) (values_at l.stage.join.shared.row.items l.row) l.fitting;
   through : SameMembers l.through (l.fn.through
       ++ map (output_row l.block (bound_with l.block (use_at l.stage) (set_before l.block l.stage)))
-      (next_by l.block (use_at l.stage) (set_before l.block l.stage) l.row (take l.fitting.from (entry_of l.known l.place).1)));
+      (next_by l.block (use_at l.stage) (set_before l.block l.stage) l.row (take l.fitting.from (kept_of l.known l.place))));
 }
 
 abbrev pub decreases-tuples : goal.decreases-tuples
-decreases-tuples l = length (entry_of l.known l.place).1 - l.fitting.from
+decreases-tuples l = length (kept_of l.known l.place) - l.fitting.from

@@ -1,14 +1,14 @@
 use Rattle.std.proofs.Common.{ℕ, List, Option, Bor, IfSome, sym, subst}
 use Rattle.place_chains.specs.Fitting.{IsRun}
 use Rattle.place_chains.specs.TupleOrder.{values_at}
-use Rattle.block_walk.specs.Entries.{entry_of}
+use Rattle.block_walk.specs.Entries.{kept_of}
 use Rattle.block_walk.proofs.known.Known.fitting.Goals.{in-Some, in-None}
 use Rattle.block_walk.proofs.known.Known.fitting.Goals as goal
 
 pub returns-clause-fits : goal.returns-clause-fits
 returns-clause-fits c =
     let shared = c.args.shared.now in
-    let tuples = (entry_of c.args.self.now c.args.place).1 in
+    let tuples = kept_of c.args.self.now c.args.place in
     let values = values_at shared.row.items c.args.row.now in
     let Runs : Option (Bor (List ℕ)) → Type 0 = λ o. IfSome o (λ numbers. IsRun shared.tuple.items tuples values 0 numbers.now) in
     let run_is : Runs c.match-order.run =

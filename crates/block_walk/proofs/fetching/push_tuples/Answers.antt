@@ -1,9 +1,9 @@
 use Rattle.std.proofs.Common.{rules, ◌≡◌, ◌<◌, ◌≤◌, ◌+◌, ◌*◌, ◌++◌, ◌∷◌, ◌∙◌, [], length, get_or, take, drop, sym, ap, arith, length-append, length-drop}
 use Rattle.std.proofs.lemmas.List.{drop-append-le, take-append-le, take_more}
 use Rattle.beas_core.specs.Types.{Row}
-use Rattle.plan_ops.specs.Fetched.{rows_in}
-use Rattle.plan_ops.proofs.FetchedFacts.{rows_more, tuple_at}
-use Rattle.plan_ops.proofs.fetching.push_tuples.Goals as goal
+use Rattle.block_walk.specs.Fetched.{rows_in}
+use Rattle.block_walk.proofs.FetchedFacts.{rows_more, tuple_at}
+use Rattle.block_walk.proofs.fetching.push_tuples.Goals as goal
 
 pub loop-i-preserved : goal.loop-i-preserved
 loop-i-preserved g c =

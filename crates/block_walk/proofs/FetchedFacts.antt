@@ -10,7 +10,7 @@ use Rattle.beas_core.specs.declared.schema.ColumnId.{ColumnId}
 use Rattle.beas_core.specs.Types.{Row}
 use Rattle.beas_core.specs.Groups.{member_columns, value_in}
 use Rattle.beas_core.specs.Derivations.{access_in}
-use Rattle.plan_ops.specs.Fetched.{rows_in}
+use Rattle.block_walk.specs.Fetched.{rows_in}
 use Rattle.plan_ops.specs.Joins.{HitsAre, IsTuple}
 
 module _ (columns : List ColumnId) (tuple : Row) (is : IsTuple columns tuple) where

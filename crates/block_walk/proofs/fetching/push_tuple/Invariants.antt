@@ -1,6 +1,6 @@
 use Rattle.std.proofs.Common.{◌≡◌, ◌+◌, ◌++◌, take, [], get_or}
 use Rattle.std.specs.Prelude.{vec_len, vec_capacity}
-use Rattle.plan_ops.proofs.fetching.push_tuple.Given as goal
+use Rattle.block_walk.proofs.fetching.push_tuple.Given as goal
 
 abbrev pub invariant-loop-at : goal.invariant-loop-at
 invariant-loop-at g l = record {

@@ -1,7 +1,7 @@
 use Rattle.std.proofs.Common.{◌++◌, ◌∷◌, ◌∙◌, [], ap, sym, get_or, take, append_assoc, arith}
 use Rattle.beas_core.specs.Groups.{value_in}
-use Rattle.plan_ops.proofs.FetchedFacts.{copied_more, tuple_at}
-use Rattle.plan_ops.proofs.fetching.push_tuple.Goals as goal
+use Rattle.block_walk.proofs.FetchedFacts.{copied_more, tuple_at}
+use Rattle.block_walk.proofs.fetching.push_tuple.Goals as goal
 
 pub loop-at-preserved : goal.loop-at-preserved
 loop-at-preserved g c =

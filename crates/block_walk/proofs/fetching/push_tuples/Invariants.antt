@@ -1,7 +1,7 @@
 use Rattle.std.proofs.Common.{◌≡◌, ◌≤◌, ◌+◌, ◌*◌, length, take, drop}
 use Rattle.std.specs.Prelude.{vec_len, vec_capacity}
-use Rattle.plan_ops.specs.Fetched.{rows_in}
-use Rattle.plan_ops.proofs.fetching.push_tuples.Given as goal
+use Rattle.block_walk.specs.Fetched.{rows_in}
+use Rattle.block_walk.proofs.fetching.push_tuples.Given as goal
 
 abbrev pub invariant-loop-i : goal.invariant-loop-i
 invariant-loop-i g l = record {
