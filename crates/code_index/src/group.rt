@@ -12,6 +12,7 @@ ghost use Rattle.code_index.specs.Reading.{read, read_group, pick, AllKnown, All
 ghost use Rattle.code_index.specs.Taking.{HasRoom};
 
 use crate::interner::Interner;
+use crate::key::KeyWords;
 use crate::tuples::Group;
 use crate::words::{compare_tuple, tuple_words};
 use beas_core::{Access, NoMemory};
@@ -97,11 +98,24 @@ pub fn has_room(group: &Group, access: &Access, words: &[u64]) -> bool
     group.position_of(access, words).is_some()
 }
 
+/// So many words of a tuple stand in place.
+const FEW: usize = 4;
+
+/// The words of a row's tuple. Those of a short one are read in place, without a block of memory on their way.
+fn own_tuple(alloc: Global, access: &Access, words: &[u64]) -> Result<TupleWords, NoMemory>
+    ensures { IfOk result (λ tuple. tuple ≡ pick (member_columns access.now) words.now) }
+{
+    match KeyWords::<FEW>::tuple(access, words) {
+        Some(tuple) => TupleWords::of(alloc, tuple.as_slice()),
+        None => tuple_words(alloc, access, words),
+    }
+}
+
 /// A group that counts a tuple once.
 pub fn of_one(alloc: Global, access: &Access, words: &[u64]) -> Result<Group, NoMemory>
     ensures { IfOk result (λ group. group ≡ record { words = pick (member_columns access.now) words.now; count = 1 } ∷ []) }
 {
-    let words = tuple_words(alloc, access, words)?;
+    let words = own_tuple(alloc, access, words)?;
     Group::of(alloc, Coded { words, count: 1 })
 }
 
@@ -130,7 +144,7 @@ pub fn count_up(
             Ok(())
         }
         Err(at) => {
-            let words = tuple_words(alloc, access, words)?;
+            let words = own_tuple(alloc, access, words)?;
             group.insert(alloc, codes.hashing(), at, Coded { words, count: 1 })
         }
     }

@@ -108,6 +108,19 @@ impl Interner {
         Ok(index as u64)
     }
 
+    /// The code of an integer, which is interned where it wasn't yet. Where no hint tells, it is hashed once. After an
+    /// error the interner is as it was.
+    pub fn intern_integer(&mut self, alloc: Global, integer: i64) -> Result<u64, NoMemory>
+        ensures code { IfOk result (λ code. code_of self.new (Int integer) ≡ Some code) }
+        ensures kept { KeepsCodes self.old self.new }
+        ensures err { OnErr result (self.new ≡ self.old) }
+    {
+        if let Some(code) = self.hinted(integer) {
+            return Ok(code);
+        }
+        self.intern(alloc, Value::Int(integer))
+    }
+
     /// The value of a code. It takes no memory.
     pub fn value(&self, code: u64) -> &Value
         requires { code < length self.now }

@@ -1,5 +1,6 @@
 // The codes of a row's values.
-ghost use Rattle.std.specs.Prelude.{◌≡◌, ◌≤◌, ◌<◌, Some, List, length, IfOk, MatchOption};
+ghost use Rattle.std.specs.Prelude.{◌≡◌, ◌≤◌, ◌<◌, Some, List, length, IfOk, IfSome, MatchOption};
+ghost use Rattle.beas_core.specs.declared.value.Value.TheVariants.{Int};
 ghost use Rattle.beas_core.specs.Groups.{value_at, project, member_columns};
 ghost use Rattle.beas_core.specs.Shapes.{AccessIsWellFormed};
 ghost use Rattle.code_index.specs.Codes.{code_of};
@@ -32,7 +33,18 @@ fn copy_in(alloc: Global, row: &[Value], column: ColumnId) -> Result<Value, NoMe
     }
 }
 
-/// The code of a row's value in a column, which is interned where it wasn't yet.
+/// The integer that a row has in a column, where it has one there.
+fn integer_at(row: &[Value], column: ColumnId) -> Option<i64>
+    ensures { IfSome result (λ integer. value_at row.now column ≡ Int integer) }
+{
+    match row.get(column.0 as usize) {
+        Some(Value::Int(integer)) => Some(*integer),
+        Some(Value::Str(_)) => None,
+        None => Some(0),
+    }
+}
+
+/// The code of a row's value in a column, which is interned where it wasn't yet. An integer is hashed once.
 fn interned_in(
     alloc: Global,
     codes: &mut Interner,
@@ -42,6 +54,9 @@ fn interned_in(
     ensures kept { KeepsCodes codes.old codes.new }
     ensures code { IfOk result (λ code. code_of codes.new (value_at row.now column) ≡ Some code) }
 {
+    if let Some(integer) = integer_at(row, column) {
+        return codes.intern_integer(alloc, integer);
+    }
     match code_in(codes, row, column) {
         Some(code) => Ok(code),
         None => codes.intern(alloc, copy_in(alloc, row, column)?),
