@@ -21,13 +21,13 @@ use Rattle.beas_core.specs.Derivations.{IsSound}
 use Rattle.beas_core.specs.Numbers.{announced_from}
 use Rattle.beas_core.specs.Valuations.{starts, answers_of}
 use Rattle.beas_core.specs.Reads.{reads_of}
-use Rattle.beas_core.specs.Fits.{StepsHold, Fits}
+use Rattle.beas_core.specs.Fits.{StepsHold, Fits, GuidedOnlyWithGuide, PlansAreSound}
 use Rattle.beas_core.specs.Guiding.{after}
-use Rattle.beas_core.specs.Queries.{plan_of, guide_of, answers, start_size, size_of, probes_in, reads_at, reads_in}
+use Rattle.beas_core.specs.Queries.{plan_of, guide_of, answers, start_size, size_of, announced_in, probes_in, reads_at, reads_in}
 use Rattle.beas_core.proofs.Sets.{Has-append_left, Has-append_right, Has-from_contains}
 use Rattle.evaluation_facts.specs.Guides.{GuideFits}
 use Rattle.evaluation_facts.proofs.ClassFacts.{classes_in_range, constants_in_range}
-use Rattle.evaluation_facts.proofs.QueryBounds.{Shaped, fits, started, block_answers, block_reads_are, wide_answers, few, shaped_query}
+use Rattle.evaluation_facts.proofs.QueryBounds.{Shaped, Guides, fits, started, block_answers, block_reads_are, wide_answers, few, shaped_query}
 use Rattle.evaluation_facts.proofs.SizeFacts.{announced_from_more}
 use Rattle.evaluation_facts.proofs.TaskFacts.{plan_at}
 use Rattle.plan_ops.specs.Asked.{TreeFits}
@@ -166,84 +166,69 @@ module _ (rows : TableRows) (accesses : List Access) (prepared : Prepared)
         ∙ ap (λ k. k + length (blocks_of l)) e
 
     module _ (reads : ℕ) where
-      pub union_left : TreeFits accesses prepared n guide (Either l r) reads → TreeFits accesses prepared n guide l reads
-      union_left h = record {
+      -- the left part of a tree whose blocks are those of l and then those of r
+      left_of : (t : QueryTree) (h : TreeFits accesses prepared n guide t reads)
+          → prepared.normals ≡ h.before ++ (map normal_of (blocks_of l ++ blocks_of r) ++ h.later) → Shaped h.width (Either l r)
+          → PlansAreSound accesses guided plans n l → GuidedOnlyWithGuide guided n (is_some guide) l
+          → reads + announced_in accesses guided plans n h.most l < 2 ^ 128 → TreeFits accesses prepared n guide l reads
+      left_of t h stands shaped sound flagged room = record {
         before = h.before;
         later = map normal_of (blocks_of r) ++ h.later;
-        stands = parts h.before h.later h.stands;
+        stands = parts h.before h.later stands;
         number = h.number;
         derivations = h.derivations;
         flags = h.flags;
         width = h.width;
-        shaped = left_shaped h.width h.shaped;
+        shaped = left_shaped h.width shaped;
         most = h.most;
         guides = h.guides;
-        sound = h.sound.0;
-        guided = h.guided.0;
-        room = (let room = h.room in omega (arith, room));
+        sound = sound;
+        guided = flagged;
+        room = room;
       }
+
+      pub union_left : TreeFits accesses prepared n guide (Either l r) reads → TreeFits accesses prepared n guide l reads
+      union_left h = let room = h.room in left_of (Either l r) h h.stands h.shaped h.sound.0 h.guided.0 (omega (arith, room))
 
       pub except_left : TreeFits accesses prepared n guide (Minus l r) reads → TreeFits accesses prepared n guide l reads
-      except_left h = record {
-        before = h.before;
-        later = map normal_of (blocks_of r) ++ h.later;
-        stands = parts h.before h.later h.stands;
-        number = h.number;
-        derivations = h.derivations;
-        flags = h.flags;
-        width = h.width;
-        shaped = left_shaped h.width h.shaped;
-        most = h.most;
-        guides = h.guides;
-        sound = h.sound.0;
-        guided = h.guided.0;
-        room = (let room = h.room in omega (arith, room));
-      }
+      except_left h = let room = h.room in left_of (Minus l r) h h.stands h.shaped h.sound.0 h.guided.0 (omega (arith, room))
 
       module _ (next : ℕ) (next_is : next ≡ after n l) (now : ℕ) (now_is : now ≡ reads + reads_in rows accesses guided plans n guide l) where
-        pub union_right : TreeFits accesses prepared n guide (Either l r) reads → TreeFits accesses prepared next guide r now
-        union_right h = subst (λ k. TreeFits accesses prepared k guide r now) (sym next_is) (record {
+        -- the right part, guided by rows of which there are no more than most
+        right_of : (t : QueryTree) (h : TreeFits accesses prepared n guide t reads) (own : Guide) (most : ℕ)
+            → prepared.normals ≡ h.before ++ (map normal_of (blocks_of l ++ blocks_of r) ++ h.later) → Shaped h.width (Either l r)
+            → Guides h.width most own → PlansAreSound accesses guided plans (after n l) r → GuidedOnlyWithGuide guided (after n l) (is_some own) r
+            → now + announced_in accesses guided plans (after n l) most r < 2 ^ 128 → TreeFits accesses prepared next own r now
+        right_of t h own most stands shaped guides sound flagged room = subst (λ k. TreeFits accesses prepared k own r now) (sym next_is) (record {
           before = h.before ++ map normal_of (blocks_of l);
           later = h.later;
-          stands = parts h.before h.later h.stands ∙ sym (append_assoc h.before (map normal_of (blocks_of l)) (map normal_of (blocks_of r) ++ h.later));
+          stands = parts h.before h.later stands ∙ sym (append_assoc h.before (map normal_of (blocks_of l)) (map normal_of (blocks_of r) ++ h.later));
           number = moved h.before h.number;
           derivations = h.derivations;
           flags = h.flags;
           width = h.width;
-          shaped = right_shaped h.width h.shaped;
-          most = h.most;
-          guides = h.guides;
-          sound = h.sound.1;
-          guided = h.guided.1;
-          room = (
-              let left = few rows accesses guided plans hold h.width n h.most guide l (left_shaped h.width h.shaped) h.guides h.sound.0 h.guided.0 in
-              let room = h.room in
-              omega (arith, left.1, room, now_is));
+          shaped = right_shaped h.width shaped;
+          most = most;
+          guides = guides;
+          sound = sound;
+          guided = flagged;
+          room = room;
         })
+
+        pub union_right : TreeFits accesses prepared n guide (Either l r) reads → TreeFits accesses prepared next guide r now
+        union_right h =
+            let left = few rows accesses guided plans hold h.width n h.most guide l (left_shaped h.width h.shaped) h.guides h.sound.0 h.guided.0 in
+            let room = h.room in
+            right_of (Either l r) h guide h.most h.stands h.shaped h.guides h.sound.1 h.guided.1 (omega (arith, left.1, room, now_is))
 
         pub except_right : TreeFits accesses prepared n guide (Minus l r) reads
             → TreeFits accesses prepared next (Some (answers rows guided n guide l)) r now
-        except_right h = subst (λ k. TreeFits accesses prepared k (Some (answers rows guided n guide l)) r now) (sym next_is) (record {
-          before = h.before ++ map normal_of (blocks_of l);
-          later = h.later;
-          stands = parts h.before h.later h.stands ∙ sym (append_assoc h.before (map normal_of (blocks_of l)) (map normal_of (blocks_of r) ++ h.later));
-          number = moved h.before h.number;
-          derivations = h.derivations;
-          flags = h.flags;
-          width = h.width;
-          shaped = right_shaped h.width h.shaped;
-          most = size_of accesses guided plans n h.most l;
-          guides = (
-            wide_answers rows accesses guided plans hold h.width n guide l (left_shaped h.width h.shaped),
-            (few rows accesses guided plans hold h.width n h.most guide l (left_shaped h.width h.shaped) h.guides h.sound.0 h.guided.0).0,
-          );
-          sound = h.sound.1;
-          guided = h.guided.1;
-          room = (
-              let left = few rows accesses guided plans hold h.width n h.most guide l (left_shaped h.width h.shaped) h.guides h.sound.0 h.guided.0 in
-              let room = h.room in
-              omega (arith, left.1, room, now_is));
-        })
+        except_right h =
+            let shaped = left_shaped h.width h.shaped in
+            let left = few rows accesses guided plans hold h.width n h.most guide l shaped h.guides h.sound.0 h.guided.0 in
+            let room = h.room in
+            right_of (Minus l r) h (Some (answers rows guided n guide l)) (size_of accesses guided plans n h.most l) h.stands h.shaped
+            (wide_answers rows accesses guided plans hold h.width n guide l shaped, left.0) h.sound.1 h.guided.1 (omega (arith, left.1, room, now_is))
 
     pub union_reads : reads_in rows accesses guided plans n guide (Either l r)
         ≡ reads_in rows accesses guided plans n guide l + reads_in rows accesses guided plans (after n l) guide r
