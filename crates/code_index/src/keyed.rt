@@ -63,7 +63,7 @@ fn copy_groups<W: OwnWords>(
 ) -> Result<IndexMap<GroupKey<W>, Group, SeededHashing>, NoMemory>
     ensures { IfOk result (λ copy. copy.entries ≡ groups.now.entries) }
 {
-    let mut copy = IndexMap::with_hasher(alloc, *groups.hasher());
+    let mut copy = IndexMap::with_capacity_and_hasher(alloc, groups.len(), *groups.hasher())?;
     for i in 0..groups.len() {
         let Some((key, group)) = groups.get_index(i) else {
             unreachable!()

@@ -10,5 +10,5 @@ loop-i-preserved g c =
     let entries = c.args.groups.now.entries in
     let key = c.in-Some.key.now in
     let group = c.in-Some.group.now in
-    c.in_ok-put_copy.ensures ∙ (λ j. insert_entry (pointwise nat_eq) (c.loop-i.invariant j) (c.in_ok-copy.ensures j) group)
+    c.in_ok-put_copy.ensures ∙ (λ j. insert_entry (pointwise nat_eq) (c.loop-i.invariant j) (c.in_ok-copy-2.ensures j) group)
     ∙ one_entry_more nat_list_eq_equiv entries c.loop-i.i key group (sym c.in-Some.ensures.entry) c.len-i-end.ensures.unique
