@@ -13,16 +13,28 @@ FAN = (10, 10, 10, 100)
 WIDE_FAN, FEW = (100, 10, 10, 10), " AND t.b < 10"
 
 
-def chain(program: str, output: str, fans: tuple[int, ...] = FAN, more: str = "") -> Timed:
-    """Four tables, of which each value leads to some in the next: 100,000 valuations."""
-    query = f"SELECT DISTINCT {output} FROM r0 p, r1 q, r2 s, r3 t WHERE p.a = 0 AND p.b = q.a AND q.b = s.a AND s.b = t.a{more}"
-    tables = [[(i // fan, i) for i in range(count)] for fan, count in zip(fans, accumulate(fans, operator.mul))]
+def chain_query(output: str, more: str = "") -> str:
+    return f"SELECT DISTINCT {output} FROM r0 p, r1 q, r2 s, r3 t WHERE p.a = 0 AND p.b = q.a AND q.b = s.a AND s.b = t.a{more}"
+
+
+def chain_rows(fans: tuple[int, ...]) -> list[list[tuple[int, int]]]:
+    return [[(i // fan, i) for i in range(count)] for fan, count in zip(fans, accumulate(fans, operator.mul))]
+
+
+def chain_begun(tables: list[list[tuple[int, int]]], fans: tuple[int, ...]) -> list[str]:
+    """The statements that make the tables of a chain and load them, with the files that they load."""
     begun = []
     for at, (rows, fan) in enumerate(zip(tables, fans)):
         rows_of(f"r{at}.csv", rows)
         begun += [f"CREATE TABLE r{at} (a INTEGER, b INTEGER); CREATE ACCESS c{at} ON r{at} (a) FETCH (b) LIMIT {fan};\n"]
         begun += [f"LOAD r{at} FROM 'r{at}.csv';\n"]
-    times = 10
+    return begun
+
+
+def chain(program: str, output: str, fans: tuple[int, ...] = FAN, more: str = "") -> Timed:
+    """Four tables, of which each value leads to some in the next: 100,000 valuations."""
+    query, tables = chain_query(output, more), chain_rows(fans)
+    begun, times = chain_begun(tables, fans), 10
     spent, refusals = beyond(program, begun, [query + ";\n"] * times)
     beside = sqlite_seconds(
         [f"CREATE TABLE r{at} (a INTEGER, b INTEGER)" for at in range(4)],
