@@ -70,6 +70,7 @@ WORDS = {
         ("position",),
         {
             "beas_core": "Place place",
+            "block_walk": "place",
             "attribute_closure": "open_place",
             "name_resolution": "place_of all_places",
             "named_blocks": "place_at",
