@@ -21,6 +21,10 @@ pub struct SeededHashing {
     initial: SeededHasher,
 }
 
+/// The factor where none is drawn: 2^64 over the golden ratio, rounded to an odd number, as multiplicative hashing often
+/// takes it.
+pub const FIXED_FACTOR: u64 = 0x9e37_79b9_7f4a_7c15;
+
 // Both halves of the product of two words, joined.
 fn folded_product(a: u64, b: u64) -> u64
     ensures { result ≡ folded_multiply a b }
@@ -29,8 +33,8 @@ fn folded_product(a: u64, b: u64) -> u64
     (product & 0xFFFF_FFFF_FFFF_FFFF) as u64 ^ (product >> 64) as u64
 }
 
-/// A word mixed into a state.
-fn mixed(factor: u64, state: u64, word: u64) -> u64
+/// A word mixed into a state. It isn't cryptographic: who chooses the words can make many states equal.
+pub fn mixed(factor: u64, state: u64, word: u64) -> u64
     ensures { result ≡ mixed factor state word }
 {
     folded_product(state ^ word, factor)
@@ -66,6 +70,15 @@ impl SeededHashing {
     }
 }
 
+impl SeededHasher {
+    // Mixes a word into the state.
+    fn mix(&mut self, word: u64)
+        ensures { self.new ≡ record self.old { state = mixed self.old.factor self.old.state word } }
+    {
+        self.state = mixed(self.factor, self.state, word);
+    }
+}
+
 impl BuildHasher for SeededHashing {
     type Hasher = SeededHasher;
 
@@ -88,18 +101,18 @@ impl Hasher for SeededHasher {
     }
 
     fn write(&mut self, bytes: &[u8]) {
-        self.state = mixed(self.factor, self.state, word_of(self.factor, bytes));
+        self.mix(word_of(self.factor, bytes));
     }
 
     fn write_u8(&mut self, byte: u8) {
-        self.state = mixed(self.factor, self.state, u64::from(byte));
+        self.mix(u64::from(byte));
     }
 
     fn write_u64(&mut self, word: u64) {
-        self.state = mixed(self.factor, self.state, word);
+        self.mix(word);
     }
 
     fn write_usize(&mut self, number: usize) {
-        self.state = mixed(self.factor, self.state, number as u64);
+        self.write_u64(number as u64);
     }
 }

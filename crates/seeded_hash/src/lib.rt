@@ -1,7 +1,7 @@
 //! The hash by which maps find their keys: fast for words, and with a seed that each run may choose anew. Nothing that a
-//! map answers depends on the seed.
+//! map answers depends on the seed. Hashes without a seed mix their words likewise, by a fixed factor.
 #![tactic(auto)]
 
 mod hasher;
 
-pub use hasher::{SeededHasher, SeededHashing};
+pub use hasher::{FIXED_FACTOR, SeededHasher, SeededHashing, mixed};
