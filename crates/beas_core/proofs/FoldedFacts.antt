@@ -1,13 +1,14 @@
 -- Words in lower case, and the reserved words that begin with a letter.
-use Rattle.std.proofs.Common.{◌≡◌, ◌<◌, ◌∙◌, refl, ap, sym, subst, true, false, ℕ, List, [], ◌∷◌}
-use Rattle.std.specs.Prelude.{◌&&◌, ◌||◌, ◌==◌, Bool, not, nat_le, nat_lt, length, slice_index, take, drop}
-use Rattle.std.specs.List.{list_all, list_any, filter}
-use Rattle.std.specs.Char.{is_ascii_uppercase}
+use Rattle.std.proofs.Common.{◌≡◌, ◌<◌, ◌≤◌, ◌+◌, ◌%◌, ◌∙◌, refl, ap, sym, subst, true, false, ℕ, List, [], ◌∷◌, get_or, map, arith}
+use Rattle.std.specs.Prelude.{◌&&◌, ◌||◌, ◌==◌, Bool, not, nat_le, length, slice_index}
+use Rattle.std.specs.List.{list_all, list_any, filter, range_with_len}
+use Rattle.std.specs.Char.{is_ascii_lowercase, is_ascii_uppercase}
 use Rattle.std.specs.Str.{bytes_eq}
 use Rattle.std.proofs.lemmas.Slice.Eq.{bytes_eq-Decides}
-use Rattle.std.proofs.lemmas.Bool.{eq-eqb, lt-ltb}
-use Rattle.std.proofs.lemmas.List.{take-append-drop}
-use Rattle.std.proofs.lemmas.List.Folds.{list_any-append}
+use Rattle.std.proofs.lemmas.Bool.{and_parts, eq-eqb, leb-true}
+use Rattle.std.proofs.lemmas.Bool.Decides.{nat_tests}
+use Rattle.std.proofs.Math.ListN.{get_or-eq_default}
+use Rattle.std.proofs.lemmas.List.FromFn.{get_or-map-range_with_len}
 use Rattle.std.proofs.lemmas.Map.Views.{any-filter_same}
 use Rattle.beas_core.specs.Spelling.{begins_word, continues_word, is_folded, is_name, is_reserved, is_word, reserved_words}
 use Rattle.beas_core.specs.FoldedWords.{goes_on_folded, is_folded_word}
@@ -54,31 +55,33 @@ by_first word first is =
     sym (any-filter_same (λ r. bytes_eq r word) (λ r. slice_index r 0 == first) true
     (λ r e. same_first r word first is ((bytes_eq-Decides r word).0 e)) reserved_words)
 
-short_one : (word r : List ℕ) → length word < 2 → r ≡ word → nat_lt (length r) 2 ≡ true
-short_one word r short same = lt-ltb (length r) 2 (subst (λ (t : List ℕ). length t < 2) (sym same) short)
-
--- each reserved word has two letters or more
-pub short : (word : List ℕ) → length word < 2 → is_reserved word ≡ false
+-- each reserved word begins with a small letter
+pub no_letter : (word : List ℕ) → is_ascii_lowercase (slice_index word 0) ≡ false → is_reserved word ≡ false
 unfolding is_reserved reserved_words
-short word few =
-    sym (any-filter_same (λ r. bytes_eq r word) (λ r. nat_lt (length r) 2) true (λ r e. short_one word r few ((bytes_eq-Decides r word).0 e)) reserved_words)
+no_letter word none =
+    sym (any-filter_same (λ r. bytes_eq r word) (λ r. not (is_ascii_lowercase (slice_index r 0))) true
+    (λ r e. ap (λ (t : List ℕ). not (is_ascii_lowercase (slice_index t 0))) ((bytes_eq-Decides r word).0 e) ∙ ap not none) reserved_words)
 
-pub begins_so : (bytes word : List ℕ) (byte first : ℕ) → byte ≡ slice_index bytes 0 → bytes ≡ word → byte ≡ first
-    → is_reserved word ≡ list_any (λ r. bytes_eq r word) (filter (λ r. slice_index r 0 == first) reserved_words)
-begins_so bytes word byte first read same is = by_first word first (sym (read ∙ ap (λ (t : List ℕ). slice_index t 0) same) ∙ is)
+-- for each letter, whether a word is one of the reserved words that begin with it
+abbrev pub by_letter : List ℕ → List Bool
+by_letter word = map (λ letter. list_any (λ r. bytes_eq r word) (filter (λ r. slice_index r 0 == letter) reserved_words)) (range_with_len 97 26)
 
--- whether one of these holds, asked of the first ones, of the next ones and so on
-abbrev any_in_parts : List ℕ → List Bool → Bool
-any_in_parts [] bs = list_any (λ b. b) bs
-any_in_parts (n ∷ ns) bs = list_any (λ b. b) (take n bs) || any_in_parts ns (drop n bs)
+past : (first : ℕ) → is_ascii_lowercase first ≡ false → first < 256 → 26 ≤ (first + 159) % 256
+past first none byte = grind (arith, nat_tests)
 
-pub parts_tell : (sizes : List ℕ) (bs : List Bool) → any_in_parts sizes bs ≡ list_any (λ b. b) bs
-parts_tell [] bs = refl
-parts_tell (n ∷ ns) bs =
-    ap (λ b. list_any (λ b. b) (take n bs) || b) (parts_tell ns (drop n bs))
-    ∙ sym (list_any-append (λ b. b) (take n bs) (drop n bs)) ∙ ap (list_any (λ b. b)) (take-append-drop n bs)
-
--- how many reserved words begin with each letter that some begin with
-abbrev pub sizes_of_letters : List ℕ
-sizes_of_letters =
-    4 ∷ 2 ∷ 3 ∷ 4 ∷ 3 ∷ 3 ∷ 1 ∷ 1 ∷ 8 ∷ 1 ∷ 4 ∷ 3 ∷ 5 ∷ 1 ∷ 1 ∷ 2 ∷ 2 ∷ 1 ∷ 2 ∷ []
+-- what each letter's reserved words tell, one look tells
+pub by_look : (bs : List Bool) (at : ℕ) (word : List ℕ) → bs ≡ by_letter word → at ≡ (slice_index word 0 + 159) % 256 → slice_index word 0 < 256
+    → get_or bs at false ≡ is_reserved word
+by_look bs at word is place byte = ap (λ (bs : List Bool). get_or bs at false) is ∙ by (is_ascii_lowercase (slice_index word 0)) refl
+  where
+    by : (low : Bool) → is_ascii_lowercase (slice_index word 0) ≡ low → get_or (by_letter word) at false ≡ is_reserved word
+    by false none =
+        let far : 26 ≤ at = subst (λ n. 26 ≤ n) (sym place) (past (slice_index word 0) none byte) in
+        get_or-eq_default (by_letter word) false far ∙ sym (no_letter word none)
+    by true low =
+        let first = slice_index word 0 in
+        let parts = and_parts (nat_le 97 first) (nat_le first 122) low in
+        let least : 97 ≤ first = leb-true 97 first parts.0 in
+        let most : first ≤ 122 = leb-true first 122 parts.1 in
+        get_or-map-range_with_len (λ letter. list_any (λ r. bytes_eq r word) (filter (λ r. slice_index r 0 == letter) reserved_words)) 97 26 at first false
+        (omega (arith, least, most, place)) (omega (arith, least, most, place)) ∙ sym (by_first word first refl)

@@ -10,7 +10,6 @@ pub mod Guiding
 pub mod Hashing
 pub mod Heights
 pub mod Kept
-pub mod Mixing
 pub mod Nodes
 pub mod Numbers
 pub mod Order

@@ -1,7 +1,0 @@
-use mathlib.Core.Path.{refl}
-use Rattle.std.specs.Hash.FoldHasher.{folded_multiply}
-use Rattle.beas_core.proofs.mixing.folded_product.Goals as goal
-
-pub returns : goal.returns
-unfolding folded_multiply
-returns c = refl
