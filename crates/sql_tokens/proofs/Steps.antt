@@ -1,18 +1,18 @@
 -- The tokens of a script, one after another.
-use Rattle.std.proofs.Common.{◌≡◌, ◌≢◌, ◌⊎◌, ℕ, zero, suc, ◌+◌, ◌-◌, ◌<◌, ◌≤◌, true, false, List, [], ◌∷◌, ◌++◌, length, get_or, drop, refl, sym, ap, ◌∙◌, subst, inl, inr, arith, add-zero, append_assoc, length-drop}
+use Rattle.std.proofs.Common.{◌≡◌, ◌≢◌, ℕ, zero, suc, ◌+◌, ◌-◌, ◌<◌, ◌≤◌, true, false, List, [], ◌∷◌, ◌++◌, length, get_or, drop, refl, sym, ap, ◌∙◌, subst, inl, inr, arith, add-zero, append_assoc, length-drop}
 use Rattle.std.specs.Prelude.{IsUtf8, IsCharBoundary, codes, eqb, take_while}
 use Rattle.std.specs.List.{prefix_len, starts_with}
 use Rattle.std.specs.Char.{is_ascii_whitespace}
 use Rattle.std.proofs.lemmas.Bool.{cases_Bool, cases_lt, false≢true, and_parts, eqb-true, not-false}
 use Rattle.std.proofs.lemmas.Bool.Decides.{nat_tests}
 use Rattle.std.proofs.lemmas.List.{append-nil, drop_all, drop-drop, get_or-drop, length-take-le}
-use Rattle.std.proofs.lemmas.List.Sums.{prefix_len-drop_no, prefix_len-drop_yes, prefix_len-le-length, prefix_len_passes, prefix_len_stops}
+use Rattle.std.proofs.lemmas.List.Sums.{prefix_len-drop_yes, prefix_len-le-length, prefix_len_passes, prefix_len_stops}
 use Rattle.std.proofs.lemmas.Str.{IsCharBoundary-before_ascii, IsCharBoundary-end}
 use Rattle.sql_tokens.specs.declared.token.Token.{Token}
 use Rattle.sql_tokens.specs.declared.token.TokenKind.{TokenKind}
 use Rattle.sql_tokens.specs.Tokens.{lead, Lead, tokens_from, first_then, is_in_line}
 use Rattle.sql_tokens.specs.Tokens.Lead.{Gap, Lexeme}
-use Rattle.sql_tokens.specs.Cuts.{IsAtToken, StandsAt}
+use Rattle.sql_tokens.specs.Cuts.{StandsAt}
 use Rattle.sql_tokens.specs.Pieces.{tokens_past}
 use Rattle.sql_tokens.proofs.Leads.{lead-blank, lead-comment, first_at, run-cut}
 
@@ -98,9 +98,6 @@ more_tokens s all tokens at to t h gaps known =
 
 blank-ascii : (b : ℕ) → is_ascii_whitespace b ≡ true → b < 128
 blank-ascii b e = grind (arith, nat_tests)
-
-no-blank : (b : ℕ) → 45 < b → is_ascii_whitespace b ≡ false
-no-blank b l = grind (arith, nat_tests)
 
 -- a run of white space
 tokens_from-blanks :
@@ -204,45 +201,6 @@ past_comment s at mid line to u h l comment r within t =
       cut = then.cut;
       ink = then.ink;
     }
-
-pub at_token :
-    (s : List ℕ) (at to : ℕ) → IsPastBlanks s at to → (to < length s → starts_with eqb (drop to s) (codes "--") ≡ false) → IsAtToken s to
-at_token s at to h none = record {
-  within = h.within;
-  cut = h.cut;
-  begins = λ more. record { within = more; cut = h.cut; ink = h.ink more; no_comment = none more };
-}
-
--- after one space or none, where no gap goes on
-short-run :
-    (s : List ℕ) (at next : ℕ) → (next ≡ at) ⊎ ((next ≡ at + 1) × (get_or s at 0 ≡ 32)) → next < length s → 45 < get_or s next 0 →
-    next ≡ at + prefix_len is_ascii_whitespace (drop at s)
-short-run s at next (inl e) l high =
-    let none : is_ascii_whitespace (get_or s at 0) ≡ false = no-blank (get_or s at 0) (omega (arith, high, ap (λ (k : ℕ). get_or s k 0) e)) in
-    omega (arith, e, prefix_len-drop_no is_ascii_whitespace s at 0 (omega (arith, e, l)) none)
-short-run s at next (inr h) l high =
-    let space : is_ascii_whitespace (get_or s at 0) ≡ true = rw h.1 refl in
-    let none : is_ascii_whitespace (get_or s (at + 1) 0) ≡ false =
-    no-blank (get_or s (at + 1) 0) (omega (arith, high, ap (λ (k : ℕ). get_or s k 0) h.0)) in
-    omega (
-      arith,
-      h.0,
-      prefix_len-drop_yes is_ascii_whitespace s at 0 (omega (arith, h.0, l)) space,
-      prefix_len-drop_no is_ascii_whitespace s (at + 1) 0 (omega (arith, h.0, l)) none,
-    )
-
-no-dashes : (bs : List ℕ) → get_or bs 0 0 ≢ 45 → starts_with eqb bs (codes "--") ≡ false
-no-dashes bs n =
-    elim (cases_Bool (starts_with eqb bs (codes "--"))) [ inl e ↦ absurd (n (begins-dash bs e)) | inr e ↦ e ]
-
-pub short_gap :
-    (s : List ℕ) (at next : ℕ) → IsUtf8 s → at ≤ length s → IsCharBoundary s at →
-    (next ≡ at) ⊎ ((next ≡ at + 1) × (get_or s at 0 ≡ 32)) → next < length s → 45 < get_or s next 0 →
-    (tokens_past at s ≡ tokens_past next s) × IsAtToken s next
-short_gap s at next u within cut h l high =
-    let past = past_blanks s at next u within cut (short-run s at next h l high) in
-    let other : get_or (drop next s) 0 0 ≢ 45 = λ e. omega (arith, high, first_at s next, e) in
-    (past.tokens, at_token s at next past (λ _. no-dashes (drop next s) other))
 
 -- past the end no token stands
 pub tokens_past-end : (s : List ℕ) (at : ℕ) → length s ≤ at → tokens_past at s ≡ []

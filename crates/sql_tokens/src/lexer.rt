@@ -5,7 +5,7 @@ ghost use Rattle.beas_core.specs.Spelling.{begins_word};
 ghost use Rattle.sql_tokens.specs.Tokens.{tokens_from, tokens_of, with_quotes_doubled, quote, quoted_text, marks};
 ghost use Rattle.std.specs.Char.{is_ascii_digit, to_ascii_lowercase};
 ghost use Rattle.std.specs.List.{starts_with};
-ghost use Rattle.std.specs.Prelude.{◌≡◌, ◌≢◌, ◌⊎◌, ◌==◌, ◌<◌, ◌≤◌, ◌+◌, ◌-◌, [], ◌∷◌, length, drop, codes, eqb, find, map, option_map, slice_index, slice_range, All, IfOk, IfSome, IsAscii, IsCharBoundary, IsTrue};
+ghost use Rattle.std.specs.Prelude.{◌≡◌, ◌≢◌, ◌==◌, ◌<◌, ◌≤◌, ◌+◌, ◌-◌, [], ◌∷◌, length, drop, codes, eqb, find, map, option_map, slice_index, slice_range, All, IfOk, IfSome, IsAscii, IsCharBoundary, IsTrue};
 
 use crate::runs::{Blank, InChar, InLine, InNumber, InWord, Unquoted, kind_of, run_end};
 use crate::token::{Token, TokenKind};
@@ -45,39 +45,8 @@ pub fn lex(alloc: Global, source: &str) -> Result<List<Token>, NoMemory>
     Ok(tokens)
 }
 
-/// Where the white space and the comments end that stand from a place on: where the next token begins, or at the end. After
-/// most tokens one space stands or none, and then a byte that begins neither white space nor a comment.
+/// Where the white space and the comments end that stand from a place on: where the next token begins, or at the end.
 pub fn past_gaps(source: &str, at: usize) -> usize
-    requires within { at ≤ length source.now }
-    requires cut { IsCharBoundary source.now at }
-    ensures tokens { tokens_from at 0 (drop at source.now) ≡ tokens_from result 0 (drop result source.now) }
-    ensures order { at ≤ result }
-    ensures at_token { IsAtToken source.now result }
-{
-    let bytes = source.as_bytes();
-    let next = past_space(bytes, at);
-    if next < bytes.len() && bytes[next] > b'-' {
-        return next;
-    }
-    past_long_gaps(source, at)
-}
-
-// Past the space that stands at a place, if one does.
-fn past_space(bytes: &[u8], at: usize) -> usize
-    requires within { at ≤ length bytes.now }
-    ensures cases { (result ≡ at) ⊎ ((result ≡ at + 1) × (slice_index bytes.now at ≡ 32)) }
-    ensures within { result ≤ length bytes.now }
-{
-    if at < bytes.len() && bytes[at] == b' ' {
-        at + 1
-    } else {
-        at
-    }
-}
-
-// The same over any white space and comments. It stands apart, so that what is inlined after each token stays small.
-#[inline(never)]
-fn past_long_gaps(source: &str, at: usize) -> usize
     requires within { at ≤ length source.now }
     requires cut { IsCharBoundary source.now at }
     ensures tokens { tokens_from at 0 (drop at source.now) ≡ tokens_from result 0 (drop result source.now) }
@@ -292,29 +261,8 @@ fn plain(
       text = slice_range source.now from to;
     }) }
 {
-    let text = copied(alloc, &source[from..to])?;
+    let text = Text::from_str(alloc, &source[from..to])?;
     Ok(token(kind, from, to, text))
-}
-
-// A copy of a spelling. Most are short.
-fn copied(alloc: Global, spelling: &str) -> Result<Text, NoMemory>
-    ensures { IfOk result (λ text. text ≡ spelling.now) }
-{
-    match spelling.len() {
-        1 => copied_whole::<1>(alloc, spelling),
-        2 => copied_whole::<2>(alloc, spelling),
-        3 => copied_whole::<3>(alloc, spelling),
-        4 => copied_whole::<4>(alloc, spelling),
-        _ => Text::from_str(alloc, spelling),
-    }
-}
-
-// A copy of a spelling of so many bytes, which the compiler makes without a call, since it knows their number.
-fn copied_whole<const LEN: usize>(alloc: Global, spelling: &str) -> Result<Text, NoMemory>
-    requires { length spelling.now ≡ LEN }
-    ensures { IfOk result (λ text. text ≡ spelling.now) }
-{
-    Text::from_str(alloc, &spelling[..LEN])
 }
 
 fn token(kind: TokenKind, from: usize, to: usize, text: Text) -> Token

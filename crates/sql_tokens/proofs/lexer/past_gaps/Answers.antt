@@ -1,23 +1,25 @@
-use Rattle.std.proofs.Common.{◌≡◌, ◌⊎◌, ◌<◌, ◌+◌, length, get_or, arith}
-use Rattle.sql_tokens.proofs.Steps.{short_gap}
+use Rattle.std.proofs.Common.{◌≡◌, ◌<◌, ◌≤◌, ◌+◌, true, length, drop, arith}
+use Rattle.std.specs.Prelude.{codes, eqb}
+use Rattle.std.specs.Char.{is_ascii_whitespace}
+use Rattle.std.specs.List.{prefix_len, starts_with}
+use Rattle.sql_tokens.specs.Tokens.{is_in_line}
+use Rattle.sql_tokens.proofs.Steps.{past_blanks, past_comment}
 use Rattle.sql_tokens.proofs.lexer.past_gaps.Goals as goal
 
-pub returns-then-bytes-next-gt45-clause-tokens : goal.returns-then-bytes-next-gt45-clause-tokens
-returns-then-bytes-next-gt45-clause-tokens c =
+pub loop-to-init : goal.loop-to-init
+loop-to-init c =
     let s = c.args.source.now in
-    let next = c.past_space-next.result in
-    let cases : (next ≡ c.args.at) ⊎ ((next ≡ c.args.at + 1) × (get_or s c.args.at 0 ≡ 32)) =
-    rw c.as_bytes-bytes.ensures.value at c.past_space-next.ensures.cases in
-    let high : 45 < get_or s next 0 = rw c.as_bytes-bytes.ensures.value at c.if-bytes-next-gt45.true in
-    let more : next < length s = omega arith in
-    (short_gap s c.args.at next c.utf8.source c.requires.within c.requires.cut cases more high).0
+    let run : c.run_end-to.result ≡ c.args.at + prefix_len is_ascii_whitespace (drop c.args.at s) = cc in
+    past_blanks s c.args.at c.run_end-to.result c.utf8.source c.requires.within c.requires.cut run
 
-pub returns-then-bytes-next-gt45-clause-at_token : goal.returns-then-bytes-next-gt45-clause-at_token
-returns-then-bytes-next-gt45-clause-at_token c =
+pub loop-to-preserved : goal.loop-to-preserved
+loop-to-preserved c =
     let s = c.args.source.now in
-    let next = c.past_space-next.result in
-    let cases : (next ≡ c.args.at) ⊎ ((next ≡ c.args.at + 1) × (get_or s c.args.at 0 ≡ 32)) =
-    rw c.as_bytes-bytes.ensures.value at c.past_space-next.ensures.cases in
-    let high : 45 < get_or s next 0 = rw c.as_bytes-bytes.ensures.value at c.if-bytes-next-gt45.true in
-    let more : next < length s = omega arith in
-    (short_gap s c.args.at next c.utf8.source c.requires.within c.requires.cut cases more high).1
+    let line = c.run_end-line_end.result in
+    let to = c.run_end-to-in-loop-to.result in
+    let comment : starts_with eqb (drop c.loop-to.to s) (codes "--") ≡ true = cc in
+    let run : line ≡ c.loop-to.to + prefix_len is_in_line (drop c.loop-to.to s) = cc in
+    let blanks : to ≡ line + prefix_len is_ascii_whitespace (drop line s) = cc in
+    let below : c.loop-to.to < length s = omega arith in
+    let within : line ≤ length s = omega arith in
+    past_comment s c.args.at c.loop-to.to line to c.utf8.source c.loop-to.invariant below comment run within blanks
