@@ -2,11 +2,12 @@
 use Rattle.std.specs.Prelude.{ℕ, pos, unsigned_abs, fold, List, Option, None, Some}
 use Rattle.beas_core.specs.declared.value.Value.{Value}
 use Rattle.beas_core.specs.declared.value.Value.TheVariants.{Int, Str}
-use Rattle.beas_core.specs.Mixing.{mixed}
+use Rattle.seeded_hash.specs.declared.hasher.TheConstants.{FIXED_FACTOR}
+use Rattle.seeded_hash.specs.Words.{mixed}
 
 abbrev pub with_value : ℕ → Value → ℕ
-with_value state (Int n) = mixed state (unsigned_abs n)
-with_value state (Str text) = fold mixed state text
+with_value state (Int n) = mixed FIXED_FACTOR state (unsigned_abs n)
+with_value state (Str text) = fold (mixed FIXED_FACTOR) state text
 
 unfoldable pub hash_of : List Value → ℕ
 hash_of values = fold with_value 0x243F6A8885A308D3 values

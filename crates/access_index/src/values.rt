@@ -6,7 +6,8 @@ ghost use Rattle.beas_core.specs.Order.{row_cmp, value_cmp};
 ghost use Rattle.beas_core.specs.Groups.{project};
 ghost use Rattle.access_index.specs.Hashing.{or_zero, hash_of, with_value};
 
-use beas_core::{ColumnId, Value, compare, mixed};
+use beas_core::{ColumnId, Value, compare};
+use seeded_hash::{FIXED_FACTOR, mixed};
 use std::cmp::Ordering;
 
 /// A list of values that is read where it stands.
@@ -94,7 +95,7 @@ fn mix_bytes(state: u64, bytes: &[u8]) -> u64
 {
     let mut mixture = state;
     for byte in bytes {
-        mixture = mixed(mixture, u64::from(*byte));
+        mixture = mixed(FIXED_FACTOR, mixture, u64::from(*byte));
     }
     mixture
 }
@@ -103,9 +104,9 @@ fn mix_value(state: u64, value: Option<&Value>) -> u64
     ensures { result ≡ with_value state (or_zero (option_copied value.entry)) }
 {
     match value {
-        Some(Value::Int(number)) => mixed(state, number.unsigned_abs()),
+        Some(Value::Int(number)) => mixed(FIXED_FACTOR, state, number.unsigned_abs()),
         Some(Value::Str(text)) => mix_bytes(state, text.as_str().as_bytes()),
-        None => mixed(state, 0),
+        None => mixed(FIXED_FACTOR, state, 0),
     }
 }
 

@@ -3,8 +3,9 @@ ghost use Rattle.std.specs.Prelude.{◌≡◌, ◌<◌, ℕ, None, IfOk, OnOk, l
 ghost use Rattle.beas_core.specs.Types.{Row};
 ghost use Rattle.block_walk.specs.Ordered.{HasSame, IsPlaced, Keeps, kept_under};
 
-use beas_core::{Duplicate, NoMemory, Value, mixed};
+use beas_core::{Duplicate, NoMemory, Value};
 use place_chains::PlaceChains;
+use seeded_hash::{FIXED_FACTOR, mixed};
 use std::alloc::Global;
 use std::collections::BTreeMap;
 
@@ -99,6 +100,6 @@ impl OrderedKeys {
         }
         self.put(alloc, step, key, entry)?;
         // Those of entries one after another fall into buckets far apart.
-        Ok(mixed(entry as u64, 0))
+        Ok(mixed(FIXED_FACTOR, entry as u64, 0))
     }
 }

@@ -8,12 +8,13 @@ use Rattle.std.specs.Hash.FoldHasher as folding
 use Rattle.beas_core.specs.declared.value.Value.{Value}
 use Rattle.beas_core.specs.declared.value.Value.TheVariants.{Int, Str}
 use Rattle.beas_core.specs.Hashing.{writes_of}
-use Rattle.beas_core.specs.Mixing.{mixed}
 use Rattle.beas_core.specs.Types.{Row}
+use Rattle.seeded_hash.specs.declared.hasher.TheConstants.{FIXED_FACTOR}
+use Rattle.seeded_hash.specs.Words.{mixed}
 
 abbrev pub number_of : Value → ℕ
 number_of (Int n) = cast_unsigned w64 n
 number_of (Str t) = folding.finish (fold folding.write folding.initial (writes_of (Str t)))
 
 unfoldable pub hash_of : ℕ → Row → ℕ
-hash_of step key = fold (λ state value. mixed state (number_of value)) (mixed step 0) key
+hash_of step key = fold (λ state value. mixed FIXED_FACTOR state (number_of value)) (mixed FIXED_FACTOR step 0) key

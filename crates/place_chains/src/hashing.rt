@@ -2,7 +2,8 @@
 ghost use Rattle.std.specs.Prelude.{◌≡◌};
 ghost use Rattle.place_chains.specs.Hashing.{hash_of, number_of};
 
-use beas_core::{Value, mixed};
+use beas_core::Value;
+use seeded_hash::{FIXED_FACTOR, mixed};
 use std::hash::{FoldHasher, Hash, Hasher};
 
 // The number that stands for a value.
@@ -24,9 +25,9 @@ pub fn hash_of(step: usize, key: &[Value]) -> u64
     ensures { result ≡ hash_of step key.now }
 {
     // The step is mixed in first, so that equal numbers of different steps have hashes of their own.
-    let mut hash = mixed(step as u64, 0);
+    let mut hash = mixed(FIXED_FACTOR, step as u64, 0);
     for value in key {
-        hash = mixed(hash, number_of(value));
+        hash = mixed(FIXED_FACTOR, hash, number_of(value));
     }
     hash
 }
