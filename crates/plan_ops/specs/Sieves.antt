@@ -1,14 +1,17 @@
--- Which tuples of a step are kept: a tuple that fails a comparison by its own values leads no valuation on.
---     comparison_at normal i              a block's comparison by its number
---     own_right t k operand               the value of a right side: that of the tuple at a place, or the fixed one
---     is_met_alone normal t own           the tuple meets a comparison by its own values
---     passes normal sieve t               so it meets all those that the sieve has
---     sieved normal sieve one tuples      the tuples that are kept: those that pass, or the first of them where one is enough
+-- Which tuples of a step are kept. A tuple that fails a comparison which needs no other value than its own makes no valuation, so it
+-- isn't kept. A sieve lists such comparisons.
+--     comparison_at normal i              the block's comparison with this number
+--     own_right t k operand               the value of a right side: a fixed one, or that of the tuple at place k
+--     is_met_alone normal t own           the tuple's own values meet a comparison that is listed
+--     passes normal sieve t               they meet all that the sieve lists
+--     sieved normal sieve one tuples      the tuples that are kept: those that pass, or only the first of them where one is enough
 --     is_plain settled checks             no tuple changes the output of a valuation, and none is checked against it
---     IsSide normal atom columns class k  the tuple's value at this place is that of the class
---     IsOwn normal atom columns own       so it is of both sides of the comparison that are no fixed values
---     IsRest normal set own i             the comparison with this number is among these, or its sides are bound before the step
---     IsSieve ..                          the sieve has such comparisons, and says that one tuple is enough only where it is
+--     IsSide normal atom columns class k  the tuple has the value of this class at place k
+--     IsOwn normal atom columns own       the tuple has the value of each side of the comparison that isn't fixed
+--     IsRest normal set own i             the comparison with this number is listed, or its sides are bound before the step
+--     AreRest normal set own count        so it is of each of the first `count` comparisons
+--     IsSieve ..                          the comparisons that are listed are such; and where one tuple is said to be enough, the step is
+--                                         plain, and no comparison is left that is neither listed nor bound before
 use Rattle.std.specs.Prelude.{◌≡◌, ◌==◌, ◌<◌, ◌&&◌, ◌⊎◌, if◌then◌else◌, ℕ, pos, Bool, true, List, length, filter, take, slice_index_or, All, IsTrue}
 use Rattle.std.specs.List.{list_all}
 use Rattle.beas_core.specs.declared.value.Value.{Value}

@@ -1,5 +1,6 @@
--- How the comparisons of a sieve are listed.
---     Lists .. number old new listed      more of them are listed than before, and if it says so the one with this number is, or is bound
+-- How a sieve's list of comparisons grows.
+--     Lists .. number old new listed      what was listed stays, and all that is listed is of the tuple's own values. Where `listed` says so,
+--                                         the comparison with this number is in the new list, or its sides are bound before the step
 use Rattle.std.specs.Prelude.{◌≡◌, ℕ, Bool, true, List, All}
 use Rattle.beas_core.specs.declared.schema.ColumnId.{ColumnId}
 use Rattle.beas_core.specs.declared.plan.Normal.{Normal}

@@ -10,8 +10,8 @@ use crate::keeping::place_among;
 use beas_core::{ColumnId, Comparison, NoMemory, Normal, Operand, Place, class_at};
 use std::alloc::Global;
 
-/// A comparison that a tuple meets or fails by its own values: its number among the block's, and where its sides stand in the
-/// tuple. A fixed side stands at 0, which nobody looks at.
+/// A comparison that needs no other value than those of a tuple itself: its number among the block's, and the places of its sides
+/// in the tuple. A fixed side has the place 0, which isn't read.
 #[derive(Clone, Copy)]
 pub struct Own {
     pub number: usize,
@@ -19,16 +19,17 @@ pub struct Own {
     pub right: usize,
 }
 
-/// What tells the tuples that are kept. One that fails a comparison by its own values leads no valuation on.
+/// What decides which tuples of a step are kept: it lists the comparisons that need no other value than those of the tuple itself.
+/// A tuple that fails one of them makes no valuation, so it isn't kept.
 #[derive(Drop)]
 pub struct Sieve {
     pub own: Vec<Own>,
-    /// Whether all tuples that meet these are alike to any valuation, also in the output that they give: then one of them is
-    /// enough after the last step.
+    /// Whether it makes no difference to a valuation, or to its output, which of the tuples it goes on with that meet all of these.
+    /// Then one of them is enough where no step comes after this one.
     pub one: bool,
 }
 
-// The place of a tuple over some columns of an atom where the value of a place's class stands.
+// Where a tuple over some columns of an atom has the value of a place's class, if it has it.
 fn side_of(block: &Normal, atom: u16, columns: &[ColumnId], place: &Place) -> Option<usize>
     requires ranges { ClassesInRange block.now }
     ensures { IfSome result (IsSide block.now atom columns.now (place_class block.now place.now)) }
@@ -42,7 +43,7 @@ fn side_of(block: &Normal, atom: u16, columns: &[ColumnId], place: &Place) -> Op
     None
 }
 
-// The comparison with a number, if a tuple has the values of both its sides.
+// The comparison with a number, if the tuple has the value of each side that isn't fixed.
 fn own_of(block: &Normal, atom: u16, columns: &[ColumnId], number: usize) -> Option<Own>
     requires ranges { ClassesInRange block.now }
     requires there { number < length block.now.comparisons }
@@ -62,7 +63,7 @@ fn own_of(block: &Normal, atom: u16, columns: &[ColumnId], number: usize) -> Opt
     })
 }
 
-// Whether both sides of a comparison are bound by some classes, or fixed.
+// Whether each side of a comparison is fixed, or has its class among these.
 fn is_bound(block: &Normal, classes: &[u16], comparison: &Comparison) -> bool
     requires classes { classes.now ≡ classes_in (set_of block.now classes.now) }
     ensures { IsTrue result → IsTrue (comparison_is_bound block.now (set_of block.now classes.now) comparison.now) }
@@ -76,7 +77,8 @@ fn is_bound(block: &Normal, classes: &[u16], comparison: &Comparison) -> bool
     }
 }
 
-// Adds the comparison with a number, if a tuple has the values of both its sides. Says whether it is there, or is bound before.
+// Lists the comparison with a number, if it needs no other value than the tuple's own. One whose sides are bound before the step
+// isn't listed, since the valuation has met it. Says whether the comparison is of one of these two kinds.
 fn list_own(
     block: &Normal,
     before: &[u16],
@@ -101,7 +103,8 @@ fn list_own(
     Ok(true)
 }
 
-/// What tells the tuples to keep, over some columns of an atom, of a step after valuations of these classes.
+/// The sieve of a step whose tuples have these columns of an atom, after valuations that bind the classes `before`. `plain` says
+/// that no tuple changes the output of a valuation, and none is checked against it.
 pub fn sieve_of(
     alloc: Global,
     block: &Normal,
