@@ -86,8 +86,8 @@ pub fn group_in<W: Values>(bucket: &Bucket, key: &W, width: usize) -> Stretch
     ensures members { take result.len (drop result.from bucket.now)
         ≡ filter (is_key width (W.list key.now)) bucket.now }
 {
-    let from = bucket.place_of(&KeyStart { key, width });
-    let end = bucket.place_of(&KeyEnd { key, width });
+    let from = bucket.partition_point(&KeyStart { key, width });
+    let end = bucket.partition_point(&KeyEnd { key, width });
     Stretch {
         from,
         len: end - from,
@@ -101,7 +101,7 @@ pub fn search<W: Values>(bucket: &Bucket, tuple: &W) -> Result<usize, usize>
         (λ at. (at < length bucket.now) × ((d : Tally) → (slice_index_or bucket.now at d).tuple ≡ W.list tuple.now))
         (λ at. IsGap bucket.now (W.list tuple.now) at) }
 {
-    let at = bucket.place_of(&TuplePlace { tuple });
+    let at = bucket.partition_point(&TuplePlace { tuple });
     if at == bucket.len() {
         return Err(at);
     }

@@ -9,7 +9,7 @@ use Rattle.outside.specs.Counts.{Rose, raised}
 use Rattle.session.specs.Effects.{Settings}
 use Rattle.outside.specs.Seen.{Seen, Sent, IsLater}
 use Rattle.beas_run.specs.declared.no_script.NoScript.{NoScript}
-use Rattle.beas_run.specs.declared.no_script.NoScript.TheVariants.{Words, Unread, TooLong, NotText, NoMemory}
+use Rattle.beas_run.specs.declared.no_script.NoScript.TheVariants.{Arguments, Unread, TooLong, NotText, NoMemory}
 use Rattle.beas_run.specs.NoScripts.{status_of, IsSaid}
 use Rattle.beas_run.specs.NoSessions.{NamesNoSession}
 use Rattle.beas_run.specs.Runs.{path_of, seed_of, settings_for, longest_script, HasLoaded, IsNoText, IsScriptOf, IsTooLong, WalkedFor}
@@ -33,7 +33,7 @@ none_loaded (Some (Demo seed budget explain)) status files five = refl
 pub no_memory_left : (asked : Option Args) (files : Seen) → HasNoScript asked NoMemory files files
 no_memory_left asked files = record {
   words = λ _. inr refl;
-  words_alone = λ e. absurd (let bad : NoMemory ≡ Words = e in cc);
+  words_alone = λ e. absurd (let bad : NoMemory ≡ Arguments = e in cc);
   unread = λ e. absurd (let bad : NoMemory ≡ Unread = e in cc);
   too_long = λ e. absurd (let bad : NoMemory ≡ TooLong = e in cc);
   not_text = λ e. absurd (let bad : NoMemory ≡ NotText = e in cc);
@@ -42,20 +42,20 @@ no_memory_left asked files = record {
   later = same_later files;
 }
 
-pub words_refused : (asked : Option Args) (files : Seen) → asked ≡ None → HasNoScript asked Words files files
+pub words_refused : (asked : Option Args) (files : Seen) → asked ≡ None → HasNoScript asked Arguments files files
 words_refused asked files none = record {
   words = λ _. inl refl;
   words_alone = λ _. none;
-  unread = λ e. absurd (let bad : Words ≡ Unread = e in cc);
-  too_long = λ e. absurd (let bad : Words ≡ TooLong = e in cc);
-  not_text = λ e. absurd (let bad : Words ≡ NotText = e in cc);
-  loaded = subst (λ a. HasLoaded a (status_of Words) files files) (sym none) refl;
+  unread = λ e. absurd (let bad : Arguments ≡ Unread = e in cc);
+  too_long = λ e. absurd (let bad : Arguments ≡ TooLong = e in cc);
+  not_text = λ e. absurd (let bad : Arguments ≡ NotText = e in cc);
+  loaded = subst (λ a. HasLoaded a (status_of Arguments) files files) (sym none) refl;
   seedless = inl (ap (option_and_then seed_of) none);
   later = same_later files;
 }
 
 pub file_unread : (path : List ℕ) (budget : Option ℕ) (explain : Bool) (why : NoScript) (before after : Seen)
-    → (why ≡ Words → ⊥) → (why ≡ Unread → Rose (before.faults path) (after.faults path)) → (why ≡ TooLong → IsTooLong before after path)
+    → (why ≡ Arguments → ⊥) → (why ≡ Unread → Rose (before.faults path) (after.faults path)) → (why ≡ TooLong → IsTooLong before after path)
     → (why ≡ NotText → IsNoText before path) → after.loads ≡ raised 1 before.loads → IsLater before after
     → HasNoScript (Some (Script path budget explain)) why before after
 file_unread path budget explain why before after named unread too_long not_text loaded later = record {

@@ -18,7 +18,7 @@ use Rattle.outside.specs.Seen.{Seen, Sent, IsLater}
 use Rattle.piece_reader.specs.Sayings.{Reading}
 use Rattle.beas_run.specs.Readings.{Readings, readings_of}
 use Rattle.beas_run.specs.declared.no_script.NoScript.{NoScript}
-use Rattle.beas_run.specs.declared.no_script.NoScript.TheVariants.{Words, Unread, TooLong, NotText, NoMemory}
+use Rattle.beas_run.specs.declared.no_script.NoScript.TheVariants.{Arguments, Unread, TooLong, NotText, NoMemory}
 use Rattle.beas_run.specs.NoScripts.{status_of, IsSaid, IsSaidWhole}
 use Rattle.beas_run.specs.Runs.{seed_of, settings_for, settings_of_words, with_files, Ended, HadNoScript, HadScript, HasLoaded, HasRun, IsScriptOf, Says, SaysNothing, Standing, WalkedFor, longest_script}
 use Rattle.beas_run.specs.Sources.{HasNoScript, LoadsScript, RanOver}
@@ -33,7 +33,7 @@ unfolding tokens_from
 no_readings = tt
 
 early_status : (why : NoScript) → (2 ≤ status_of why) × (status_of why ≢ 4)
-early_status Words = (omega arith, omega arith)
+early_status Arguments = (omega arith, omega arith)
 early_status Unread = (omega arith, omega arith)
 early_status TooLong = (omega arith, omega arith)
 early_status NotText = (omega arith, omega arith)
@@ -106,7 +106,7 @@ none_done line before files said says = record {
 ended_whole : (words : List (List ℕ)) (why : NoScript) (status : ℕ) (before : Standing) (files : Seen) (said : Sent)
     → IsSaidWhole why status before.said said → HasNoScript (args_of words) why before.moment.files files
     → Ended words status [] files before (left before files said)
-ended_whole words Words status before files said whole none =
+ended_whole words Arguments status before files said whole none =
     inr (inl (whole.status_is, record { refused = none.words_alone refl; had = none_done _ before files said whole.says }))
 ended_whole words Unread status before files said whole none =
     inr (inr (inl (whole.status_is, record { fault = none.unread refl; had = none_done _ before files said whole.says })))

@@ -6,18 +6,18 @@ use Rattle.std.specs.Prelude.{◌≡◌, ◌≢◌, ◌⊎◌, ℕ, List, []}
 use Rattle.command_words.specs.Words.{usage_line}
 use Rattle.outside.specs.Seen.{Sent}
 use Rattle.beas_run.specs.declared.no_script.NoScript.{NoScript}
-use Rattle.beas_run.specs.declared.no_script.NoScript.TheVariants.{Words, Unread, TooLong, NotText, NoMemory}
+use Rattle.beas_run.specs.declared.no_script.NoScript.TheVariants.{Arguments, Unread, TooLong, NotText, NoMemory}
 use Rattle.beas_run.specs.Runs.{no_text_line, too_long_line, unread_line, Says, SaysNothing}
 
 abbrev pub status_of : NoScript → ℕ
-status_of Words = 2
+status_of Arguments = 2
 status_of Unread = 3
 status_of NoMemory = 5
 status_of TooLong = 6
 status_of NotText = 7
 
 abbrev pub line_of : NoScript → List ℕ
-line_of Words = usage_line
+line_of Arguments = usage_line
 line_of Unread = unread_line
 line_of NoMemory = []
 line_of TooLong = too_long_line

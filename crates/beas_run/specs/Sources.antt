@@ -13,7 +13,7 @@ use Rattle.outside.specs.Counts.{Rose, raised}
 use Rattle.outside.specs.Seen.{IsLater, IsLaterSink, Seen}
 use Rattle.session.specs.Effects.{Settings}
 use Rattle.beas_run.specs.declared.no_script.NoScript.{NoScript}
-use Rattle.beas_run.specs.declared.no_script.NoScript.TheVariants.{Words, Unread, TooLong, NotText, NoMemory}
+use Rattle.beas_run.specs.declared.no_script.NoScript.TheVariants.{Arguments, Unread, TooLong, NotText, NoMemory}
 use Rattle.beas_run.specs.declared.script_source.Source.{Source}
 use Rattle.beas_run.specs.NoScripts.{status_of}
 use Rattle.beas_run.specs.Runs.{path_of, seed_of, settings_for, longest_script, HasLoaded, IsNoText, IsScriptOf, IsTooLong, WalkedFor}
@@ -36,8 +36,8 @@ IsMade (Script path budget explain) text = Unit {0}
 IsMade (Demo seed budget explain) text = text ≡ demo_text seed
 
 pub record HasNoScript (asked : Option Args) (why : NoScript) (before after : Seen) : Type 0 where
-  pub words : asked ≡ None → (why ≡ Words) ⊎ (why ≡ NoMemory)
-  pub words_alone : why ≡ Words → asked ≡ None
+  pub words : asked ≡ None → (why ≡ Arguments) ⊎ (why ≡ NoMemory)
+  pub words_alone : why ≡ Arguments → asked ≡ None
   pub unread : why ≡ Unread → IsSomeAnd (option_and_then path_of asked)
       (λ name. Rose (before.faults name) (after.faults name))
   pub too_long : why ≡ TooLong → IsSomeAnd (option_and_then path_of asked) (IsTooLong before after)

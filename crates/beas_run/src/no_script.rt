@@ -9,7 +9,7 @@ use outside::{Sink, SinkError};
 #[derive(Clone, Copy, Debug, PartialEq, Eq)]
 pub enum NoScript {
     /// The words are refused.
-    Words,
+    Arguments,
     /// The script can't be read.
     Unread,
     /// The script has more than 16,777,216 bytes.
@@ -25,7 +25,7 @@ fn status_of(why: NoScript) -> u8
     ensures { result ≡ status_of why }
 {
     match why {
-        NoScript::Words => 2,
+        NoScript::Arguments => 2,
         NoScript::Unread => 3,
         NoScript::NoMemory => 5,
         NoScript::TooLong => 6,
@@ -38,7 +38,7 @@ fn line_of(why: NoScript) -> &'static str
     ensures { result.now ≡ line_of why }
 {
     match why {
-        NoScript::Words => usage_line(),
+        NoScript::Arguments => usage_line(),
         NoScript::Unread => "beas: cannot read the script\n",
         // Nothing is said.
         NoScript::NoMemory => "",

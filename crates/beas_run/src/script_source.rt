@@ -30,7 +30,7 @@ fn load_named<F: Files>(alloc: Global, name: &str, files: &mut F) -> Result<Text
     ensures fits { IfOk result (λ text. length text ≤ longest_script) }
     ensures content { IfOk result (λ text. IsContent
         (F.seen files.old) text name.now) }
-    ensures named { IsErrOf result NoScript.Words → ⊥ }
+    ensures named { IsErrOf result NoScript.Arguments → ⊥ }
     ensures unread { IsErrOf result NoScript.Unread → Rose
         ((F.seen files.old).faults name.now) ((F.seen files.new).faults name.now) }
     ensures too_long { IsErrOf result NoScript.TooLong → IsTooLong
@@ -106,7 +106,7 @@ pub fn source_of<F: Files>(
 {
     match args(alloc, words) {
         Ok(args) => source_for(alloc, args, files),
-        Err(Usage::Refused) => Err(NoScript::Words),
+        Err(Usage::Refused) => Err(NoScript::Arguments),
         Err(Usage::NoMemory) => Err(NoScript::NoMemory),
     }
 }

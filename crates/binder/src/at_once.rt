@@ -97,11 +97,11 @@ fn add_pair_if_sound(
     match (left, right) {
         (Sound::At(left), Sound::At(right)) => add_columns(block, *left, sign, *right),
         (Sound::At(left), Sound::Number(number)) => add_number(block, *left, sign, *number),
-        (Sound::At(left), Sound::Words(words)) => add_words(alloc, block, *left, sign, words),
+        (Sound::At(left), Sound::Text(words)) => add_words(alloc, block, *left, sign, words),
         (Sound::Number(number), Sound::At(right)) => {
             add_number(block, *right, mirrored_sign(sign), *number)
         }
-        (Sound::Words(words), Sound::At(right)) => {
+        (Sound::Text(words), Sound::At(right)) => {
             add_words(alloc, block, *right, mirrored_sign(sign), words)
         }
         _ => Ok(false),

@@ -12,7 +12,7 @@ use sql_text::{ColumnRef, Literal, Side};
 pub enum Sound<'a> {
     At(BoundColumn),
     Number(i64),
-    Words(&'a str),
+    Text(&'a str),
 }
 
 /// The column that a ref stands for, where there is one, and one only.
@@ -39,7 +39,7 @@ fn sound_literal<'a>(limit: u32, literal: &'a Literal) -> Option<Sound<'a>>
             if words.len() > limit as usize {
                 return None;
             }
-            Some(Sound::Words(words))
+            Some(Sound::Text(words))
         }
     }
 }

@@ -1,10 +1,10 @@
--- Values that are added behind those of marks, or cut off there, are none of theirs.
+-- Values that are added behind those of valuations, or cut off there, are none of theirs.
 use Rattle.std.proofs.Common.{◌≡◌, ◌+◌, ◌≤◌, ◌++◌, ◌∷◌, ◌∙◌, [], ℕ, List, length, map, take, drop, refl, ap, sym, subst, arith, length-append, length-drop}
 use Rattle.std.proofs.lemmas.List.{drop-append-le, length-take-le, map-append, take-append-drop, take-append-le, take_all}
 use Rattle.std.proofs.Math.Seq.{drop-append_seam}
 use Rattle.beas_core.specs.declared.value.Value.{Value}
 use Rattle.beas_core.specs.Types.{Row}
-use Rattle.block_walk.specs.declared.stack.Mark.{Mark}
+use Rattle.block_walk.specs.declared.stack.StackedValuation.{StackedValuation}
 use Rattle.block_walk.specs.declared.stack.Stack.{Stack}
 use Rattle.block_walk.specs.Kept.{Pending, part, pending_at}
 use Rattle.block_walk.specs.Stacks.{IsInside, IsStack, StandBetween, pending_in, pending_of}
@@ -25,58 +25,58 @@ part_cut xs n from count l m =
     let b : from + count ≤ length (take n xs) = omega (arith, length-take-le n xs m) in
     sym (part_front (take n xs) (drop n xs) from count b) ∙ ap (λ zs. part zs from count) (take-append-drop n xs)
 
--- ---- marks
+-- ---- valuations
 
-pub between_ends : (marks : List Mark) (from end : ℕ) → StandBetween from marks end → from ≤ end
+pub between_ends : (valuations : List StackedValuation) (from end : ℕ) → StandBetween from valuations end → from ≤ end
 between_ends [] from end b = b
-between_ends (m ∷ marks) from end b =
-    let h = between_ends marks (m.from + m.width) end b.1 in
+between_ends (m ∷ valuations) from end b =
+    let h = between_ends valuations (m.from + m.width) end b.1 in
     let l = b.0 in
     omega (arith, h, l)
 
 -- one mark more, whose values stand behind all
-pub between_more : (marks : List Mark) (from end : ℕ) (m : Mark) (to : ℕ) → StandBetween from marks end → end ≤ m.from → m.from + m.width ≤ to
-    → StandBetween from (marks ++ m ∷ []) to
+pub between_more : (valuations : List StackedValuation) (from end : ℕ) (m : StackedValuation) (to : ℕ) → StandBetween from valuations end → end ≤ m.from → m.from + m.width ≤ to
+    → StandBetween from (valuations ++ m ∷ []) to
 between_more [] from end m to b l k = (omega (arith, b, l), k)
-between_more (x ∷ marks) from end m to b l k = (b.0, between_more marks (x.from + x.width) end m to b.1 l k)
+between_more (x ∷ valuations) from end m to b l k = (b.0, between_more valuations (x.from + x.width) end m to b.1 l k)
 
 -- the last mark taken off
-pub between_less : (marks : List Mark) (from : ℕ) (m : Mark) (end : ℕ) → StandBetween from (marks ++ m ∷ []) end → StandBetween from marks m.from
+pub between_less : (valuations : List StackedValuation) (from : ℕ) (m : StackedValuation) (end : ℕ) → StandBetween from (valuations ++ m ∷ []) end → StandBetween from valuations m.from
 between_less [] from m end b = b.0
-between_less (x ∷ marks) from m end b = (b.0, between_less marks (x.from + x.width) m end b.1)
+between_less (x ∷ valuations) from m end b = (b.0, between_less valuations (x.from + x.width) m end b.1)
 
-pub between_last : (marks : List Mark) (from : ℕ) (m : Mark) (end : ℕ) → StandBetween from (marks ++ m ∷ []) end → m.from + m.width ≤ end
+pub between_last : (valuations : List StackedValuation) (from : ℕ) (m : StackedValuation) (end : ℕ) → StandBetween from (valuations ++ m ∷ []) end → m.from + m.width ≤ end
 between_last [] from m end b = b.1
-between_last (x ∷ marks) from m end b = between_last marks (x.from + x.width) m end b.1
+between_last (x ∷ valuations) from m end b = between_last valuations (x.from + x.width) m end b.1
 
-pub between_longer : (marks : List Mark) (from end to : ℕ) → StandBetween from marks end → end ≤ to → StandBetween from marks to
+pub between_longer : (valuations : List StackedValuation) (from end to : ℕ) → StandBetween from valuations end → end ≤ to → StandBetween from valuations to
 between_longer [] from end to b l = omega (arith, b, l)
-between_longer (x ∷ marks) from end to b l = (b.0, between_longer marks (x.from + x.width) end to b.1 l)
+between_longer (x ∷ valuations) from end to b l = (b.0, between_longer valuations (x.from + x.width) end to b.1 l)
 
--- ---- the valuations that marks stand for
+-- ---- the valuations that valuations stand for
 
--- they are the same among all values that have the same parts up to where the marks end
+-- they are the same among all values that have the same parts up to where the valuations end
 pub same_pending : (xs ys : List Value) (end : ℕ) → ((from count : ℕ) → from + count ≤ end → part xs from count ≡ part ys from count)
-    → (marks : List Mark) (from : ℕ) → StandBetween from marks end → map (pending_of xs) marks ≡ map (pending_of ys) marks
+    → (valuations : List StackedValuation) (from : ℕ) → StandBetween from valuations end → map (pending_of xs) valuations ≡ map (pending_of ys) valuations
 same_pending xs ys end same [] from b = refl
-same_pending xs ys end same (m ∷ marks) from b =
-    ap (λ row. pending_at m.step row ∷ map (pending_of xs) marks) (same m.from m.width (between_ends marks (m.from + m.width) end b.1))
-    ∙ ap (λ (ps : List Pending). pending_of ys m ∷ ps) (same_pending xs ys end same marks (m.from + m.width) b.1)
+same_pending xs ys end same (m ∷ valuations) from b =
+    ap (λ row. pending_at m.step row ∷ map (pending_of xs) valuations) (same m.from m.width (between_ends valuations (m.from + m.width) end b.1))
+    ∙ ap (λ (ps : List Pending). pending_of ys m ∷ ps) (same_pending xs ys end same valuations (m.from + m.width) b.1)
 
-pub pending_longer : (xs ys : List Value) (marks : List Mark) (from : ℕ) → StandBetween from marks (length xs)
-    → map (pending_of (xs ++ ys)) marks ≡ map (pending_of xs) marks
+pub pending_longer : (xs ys : List Value) (valuations : List StackedValuation) (from : ℕ) → StandBetween from valuations (length xs)
+    → map (pending_of (xs ++ ys)) valuations ≡ map (pending_of xs) valuations
 pending_longer xs ys = same_pending (xs ++ ys) xs (length xs) (part_front xs ys)
 
 -- ---- values that are added, and a mark for them
 
-module _ (old new : Stack) (row : Row) (m : Mark) (stack : IsStack old) (values : new.values.items ≡ old.values.items ++ row)
-    (marks : new.marks.items ≡ old.marks.items ++ m ∷ []) (from : m.from ≡ length old.values.items) (wide : m.width ≡ length row) where
+module _ (old new : Stack) (row : Row) (m : StackedValuation) (stack : IsStack old) (values : new.values.items ≡ old.values.items ++ row)
+    (valuations : new.valuations.items ≡ old.valuations.items ++ m ∷ []) (from : m.from ≡ length old.values.items) (wide : m.width ≡ length row) where
   pub stack_more : IsStack new
   stack_more =
       let longer = ap length values ∙ length-append old.values.items row in
       record {
-        order = subst (λ (ms : List Mark). StandBetween 0 ms (length new.values.items)) (sym marks)
-            (between_more old.marks.items 0 (length old.values.items) m (length new.values.items) stack.order (omega (arith, from)) (omega (arith, from, wide, longer)));
+        order = subst (λ (ms : List StackedValuation). StandBetween 0 ms (length new.values.items)) (sym valuations)
+            (between_more old.valuations.items 0 (length old.values.items) m (length new.values.items) stack.order (omega (arith, from)) (omega (arith, from, wide, longer)));
       }
 
   row_more : part new.values.items m.from m.width ≡ row
@@ -84,38 +84,38 @@ module _ (old new : Stack) (row : Row) (m : Mark) (stack : IsStack old) (values 
       ∙ ap (part (old.values.items ++ row) (length old.values.items)) wide ∙ part_behind old.values.items row
 
   pub pending_more : pending_in new ≡ pending_in old ++ pending_at m.step row ∷ []
-  pending_more = ap (map (pending_of new.values.items)) marks
-      ∙ map-append (pending_of new.values.items) old.marks.items (m ∷ [])
-      ∙ ap (λ (y : Row). map (pending_of new.values.items) old.marks.items ++ pending_at m.step y ∷ []) row_more
-      ∙ ap (λ (vs : Row). map (pending_of vs) old.marks.items ++ pending_at m.step row ∷ []) values
-      ∙ ap (λ (ps : List Pending). ps ++ pending_at m.step row ∷ []) (pending_longer old.values.items row old.marks.items 0 stack.order)
+  pending_more = ap (map (pending_of new.values.items)) valuations
+      ∙ map-append (pending_of new.values.items) old.valuations.items (m ∷ [])
+      ∙ ap (λ (y : Row). map (pending_of new.values.items) old.valuations.items ++ pending_at m.step y ∷ []) row_more
+      ∙ ap (λ (vs : Row). map (pending_of vs) old.valuations.items ++ pending_at m.step row ∷ []) values
+      ∙ ap (λ (ps : List Pending). ps ++ pending_at m.step row ∷ []) (pending_longer old.values.items row old.valuations.items 0 stack.order)
 
 -- ---- a mark that is taken off, and the values behind it
 
-module _ (old new : Stack) (at : Mark) (stack : IsStack old) (marks : old.marks.items ≡ new.marks.items ++ at ∷ []) where
-  order : StandBetween 0 (new.marks.items ++ at ∷ []) (length old.values.items)
-  order = subst (λ (ms : List Mark). StandBetween 0 ms (length old.values.items)) marks stack.order
+module _ (old new : Stack) (at : StackedValuation) (stack : IsStack old) (valuations : old.valuations.items ≡ new.valuations.items ++ at ∷ []) where
+  order : StandBetween 0 (new.valuations.items ++ at ∷ []) (length old.values.items)
+  order = subst (λ (ms : List StackedValuation). StandBetween 0 ms (length old.values.items)) valuations stack.order
 
   pub last_inside : IsInside old.values.items at
-  last_inside = between_last new.marks.items 0 at (length old.values.items) order
+  last_inside = between_last new.valuations.items 0 at (length old.values.items) order
 
   module _ (values : new.values.items ≡ take (at.from + at.width) old.values.items) where
     pub last_left : length new.values.items ≡ at.from + at.width
     last_left = ap length values ∙ length-take-le (at.from + at.width) old.values.items last_inside
 
-    others : StandBetween 0 new.marks.items (at.from + at.width)
-    others = between_longer new.marks.items 0 at.from (at.from + at.width) (between_less new.marks.items 0 at (length old.values.items) order) (omega arith)
+    others : StandBetween 0 new.valuations.items (at.from + at.width)
+    others = between_longer new.valuations.items 0 at.from (at.from + at.width) (between_less new.valuations.items 0 at (length old.values.items) order) (omega arith)
 
     pub stack_less : IsStack new
-    stack_less = record { order = subst (StandBetween 0 new.marks.items) (sym last_left) others }
+    stack_less = record { order = subst (StandBetween 0 new.valuations.items) (sym last_left) others }
 
-    -- among the values that are left, marks that end before them stand for what they stood for
+    -- among the values that are left, valuations that end before them stand for what they stood for
     same_part : (from count : ℕ) → from + count ≤ at.from + at.width → part old.values.items from count ≡ part new.values.items from count
     same_part from count l = sym (part_cut old.values.items (at.from + at.width) from count l last_inside) ∙ ap (λ (vs : Row). part vs from count) (sym values)
 
     pub pending_less : pending_in old ≡ pending_in new ++ pending_of new.values.items at ∷ []
-    pending_less = ap (map (pending_of old.values.items)) marks
-        ∙ map-append (pending_of old.values.items) new.marks.items (at ∷ [])
+    pending_less = ap (map (pending_of old.values.items)) valuations
+        ∙ map-append (pending_of old.values.items) new.valuations.items (at ∷ [])
         ∙ ap (λ (ps : List Pending). ps ++ pending_of old.values.items at ∷ [])
-        (same_pending old.values.items new.values.items (at.from + at.width) same_part new.marks.items 0 others)
+        (same_pending old.values.items new.values.items (at.from + at.width) same_part new.valuations.items 0 others)
         ∙ ap (λ (row : Row). pending_in new ++ pending_at at.step row ∷ []) (same_part at.from at.width (omega arith))

@@ -61,7 +61,7 @@ pub record IsSpot (values : List Value) (s : Spot) : Type 0 where
   pub tuples : s.from + s.count * s.width ≤ length values
 
 abbrev pub IsIndex : List Row → TupleIndex → Type 0
-IsIndex tuples index = IsOrder index.places.items tuples index.order
+IsIndex tuples index = IsOrder index.positions.items tuples index.order
 
 pub record IsIndexed (tuples : List Row) (indexes : List TupleIndex) (k : ℕ) : Type 0 where
   pub there : k < length indexes

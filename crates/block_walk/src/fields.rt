@@ -25,6 +25,6 @@ pub fn walk_fields(walk: &Walk) {
     let OrderedKeys { steps: _steps } = ordered;
     let Stack {
         values: _left,
-        marks: _marks,
+        valuations: _marks,
     } = pending;
 }

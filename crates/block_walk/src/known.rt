@@ -17,7 +17,7 @@ use crate::fetching::{Gathered, fetch};
 use crate::group::Group;
 use crate::ordered::OrderedKeys;
 use beas_core::{AccessId, AccessPort, NoMemory, Normal, Steps, Value};
-use place_chains::{Fitting, PlaceChains, TupleOrder, value_or};
+use place_chains::{Fitting, HashChains, TupleOrder, value_or};
 use plan_ops::{Shared, Stage};
 use std::alloc::Global;
 use std::sync::ledger::Ledger;
@@ -40,7 +40,7 @@ pub struct Spot {
 /// The order of an entry's tuples by their values at some places.
 #[derive(Drop)]
 pub struct TupleIndex {
-    pub places: Vec<usize>,
+    pub positions: Vec<usize>,
     pub order: TupleOrder,
 }
 
@@ -53,7 +53,7 @@ pub struct Known {
     pub values: Vec<Value>,
     pub spots: Vec<Spot>,
     /// The hash of each entry's step and key, or one that is made up where the entry is among the ordered keys.
-    pub chains: PlaceChains,
+    pub chains: HashChains,
     pub ordered: OrderedKeys,
     pub indexes: Vec<TupleIndex>,
 }
@@ -97,7 +97,7 @@ impl Known {
         Ok(Known {
             values: Vec::with_capacity(alloc, VALUES)?,
             spots: Vec::with_capacity(alloc, ENTRIES)?,
-            chains: PlaceChains::new(alloc),
+            chains: HashChains::new(alloc),
             ordered: OrderedKeys::new(alloc),
             indexes: Vec::new(alloc),
         })
@@ -171,8 +171,8 @@ impl Known {
             ensures { result.now ≡ slice_index_or (slice_index_or (kept_of self.entry.now place) i []) at zero }
         { value_or(self.tuple(place, i), at, &zero) };
         let order = TupleOrder::new(alloc, self.count(place), &value, &zero, places)?;
-        let places = places.to_vec(alloc)?;
-        Ok(TupleIndex { places, order })
+        let positions = places.to_vec(alloc)?;
+        Ok(TupleIndex { positions, order })
     }
 
     // Makes the index of an entry's tuples at some places.
@@ -218,7 +218,7 @@ impl Known {
     {
         let at = self.spots[place].index?;
         let index = &self.indexes[at];
-        if index.places.as_slice() == places {
+        if index.positions.as_slice() == places {
             Some(&index.order)
         } else {
             None

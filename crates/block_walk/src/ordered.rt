@@ -4,7 +4,7 @@ ghost use Rattle.beas_core.specs.Types.{Row};
 ghost use Rattle.block_walk.specs.Ordered.{HasSame, IsPlaced, Keeps, kept_under};
 
 use beas_core::{Duplicate, NoMemory, Value};
-use place_chains::PlaceChains;
+use place_chains::HashChains;
 use seeded_hash::{FIXED_FACTOR, mixed};
 use std::alloc::Global;
 use std::collections::BTreeMap;
@@ -87,7 +87,7 @@ impl OrderedKeys {
     pub fn hash_for(
         &mut self,
         alloc: Global,
-        chains: &PlaceChains,
+        chains: &HashChains,
         step: usize,
         key: &[Value],
         entry: usize,

@@ -10,7 +10,7 @@ use std::alloc::Global;
 
 /// A valuation before a step, by where its values stand.
 #[derive(Clone, Copy)]
-pub struct Mark {
+pub struct StackedValuation {
     /// The step's number.
     pub step: usize,
     pub from: usize,
@@ -21,7 +21,7 @@ pub struct Mark {
 #[derive(Drop)]
 pub struct Stack {
     pub values: Vec<Value>,
-    pub marks: Vec<Mark>,
+    pub valuations: Vec<StackedValuation>,
 }
 
 // For so many values, and for so many valuations more, there is room from the start, so that a small query's walk seldom moves them.
@@ -37,7 +37,7 @@ impl Stack {
     {
         let mut stack = Stack {
             values: Vec::with_capacity(alloc, VALUES)?,
-            marks: Vec::with_capacity(alloc, rows.len().saturating_add(MORE))?,
+            valuations: Vec::with_capacity(alloc, rows.len().saturating_add(MORE))?,
         };
         for row in rows.into_vec() {
             stack.push_first(&mut row.into_vec())?;
@@ -54,7 +54,7 @@ impl Stack {
         let from = self.values.len();
         let width = row.len();
         self.values.append(row)?;
-        self.marks.push(Mark {
+        self.valuations.push(StackedValuation {
             step: 0,
             from,
             width,
@@ -63,7 +63,7 @@ impl Stack {
     }
 
     /// Takes the next valuation off. Its values stay, as the last ones, until another is taken off.
-    pub fn pop(&mut self) -> Option<Mark>
+    pub fn pop(&mut self) -> Option<StackedValuation>
         requires { IsStack self.old }
         ensures stack { IsStack self.new }
         ensures last { IfSome result (λ at. length self.new.values.items ≡ at.from + at.width) }
@@ -72,14 +72,14 @@ impl Stack {
         ensures none { IfNone result (pending_in self.old ≡ []) }
         ensures same { IfNone result (pending_in self.new ≡ []) }
     {
-        let at = self.marks.pop()?;
+        let at = self.valuations.pop()?;
         // What lies behind it is left over of valuations that were taken off.
         self.values.truncate(at.from + at.width);
         Some(at)
     }
 
     /// The values of a valuation that was taken off last.
-    pub fn row(&self, at: Mark) -> &[Value]
+    pub fn row(&self, at: StackedValuation) -> &[Value]
         requires { IsInside self.now.values.items at }
         ensures { result.now ≡ part self.now.values.items at.from at.width }
     {
@@ -92,7 +92,7 @@ impl Stack {
         alloc: Global,
         block: &Normal,
         stage: &Stage,
-        at: Mark,
+        at: StackedValuation,
         tuple: &[Value],
     ) -> Result<(), NoMemory>
         requires stack { IsStack self.old }
@@ -111,7 +111,7 @@ impl Stack {
         let from = self.values.len();
         push_joined(alloc, stage, &mut self.values, at.from, at.width, tuple)?;
         let width = self.values.len() - from;
-        self.marks.push(Mark {
+        self.valuations.push(StackedValuation {
             step: at.step + 1,
             from,
             width,

@@ -18,7 +18,7 @@ ghost use Rattle.block_walk.specs.Finding.{FindSpent, Finds};
 ghost use Rattle.block_walk.specs.Turns.{SpentOnce, GoesOn, TurnIs, VisitCosts, VisitSpent, Visited, probed};
 
 use crate::known::{Found, Known};
-use crate::stack::{Mark, Stack};
+use crate::stack::{Stack, StackedValuation};
 use beas_core::{
     AccessId, AccessPort, DStep, List, NoMemory, Normal, Row, Steps, Value, sort_distinct,
 };
@@ -74,7 +74,7 @@ fn push_children(
     alloc: Global,
     block: &Normal,
     stage: &Stage,
-    at: Mark,
+    at: StackedValuation,
     known: &Known,
     place: usize,
     pending: &mut Stack,
@@ -167,7 +167,7 @@ fn go_on(
     alloc: Global,
     block: &Normal,
     stage: &Stage,
-    at: Mark,
+    at: StackedValuation,
     count: usize,
     known: &Known,
     place: usize,
@@ -246,7 +246,7 @@ fn entry_for<P: AccessPort, L: Ledger>(
     id: AccessId,
     stage: &Stage,
     is_last: bool,
-    at: Mark,
+    at: StackedValuation,
     pending: &Stack,
     known: &mut Known,
     key: &mut Vec<Value>,
@@ -289,7 +289,7 @@ fn visit_again<P: AccessPort, L: Ledger>(
     guide: Option<&List<Row>>,
     plan: &[DStep],
     walk: &mut Walk,
-    at: Mark,
+    at: StackedValuation,
     steps: &mut Steps<L>,
 ) -> Result<Option<usize>, NoMemory>
     requires sound { IsSound block.now (P.accesses port.now)
@@ -342,7 +342,7 @@ fn visit_first<P: AccessPort, L: Ledger>(
     guide: Option<&List<Row>>,
     plan: &[DStep],
     walk: &mut Walk,
-    at: Mark,
+    at: StackedValuation,
     steps: &mut Steps<L>,
 ) -> Result<Option<usize>, NoMemory>
     requires ranges { ClassesInRange block.now }
@@ -408,7 +408,7 @@ fn visit<P: AccessPort, L: Ledger>(
     guide: Option<&List<Row>>,
     plan: &[DStep],
     walk: &mut Walk,
-    at: Mark,
+    at: StackedValuation,
     steps: &mut Steps<L>,
 ) -> Result<Option<usize>, NoMemory>
     requires ranges { ClassesInRange block.now }

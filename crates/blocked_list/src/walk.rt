@@ -3,7 +3,7 @@ ghost use Rattle.std.specs.Prelude.{◌≡◌, ◌<◌, length, slice_index_or};
 ghost use Rattle.blocked_list.specs.Runs.{IsWithin};
 
 use crate::blocked::BlockedList;
-use crate::piece::Counted;
+use crate::chunk::Counted;
 use std::marker::Model;
 
 /// Reads a list's items, seen as the list. It keeps the rest of a leaf from a place that was looked up on, so that the items

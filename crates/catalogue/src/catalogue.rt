@@ -8,7 +8,7 @@ ghost use Rattle.beas_core.specs.Results.{IsRefusedAs, refused_if};
 ghost use Rattle.catalogue.specs.Refusing.{unknown_table, add_table_refusal, resolve_refusal, admit_refusal, drop_access_refusal, column_ids, columns_of_named, new_access};
 
 use crate::columns::{bound_of, ids_of};
-use crate::ids::{place_of_id, push_in, push_in_room, remove_in, reserve_in};
+use crate::ids::{position_of_id, push_in, push_in_room, remove_in, reserve_in};
 use crate::names::NameMap;
 use crate::repeats::refuse_repeated;
 use crate::tables::TableSchema;
@@ -135,7 +135,7 @@ impl Catalogue {
     }
 
     /// Where a live constraint stands among the live ones. It takes no memory.
-    pub fn place(&self, id: AccessId) -> usize
+    pub fn position(&self, id: AccessId) -> usize
         requires { IsTrue (list_any (λ a. a.id.0 == id.0) self.now.accesses) }
         ensures within { result < length self.now.accesses }
         ensures found { (d : Constraint) → slice_index_or self.now.accesses result d
@@ -143,7 +143,7 @@ impl Catalogue {
         ensures has_id { (access_with_id self.now.accesses id).id.0 ≡ id.0 }
         ensures sound { SchemaIsSound self.now }
     {
-        place_of_id(self.accesses.as_slice(), id)
+        position_of_id(self.accesses.as_slice(), id)
     }
 
     /// The live constraint with this id. It takes no memory.
@@ -151,7 +151,7 @@ impl Catalogue {
         requires { IsTrue (list_any (λ a. a.id.0 == id.0) self.now.accesses) }
         ensures { result.now ≡ access_with_id self.now.accesses id }
     {
-        &self.accesses.as_slice()[self.place(id)]
+        &self.accesses.as_slice()[self.position(id)]
     }
 
     /// Makes a table. After any error the catalogue is as it was.
@@ -291,7 +291,7 @@ impl Catalogue {
 
     /// Where the live constraint with this name stands among the live ones, if there is one. It takes no
     /// memory.
-    pub fn place_named(&self, name: &Name) -> Option<usize>
+    pub fn position_named(&self, name: &Name) -> Option<usize>
         ensures named { is_some result ≡ has_access self.now name.now }
         ensures within { IfSome result (λ place. place < length self.now.accesses) }
         ensures only { IfSome result (λ place. (schema_without_access self.now name.now).accesses
@@ -299,7 +299,7 @@ impl Catalogue {
     {
         let id = self.access_named(name)?;
         let accesses = self.accesses.as_slice();
-        Some(place_of_id(accesses, id))
+        Some(position_of_id(accesses, id))
     }
 
     /// The allocator that the catalogue keeps.
@@ -311,7 +311,7 @@ impl Catalogue {
         requires { id_of_access_named self.old.accesses name.now ≡ Some id.0 }
         ensures { self.new ≡ schema_without_access self.old name.now }
     {
-        let place = place_of_id(self.accesses.as_slice(), id);
+        let place = position_of_id(self.accesses.as_slice(), id);
         let mut accesses = mem::replace(&mut self.accesses, List::new(self.alloc)).into_vec();
         let dropped = accesses.remove(place);
         self.accesses = List::from_vec(accesses);

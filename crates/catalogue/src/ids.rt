@@ -9,7 +9,7 @@ use beas_core::{Access, AccessId, NoMemory};
 
 /// Where the constraint with this id stands. Ids count up from 0, so until the first constraint is dropped each stands at its
 /// id, and a look there is enough.
-pub fn place_of_id(accesses: &[Access], id: AccessId) -> usize
+pub fn position_of_id(accesses: &[Access], id: AccessId) -> usize
     requires rise { AllPairs (λ a b. a.id.0 < b.id.0) accesses.now }
     requires live { IsTrue (list_any (λ a. a.id.0 == id.0) accesses.now) }
     ensures within { result < length accesses.now }

@@ -18,5 +18,5 @@ mod repeats;
 mod tables;
 
 pub use catalogue::Catalogue;
-pub use ids::place_of_id;
+pub use ids::position_of_id;
 pub use tables::TableSchema;

@@ -27,13 +27,3 @@ one_entry_more {K} {V} {eq} laws es i k v at distinct =
     subst (λ xs. IsDistinct eq (keys_of xs)) next (subst (IsDistinct eq) (sym (keys_take (i + 1) es)) (distinct-take laws (i + 1) (keys_of es) distinct)) in
     let absent : lookup (eq k) (take i es) ≡ None = absent_before laws (take i es) [] (k, v) apart in
     insert_entry-absent eq k v (take i es) (absent_from_lookup (eq k) (take i es) absent) ∙ sym next
-
--- an item that is put in at the end of those so far
-pub put_next : {T : Type 0} (xs : List T) (i : ℕ) (x : T) → i < length xs → x ≡ get_or xs i x → insert (take i xs) i x ≡ take (i + 1) xs
-put_next xs i x within at =
-    let front = take i xs in
-    let long : length front ≡ i = length-take-le i xs (omega arith) in
-    let none : front ++ [] ≡ front = append-nil front in
-    let end : i - i ≡ 0 = omega arith in
-    ap (λ f. insert f i x) (sym none) ∙ insert-append_right front [] i i x long (omega arith) ∙ ap (λ n. front ++ insert [] n x) end
-    ∙ ap (λ y. front ++ y ∷ []) at ∙ sym (take_more xs i x within)

@@ -6,8 +6,8 @@ use Rattle.beas_core.specs.Sets.{IsInOrder}
 use Rattle.access_index.specs.declared.tally.Tally.{Tally}
 use Rattle.access_index.specs.Buckets.{tuples_in}
 use Rattle.access_index.proofs.Places.{in_order_at}
-use Rattle.marked_list.specs.declared.coded.Coded.{Coded}
-use Rattle.marked_list.specs.Marks.{AreDistinct}
+use Rattle.labelled_list.specs.declared.coded.Coded.{Coded}
+use Rattle.labelled_list.specs.Labels.{AreDistinct}
 use Rattle.code_index.specs.Reading.{read, read_group, read_tally}
 use Rattle.code_index.proofs.GroupFacts.{read_at, length_group, not_before_itself}
 
@@ -17,7 +17,7 @@ group_distinct codes g o i j d h l e =
     let t = read_tally codes d in
     let ts = read_group codes g in
     let long = length_group codes g in
-    let own = read codes (get_or g j d).words in
+    let own = read codes (get_or g j d).codes in
     let left = ap (λ (u : Tally). u.tuple) (read_at codes g i d t (omega (arith, h, l))) ∙ ap (read codes) e in
     let right = ap (λ (u : Tally). u.tuple) (read_at codes g j d t l) in
     not_before_itself own

@@ -11,7 +11,7 @@ use Rattle.beas_core.specs.declared.value.Value.{Value}
 use Rattle.beas_core.specs.declared.schema.Access.{Access}
 use Rattle.beas_core.specs.Groups.{group_of, greatest, member_columns, same_row}
 use Rattle.beas_core.proofs.Groups.{greatest-from_Holds, group_le-greatest}
-use Rattle.marked_list.specs.declared.coded.Coded.{Coded}
+use Rattle.labelled_list.specs.declared.coded.Coded.{Coded}
 use Rattle.access_index.specs.declared.tally.Tally.{Tally}
 use Rattle.access_index.specs.Buckets.{is_key, counts_in}
 use Rattle.access_index.specs.Index.{Index, IsIndexOf, tallies, tally_of}

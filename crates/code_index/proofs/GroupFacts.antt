@@ -17,7 +17,7 @@ use Rattle.access_index.specs.declared.tally.Tally.{Tally}
 use Rattle.access_index.specs.Buckets.{tuples_in, count_for, count_in, AllCounted, IsGap, IsOneMore}
 use Rattle.access_index.proofs.Places.{tuple_place}
 use Rattle.access_index.proofs.Counting.{raised, lowered, put_in, taken_out}
-use Rattle.marked_list.specs.declared.coded.Coded.{Coded}
+use Rattle.labelled_list.specs.declared.coded.Coded.{Coded}
 use Rattle.code_index.specs.Codes.{AreDistinct}
 use Rattle.code_index.specs.Reading.{read, read_tally, read_group, AllKnown, AllWordsKnown}
 use Rattle.code_index.proofs.ReadFacts.{read_tells}
@@ -51,7 +51,7 @@ module _ (codes : List Value) where
     within = omega (arith, l, length_group g)
 
     -- a count written one higher
-    pub group_raised : (c : Coded) (tuple : List Value) → read codes (get_or g i d).words ≡ tuple → c.words ≡ (get_or g i d).words
+    pub group_raised : (c : Coded) (tuple : List Value) → read codes (get_or g i d).codes ≡ tuple → c.codes ≡ (get_or g i d).codes
         → c.count ≡ (get_or g i d).count + 1 → IsOneMore (read_group codes g) (read_group codes (set g i c)) tuple
     group_raised c tuple e same more =
         let t = read_tally codes c in
@@ -61,48 +61,48 @@ module _ (codes : List Value) where
         (more ∙ ap (λ x. x.count + 1) (sym at)))
 
     -- a count written one lower
-    pub group_lowered : (c : Coded) → c.words ≡ (get_or g i d).words → 1 ≤ c.count → (get_or g i d).count ≡ c.count + 1
-        → IsOneMore (read_group codes (set g i c)) (read_group codes g) (read codes (get_or g i d).words)
+    pub group_lowered : (c : Coded) → c.codes ≡ (get_or g i d).codes → 1 ≤ c.count → (get_or g i d).count ≡ c.count + 1
+        → IsOneMore (read_group codes (set g i c)) (read_group codes g) (read codes (get_or g i d).codes)
     group_lowered c same some less =
         let t = read_tally codes c in
         let at = read_at g i d t l in
-        subst (λ ts. IsOneMore ts (read_group codes g) (read codes (get_or g i d).words)) (sym (read_set g i c))
-        (lowered (read_group codes g) i t t (read codes (get_or g i d).words) o a within (ap (λ x. x.tuple) at)
+        subst (λ ts. IsOneMore ts (read_group codes g) (read codes (get_or g i d).codes)) (sym (read_set g i c))
+        (lowered (read_group codes g) i t t (read codes (get_or g i d).codes) o a within (ap (λ x. x.tuple) at)
         (ap (read codes) same ∙ sym (ap (λ x. x.tuple) at)) some (ap (λ x. x.count) at ∙ less))
 
     -- a tuple whose last row goes
-    pub group_taken : (get_or g i d).count ≡ 1 → IsOneMore (read_group codes (remove g i)) (read_group codes g) (read codes (get_or g i d).words)
+    pub group_taken : (get_or g i d).count ≡ 1 → IsOneMore (read_group codes (remove g i)) (read_group codes g) (read codes (get_or g i d).codes)
     group_taken one =
         let t = read_tally codes d in
         let at = read_at g i d t l in
-        subst (λ ts. IsOneMore ts (read_group codes g) (read codes (get_or g i d).words)) (sym (read_remove g i))
-        (taken_out (read_group codes g) i t (read codes (get_or g i d).words) o a within (ap (λ x. x.tuple) at) (ap (λ x. x.count) at ∙ one))
+        subst (λ ts. IsOneMore ts (read_group codes g) (read codes (get_or g i d).codes)) (sym (read_remove g i))
+        (taken_out (read_group codes g) i t (read codes (get_or g i d).codes) o a within (ap (λ x. x.tuple) at) (ap (λ x. x.count) at ∙ one))
 
   -- a tuple put in where it was missing
   pub group_put : (g : List Coded) (i : ℕ) (words : List ℕ) → IsInOrder row_cmp (tuples_in (read_group codes g)) → AllCounted (read_group codes g)
       → IsGap (read_group codes g) (read codes words) i
-      → IsOneMore (read_group codes g) (read_group codes (insert g i (record { words = words; count = 1 }))) (read codes words)
+      → IsOneMore (read_group codes g) (read_group codes (insert g i (record { codes = words; count = 1 }))) (read codes words)
   group_put g i words o a gap =
-      subst (λ ts. IsOneMore (read_group codes g) ts (read codes words)) (sym (read_insert g i (record { words = words; count = 1 })))
+      subst (λ ts. IsOneMore (read_group codes g) ts (read codes words)) (sym (read_insert g i (record { codes = words; count = 1 })))
       (put_in (read_group codes g) i (read codes words) o a gap)
 
   -- a tuple that no member has
   module _ (distinct : AreDistinct codes) (words : List ℕ) (known : AllKnown codes words) where
-    pub uncounted : (g : List Coded) → AllWordsKnown codes g → AllByRecursion (λ c. c.words ≢ words) g → count_in (read_group codes g) (read codes words) ≡ 0
+    pub uncounted : (g : List Coded) → AllWordsKnown codes g → AllByRecursion (λ c. c.codes ≢ words) g → count_in (read_group codes g) (read codes words) ≡ 0
     uncounted [] k a = refl
     uncounted (c ∷ g) k a =
-        omega (arith, sum_by-cons (count_for (read codes words)) (read_tally codes c) (read_group codes g), here (same_row (read codes c.words) (read codes words)) refl, uncounted g k.1 a.1)
+        omega (arith, sum_by-cons (count_for (read codes words)) (read_tally codes c) (read_group codes g), here (same_row (read codes c.codes) (read codes words)) refl, uncounted g k.1 a.1)
       where
-        here : (b : Bool) → same_row (read codes c.words) (read codes words) ≡ b → count_for (read codes words) (read_tally codes c) ≡ 0
-        here true e = absurd (a.0 (read_tells codes distinct c.words words k.0 known (same_row_true (read codes c.words) (read codes words) e)))
+        here : (b : Bool) → same_row (read codes c.codes) (read codes words) ≡ b → count_for (read codes words) (read_tally codes c) ≡ 0
+        here true e = absurd (a.0 (read_tells codes distinct c.codes words k.0 known (same_row_true (read codes c.codes) (read codes words) e)))
         here false e = ap (λ b. cond b c.count 0) e
 
-    pub lacks : (g : List Coded) → AllWordsKnown codes g → AllByRecursion (λ c. c.words ≢ words) g → Has (tuples_in (read_group codes g)) (read codes words) → ⊥
+    pub lacks : (g : List Coded) → AllWordsKnown codes g → AllByRecursion (λ c. c.codes ≢ words) g → Has (tuples_in (read_group codes g)) (read codes words) → ⊥
     lacks [] k a h = h
-    lacks (c ∷ g) k a (inl e) = a.0 (read_tells codes distinct c.words words k.0 known (sym e))
+    lacks (c ∷ g) k a (inl e) = a.0 (read_tells codes distinct c.codes words k.0 known (sym e))
     lacks (c ∷ g) k a (inr h) = lacks g k.1 a.1 h
 
-    pub has : (g : List Coded) (i : ℕ) (d : Coded) → i < length g → (get_or g i d).words ≡ words → Has (tuples_in (read_group codes g)) (read codes words)
+    pub has : (g : List Coded) (i : ℕ) (d : Coded) → i < length g → (get_or g i d).codes ≡ words → Has (tuples_in (read_group codes g)) (read codes words)
     has [] i d l e = absurd (omega (arith, l))
     has (c ∷ g) zero d l e = inl (ap (read codes) (sym e))
     has (c ∷ g) (suc i) d l e = inr (has g i d (omega arith) e)
@@ -156,12 +156,12 @@ not_in_gap x ts at gap k d l e = elim (before_or_not k at) [
 
 none_has : (codes : List Value) (words : List ℕ) (g : List Coded)
     → ((k : ℕ) (d : Tally) → k < length (read_group codes g) → (get_or (read_group codes g) k d).tuple ≡ read codes words → ⊥)
-    → AllByRecursion (λ (c : Coded). c.words ≢ words) g
+    → AllByRecursion (λ (c : Coded). c.codes ≢ words) g
 none_has codes words [] f = tt
 none_has codes words (c ∷ g) f =
     (λ e. f 0 (read_tally codes c) (omega arith) (ap (read codes) e), none_has codes words g (λ k d l e. f (suc k) d (omega (arith, l)) e))
 
 -- where a tuple would go in, no tuple has its words
 pub gap_lacks : (codes : List Value) (words : List ℕ) (g : List Coded) (at : ℕ) → IsGap (read_group codes g) (read codes words) at
-    → AllByRecursion (λ (c : Coded). c.words ≢ words) g
+    → AllByRecursion (λ (c : Coded). c.codes ≢ words) g
 gap_lacks codes words g at gap = none_has codes words g (not_in_gap (read codes words) (read_group codes g) at gap)

@@ -7,7 +7,7 @@ use Rattle.std.proofs.lemmas.List.{get_or_append_left, length-append}
 use Rattle.beas_core.specs.declared.value.Value.{Value}
 use Rattle.beas_core.specs.declared.value.Value.TheVariants.{Int}
 use Rattle.beas_core.specs.Groups.{member_columns}
-use Rattle.marked_list.specs.declared.coded.Coded.{Coded}
+use Rattle.labelled_list.specs.declared.coded.Coded.{Coded}
 use Rattle.code_index.specs.Codes.{same_value, extended, value_of, AreDistinct}
 use Rattle.code_index.specs.Reading.{IsStored, KeepsCodes, read, read_group, read_entries, AllKnown, AllWordsKnown}
 
@@ -29,7 +29,7 @@ module _ (codes tail : List Value) where
 
   words_stay : (g : List Coded) → AllWordsKnown codes g → AllWordsKnown (codes ++ tail) g
   words_stay [] k = tt
-  words_stay (c ∷ g) k = (known_stays c.words k.0, words_stay g k.1)
+  words_stay (c ∷ g) k = (known_stays c.codes k.0, words_stay g k.1)
 
   groups_stay : (es : List (List ℕ × List Coded)) → AllByRecursion (λ e. AllWordsKnown codes e.1) es
       → AllByRecursion (λ e. AllWordsKnown (codes ++ tail) e.1) es
@@ -39,7 +39,7 @@ module _ (codes tail : List Value) where
   group_read : (g : List Coded) → AllWordsKnown codes g → read_group (codes ++ tail) g ≡ read_group codes g
   group_read [] k = refl
   group_read (c ∷ g) k =
-      let first = read_stays c.words k.0 in let rest = group_read g k.1 in λ i. record { tuple = first i; count = c.count } ∷ rest i
+      let first = read_stays c.codes k.0 in let rest = group_read g k.1 in λ i. record { tuple = first i; count = c.count } ∷ rest i
 
   entries_read : (es : List (List ℕ × List Coded)) → AllByRecursion (λ e. AllKnown codes e.0) es → AllByRecursion (λ e. AllWordsKnown codes e.1) es
       → read_entries (codes ++ tail) es ≡ read_entries codes es
@@ -64,7 +64,7 @@ module _ (codes tail : List Value) where
   }
 
 pub kept_codes : (codes : List Value) → KeepsCodes codes codes
-kept_codes codes = record { words = λ ws k. (k, refl); in_order = λ index o. o; same = λ index o. refl }
+kept_codes codes = record { codes = λ ws k. (k, refl); in_order = λ index o. o; same = λ index o. refl }
 
 -- after a value is interned
 pub kept_extended : (codes : List Value) (value : Value) → AreDistinct (extended codes value) → KeepsCodes codes (extended codes value)

@@ -16,9 +16,9 @@ use Rattle.blocked_list.proofs.Joined.{all_append, all_take, all_set, all_at}
 use Rattle.access_index.specs.Buckets.{IsOneMore, counts_in}
 use Rattle.code_index.proofs.Storing.{found_bucket, bucket_within}
 use Rattle.access_index.specs.Index.{IsIndexOf}
-use Rattle.marked_list.specs.declared.coded.Coded.{Coded}
+use Rattle.labelled_list.specs.declared.coded.Coded.{Coded}
 use Rattle.code_index.specs.Codes.{value_of, AreDistinct}
-use Rattle.code_index.specs.Reading.{WordIndex, IsInOrderFor, IsOrdered, IsGroup, Spells, read, read_tally, read_index, read_group, read_entries, word_at, pick, AllKnown, AllWordsKnown}
+use Rattle.code_index.specs.Reading.{WordIndex, IsInOrderFor, IsOrdered, IsGroup, Spells, read, read_tally, read_index, read_group, read_entries, row_code, pick, AllKnown, AllWordsKnown}
 use Rattle.code_index.proofs.Changing.{IsAdded, index_added, index_removed, added_to, added_new, removed_from, removed_whole}
 use Rattle.code_index.proofs.ReadFacts.{lookup_read, set_read, swap_read, distinct_read}
 
@@ -60,7 +60,7 @@ read_front codes words [] b = refl
 read_front codes words (c ∷ a) b = ap (λ vs. slice_value c ∷ vs) (read_front codes words a b)
   where
     slice_value : ColumnId → Value
-    slice_value d = value_of codes (word_at words d)
+    slice_value d = value_of codes (row_code words d)
 
 length_read : (codes : List Value) (words : List ℕ) (a : List ColumnId) → length (read codes (pick a words)) ≡ length a
 length_read codes words [] = refl

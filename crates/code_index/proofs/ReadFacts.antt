@@ -14,7 +14,7 @@ use Rattle.std.specs.declared.cmp.Ordering.TheVariants.{Less, Equal, Greater}
 use Rattle.beas_core.specs.Order.{value_cmp, value_cmp_total}
 use Rattle.beas_core.specs.Groups.{same_row}
 use Rattle.beas_core.proofs.Groups.{same_row_true, same_row_itself}
-use Rattle.marked_list.specs.declared.coded.Coded.{Coded}
+use Rattle.labelled_list.specs.declared.coded.Coded.{Coded}
 use Rattle.code_index.specs.Codes.{value_of, AreDistinct}
 use Rattle.code_index.specs.Reading.{read, read_group, read_entry, read_entries, AllKnown}
 

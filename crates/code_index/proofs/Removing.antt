@@ -14,7 +14,7 @@ use Rattle.blocked_list.proofs.Joined.{all_at}
 use Rattle.access_index.specs.declared.tally.Tally.{Tally}
 use Rattle.access_index.specs.Buckets.{tuples_in, AllCounted, IsOneMore}
 use Rattle.access_index.proofs.Counting.{tuples_within, count_within, last_one}
-use Rattle.marked_list.specs.declared.coded.Coded.{Coded}
+use Rattle.labelled_list.specs.declared.coded.Coded.{Coded}
 use Rattle.code_index.specs.Reading.{WordIndex, IsInOrderFor, IsOrdered, AllWordsKnown, read, read_group, read_tally, pick}
 use Rattle.code_index.proofs.Storing.{some_counted}
 use Rattle.code_index.proofs.GroupFacts.{length_group, read_at}
@@ -22,7 +22,7 @@ use Rattle.code_index.proofs.Ordering.{Entry, group_holds, group_within, known_g
 use Rattle.code_index.proofs.Steps.{Left, left_in, left_whole}
 
 abbrev pub no_tuple : Coded
-no_tuple = record { words = []; count = 0 }
+no_tuple = record { codes = []; count = 0 }
 
 module _ (access : Access) (total : ℕ) (es : List Entry) (words : List ℕ) (self : WordIndex)
     (view : record { access = access; total = total; groups = es } ≡ self) (w : IsOrdered (record { access = access; total = total; groups = es }))
@@ -34,7 +34,7 @@ module _ (access : Access) (total : ℕ) (es : List Entry) (words : List ℕ) (s
       let b = group_holds access w.codes total es key w.in_order g found in
       omega (arith, there, length_group w.codes g, tuples_within (read_group w.codes g) b.counted, group_within access w.codes total es key w.in_order g found)
 
-  module _ (same : (d : Coded) → (get_or g at d).words ≡ pick (member_columns access) words) (new : List Entry) where
+  module _ (same : (d : Coded) → (get_or g at d).codes ≡ pick (member_columns access) words) (new : List Entry) where
     -- what is left is in order for some interner too
     pub still_ordered : ((codes : List Value) → IsInOrderFor codes self → Left access total es new words self codes)
         → IsOrdered (record { access = access; total = total - 1; groups = new })
@@ -42,7 +42,7 @@ module _ (access : Access) (total : ℕ) (es : List Entry) (words : List ℕ) (s
 
     pub left_counted : (less : List Coded) → new ≡ set_value (pointwise nat_eq key) es less → IsDistinct (pointwise nat_eq) (keys_of new)
         → ((codes : List Value) (d : Coded) → IsInOrder row_cmp (tuples_in (read_group codes g)) → AllCounted (read_group codes g)
-        → IsOneMore (read_group codes less) (read_group codes g) (read codes (get_or g at d).words))
+        → IsOneMore (read_group codes less) (read_group codes g) (read codes (get_or g at d).codes))
         → ((codes : List Value) → AllWordsKnown codes g → AllWordsKnown codes less)
         → 1 < max (length g) (get_or g at no_tuple).count
         → (codes : List Value) → IsInOrderFor codes self → Left access total es new words self codes

@@ -17,7 +17,7 @@ use Rattle.access_index.specs.declared.tally.Tally.{Tally}
 use Rattle.access_index.specs.Buckets.{tuples_in, count_in, is_key, AllTuplesPass, is_wide, IsOneMore}
 use Rattle.access_index.specs.Index.{IsIndexOf, WouldHold, tallies, tuple_of, key_of}
 use Rattle.access_index.proofs.Indexing.{take_tuple, group_tuples}
-use Rattle.marked_list.specs.declared.coded.Coded.{Coded}
+use Rattle.labelled_list.specs.declared.coded.Coded.{Coded}
 use Rattle.code_index.specs.Codes.{value_of}
 use Rattle.code_index.specs.Reading.{WordIndex, IsInOrderFor, IsGroup, Spells, read, read_index, read_group, read_entries, pick, AllKnown, AllWordsKnown, is_keyed, words_in}
 use Rattle.code_index.specs.Taking.{HasRoom, CountsWhere, HoldsWhere}
@@ -74,11 +74,11 @@ module _ (access : Access) (codes : List Value) (total : ℕ) (es new : List Ent
         taken (more_to access codes total es new words o k g more
         (ap (λ j. lookup (pointwise nat_eq j) es) (sym key_is) ∙ found) (is ∙ ap (λ j. set_value (pointwise nat_eq j) es more) key_is) unique m wk)
 
-    pub take_new : (g : List Coded) → g ≡ record { words = pick (member_columns access) words; count = 1 } ∷ [] → new ≡ es ++ (key, g) ∷ []
+    pub take_new : (g : List Coded) → g ≡ record { codes = pick (member_columns access) words; count = 1 } ∷ [] → new ≡ es ++ (key, g) ∷ []
         → IsDistinct (pointwise nat_eq) (keys_of new) → Taken
     take_new g g_is is unique =
         let tuple = pick (member_columns access) words in
-        let one : List Coded = record { words = tuple; count = 1 } ∷ [] in
+        let one : List Coded = record { codes = tuple; count = 1 } ∷ [] in
         taken (more_new access codes total es new words o k one
         (is ∙ ap (λ j. es ++ (j, g) ∷ []) key_is ∙ ap (λ h. es ++ (pick access.key words, h) ∷ []) g_is) unique
         (group_put codes [] 0 tuple tt tt
@@ -141,7 +141,7 @@ module _ (access : Access) (codes : List Value) (total : ℕ) (es : List Entry) 
       counted_there access (length (member_columns access)) total (read_entries codes es) front back row o.stored is (counted None f)
 
   pub not_lacking : (front back : List (List Value)) → IsIndexOf (read_index codes (record { access = access; total = total; groups = es })) (front ++ row ∷ back)
-      → (g : List Coded) → lookup (pointwise nat_eq ws) es ≡ Some g → AllByRecursion (λ c. c.words ≢ own_tuple) g → ⊥
+      → (g : List Coded) → lookup (pointwise nat_eq ws) es ≡ Some g → AllByRecursion (λ c. c.codes ≢ own_tuple) g → ⊥
   not_lacking front back is g f a =
       counted_there access (length (member_columns access)) total (read_entries codes es) front back row o.stored is
       (counted (Some g) f ∙ ap (count_in (read_group codes g)) (sym s.same)
@@ -152,14 +152,14 @@ module _ (access : Access) (codes : List Value) (total : ℕ) (es : List Entry) 
       → WouldHold (read_index codes (record { access = access; total = total; groups = es })) row
   room_left g f l = inr (omega (arith, l, ap length (group_tallies g f), length_group codes g))
 
-  pub is_there : (g : List Coded) → lookup (pointwise nat_eq ws) es ≡ Some g → (i : ℕ) (d : Coded) → i < length g → (get_or g i d).words ≡ own_tuple
+  pub is_there : (g : List Coded) → lookup (pointwise nat_eq ws) es ≡ Some g → (i : ℕ) (d : Coded) → i < length g → (get_or g i d).codes ≡ own_tuple
       → WouldHold (read_index codes (record { access = access; total = total; groups = es })) row
   is_there g f i d l e =
       let h = has codes o.distinct own_tuple s.known g i d l e in
       inl (Contains-from_has (tuples_in (tallies (read_index codes (record { access = access; total = total; groups = es })) (key_of access row))) (tuple_of access row)
       (subst (λ ts. Has (tuples_in ts) (tuple_of access row)) (sym (group_tallies g f)) (subst (Has (tuples_in (read_group codes g))) s.same h)))
 
-  pub is_not : (g : List Coded) → lookup (pointwise nat_eq ws) es ≡ Some g → AllByRecursion (λ c. c.words ≢ own_tuple) g → access.bound ≤ length g
+  pub is_not : (g : List Coded) → lookup (pointwise nat_eq ws) es ≡ Some g → AllByRecursion (λ c. c.codes ≢ own_tuple) g → access.bound ≤ length g
       → WouldHold (read_index codes (record { access = access; total = total; groups = es })) row → ⊥
   is_not g f a l (inl c) =
       lacks codes o.distinct own_tuple s.known g (known_group access codes total es ws o g f) a
@@ -171,7 +171,7 @@ module _ (access : Access) (codes : List Value) (total : ℕ) (es : List Entry) 
       → IsTrue answer ↔ WouldHold (read_index codes (record { access = access; total = total; groups = es })) row
   judged g f true (inl l) = (λ t. room_left g f l, λ would. refl)
   judged g f true (inr m) =
-      let none : Coded = record { words = []; count = 0 } in (λ t. is_there g f m.at none m.within (m.same none), λ would. refl)
+      let none : Coded = record { codes = []; count = 0 } in (λ t. is_there g f m.at none m.within (m.same none), λ would. refl)
   judged g f false m = (λ t. cc, λ would. absurd (is_not g f m.1 m.0 would))
 
   pub of_nothing : lookup (pointwise nat_eq ws) es ≡ None → (answer : Bool) → (IsTrue answer ↔ (0 < access.bound))
@@ -226,7 +226,7 @@ module _ (access : Access) (codes : List Value) (total : ℕ) (es : List Entry) 
 
   tuples_read : (g : List Coded) → tuples_in (read_group codes g) ≡ map (read codes) (words_in g)
   tuples_read [] = refl
-  tuples_read (c ∷ g) = ap (λ xs. read codes c.words ∷ xs) (tuples_read g)
+  tuples_read (c ∷ g) = ap (λ xs. read codes c.codes ∷ xs) (tuples_read g)
 
   key_bucket : (r : Option (List Coded)) → lookup (pointwise nat_eq key) es ≡ r
       → bucket_at (read_entries codes es) (read codes key) ≡ unwrap_or (option_map (read_group codes) r) []
@@ -306,9 +306,9 @@ group_at codes n w (x ∷ es) zero g a f =
 group_at codes n w (x ∷ es) (suc i) g a f = group_at codes n w es i g a.1 f
 
 pub width_at : (codes : List Value) (n : ℕ) (g : List Coded) (i : ℕ) (d : Coded) → AllTuplesPass (is_wide n) (read_group codes g) → i < length g
-    → length (get_or g i d).words ≡ n
+    → length (get_or g i d).codes ≡ n
 width_at codes n [] i d a l = absurd (omega (arith, l))
-width_at codes n (c ∷ g) zero d a l = sym (eqb-true n (length (read codes c.words)) a.0 ∙ length-map c.words (value_of codes))
+width_at codes n (c ∷ g) zero d a l = sym (eqb-true n (length (read codes c.codes)) a.0 ∙ length-map c.codes (value_of codes))
 width_at codes n (c ∷ g) (suc i) d a l = width_at codes n g i d a.1 (omega arith)
 
 -- all members of a group have its key

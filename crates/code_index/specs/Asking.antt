@@ -18,11 +18,11 @@ picks_alike words (x ∷ xs) (y ∷ ys) h =
     let rest = picks_alike words xs ys (second_so (nat_eq x.0 y.0) (pointwise (λ a b. nat_eq a.0 b.0) xs ys) h) in
     λ i. slice_index_or words (first i) 0 ∷ rest i
 
-pub rows_alike : (x y : AskedRow) → IsTrue (pointwise (λ a b. nat_eq a.0 b.0) x.columns.now y.columns.now && pointwise nat_eq x.words.now y.words.now)
-    → fed.slice fed.u64 (pick x.columns.now x.words.now) ≡ fed.slice fed.u64 (pick y.columns.now y.words.now)
+pub rows_alike : (x y : AskedRow) → IsTrue (pointwise (λ a b. nat_eq a.0 b.0) x.columns.now y.columns.now && pointwise nat_eq x.codes.now y.codes.now)
+    → fed.slice fed.u64 (pick x.columns.now x.codes.now) ≡ fed.slice fed.u64 (pick y.columns.now y.codes.now)
 rows_alike x y e =
-    let columns = picks_alike x.words.now x.columns.now y.columns.now
-    (first_so (pointwise (λ a b. nat_eq a.0 b.0) x.columns.now y.columns.now) (pointwise nat_eq x.words.now y.words.now) e) in
-    let words = (bytes_decides x.words.now y.words.now).0
-    (second_so (pointwise (λ a b. nat_eq a.0 b.0) x.columns.now y.columns.now) (pointwise nat_eq x.words.now y.words.now) e) in
+    let columns = picks_alike x.codes.now x.columns.now y.columns.now
+    (first_so (pointwise (λ a b. nat_eq a.0 b.0) x.columns.now y.columns.now) (pointwise nat_eq x.codes.now y.codes.now) e) in
+    let words = (bytes_decides x.codes.now y.codes.now).0
+    (second_so (pointwise (λ a b. nat_eq a.0 b.0) x.columns.now y.columns.now) (pointwise nat_eq x.codes.now y.codes.now) e) in
     ap (fed.slice fed.u64) (columns) ∙ ap (λ ws. fed.slice fed.u64 (pick y.columns.now ws)) words

@@ -1,6 +1,6 @@
 -- Indexes over codes, and the values that an interner gives these codes.
 --     read codes words              the values of words, by the list of an interner's values
---     word_at words column          the word of a row in a column, 0 where it has none
+--     row_code words column          the word of a row in a column, 0 where it has none
 --     pick columns words            the words of a row in some columns
 --     AllKnown codes words          each word is a code that the interner gave
 --     Spells codes columns words row      the row's values in these columns are those of the words
@@ -30,16 +30,16 @@ use Rattle.code_index.specs.Codes.{value_of, AreDistinct}
 use Rattle.access_index.specs.declared.tally.Tally.{Tally}
 use Rattle.access_index.specs.Buckets.{tuples_in, counts_in, AllCounted, AllTuplesPass, is_wide}
 use Rattle.access_index.specs.Index.{Index}
-use Rattle.marked_list.specs.declared.coded.Coded.{Coded}
+use Rattle.labelled_list.specs.declared.coded.Coded.{Coded}
 
 abbrev pub read : List Value → List ℕ → List Value
 read codes words = map (value_of codes) words
 
-abbrev pub word_at : List ℕ → ColumnId → ℕ
-word_at words column = slice_index_or words column.0 0
+abbrev pub row_code : List ℕ → ColumnId → ℕ
+row_code words column = slice_index_or words column.0 0
 
 abbrev pub pick : List ColumnId → List ℕ → List ℕ
-pick columns words = map (word_at words) columns
+pick columns words = map (row_code words) columns
 
 abbrev pub AllKnown : List Value → List ℕ → Type 0
 AllKnown codes words = AllByRecursion (λ w. w < length codes) words
@@ -49,7 +49,7 @@ pub record Spells (codes : List Value) (columns : List ColumnId) (words : List �
   pub same : read codes (pick columns words) ≡ project columns row
 
 abbrev pub read_tally : List Value → Coded → Tally
-read_tally codes coded = record { tuple = read codes coded.words; count = coded.count }
+read_tally codes coded = record { tuple = read codes coded.codes; count = coded.count }
 
 abbrev pub read_group : List Value → List Coded → List Tally
 read_group codes group = map (read_tally codes) group
@@ -61,7 +61,7 @@ abbrev pub read_entries : List Value → List (List ℕ × List Coded) → List 
 read_entries codes entries = map (read_entry codes) entries
 
 abbrev pub AllWordsKnown : List Value → List Coded → Type 0
-AllWordsKnown codes group = AllByRecursion (λ c. AllKnown codes c.words) group
+AllWordsKnown codes group = AllByRecursion (λ c. AllKnown codes c.codes) group
 
 -- what contracts see of an index of words
 pub record WordIndex : Type 0 where
@@ -111,7 +111,7 @@ pub record KeepsCodes (codes more : List Value) : Type 0 where
 
 -- the tuples of the group at a place
 abbrev pub words_in : List Coded → List (List ℕ)
-words_in group = map (λ c. c.words) group
+words_in group = map (λ c. c.codes) group
 
 abbrev pub words_at : WordIndex → ℕ → List (List ℕ)
 words_at index place = words_in (slice_index_or (values_of index.groups) place [])

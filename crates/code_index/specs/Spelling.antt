@@ -10,7 +10,7 @@ use Rattle.beas_core.specs.declared.value.Value.{Value}
 use Rattle.beas_core.specs.declared.schema.ColumnId.{ColumnId}
 use Rattle.beas_core.specs.Groups.{value_at}
 use Rattle.code_index.specs.Codes.{value_of}
-use Rattle.code_index.specs.Reading.{read, word_at, AllKnown}
+use Rattle.code_index.specs.Reading.{read, row_code, AllKnown}
 
 pub record IsCodeOf (codes : List Value) (code : ℕ) (value : Value) : Type 0 where
   pub known : code < length codes
@@ -29,4 +29,4 @@ pub record AreCodesOf (codes : List Value) (words : List ℕ) (values : List Val
   pub same : read codes words ≡ values
 
 abbrev pub IsCodeIn : List Value → List ℕ → List Value → ColumnId → Type 0
-IsCodeIn codes words row column = IsCodeOf codes (word_at words column) (value_at row column)
+IsCodeIn codes words row column = IsCodeOf codes (row_code words column) (value_at row column)

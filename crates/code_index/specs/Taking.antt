@@ -10,17 +10,17 @@ use Rattle.beas_core.specs.declared.schema.ColumnId.{ColumnId}
 use Rattle.beas_core.specs.declared.schema.Access.{Access}
 use Rattle.beas_core.specs.Groups.{Holds, member_columns}
 use Rattle.access_index.specs.Index.{IsIndexOf}
-use Rattle.marked_list.specs.declared.coded.Coded.{Coded}
+use Rattle.labelled_list.specs.declared.coded.Coded.{Coded}
 use Rattle.code_index.specs.Reading.{WordIndex, Spells, read_index, pick}
 
 pub record IsAmong (columns : List ColumnId) (words : List ℕ) (group : List Coded) : Type 0 where
   pub at : ℕ
   pub within : at < length group
-  pub same : (d : Coded) → (slice_index_or group at d).words ≡ pick columns words
+  pub same : (d : Coded) → (slice_index_or group at d).codes ≡ pick columns words
 
 abbrev pub HasRoom : Bool → Access → List ℕ → List Coded → Type 0
 HasRoom true access words group = (length group < access.bound) ⊎ IsAmong (member_columns access) words group
-HasRoom false access words group = (access.bound ≤ length group) × AllByRecursion (λ c. c.words ≢ pick (member_columns access) words) group
+HasRoom false access words group = (access.bound ≤ length group) × AllByRecursion (λ c. c.codes ≢ pick (member_columns access) words) group
 
 abbrev pub CountsWhere : Bool → List Value → List ℕ → WordIndex → WordIndex → Type 0
 CountsWhere held codes words old new =

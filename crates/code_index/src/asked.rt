@@ -6,23 +6,23 @@ ghost use Rattle.std.specs.Hash as fed;
 ghost use Rattle.code_index.specs.Reading.{pick};
 ghost use Rattle.code_index.specs.Asking.{rows_alike};
 
-use crate::own_words::{GroupKey, OwnWords};
-use crate::words::word_at;
+use crate::own_words::{GroupKey, OwnCodes};
+use crate::words::row_code;
 use beas_core::ColumnId;
 use indexmap::Equivalent;
 use std::hash::{Hash, Hasher};
 
 /// The words of a key whose group is asked for. They aren't copied.
 #[derive(Clone, Copy, PartialEq, Eq, Hash)]
-pub struct AskedWords<'a> {
-    pub words: &'a [u64],
+pub struct AskedCodes<'a> {
+    pub codes: &'a [u64],
 }
 
 /// A row whose group is asked for by its words in the columns of a key. They aren't copied.
 #[derive(Clone, Copy, PartialEq, Eq)]
 pub struct AskedRow<'a> {
     pub columns: &'a [ColumnId],
-    pub words: &'a [u64],
+    pub codes: &'a [u64],
 }
 
 /// Whether two keys have the same words. Most have three at most; longer ones are compared by a call, which takes longer.
@@ -45,47 +45,47 @@ fn has_key(columns: &[ColumnId], words: &[u64], key: &[u64]) -> bool
         return false;
     }
     for (i, column) in columns.iter().enumerate() {
-        if word_at(words, *column) != key[i] {
+        if row_code(words, *column) != key[i] {
             return false;
         }
     }
     true
 }
 
-impl<W: OwnWords> Equivalent<GroupKey<W>> for AskedWords<'_> {
-    ghost equivalent = { λ asked. pointwise nat_eq asked.words.now };
+impl<W: OwnCodes> Equivalent<GroupKey<W>> for AskedCodes<'_> {
+    ghost equivalent = { λ asked. pointwise nat_eq asked.codes.now };
 
-    ghost respects_hash = { λ asked key e. ap (fed.slice fed.u64) ((bytes_decides asked.words.now key).0 e) };
+    ghost respects_hash = { λ asked key e. ap (fed.slice fed.u64) ((bytes_decides asked.codes.now key).0 e) };
 
-    ghost respects_eq = { λ asked. nat_list_eq_equiv.congr asked.words.now };
+    ghost respects_eq = { λ asked. nat_list_eq_equiv.congr asked.codes.now };
 
     fn equivalent(&self, key: &GroupKey<W>) -> bool {
-        same_words(self.words, key.as_slice())
+        same_words(self.codes, key.as_slice())
     }
 }
 
 /// It feeds what its words in the columns do.
 impl Hash for AskedRow<'_> {
-    ghost hash_input = { λ asked. fed.slice fed.u64 (pick asked.columns.now asked.words.now) };
+    ghost hash_input = { λ asked. fed.slice fed.u64 (pick asked.columns.now asked.codes.now) };
 
     ghost respects_eq = { rows_alike };
 
     fn hash<H: Hasher>(&self, state: &mut H) {
         state.write_usize(self.columns.len());
         for column in self.columns {
-            state.write_u64(word_at(self.words, *column));
+            state.write_u64(row_code(self.codes, *column));
         }
     }
 }
 
-impl<W: OwnWords> Equivalent<GroupKey<W>> for AskedRow<'_> {
-    ghost equivalent = { λ asked. pointwise nat_eq (pick asked.columns.now asked.words.now) };
+impl<W: OwnCodes> Equivalent<GroupKey<W>> for AskedRow<'_> {
+    ghost equivalent = { λ asked. pointwise nat_eq (pick asked.columns.now asked.codes.now) };
 
-    ghost respects_hash = { λ asked key e. ap (fed.slice fed.u64) ((bytes_decides (pick asked.columns.now asked.words.now) key).0 e) };
+    ghost respects_hash = { λ asked key e. ap (fed.slice fed.u64) ((bytes_decides (pick asked.columns.now asked.codes.now) key).0 e) };
 
-    ghost respects_eq = { λ asked. nat_list_eq_equiv.congr (pick asked.columns.now asked.words.now) };
+    ghost respects_eq = { λ asked. nat_list_eq_equiv.congr (pick asked.columns.now asked.codes.now) };
 
     fn equivalent(&self, key: &GroupKey<W>) -> bool {
-        has_key(self.columns, self.words, key.as_slice())
+        has_key(self.columns, self.codes, key.as_slice())
     }
 }

@@ -1,6 +1,6 @@
 // The forms that a group has.
 use blocked_list::BlockedList;
-use marked_list::{Coded, MarkedList};
+use labelled_list::{Coded, LabelledList};
 
 /// A short list, whose tuples are found by looking at their words one after another, or a long one, which finds each by
 /// its words at once and takes more memory for that.
@@ -10,5 +10,5 @@ use marked_list::{Coded, MarkedList};
 #[derive(Drop)]
 pub enum Form {
     Short(BlockedList<Coded>),
-    Marked(Box<MarkedList>),
+    Labelled(Box<LabelledList>),
 }

@@ -6,19 +6,19 @@ ghost use Rattle.beas_core.specs.Order.{row_cmp};
 ghost use Rattle.beas_core.specs.Groups.{member_columns};
 ghost use Rattle.beas_core.specs.Sets.{IsInOrder};
 ghost use Rattle.access_index.specs.Buckets.{tuples_in, counts_in, AllCounted, IsGap, IsOneMore};
-ghost use Rattle.marked_list.specs.declared.coded.Coded.{Coded};
+ghost use Rattle.labelled_list.specs.declared.coded.Coded.{Coded};
 ghost use Rattle.indexmap.specs.IndexMap.{insert_entry};
 ghost use Rattle.code_index.specs.Reading.{read, read_group, pick, AllKnown, AllWordsKnown};
 ghost use Rattle.code_index.specs.Taking.{HasRoom};
 
 use crate::interner::Interner;
-use crate::key::KeyWords;
+use crate::key::KeyCodes;
 use crate::tuples::Group;
-use crate::words::{compare_tuple, tuple_words};
+use crate::words::{compare_tuple, tuple_codes};
 use beas_core::{Access, NoMemory};
 use blocked_list::Before;
 use indexmap::IndexMap;
-use marked_list::{Coded, TupleWords};
+use labelled_list::{Coded, TupleCodes};
 use seeded_hash::SeededHashing;
 use std::alloc::Global;
 use std::cmp::Ordering;
@@ -32,12 +32,12 @@ struct TuplePlace<'a> {
     words: &'a [u64],
 }
 
-impl Before<TupleWords> for TuplePlace<'_> {
+impl Before<TupleCodes> for TuplePlace<'_> {
     ghost before = { λ wanted tuple. is_lt (row_cmp (read wanted.codes.now tuple)
-        (read wanted.codes.now (pick (member_columns wanted.access.now) wanted.words.now))) };
+        (read wanted.codes.now (pick (member_columns wanted.access.now) wanted.codes.now))) };
 
-    fn is_before(&self, tuple: &TupleWords) -> bool {
-        compare_tuple(self.codes, tuple.as_slice(), self.access, self.words) == Ordering::Less
+    fn is_before(&self, tuple: &TupleCodes) -> bool {
+        compare_tuple(self.codes, tuple.as_slice(), self.access, self.codes) == Ordering::Less
     }
 }
 
@@ -51,7 +51,7 @@ fn ends_before(codes: &Interner, group: &Group, access: &Access, words: &[u64]) 
     if len == 0 {
         return false;
     }
-    match compare_tuple(codes, group.words(len - 1), access, words) {
+    match compare_tuple(codes, group.codes(len - 1), access, words) {
         Ordering::Less => true,
         _ => false,
     }
@@ -66,7 +66,7 @@ pub fn search(
 ) -> Result<usize, usize>
     requires { IsInOrder row_cmp (tuples_in (read_group codes.now group.now)) }
     ensures { MatchResult result
-        (λ at. (at < length group.now) × ((d : Coded) → read codes.now (slice_index_or group.now at d).words
+        (λ at. (at < length group.now) × ((d : Coded) → read codes.now (slice_index_or group.now at d).codes
         ≡ read codes.now (pick (member_columns access.now) words.now)))
         (λ at. IsGap (read_group codes.now group.now) (read codes.now (pick (member_columns access.now) words.now)) at) }
 {
@@ -74,7 +74,7 @@ pub fn search(
     if ends_before(codes, group, access, words) {
         return Err(end);
     }
-    let at = group.place_of(&TuplePlace {
+    let at = group.partition_point(&TuplePlace {
         codes,
         access,
         words,
@@ -82,7 +82,7 @@ pub fn search(
     if at == end {
         return Err(at);
     }
-    match compare_tuple(codes, group.words(at), access, words) {
+    match compare_tuple(codes, group.codes(at), access, words) {
         Ordering::Equal => Ok(at),
         _ => Err(at),
     }
@@ -102,18 +102,18 @@ pub fn has_room(group: &Group, access: &Access, words: &[u64]) -> bool
 const FEW: usize = 4;
 
 /// The words of a row's tuple. Those of a short one are read in place, without a block of memory on their way.
-fn own_tuple(alloc: Global, access: &Access, words: &[u64]) -> Result<TupleWords, NoMemory>
+fn own_tuple(alloc: Global, access: &Access, words: &[u64]) -> Result<TupleCodes, NoMemory>
     ensures { IfOk result (λ tuple. tuple ≡ pick (member_columns access.now) words.now) }
 {
-    match KeyWords::<FEW>::tuple(access, words) {
-        Some(tuple) => TupleWords::of(alloc, tuple.as_slice()),
-        None => tuple_words(alloc, access, words),
+    match KeyCodes::<FEW>::tuple(access, words) {
+        Some(tuple) => TupleCodes::of(alloc, tuple.as_slice()),
+        None => tuple_codes(alloc, access, words),
     }
 }
 
 /// A group that counts a tuple once.
 pub fn of_one(alloc: Global, access: &Access, words: &[u64]) -> Result<Group, NoMemory>
-    ensures { IfOk result (λ group. group ≡ record { words = pick (member_columns access.now) words.now; count = 1 } ∷ []) }
+    ensures { IfOk result (λ group. group ≡ record { codes = pick (member_columns access.now) words.now; count = 1 } ∷ []) }
 {
     let words = own_tuple(alloc, access, words)?;
     Group::of(alloc, Coded { words, count: 1 })
@@ -155,7 +155,7 @@ pub fn count_down(group: &mut Group, at: usize)
     requires within { at < length group.old }
     ensures less { (codes : List Value) (d : Coded) → IsInOrder row_cmp (tuples_in (read_group codes group.old))
         → AllCounted (read_group codes group.old)
-        → IsOneMore (read_group codes group.new) (read_group codes group.old) (read codes (slice_index_or group.old at d).words) }
+        → IsOneMore (read_group codes group.new) (read_group codes group.old) (read codes (slice_index_or group.old at d).codes) }
     ensures known { (codes : List Value) → AllWordsKnown codes group.old → AllWordsKnown codes group.new }
 {
     let count = group.count(at);

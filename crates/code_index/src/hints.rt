@@ -40,7 +40,7 @@ impl Hints {
     }
 
     /// Where an integer may stand. It takes no memory.
-    pub fn place(&self, integer: i64) -> Option<usize> {
+    pub fn position(&self, integer: i64) -> Option<usize> {
         match self.places.get(self.number_of(integer)) {
             Some(place) => Some(*place as usize),
             None => None,

@@ -70,7 +70,7 @@ impl Interner {
     fn hinted(&self, integer: i64) -> Option<u64>
         ensures { IfSome result (λ code. code_of self.now (Int integer) ≡ Some code) }
     {
-        let place = self.hints.place(integer)?;
+        let place = self.hints.position(integer)?;
         match self.values.get_index(place)? {
             Value::Int(there) if *there == integer => Some(place as u64),
             _ => None,

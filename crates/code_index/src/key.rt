@@ -5,31 +5,31 @@ ghost use Rattle.code_index.specs.Reading.{pick};
 ghost use Rattle.code_index.specs.Spelling.{AllHaveCodes, AreCodesOf};
 
 use crate::interner::Interner;
-use crate::words::{column_at, word_at};
+use crate::words::{column_at, row_code};
 use beas_core::{Access, ColumnId, Value};
 use std::marker::Model;
 
 /// The words of a whole tuple, up to `N` of them, by which a map is asked. They lie in place and take no memory.
 #[derive(Drop)]
-pub struct KeyWords<const N: usize> {
+pub struct KeyCodes<const N: usize> {
     words: [u64; N],
     len: usize,
 }
 
-impl<const N: usize> Model for KeyWords<N> {
+impl<const N: usize> Model for KeyCodes<N> {
     ghost use Rattle.std.specs.Prelude.{◌≡◌, ◌≤◌, List, ℕ, length, take};
 
     ghost Value = { List ℕ };
 
-    ghost view = { λ s. take s.len s.words };
+    ghost view = { λ s. take s.len s.codes };
 
-    ghost invariant = { λ s. (s.len ≤ N) × (length s.words ≡ N) };
+    ghost invariant = { λ s. (s.len ≤ N) × (length s.codes ≡ N) };
 }
 
-impl<const N: usize> KeyWords<N> {
+impl<const N: usize> KeyCodes<N> {
     /// The words of a row's tuple, or none where it has more than `N`.
     #[tactic(auto, using(crate::proofs::Members::members_long))]
-    pub fn tuple(access: &Access, words: &[u64]) -> Option<KeyWords<N>>
+    pub fn tuple(access: &Access, words: &[u64]) -> Option<KeyCodes<N>>
         ensures { IfSome result (λ tuple. tuple ≡ pick (member_columns access.now) words.now) }
     {
         let len = access.key.len().saturating_add(access.fetched.len());
@@ -38,15 +38,15 @@ impl<const N: usize> KeyWords<N> {
         }
         let mut tuple = [0; N];
         for i in 0..len {
-            tuple[i] = word_at(words, column_at(access, i));
+            tuple[i] = row_code(words, column_at(access, i));
         }
-        Some(KeyWords { words: tuple, len })
+        Some(KeyCodes { words: tuple, len })
     }
 
     pub fn as_slice(&self) -> &[u64]
         ensures { result.now ≡ self.now }
     {
-        &self.words[..self.len]
+        &self.codes[..self.len]
     }
 }
 

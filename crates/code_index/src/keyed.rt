@@ -7,22 +7,22 @@ ghost use Rattle.code_index.specs.Codes.{AreDistinct};
 ghost use Rattle.code_index.specs.Reading.{read, read_index, pick, AllKnown, Spells, IsInOrderFor, words_at, word_in};
 ghost use Rattle.code_index.specs.Taking.{CountsWhere, HoldsWhere};
 
-use crate::asked::{AskedRow, AskedWords};
+use crate::asked::{AskedCodes, AskedRow};
 use crate::group::{count_down, count_up, has_room, of_one, put_copy};
 use crate::interner::Interner;
-use crate::own_words::{GroupKey, OwnWords};
+use crate::own_words::{GroupKey, OwnCodes};
 use crate::tuples::Group;
-use crate::words::word_of;
+use crate::words::tuple_code;
 use beas_core::{Access, ColumnId, Duplicate, List, NoMemory};
 use indexmap::IndexMap;
-use marked_list::TupleWords;
+use labelled_list::TupleCodes;
 use seeded_hash::SeededHashing;
 use std::alloc::Global;
 use std::marker::Model;
 
 /// The index of one access constraint over rows of codes.
 #[derive(Drop)]
-pub struct KeyedIndex<W: OwnWords> {
+pub struct KeyedIndex<W: OwnCodes> {
     access: Access,
     total: u32,
     groups: IndexMap<GroupKey<W>, Group, SeededHashing>,
@@ -32,9 +32,9 @@ pub struct KeyedIndex<W: OwnWords> {
 pub type FixedIndex<const K: usize> = KeyedIndex<[u64; K]>;
 
 /// The index of one access constraint whose key has up to 64 columns.
-pub type LongIndex = KeyedIndex<TupleWords>;
+pub type LongIndex = KeyedIndex<TupleCodes>;
 
-impl<W: OwnWords> Model for KeyedIndex<W> {
+impl<W: OwnCodes> Model for KeyedIndex<W> {
     ghost use Rattle.std.specs.Prelude.{◌≡◌, ◌≤◌, length};
     ghost use Rattle.code_index.specs.Reading.{WordIndex, IsOrdered};
 
@@ -48,7 +48,7 @@ impl<W: OwnWords> Model for KeyedIndex<W> {
 
 /// An index has these three fields and no other, so each tuple in its group alone: with a further field this would not
 /// compile.
-fn index_fields<W: OwnWords>(index: &KeyedIndex<W>) {
+fn index_fields<W: OwnCodes>(index: &KeyedIndex<W>) {
     let KeyedIndex {
         access: _access,
         total: _total,
@@ -57,7 +57,7 @@ fn index_fields<W: OwnWords>(index: &KeyedIndex<W>) {
 }
 
 /// The same groups under the same keys.
-fn copy_groups<W: OwnWords>(
+fn copy_groups<W: OwnCodes>(
     alloc: Global,
     groups: &IndexMap<GroupKey<W>, Group, SeededHashing>,
 ) -> Result<IndexMap<GroupKey<W>, Group, SeededHashing>, NoMemory>
@@ -73,7 +73,7 @@ fn copy_groups<W: OwnWords>(
     Ok(copy)
 }
 
-impl<W: OwnWords> KeyedIndex<W> {
+impl<W: OwnCodes> KeyedIndex<W> {
     /// An index of no rows. Its keys will be hashed with the seed 0.
     pub fn new(alloc: Global, access: Access) -> KeyedIndex<W>
         requires { W.fits (length access.key) }
@@ -247,7 +247,7 @@ impl<W: OwnWords> KeyedIndex<W> {
     {
         // Read for what its type tells: there are fewer than 2^32 rows, and so fewer tuples in each group.
         let _in_range = self.total;
-        match self.groups.get_index_of(AskedWords { words: key }) {
+        match self.groups.get_index_of(AskedCodes { codes: key }) {
             None => None,
             Some(index) => Some((index as u64, self.groups[index].len() as u32)),
         }
@@ -261,7 +261,7 @@ impl<W: OwnWords> KeyedIndex<W> {
         ensures { result ≡ word_in (member_columns self.now.access) (slice_index_or (words_at self.now place) i []) column }
     {
         let group = &self.groups[place as usize];
-        word_of(&self.access, group.words(i as usize), column)
+        tuple_code(&self.access, group.codes(i as usize), column)
     }
 
     /// The size of the greatest group, 0 where there is none. It takes no memory.

@@ -16,4 +16,4 @@ mod words;
 pub use interner::Interner;
 pub use key::known_codes;
 pub use keyed::{FixedIndex, LongIndex};
-pub use spelling::{interned_words, known_words};
+pub use spelling::{interned_row, row_codes};

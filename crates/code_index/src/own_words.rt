@@ -1,20 +1,20 @@
-// What holds the words of a group's key: an array where their number is fixed, else `TupleWords`.
+// What holds the words of a group's key: an array where their number is fixed, else `TupleCodes`.
 ghost use Rattle.std.specs.Prelude.{◌≡◌, ◌≤◌, ℕ, List, length, nat_eq, IfOk};
 ghost use Rattle.std.specs.Cmp.{partial_equiv_from_equiv};
 ghost use Rattle.std.specs.Cmp.Lexicographic.{pointwise, nat_list_eq_equiv};
 ghost use Rattle.std.specs.Hash as fed;
-ghost use Rattle.marked_list.specs.Hashing.{words_alike};
+ghost use Rattle.labelled_list.specs.Hashing.{words_alike};
 ghost use Rattle.code_index.specs.Reading.{pick};
 
-use crate::words::{key_of, push_words};
+use crate::words::{key_of, push_codes};
 use beas_core::{ColumnId, Duplicate, NoMemory};
-use marked_list::TupleWords;
+use labelled_list::TupleCodes;
 use std::alloc::Global;
 use std::hash::{Hash, Hasher};
 use std::marker::Model;
 
-/// What holds the words of a key: an array where their number is fixed, else `TupleWords`.
-pub trait OwnWords: Drop {
+/// What holds the words of a key: an array where their number is fixed, else `TupleCodes`.
+pub trait OwnCodes: Drop {
     ghost seen: { Self → List ℕ };
 
     ghost fits: { ℕ → Type 0 };
@@ -34,7 +34,7 @@ pub trait OwnWords: Drop {
 }
 
 /// Exactly `K` words, in place. They take no memory.
-impl<const K: usize> OwnWords for [u64; K] {
+impl<const K: usize> OwnCodes for [u64; K] {
     ghost seen = { λ s. s };
 
     ghost fits = { λ n. n ≡ K };
@@ -53,7 +53,7 @@ impl<const K: usize> OwnWords for [u64; K] {
 }
 
 /// Up to 64 words, as many as a key can have.
-impl OwnWords for TupleWords {
+impl OwnCodes for TupleCodes {
     ghost seen = { λ s. s };
 
     ghost fits = { λ n. n ≤ 64 };
@@ -62,24 +62,24 @@ impl OwnWords for TupleWords {
         self.as_slice()
     }
 
-    fn of_row(alloc: Global, columns: &[ColumnId], words: &[u64]) -> Result<TupleWords, NoMemory> {
+    fn of_row(alloc: Global, columns: &[ColumnId], words: &[u64]) -> Result<TupleCodes, NoMemory> {
         let mut key = Vec::with_capacity(alloc, columns.len())?;
-        push_words(&mut key, columns, words)?;
-        Ok(TupleWords::from_vec(key))
+        push_codes(&mut key, columns, words)?;
+        Ok(TupleCodes::from_vec(key))
     }
 
-    fn copy(&self, alloc: Global) -> Result<TupleWords, NoMemory> {
+    fn copy(&self, alloc: Global) -> Result<TupleCodes, NoMemory> {
         Duplicate::copy(self, alloc)
     }
 }
 
 /// The key of a group, seen as its words.
 #[derive(Drop)]
-pub struct GroupKey<W: OwnWords> {
+pub struct GroupKey<W: OwnCodes> {
     own: W,
 }
 
-impl<W: OwnWords> Model for GroupKey<W> {
+impl<W: OwnCodes> Model for GroupKey<W> {
     ghost use Rattle.std.specs.Prelude.{List, ℕ};
 
     ghost Value = { List ℕ };
@@ -87,7 +87,7 @@ impl<W: OwnWords> Model for GroupKey<W> {
     ghost view = { λ s. W.seen s.own };
 }
 
-impl<W: OwnWords> GroupKey<W> {
+impl<W: OwnCodes> GroupKey<W> {
     /// The key of a row.
     pub fn of_row(
         alloc: Global,
@@ -119,7 +119,7 @@ impl<W: OwnWords> GroupKey<W> {
     }
 }
 
-impl<W: OwnWords> PartialEq for GroupKey<W> {
+impl<W: OwnCodes> PartialEq for GroupKey<W> {
     ghost eq = { pointwise nat_eq };
 
     ghost laws = { partial_equiv_from_equiv nat_list_eq_equiv };
@@ -129,11 +129,11 @@ impl<W: OwnWords> PartialEq for GroupKey<W> {
     }
 }
 
-impl<W: OwnWords> Eq for GroupKey<W> {
+impl<W: OwnCodes> Eq for GroupKey<W> {
     ghost laws = { nat_list_eq_equiv };
 }
 
-impl<W: OwnWords> Hash for GroupKey<W> {
+impl<W: OwnCodes> Hash for GroupKey<W> {
     ghost hash_input = { fed.slice fed.u64 };
 
     ghost respects_eq = { words_alike };

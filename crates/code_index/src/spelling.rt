@@ -66,7 +66,7 @@ fn interned_in(
 /// The codes of a row's values in the columns of a constraint's tuples, each at the place of its column, or none where
 /// one of the values was never interned. It takes no memory.
 #[tactic(auto, using(crate::proofs::Members::members_long))]
-pub fn known_words(codes: &Interner, access: &Access, row: &[Value]) -> Option<[u64; 64]>
+pub fn row_codes(codes: &Interner, access: &Access, row: &[Value]) -> Option<[u64; 64]>
     requires { AccessIsWellFormed 64 access.now }
     ensures { MatchOption result (AllHaveCodes codes.now (project (member_columns access.now) row.now) → ⊥)
         (λ words. Spells codes.now (member_columns access.now) words row.now) }
@@ -85,7 +85,7 @@ pub fn known_words(codes: &Interner, access: &Access, row: &[Value]) -> Option<[
 /// The codes of a row's values in the columns of a constraint's tuples, each at the place of its column. Values that
 /// weren't interned yet are, and all others keep their codes.
 #[tactic(auto, using(crate::proofs::Members::members_long))]
-pub fn interned_words(
+pub fn interned_row(
     alloc: Global,
     codes: &mut Interner,
     access: &Access,

@@ -3,17 +3,17 @@ ghost use Rattle.std.specs.Prelude.{◌≡◌, ◌≢◌, ◌+◌, ◌<◌, ◌�
 ghost use Rattle.std.specs.List.{AllByRecursion};
 ghost use Rattle.std.specs.List.Sorted.{IsPartitionedBy};
 ghost use Rattle.beas_core.specs.Groups.{member_columns};
-ghost use Rattle.marked_list.specs.Marks.{AreDistinct};
-ghost use Rattle.marked_list.specs.declared.coded.Coded.{Coded};
+ghost use Rattle.labelled_list.specs.Labels.{AreDistinct};
+ghost use Rattle.labelled_list.specs.declared.coded.Coded.{Coded};
 ghost use Rattle.code_index.specs.Forms.{tuples_of};
 ghost use Rattle.code_index.specs.Reading.{pick};
 
 use crate::form::Form;
-use crate::key::KeyWords;
+use crate::key::KeyCodes;
 use crate::words::is_tuple;
 use beas_core::{Access, Duplicate, NoMemory};
 use blocked_list::{Before, BlockedList};
-use marked_list::{Coded, MarkedList, TupleWords};
+use labelled_list::{Coded, LabelledList, TupleCodes};
 use seeded_hash::SeededHashing;
 use std::alloc::Global;
 use std::marker::Model;
@@ -35,7 +35,7 @@ pub struct Group {
 
 impl Model for Group {
     ghost use Rattle.std.specs.Prelude.{List};
-    ghost use Rattle.marked_list.specs.declared.coded.Coded.{Coded};
+    ghost use Rattle.labelled_list.specs.declared.coded.Coded.{Coded};
     ghost use Rattle.code_index.specs.Forms.{tuples_of};
 
     ghost Value = { List Coded };
@@ -54,23 +54,12 @@ struct CodedPlace<'a, B> {
     wanted: &'a B,
 }
 
-impl<B: Before<TupleWords>> Before<Coded> for CodedPlace<'_, B> {
-    ghost before = { λ place coded. B.before place.wanted.now coded.words };
+impl<B: Before<TupleCodes>> Before<Coded> for CodedPlace<'_, B> {
+    ghost before = { λ place coded. B.before place.wanted.now coded.codes };
 
     fn is_before(&self, coded: &Coded) -> bool {
-        self.wanted.is_before(&coded.words)
+        self.wanted.is_before(&coded.codes)
     }
-}
-
-/// A copy of the tuples of a short group.
-fn copy_short(alloc: Global, tuples: &BlockedList<Coded>) -> Result<BlockedList<Coded>, NoMemory>
-    ensures { IfOk result (λ copy. copy ≡ tuples.now) }
-{
-    let mut copy = BlockedList::new(alloc);
-    for i in 0..tuples.len() {
-        copy.insert(alloc, i, tuples.get(i).copy(alloc)?)?;
-    }
-    Ok(copy)
 }
 
 impl Group {
@@ -91,18 +80,18 @@ impl Group {
     {
         match &self.form {
             Form::Short(tuples) => tuples.len(),
-            Form::Marked(tuples) => tuples.len(),
+            Form::Labelled(tuples) => tuples.len(),
         }
     }
 
     /// The words of the tuple at a place. It takes no memory.
-    pub fn words(&self, at: usize) -> &[u64]
+    pub fn codes(&self, at: usize) -> &[u64]
         requires { at < length self.now }
-        ensures { (d : Coded) → result.now ≡ (slice_index_or self.now at d).words }
+        ensures { (d : Coded) → result.now ≡ (slice_index_or self.now at d).codes }
     {
         match &self.form {
-            Form::Short(tuples) => tuples.get(at).words.as_slice(),
-            Form::Marked(tuples) => tuples.words(at),
+            Form::Short(tuples) => tuples.get(at).codes.as_slice(),
+            Form::Labelled(tuples) => tuples.codes(at),
         }
     }
 
@@ -113,30 +102,30 @@ impl Group {
     {
         match &self.form {
             Form::Short(tuples) => tuples.get(at).count,
-            Form::Marked(tuples) => tuples.count(at),
+            Form::Labelled(tuples) => tuples.count(at),
         }
     }
 
     /// How many tuples stand before a place, where they are the first ones. It takes no memory.
-    pub fn place_of<B: Before<TupleWords>>(&self, wanted: &B) -> usize
-        requires { IsPartitionedBy (λ (tuple : Coded). B.before wanted.now tuple.words) self.now }
-        ensures { result ≡ length (filter (λ (tuple : Coded). B.before wanted.now tuple.words) self.now) }
+    pub fn partition_point<B: Before<TupleCodes>>(&self, wanted: &B) -> usize
+        requires { IsPartitionedBy (λ (tuple : Coded). B.before wanted.now tuple.codes) self.now }
+        ensures { result ≡ length (filter (λ (tuple : Coded). B.before wanted.now tuple.codes) self.now) }
     {
         match &self.form {
-            Form::Short(tuples) => tuples.place_of(&CodedPlace { wanted }),
-            Form::Marked(tuples) => tuples.place_of(wanted),
+            Form::Short(tuples) => tuples.partition_point(&CodedPlace { wanted }),
+            Form::Labelled(tuples) => tuples.partition_point(wanted),
         }
     }
 
     /// Where a row's tuple is, by a look at each.
     fn scan(&self, access: &Access, words: &[u64]) -> Option<usize>
         ensures { MatchOption result
-            (AllByRecursion (λ (tuple : Coded). tuple.words ≢ pick (member_columns access.now) words.now) self.now)
+            (AllByRecursion (λ (tuple : Coded). tuple.codes ≢ pick (member_columns access.now) words.now) self.now)
             (λ at. (at < length self.now)
-            × ((d : Coded) → (slice_index_or self.now at d).words ≡ pick (member_columns access.now) words.now)) }
+            × ((d : Coded) → (slice_index_or self.now at d).codes ≡ pick (member_columns access.now) words.now)) }
     {
         for i in 0..self.len() {
-            if is_tuple(self.words(i), access, words) {
+            if is_tuple(self.codes(i), access, words) {
                 return Some(i);
             }
         }
@@ -148,13 +137,13 @@ impl Group {
     #[inline(never)]
     fn wide_position_of(&self, access: &Access, words: &[u64]) -> Option<usize>
         ensures { MatchOption result
-            (AllByRecursion (λ (tuple : Coded). tuple.words ≢ pick (member_columns access.now) words.now) self.now)
+            (AllByRecursion (λ (tuple : Coded). tuple.codes ≢ pick (member_columns access.now) words.now) self.now)
             (λ at. (at < length self.now)
-            × ((d : Coded) → (slice_index_or self.now at d).words ≡ pick (member_columns access.now) words.now)) }
+            × ((d : Coded) → (slice_index_or self.now at d).codes ≡ pick (member_columns access.now) words.now)) }
     {
         match &self.form {
             Form::Short(_) => self.scan(access, words),
-            Form::Marked(tuples) => match KeyWords::<MANY>::tuple(access, words) {
+            Form::Labelled(tuples) => match KeyCodes::<MANY>::tuple(access, words) {
                 Some(tuple) => tuples.position_of(tuple.as_slice()),
                 None => self.scan(access, words),
             },
@@ -165,13 +154,13 @@ impl Group {
     /// mark. It takes no memory.
     pub fn position_of(&self, access: &Access, words: &[u64]) -> Option<usize>
         ensures { MatchOption result
-            (AllByRecursion (λ (tuple : Coded). tuple.words ≢ pick (member_columns access.now) words.now) self.now)
+            (AllByRecursion (λ (tuple : Coded). tuple.codes ≢ pick (member_columns access.now) words.now) self.now)
             (λ at. (at < length self.now)
-            × ((d : Coded) → (slice_index_or self.now at d).words ≡ pick (member_columns access.now) words.now)) }
+            × ((d : Coded) → (slice_index_or self.now at d).codes ≡ pick (member_columns access.now) words.now)) }
     {
         match &self.form {
             Form::Short(_) => self.scan(access, words),
-            Form::Marked(tuples) => match KeyWords::<FEW>::tuple(access, words) {
+            Form::Labelled(tuples) => match KeyCodes::<FEW>::tuple(access, words) {
                 Some(tuple) => tuples.position_of(tuple.as_slice()),
                 None => self.wide_position_of(access, words),
             },
@@ -185,15 +174,15 @@ impl Group {
         ensures { self.new ≡ self.old }
     {
         let tuples = match &self.form {
-            Form::Marked(_) => return Ok(()),
+            Form::Labelled(_) => return Ok(()),
             Form::Short(tuples) => {
                 if tuples.len() < SHORT {
                     return Ok(());
                 }
-                MarkedList::over(alloc, hashing, tuples)?
+                LabelledList::over(alloc, hashing, tuples)?
             }
         };
-        self.form = Form::Marked(Box::new(alloc, tuples)?);
+        self.form = Form::Labelled(Box::new(alloc, tuples)?);
         Ok(())
     }
 
@@ -209,14 +198,14 @@ impl Group {
         requires within { at ≤ length self.old }
         requires room { length self.old + 1 < 2 ^ 32 }
         requires distinct { AreDistinct self.old }
-        requires absent { AllByRecursion (λ (item : Coded). item.words ≢ tuple.words) self.old }
+        requires absent { AllByRecursion (λ (item : Coded). item.codes ≢ tuple.codes) self.old }
         ensures ok { OnOk result (self.new ≡ insert self.old at tuple) }
         ensures err { OnErr result (self.new ≡ self.old) }
     {
         self.widen(alloc, hashing)?;
         match &mut self.form {
             Form::Short(tuples) => tuples.insert(alloc, at, tuple),
-            Form::Marked(tuples) => tuples.insert(alloc, at, tuple),
+            Form::Labelled(tuples) => tuples.insert(alloc, at, tuple),
         }
     }
 
@@ -224,11 +213,11 @@ impl Group {
     pub fn recount(&mut self, at: usize, count: u32)
         requires { at < length self.old }
         ensures { (d : Coded) → self.new
-            ≡ slice_set self.old at (record { words = (slice_index_or self.old at d).words; count = count }) }
+            ≡ slice_set self.old at (record { codes = (slice_index_or self.old at d).codes; count = count }) }
     {
         match &mut self.form {
             Form::Short(tuples) => tuples.recount(at, count),
-            Form::Marked(tuples) => tuples.recount(at, count),
+            Form::Labelled(tuples) => tuples.recount(at, count),
         }
     }
 
@@ -239,7 +228,7 @@ impl Group {
     {
         match &mut self.form {
             Form::Short(tuples) => tuples.remove(at),
-            Form::Marked(tuples) => tuples.remove(at),
+            Form::Labelled(tuples) => tuples.remove(at),
         }
     }
 
@@ -248,8 +237,8 @@ impl Group {
         ensures { IfOk result (λ copy. copy ≡ self.now) }
     {
         let form = match &self.form {
-            Form::Short(tuples) => Form::Short(copy_short(alloc, tuples)?),
-            Form::Marked(tuples) => Form::Marked(Box::new(alloc, tuples.copy(alloc)?)?),
+            Form::Short(tuples) => Form::Short(tuples.copy(alloc)?),
+            Form::Labelled(tuples) => Form::Labelled(Box::new(alloc, tuples.copy(alloc)?)?),
         };
         Ok(Group { form })
     }

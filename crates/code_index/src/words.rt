@@ -3,11 +3,11 @@ ghost use Rattle.std.specs.Prelude.{◌≡◌, ◌<◌, ◌≤◌, ℕ, List, le
 ghost use Rattle.beas_core.specs.Order.{row_cmp, value_cmp};
 ghost use Rattle.beas_core.specs.Groups.{has_column, member_columns};
 ghost use Rattle.code_index.specs.Codes.{value_of};
-ghost use Rattle.code_index.specs.Reading.{read, word_at, word_in, pick};
+ghost use Rattle.code_index.specs.Reading.{read, row_code, word_in, pick};
 
 use crate::interner::Interner;
 use beas_core::{Access, ColumnId, NoMemory, Value, compare};
-use marked_list::TupleWords;
+use labelled_list::TupleCodes;
 use std::alloc::Global;
 use std::cmp::Ordering;
 
@@ -35,8 +35,8 @@ pub fn column_at(access: &Access, i: usize) -> ColumnId
 }
 
 /// The word of a row in a column. A column that the row doesn't have counts as 0.
-pub fn word_at(words: &[u64], column: ColumnId) -> u64
-    ensures { result ≡ word_at words.now column }
+pub fn row_code(words: &[u64], column: ColumnId) -> u64
+    ensures { result ≡ row_code words.now column }
 {
     match words.get(column.0 as usize) {
         Some(word) => *word,
@@ -72,7 +72,7 @@ pub fn compare_tuple(codes: &Interner, left: &[u64], access: &Access, words: &[u
         if !has_place(access, i) {
             return Ordering::Greater;
         }
-        let order = compare_codes(codes, *code, word_at(words, column_at(access, i)));
+        let order = compare_codes(codes, *code, row_code(words, column_at(access, i)));
         if order != Ordering::Equal {
             return order;
         }
@@ -91,7 +91,7 @@ pub fn is_tuple(tuple: &[u64], access: &Access, words: &[u64]) -> bool
         if !has_place(access, i) {
             return false;
         }
-        if *word != word_at(words, column_at(access, i)) {
+        if *word != row_code(words, column_at(access, i)) {
             return false;
         }
     }
@@ -99,24 +99,24 @@ pub fn is_tuple(tuple: &[u64], access: &Access, words: &[u64]) -> bool
 }
 
 /// Adds a row's words in some columns to a tuple.
-pub fn push_words(tuple: &mut Vec<u64>, columns: &[ColumnId], words: &[u64]) -> Result<(), NoMemory>
+pub fn push_codes(tuple: &mut Vec<u64>, columns: &[ColumnId], words: &[u64]) -> Result<(), NoMemory>
     ensures { OnOk result (tuple.new.items ≡ tuple.old.items ++ pick columns.now words.now) }
 {
     for column in columns {
-        tuple.push(word_at(words, *column))?;
+        tuple.push(row_code(words, *column))?;
     }
     Ok(())
 }
 
 /// The words of a row's tuple.
-pub fn tuple_words(alloc: Global, access: &Access, words: &[u64]) -> Result<TupleWords, NoMemory>
+pub fn tuple_codes(alloc: Global, access: &Access, words: &[u64]) -> Result<TupleCodes, NoMemory>
     ensures { IfOk result (λ tuple. tuple ≡ pick (member_columns access.now) words.now) }
 {
     let width = access.key.len().saturating_add(access.fetched.len());
     let mut tuple = Vec::with_capacity(alloc, width)?;
-    push_words(&mut tuple, access.key.as_slice(), words)?;
-    push_words(&mut tuple, access.fetched.as_slice(), words)?;
-    Ok(TupleWords::from_vec(tuple))
+    push_codes(&mut tuple, access.key.as_slice(), words)?;
+    push_codes(&mut tuple, access.fetched.as_slice(), words)?;
+    Ok(TupleCodes::from_vec(tuple))
 }
 
 /// The words of a row in the columns of a key.
@@ -126,13 +126,13 @@ pub fn key_of<const K: usize>(columns: &[ColumnId], words: &[u64]) -> [u64; K]
 {
     let mut key = [0; K];
     for (i, column) in columns.iter().enumerate() {
-        key[i] = word_at(words, *column);
+        key[i] = row_code(words, *column);
     }
     key
 }
 
 /// A column's word of a tuple.
-pub fn word_of(access: &Access, tuple: &[u64], column: ColumnId) -> u64
+pub fn tuple_code(access: &Access, tuple: &[u64], column: ColumnId) -> u64
     requires width { length tuple.now ≡ length (member_columns access.now) }
     requires column { IsTrue (has_column (member_columns access.now) column) }
     ensures { result ≡ word_in (member_columns access.now) tuple.now column }

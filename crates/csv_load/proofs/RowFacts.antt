@@ -71,7 +71,7 @@ row_by_slots longest [] header fields = refl
 row_by_slots longest (c ∷ cs) header fields = by (place_of header c) (row_by_slots longest cs header fields)
   where
     by : (o : Option ℕ) → row_of_slots longest (slots_of cs header) fields ≡ row_in longest cs header fields
-        → row_of_slots longest (cons_option (option_map (λ place. record { place = place; kind = c.kind }) o) (slots_of cs header)) fields
+        → row_of_slots longest (cons_option (option_map (λ place. record { position = place; kind = c.kind }) o) (slots_of cs header)) fields
         ≡ cons_option (option_and_then (cell longest c.kind) (option_and_then (slice_get fields) o)) (row_in longest cs header fields)
     by None e = e
     by (Some place) e = ap (cons_option (option_and_then (cell longest c.kind) (slice_get fields place))) e

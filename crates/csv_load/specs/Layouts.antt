@@ -18,13 +18,13 @@ abbrev pub the_columns : List (Bor Column) → List Column
 the_columns columns = map (λ column. column.now) columns
 
 abbrev pub slot_of : Record → Column → Option Slot
-slot_of header column = option_map (λ place. record { place = place; kind = column.kind }) (place_of header column)
+slot_of header column = option_map (λ place. record { position = place; kind = column.kind }) (place_of header column)
 
 abbrev pub slots_of : List Column → Record → List Slot
 slots_of columns header = filter_map (slot_of header) columns
 
 abbrev pub value_at : ℕ → Record → Slot → Option Value
-value_at longest fields slot = option_and_then (cell longest slot.kind) (slice_get fields slot.place)
+value_at longest fields slot = option_and_then (cell longest slot.kind) (slice_get fields slot.position)
 
 abbrev pub row_of_slots : ℕ → List Slot → Record → List Value
 row_of_slots longest slots fields = filter_map (value_at longest fields) slots

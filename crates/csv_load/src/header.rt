@@ -15,7 +15,7 @@ use std::alloc::Global;
 /// Where a column of the table stands in the file, and what its values are.
 #[derive(Clone, Copy)]
 pub struct Slot {
-    pub place: usize,
+    pub position: usize,
     pub kind: ColType,
 }
 
@@ -117,7 +117,7 @@ fn slots_of(
     for column in columns {
         match place_of(header, column) {
             Some(place) => slots.push(Slot {
-                place,
+                position: place,
                 kind: column.kind,
             })?,
             None => return Ok(None),

@@ -48,7 +48,7 @@ fn value_at(
 ) -> Result<Option<Value>, NoMemory>
     ensures { IfOk result (λ value. value ≡ value_in_slot longest (fields_of fields.now) slot.now) }
 {
-    match field_at(fields, slot.place) {
+    match field_at(fields, slot.position) {
         Some(field) => value_of(alloc, field, slot.kind, longest),
         None => Ok(None),
     }

@@ -111,7 +111,7 @@ idle_stands prepared (Subtract ∷ os) k stack = refl
 
 -- before the first operation
 pub first_course : (prepared : Prepared) → prepared.bound < 2 ^ 128 → (course : Course)
-    → course.operations ≡ operations_in prepared.guided 0 0 None prepared.query → course.place ≡ 0 → course.stack.items ≡ [] → course.finished ≡ []
+    → course.operations ≡ operations_in prepared.guided 0 0 None prepared.query → course.position ≡ 0 → course.stack.items ≡ [] → course.finished ≡ []
     → course.walk ≡ None → IsCourse prepared course
 first_course prepared small course operations place stack finished idle =
     let left : left_of course ≡ operations_in prepared.guided 0 0 None prepared.query = ap (λ k. drop k course.operations) place ∙ operations in record {
@@ -129,13 +129,13 @@ first_fetched course finished idle = ap (λ ws. finished_from 0 ws ++ of_block (
 
 -- the answers that are joined stand for the last two
 module _ (prepared : Prepared) (old new : Course) (is : IsCourse prepared old) (operations : new.operations ≡ old.operations)
-    (next : new.place ≡ old.place + 1) (finished : new.finished ≡ old.finished) (under_way : new.walk ≡ old.walk) (rest : List Operation)
-    (rest_is : rest ≡ drop (old.place + 1) old.operations) where
+    (next : new.position ≡ old.position + 1) (finished : new.finished ≡ old.finished) (under_way : new.walk ≡ old.walk) (rest : List Operation)
+    (rest_is : rest ≡ drop (old.position + 1) old.operations) where
   abbrev n : ℕ
   n = length old.finished
 
   left_new : left_of new ≡ rest
-  left_new = ap (λ os. drop new.place os) operations ∙ ap (λ k. drop k old.operations) next ∙ sym rest_is
+  left_new = ap (λ os. drop new.position os) operations ∙ ap (λ k. drop k old.operations) next ∙ sym rest_is
 
   fetched_same : fetched_by new ≡ fetched_by old
   fetched_same =
@@ -164,36 +164,36 @@ module _ (prepared : Prepared) (old new : Course) (is : IsCourse prepared old) (
 
 -- where answers are joined, two stand
 pub two_stand : (prepared : Prepared) (old : Course) → IsCourse prepared old → (w : World) → IsWorld w prepared → AllAgree w prepared (fetched_by old)
-    → (slice_get old.operations old.place ≡ Some Unite) ⊎ (slice_get old.operations old.place ≡ Some Subtract) → LastTwo old.stack.items
+    → (slice_get old.operations old.position ≡ Some Unite) ⊎ (slice_get old.operations old.position ≡ Some Subtract) → LastTwo old.stack.items
 two_stand prepared old is w world agree at =
     let rows = query_answers w.rows prepared.guided prepared.query in
     let before = is.remains w world (agree_left w prepared (finished_from 0 old.finished) (of_block (length old.finished) (walk_fetched old.walk)) agree) in
     elim at [
       | inl e ↦ (subst (λ os. Runs w prepared (length old.finished) os old.stack.items before.later rows)
-          (at_place old.operations old.place Unite e) before.runs).0
+          (at_place old.operations old.position Unite e) before.runs).0
       | inr e ↦ (subst (λ os. Runs w prepared (length old.finished) os old.stack.items before.later rows)
-          (at_place old.operations old.place Subtract e) before.runs).0
+          (at_place old.operations old.position Subtract e) before.runs).0
     ]
 
 -- the last two answers are united, or subtracted
 module _ (prepared : Prepared) (old new : Course) (is : IsCourse prepared old) (operations : new.operations ≡ old.operations)
-    (next : new.place ≡ old.place + 1) (finished : new.finished ≡ old.finished) (under_way : new.walk ≡ old.walk) where
+    (next : new.position ≡ old.position + 1) (finished : new.finished ≡ old.finished) (under_way : new.walk ≡ old.walk) where
   abbrev rest : List Operation
-  rest = drop (old.place + 1) old.operations
+  rest = drop (old.position + 1) old.operations
 
-  pub united_course : slice_get old.operations old.place ≡ Some Unite → IsJoined set_union old.stack.items new.stack.items → IsCourse prepared new
+  pub united_course : slice_get old.operations old.position ≡ Some Unite → IsJoined set_union old.stack.items new.stack.items → IsCourse prepared new
   united_course at joined =
-      let left = at_place old.operations old.place Unite at in
+      let left = at_place old.operations old.position Unite at in
       moved_course prepared old new is operations next finished under_way rest refl
       (subst (λ os. WalkStands prepared (length old.finished) os old.stack.items old.walk) left is.walk)
       (λ w world later rows run.
       let ran = subst (λ os. Runs w prepared (length old.finished) os old.stack.items later rows) left run in
       subst (λ stack. Runs w prepared (length old.finished) rest stack later rows) (sym (joined ran.0)) ran.1)
 
-  pub subtracted_course : slice_get old.operations old.place ≡ Some Subtract → IsJoined set_difference old.stack.items new.stack.items
+  pub subtracted_course : slice_get old.operations old.position ≡ Some Subtract → IsJoined set_difference old.stack.items new.stack.items
       → IsCourse prepared new
   subtracted_course at joined =
-      let left = at_place old.operations old.place Subtract at in
+      let left = at_place old.operations old.position Subtract at in
       moved_course prepared old new is operations next finished under_way rest refl
       (subst (λ os. WalkStands prepared (length old.finished) os old.stack.items old.walk) left is.walk)
       (λ w world later rows run.
@@ -206,7 +206,7 @@ module _ (prepared : Prepared) (old new : Course) (is : IsCourse prepared old) (
 -- ---- a block
 
 module _ (prepared : Prepared) (old : Course) (is : IsCourse prepared old) (place : Option ℕ)
-    (at : slice_get old.operations old.place ≡ Some (Block place)) where
+    (at : slice_get old.operations old.position ≡ Some (Block place)) where
   abbrev number : ℕ
   number = length old.finished
 
@@ -217,7 +217,7 @@ module _ (prepared : Prepared) (old : Course) (is : IsCourse prepared old) (plac
   r = route_at prepared number guide
 
   abbrev further : List Operation
-  further = drop (old.place + 1) old.operations
+  further = drop (old.position + 1) old.operations
 
   abbrev us : List Fetched
   us = walk_fetched old.walk
@@ -226,7 +226,7 @@ module _ (prepared : Prepared) (old : Course) (is : IsCourse prepared old) (plac
   front = finished_from 0 old.finished
 
   left_is : left_of old ≡ Block place ∷ further
-  left_is = at_place old.operations old.place (Block place) at
+  left_is = at_place old.operations old.position (Block place) at
 
   pub standing : StandsOn r old.walk
   standing = subst (λ os. WalkStands prepared number os old.stack.items old.walk) left_is is.walk
@@ -395,10 +395,10 @@ module _ (prepared : Prepared) (old : Course) (is : IsCourse prepared old) (plac
 
   -- its walk goes on
   module _ (found : Walk) (tidy : IsTidy r found) (stands : Stands r found) (new : Course) (operations : new.operations ≡ old.operations)
-      (same_place : new.place ≡ old.place) (stack : new.stack.items ≡ old.stack.items) (finished : new.finished ≡ old.finished)
+      (same_place : new.position ≡ old.position) (stack : new.stack.items ≡ old.stack.items) (finished : new.finished ≡ old.finished)
       (under_way : new.walk ≡ Some found) where
     left_stays : left_of new ≡ left_of old
-    left_stays = ap (λ os. drop new.place os) operations ∙ ap (λ k. drop k old.operations) same_place
+    left_stays = ap (λ os. drop new.position os) operations ∙ ap (λ k. drop k old.operations) same_place
 
     pub going_fetched : fetched_by new ≡ front ++ of_block number (fetched_in found)
     going_fetched =
@@ -420,10 +420,10 @@ module _ (prepared : Prepared) (old : Course) (is : IsCourse prepared old) (plac
   module _ (found : Walk) (same : fetched_in found ≡ us)
       (all_made : (v : World) → IsSoundIn v r → AgreesWith v r.steps us → all_probes v r ≡ made us) (rows : List Row)
       (answered : (v : World) → IsSoundIn v r → AgreesWith v r.steps (fetched_in found) → rows ≡ block_rows v prepared number guide)
-      (new : Course) (operations : new.operations ≡ old.operations) (next : new.place ≡ old.place + 1)
+      (new : Course) (operations : new.operations ≡ old.operations) (next : new.position ≡ old.position + 1)
       (stack : new.stack.items ≡ old.stack.items ++ rows ∷ []) (finished : new.finished ≡ old.finished ++ found ∷ []) (idle : new.walk ≡ None) where
     left_further : left_of new ≡ further
-    left_further = ap (λ os. drop new.place os) operations ∙ ap (λ k. drop k old.operations) next
+    left_further = ap (λ os. drop new.position os) operations ∙ ap (λ k. drop k old.operations) next
 
     all_finished : finished_from 0 (old.finished ++ found ∷ []) ≡ front ++ of_block number us
     all_finished = finished_more 0 old.finished found ∙ ap (λ k. front ++ of_block k (fetched_in found)) (zero_plus number)

@@ -62,7 +62,7 @@ pub record IsAsked (w : World) (normal : Normal) (own : Guide) (steps : List DSt
   pub agrees : AgreesWith w steps (walk_fetched begun)
 
 module _ (w : World) (prepared : Prepared) (world : IsWorld w prepared) (old : Course) (is : IsCourse prepared old) (place : Option ℕ)
-    (at : slice_get old.operations old.place ≡ Some (Block place)) (agree : AllAgree w prepared (fetched_by old)) where
+    (at : slice_get old.operations old.position ≡ Some (Block place)) (agree : AllAgree w prepared (fetched_by old)) where
   abbrev number : ℕ
   number = length old.finished
 
@@ -72,8 +72,8 @@ module _ (w : World) (prepared : Prepared) (world : IsWorld w prepared) (old : C
   pub block_fits : BlockFits w prepared number guide
   block_fits = block prepared old is place at w world (agree_front prepared old is place at w world agree)
 
-  pub place_inside : old.place < length old.operations
-  place_inside = slice_get_within old.operations old.place (Block place) at
+  pub place_inside : old.position < length old.operations
+  place_inside = slice_get_within old.operations old.position (Block place) at
 
   module _ (normal : Normal) (own : Guide) (steps : List DStep) (normal_is : normal ≡ normal_at prepared number) (own_is : own ≡ guide)
       (steps_is : steps ≡ steps_of prepared number) where
@@ -133,7 +133,7 @@ module _ (w : World) (prepared : Prepared) (world : IsWorld w prepared) (old : C
         here_stands = subst (λ r. Stands r found) route_is stands
 
         -- a probe was made
-        module _ (new : Course) (operations : new.operations ≡ old.operations) (same_place : new.place ≡ old.place)
+        module _ (new : Course) (operations : new.operations ≡ old.operations) (same_place : new.position ≡ old.position)
             (stack : new.stack.items ≡ old.stack.items) (finished : new.finished ≡ old.finished) (under_way : new.walk ≡ Some found) where
           pub step_course : IsCourse prepared new
           step_course = going_course prepared old is place at found here_tidy here_stands new operations same_place stack finished under_way
@@ -155,7 +155,7 @@ module _ (w : World) (prepared : Prepared) (world : IsWorld w prepared) (old : C
 
           module _ (emptied : Walk) (stays : fetched_in emptied ≡ fetched_in found) (rows : List Row) (answered : (v : World) → IsSoundIn v own_route → AgreesWith v steps (fetched_in found)
               → rows ≡ answers_of v.rows normal v.accesses own steps) (new : Course) (operations : new.operations ≡ old.operations)
-              (next : new.place ≡ old.place + 1) (stack : new.stack.items ≡ old.stack.items ++ rows ∷ [])
+              (next : new.position ≡ old.position + 1) (stack : new.stack.items ≡ old.stack.items ++ rows ∷ [])
               (finished : new.finished ≡ old.finished ++ emptied ∷ []) (idle : new.walk ≡ None) where
             here_answered : (v : World) → IsSoundIn v (route_at prepared number guide) → AgreesWith v (steps_of prepared number) (fetched_in emptied)
                 → rows ≡ answers_of v.rows (normal_at prepared number) v.accesses guide (steps_of prepared number)

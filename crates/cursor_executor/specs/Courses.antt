@@ -38,7 +38,7 @@ fetched_by course = finished_from 0 course.finished ++ of_block (length course.f
 -- ---- where it stands
 
 abbrev pub left_of : Course → List Operation
-left_of course = drop course.place course.operations
+left_of course = drop course.position course.operations
 
 pub record Remains (w : World) (prepared : Prepared) (finished : List Walk) (operations : List Operation) (stack : List (List Row)) : Type 0 where
   pub later : List BlockProbe

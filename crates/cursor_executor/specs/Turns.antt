@@ -55,7 +55,7 @@ QuerySpent w prepared fetched before after = (after ≡ before) ⊎ SpentDue w p
 -- an operation that made no probe has run
 pub record HasRun (old new : Course) (before after : ℕ) : Type 0 where
   pub operations : new.operations ≡ old.operations
-  pub next : new.place ≡ old.place + 1
+  pub next : new.position ≡ old.position + 1
   pub same : fetched_by new ≡ fetched_by old
   pub cost : after ≡ before
 

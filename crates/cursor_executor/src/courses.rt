@@ -28,7 +28,7 @@ pub struct Course {
     /// All operations.
     pub operations: List<Operation>,
     /// The operation that is under way, or comes next.
-    pub place: usize,
+    pub position: usize,
     /// The answers that are found and not joined yet.
     pub stack: Vec<List<Row>>,
     /// The walks of the finished blocks, from left to right.
@@ -48,7 +48,7 @@ pub fn course_of(alloc: Global, prepared: &Prepared) -> Result<Course, NoMemory>
     let operations = operations_of(alloc, prepared)?;
     Ok(Course {
         operations,
-        place: 0,
+        position: 0,
         stack: Vec::new(alloc),
         finished: List::new(alloc),
         walk: None,
@@ -143,26 +143,26 @@ fn block_turn<P: AccessPort, L: Ledger>(
 
 // Goes on to the next operation.
 fn go_on(course: &mut Course)
-    requires { course.old.place < length course.old.operations }
+    requires { course.old.position < length course.old.operations }
     ensures operations { course.new.operations ≡ course.old.operations }
-    ensures place { course.new.place ≡ course.old.place + 1 }
+    ensures position { course.new.position ≡ course.old.position + 1 }
     ensures stack { course.new.stack ≡ course.old.stack }
     ensures finished { course.new.finished ≡ course.old.finished }
     ensures walk { course.new.walk ≡ course.old.walk }
 {
     // Read for what its type tells: the number of operations fits.
     let _count = course.operations.len();
-    course.place += 1;
+    course.position += 1;
 }
 
 // Puts a finished block's answers on the stack, and its walk to the others. It stands by itself, so that turns make no room
 // for a walk.
 #[inline(never)]
 fn finish_block(course: &mut Course, rows: List<Row>) -> Result<(), NoMemory>
-    requires place { course.old.place < length course.old.operations }
+    requires position { course.old.position < length course.old.operations }
     requires walk { IsTrue (is_some course.old.walk) }
     ensures operations { course.new.operations ≡ course.old.operations }
-    ensures place { OnOk result (course.new.place ≡ course.old.place + 1) }
+    ensures position { OnOk result (course.new.position ≡ course.old.position + 1) }
     ensures stack { OnOk result (course.new.stack.items ≡ course.old.stack.items ++ rows ∷ []) }
     ensures finished { OnOk result ((walk : Walk) → course.old.walk ≡ Some walk
         → course.new.finished ≡ course.old.finished ++ walk ∷ []) }
@@ -187,7 +187,7 @@ fn step_block<P: AccessPort, L: Ledger>(
     requires fits { IsWorld (world (P.rows port.now) (P.accesses port.now)) prepared.now }
     requires course { IsCourse prepared.now course.old }
     requires agrees { AllAgree (world (P.rows port.now) (P.accesses port.now)) prepared.now (fetched_by course.old) }
-    requires at { slice_get course.old.operations course.old.place ≡ Some (Block place) }
+    requires at { slice_get course.old.operations course.old.position ≡ Some (Block place) }
     ensures course { OnOk result (IsCourse prepared.now course.new) }
     ensures stepped { IfOk result (λ reads. Stepped (world (P.rows port.now) (P.accesses port.now)) prepared.now
         reads course.old course.new steps.old steps.new) }
@@ -246,7 +246,7 @@ fn carry_out<P: AccessPort, L: Ledger>(
     requires fits { IsWorld (world (P.rows port.now) (P.accesses port.now)) prepared.now }
     requires course { IsCourse prepared.now course.old }
     requires agrees { AllAgree (world (P.rows port.now) (P.accesses port.now)) prepared.now (fetched_by course.old) }
-    requires at { slice_get course.old.operations course.old.place ≡ Some operation }
+    requires at { slice_get course.old.operations course.old.position ≡ Some operation }
     ensures course { OnOk result (IsCourse prepared.now course.new) }
     ensures stepped { IfOk result (λ reads. Stepped (world (P.rows port.now) (P.accesses port.now)) prepared.now
         reads course.old course.new steps.old steps.new) }
@@ -286,8 +286,8 @@ pub fn go<P: AccessPort, L: Ledger>(
     ensures spent { OnErr result (QuerySpent (world (P.rows port.now) (P.accesses port.now)) prepared.now
         (fetched_by course.old) steps.old steps.new) }
 {
-    'operations: while course.place < course.operations.len() {
-        let operation = course.operations.as_slice()[course.place];
+    'operations: while course.position < course.operations.len() {
+        let operation = course.operations.as_slice()[course.position];
         let reads = carry_out(alloc, port, prepared, operation, course, steps)?;
         if reads.is_some() {
             return Ok(reads);

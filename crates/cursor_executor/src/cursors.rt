@@ -178,7 +178,7 @@ pub fn cursor_fields(cursor: &Cursor) {
     } = cursor;
     let Course {
         operations: _operations,
-        place: _place,
+        position: _position,
         stack: _stack,
         finished: _finished,
         walk: _walk,

@@ -41,4 +41,4 @@ pub use statements::{fill_scene, report_by, reports, reports_over, statement_of}
 pub use tables::{Fact, Shape, TABLES, column_name, table_name, value};
 pub use trials::{Trial, try_scenes};
 pub use updates::{Batch, Twin, Update, creations, script_of};
-pub use words::{number_at, out_of_memory, word_at};
+pub use words::{argument_at, number_at, out_of_memory};

@@ -8,7 +8,7 @@ pub fn out_of_memory(_: NoMemory) -> io::Error {
 }
 
 /// The word at a place of the command line, counted from 1, which is empty where there are fewer.
-pub fn word_at(rt: &HostRuntime, place: usize) -> io::Result<String> {
+pub fn argument_at(rt: &HostRuntime, place: usize) -> io::Result<String> {
     match env::args(rt)?.nth(place) {
         Some(word) => Ok(word),
         None => Ok(String::new(rt.alloc())),
@@ -17,5 +17,5 @@ pub fn word_at(rt: &HostRuntime, place: usize) -> io::Result<String> {
 
 /// The number that the word at a place is, and 0 where it is none below 2^32.
 pub fn number_at(rt: &HostRuntime, place: usize) -> io::Result<u32> {
-    Ok(word_at(rt, place)?.as_str().parse::<u32>().unwrap_or(0))
+    Ok(argument_at(rt, place)?.as_str().parse::<u32>().unwrap_or(0))
 }

@@ -11,7 +11,7 @@ ghost use Rattle.beas_core.specs.Classes.{normal_of};
 ghost use Rattle.beas_core.specs.Shapes.{BlockIsWellFormed};
 
 use crate::labels::{number_classes, write_labels};
-use crate::needed::mark_block;
+use crate::needed::note_block;
 use crate::places::Places;
 use beas_core::{Block, Duplicate, NoMemory, Normal};
 pub use query_blocks::blocks;
@@ -37,7 +37,7 @@ fn normal_over(
 {
     write_labels(places, block.equalities.as_slice(), labels);
     let count = number_classes(places, labels);
-    mark_block(places, block, used);
+    note_block(places, block, used);
     Ok(Normal {
         atoms: block.atoms.copy(alloc)?,
         classes: places.class_lists(alloc, labels)?,

@@ -79,7 +79,7 @@ fn mark_comparisons(places: &Places<'_>, comparisons: &[Comparison], used: &mut 
 
 /// Marks the places of a block that stand in a condition or in the output.
 #[tactic(auto, using(crate::proofs::Marked::marked_append))]
-pub fn mark_block(places: &Places<'_>, block: &Block, used: &mut [bool])
+pub fn note_block(places: &Places<'_>, block: &Block, used: &mut [bool])
     requires block { BlockIsWellFormed block.now }
     requires atoms { places.now.atoms.now ≡ block.now.atoms }
     requires full { length used.old ≡ places.now.count }

@@ -40,7 +40,7 @@ impl Shelf {
     }
 
     /// Where a name stands.
-    pub fn place(&self, name: &str) -> Option<usize>
+    pub fn position(&self, name: &str) -> Option<usize>
         ensures { result ≡ position (λ e. bytes_eq e.name name.now) self.now }
     {
         self.entries.iter().position(|e| e.name.as_str() == name)
@@ -52,7 +52,7 @@ impl Shelf {
         ensures { MatchOption result (content_of self.now name.now ≡ None)
             (λ b. content_of self.now name.now ≡ Some b.now) }
     {
-        match self.place(name) {
+        match self.position(name) {
             Some(place) => Some(&self.entries[place].bytes),
             None => None,
         }
@@ -65,7 +65,7 @@ impl Shelf {
         ensures others { (other : List ℕ) → other ≢ name → content_of self.new other ≡ content_of self.old other }
         ensures err { OnErr result (self.new ≡ self.old) }
     {
-        match self.place(name.as_str()) {
+        match self.position(name.as_str()) {
             Some(place) => {
                 self.entries[place] = Entry { name, bytes };
                 Ok(())

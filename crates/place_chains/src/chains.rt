@@ -8,7 +8,7 @@ use std::marker::Model;
 
 /// The hashes of places 0, 1, 2 and so on, by which they are found again.
 #[derive(Drop)]
-pub struct PlaceChains {
+pub struct HashChains {
     /// The last place of each bucket.
     heads: Vec<Option<usize>>,
     links: Vec<Link>,
@@ -17,7 +17,7 @@ pub struct PlaceChains {
 // Hashes that are spread well hardly ever bring so many places into one bucket.
 const LONG: usize = 16;
 
-impl Model for PlaceChains {
+impl Model for HashChains {
     ghost use Rattle.std.specs.Prelude.{◌≤◌, List, ℕ, vec_capacity, vec_len};
     ghost use Rattle.place_chains.specs.Buckets.{IsChained, hashes_of};
 
@@ -28,12 +28,12 @@ impl Model for PlaceChains {
     ghost invariant = { λ s. IsChained s.heads.items s.links.items × (vec_len s.heads ≤ vec_capacity s.links) };
 }
 
-impl PlaceChains {
+impl HashChains {
     /// No places, which takes no memory.
-    pub fn new(alloc: Global) -> PlaceChains
+    pub fn new(alloc: Global) -> HashChains
         ensures { result ≡ [] }
     {
-        PlaceChains {
+        HashChains {
             heads: Vec::new(alloc),
             links: Vec::new(alloc),
         }

@@ -170,7 +170,7 @@ fn access_of(catalogue: &Catalogue, id: AccessId) -> &Access
     ensures access { result.now ≡ access_with_id catalogue.now.accesses id }
     ensures sound { AccessIsSound catalogue.now result.now }
 {
-    let position = catalogue.place(id);
+    let position = catalogue.position(id);
     &catalogue.accesses().as_slice()[position]
 }
 

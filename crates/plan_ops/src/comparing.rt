@@ -4,7 +4,7 @@ ghost use Rattle.beas_core.specs.Valuations.{classes_in};
 ghost use Rattle.plan_ops.specs.Comparing.{sides_at};
 ghost use Rattle.plan_ops.specs.Over.{set_of};
 
-use crate::keeping::place_among;
+use crate::keeping::position_among;
 use beas_core::{Comparison, NoMemory, Normal, Operand};
 use std::alloc::Global;
 
@@ -20,10 +20,10 @@ fn sides_of(block: &Normal, classes: &[u16], comparison: &Comparison) -> Sides
     requires { classes.now ≡ classes_in (set_of block.now classes.now) }
     ensures { result ≡ sides_at block.now classes.now comparison.now }
 {
-    let left = place_among(block, classes, &comparison.left);
+    let left = position_among(block, classes, &comparison.left);
     let right = match &comparison.right {
         Operand::Fixed(_) => 0,
-        Operand::At(place) => place_among(block, classes, place),
+        Operand::At(place) => position_among(block, classes, place),
     };
     Sides { left, right }
 }

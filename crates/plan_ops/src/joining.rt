@@ -8,7 +8,7 @@ ghost use Rattle.plan_ops.specs.Matching.{IsShared};
 ghost use Rattle.plan_ops.specs.Over.{set_of};
 ghost use Rattle.plan_ops.specs.Places.{places_in};
 
-use crate::tables::{ClassList, classes_of, first_places, places_held};
+use crate::tables::{ClassList, classes_of, first_positions, positions_held};
 use beas_core::{Access, ColumnId, List, NoMemory, Normal};
 use std::alloc::Global;
 
@@ -113,12 +113,12 @@ pub fn join_of(
     let columns = columns_of(alloc, access)?;
     let joined = ClassList::with_columns(block, classes, atom, &columns);
     let width = joined.len();
-    let places = first_places(alloc, block.count, &joined)?;
+    let places = first_positions(alloc, block.count, &joined)?;
     // A tuple agrees with the valuation in the columns of its key.
     let checks = checks_of(alloc, block, &places, &joined, width - access.fetched.len())?;
     let shared = shared_of(alloc, &checks, classes.len())?;
     let bound = classes_of(alloc, block, &places, &joined)?;
-    let sources = places_held(places, width);
+    let sources = positions_held(places, width);
     Ok(Join {
         columns,
         classes: bound,

@@ -9,7 +9,7 @@ ghost use Rattle.evaluation_facts.specs.Extensions.{keep_met};
 ghost use Rattle.plan_ops.specs.Over.{IsOver, bound_set, set_of};
 ghost use Rattle.plan_ops.specs.Places.{place_of};
 
-use crate::places::place_in;
+use crate::places::position_in;
 use crate::valuations::Valuations;
 use beas_core::{Comparison, List, Normal, Operand, Place, Row, Sign, Value, class_at, compare};
 use place_chains::value_or;
@@ -54,11 +54,11 @@ fn keep_pair(rows: &mut List<Row>, left: usize, sign: Sign, right: usize, zero: 
 }
 
 /// Where the class of a place stands among ascending ones, or their number where it stands nowhere. It takes no memory.
-pub fn place_among(block: &Normal, classes: &[u16], place: &Place) -> usize
+pub fn position_among(block: &Normal, classes: &[u16], place: &Place) -> usize
     requires { classes.now ≡ classes_in (set_of block.now classes.now) }
     ensures { result ≡ place_of classes.now (place_class block.now place.now) }
 {
-    place_in(classes, class_at(block, place.atom, place.column))
+    position_in(classes, class_at(block, place.atom, place.column))
 }
 
 // Drops the rows that fail a comparison, where its columns are all bound.
@@ -75,14 +75,14 @@ fn keep_meeting(
     ensures { rows.new ≡ filter (λ row. comparison_is_met block.now (set_of block.now classes.now)
         (as_bindings (set_of block.now classes.now) row) comparison.now) rows.old }
 {
-    let left = place_among(block, classes, &comparison.left);
+    let left = position_among(block, classes, &comparison.left);
     if left == classes.len() {
         return;
     }
     match &comparison.right {
         Operand::Fixed(value) => keep_fixed(rows, left, comparison.sign, value, zero),
         Operand::At(place) => {
-            let right = place_among(block, classes, place);
+            let right = position_among(block, classes, place);
             if right < classes.len() {
                 keep_pair(rows, left, comparison.sign, right, zero);
             }

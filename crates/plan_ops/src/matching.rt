@@ -11,7 +11,7 @@ ghost use Rattle.plan_ops.specs.Matching.{AreIndexes};
 
 use crate::indexing::{indexes_of, push_from_group};
 use crate::joining::Join;
-use crate::probing::place_of_key;
+use crate::probing::position_of_key;
 use beas_core::{AccessId, AccessPort, ColumnId, Duplicate, Hits, List, NoMemory, Row, Value};
 use place_chains::TupleOrder;
 use std::alloc::Global;
@@ -126,7 +126,7 @@ fn rows_from_groups<P: AccessPort>(
 {
     let mut found = Vec::with_capacity(alloc, rows.len())?;
     for row in rows {
-        let at = place_of_key(keys, key, row.as_slice());
+        let at = position_of_key(keys, key, row.as_slice());
         push_from_group(
             alloc,
             port,

@@ -11,7 +11,7 @@ use beas_core::{ColumnId, NoMemory, Normal, Place, class_at};
 use std::alloc::Global;
 
 /// Where a class stands among ascending ones, or their number where it stands nowhere. It takes no memory.
-pub fn place_in(classes: &[u16], class: u16) -> usize
+pub fn position_in(classes: &[u16], class: u16) -> usize
     requires { IsInOrder nat_cmp classes.now }
     ensures { result ≡ place_of classes.now class }
 {
@@ -28,7 +28,7 @@ fn column_in(block: &Normal, classes: &[u16], class: u16) -> ColumnId
 {
     // Read for what its type tells: there are fewer than 2^16 classes, so that each place has a column's number.
     let _count = block.count;
-    ColumnId(place_in(classes, class) as u16)
+    ColumnId(position_in(classes, class) as u16)
 }
 
 /// Whether the classes of some places all stand among these.
@@ -39,7 +39,7 @@ pub fn are_bound(block: &Normal, classes: &[u16], places: &[Place]) -> bool
 {
     for place in places {
         let class = class_at(block, place.atom, place.column);
-        if place_in(classes, class) == classes.len() {
+        if position_in(classes, class) == classes.len() {
             return false;
         }
     }

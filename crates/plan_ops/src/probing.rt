@@ -48,7 +48,7 @@ pub fn groups_of<P: AccessPort, L: Ledger>(
 }
 
 /// Where the key of a row stands among keys in order. It takes no memory.
-pub fn place_of_key(keys: &[Row], columns: &[ColumnId], row: &[Value]) -> usize
+pub fn position_of_key(keys: &[Row], columns: &[ColumnId], row: &[Value]) -> usize
     requires order { IsInOrder row_cmp keys.now }
     requires there { Contains keys.now (project columns.now row.now) }
     requires columns { All (λ column. column.0 < length row.now) columns.now }

@@ -6,7 +6,7 @@ ghost use Rattle.plan_ops.specs.Over.{set_of};
 ghost use Rattle.plan_ops.specs.Sieves.{IsOwn, IsSide, IsSieve};
 ghost use Rattle.plan_ops.specs.SievesMade.{Lists};
 
-use crate::keeping::place_among;
+use crate::keeping::position_among;
 use beas_core::{ColumnId, Comparison, NoMemory, Normal, Operand, Place, class_at};
 use std::alloc::Global;
 
@@ -68,12 +68,12 @@ fn is_bound(block: &Normal, classes: &[u16], comparison: &Comparison) -> bool
     requires classes { classes.now ≡ classes_in (set_of block.now classes.now) }
     ensures { IsTrue result → IsTrue (comparison_is_bound block.now (set_of block.now classes.now) comparison.now) }
 {
-    if place_among(block, classes, &comparison.left) == classes.len() {
+    if position_among(block, classes, &comparison.left) == classes.len() {
         return false;
     }
     match &comparison.right {
         Operand::Fixed(_) => true,
-        Operand::At(place) => place_among(block, classes, place) < classes.len(),
+        Operand::At(place) => position_among(block, classes, place) < classes.len(),
     }
 }
 

@@ -9,7 +9,7 @@ ghost use Rattle.plan_ops.specs.Started.{one_row};
 ghost use Rattle.plan_ops.specs.Places.{place_of, places_in};
 
 use crate::keeping::keep;
-use crate::tables::{ClassList, classes_of, first_places};
+use crate::tables::{ClassList, classes_of, first_positions};
 use crate::valuations::Valuations;
 use beas_core::{Duplicate, List, NoMemory, Normal, Row, Value, class_at, sort_distinct};
 use std::alloc::Global;
@@ -94,7 +94,7 @@ pub fn start(alloc: Global, block: &Normal) -> Result<Valuations, NoMemory>
     let constants = block.constants.as_slice();
     let equated = classes_equated(alloc, constants)?;
     let list = ClassList::of(block, &equated);
-    let places = first_places(alloc, block.count, &list)?;
+    let places = first_positions(alloc, block.count, &list)?;
     let classes = classes_of(alloc, block, &places, &list)?;
     let mut rows = Vec::new(alloc);
     push_constant_row(
@@ -182,7 +182,7 @@ fn start_guided(alloc: Global, block: &Normal, answers: &[Row]) -> Result<Valuat
 {
     let equated = classes_with_output(alloc, block)?;
     let list = ClassList::of(block, &equated);
-    let places = first_places(alloc, block.count, &list)?;
+    let places = first_positions(alloc, block.count, &list)?;
     let classes = classes_of(alloc, block, &places, &list)?;
     let rows = guided_rows(alloc, block, answers, &places, classes.as_slice())?;
     let mut found = Valuations {

@@ -78,7 +78,7 @@ impl<'a> ClassList<'a> {
 }
 
 /// For each class its first place in a list of classes, and the list's length where it stands nowhere.
-pub fn first_places(alloc: Global, count: u16, list: &ClassList) -> Result<Vec<usize>, NoMemory>
+pub fn first_positions(alloc: Global, count: u16, list: &ClassList) -> Result<Vec<usize>, NoMemory>
     requires { All (λ class. class < count) list.now }
     ensures { IfOk result (λ places. places.items ≡ places_in count list.now) }
 {
@@ -116,7 +116,7 @@ pub fn classes_of(
 }
 
 /// The first places of the classes that stand in a list, in the order of the classes.
-pub fn places_held(mut places: Vec<usize>, none: usize) -> Vec<usize>
+pub fn positions_held(mut places: Vec<usize>, none: usize) -> Vec<usize>
     ensures { result.items ≡ filter (λ place. nat_lt place none) places.items }
 {
     places.retain(|place| *place < none);

@@ -21,7 +21,7 @@ pub struct CaseFile {
 pub struct Case {
     pub name: String,
     pub files: Vec<CaseFile>,
-    pub words: Vec<String>,
+    pub arguments: Vec<String>,
     pub output: Vec<u8>,
     pub error: Vec<u8>,
     pub status: u8,
@@ -30,7 +30,7 @@ pub struct Case {
     /// The number of the load that fails, from 0 on, if one is to fail.
     pub failing_read: Option<u32>,
     /// The words of the run that comes before, over the same session, where there is one.
-    pub words_before: Vec<String>,
+    pub arguments_before: Vec<String>,
 }
 
 /// All files of a folder.
@@ -106,8 +106,8 @@ fn case_in(rt: &HostRuntime, folder: &str, name: String) -> io::Result<Case> {
         error: bytes_of(alloc, &files, "error")?,
         status: status_of(alloc, &files)?,
         failing_read: failing_read_of(alloc, &files)?,
-        words_before: words_before_of(alloc, &files)?,
-        words,
+        arguments_before: words_before_of(alloc, &files)?,
+        arguments: words,
         name,
         files,
     })

@@ -49,7 +49,7 @@ fn run_before<L: Ledger>(
     files: &mut MemoryFiles,
     steps: &mut Steps<L>,
 ) {
-    if case.words_before.is_empty() {
+    if case.arguments_before.is_empty() {
         return;
     }
     let mut out = MemorySink::new(alloc);
@@ -57,7 +57,7 @@ fn run_before<L: Ledger>(
     run(
         alloc,
         session,
-        &case.words_before,
+        &case.arguments_before,
         files,
         &mut out,
         &mut err,
@@ -87,7 +87,7 @@ fn run_counted<O: Sink, L: Ledger>(
     let status = run(
         alloc,
         &mut session,
-        &case.words,
+        &case.arguments,
         &mut files,
         out,
         &mut err,

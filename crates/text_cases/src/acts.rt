@@ -1,5 +1,5 @@
 // What streams do at their calls.
-use crate::lines::{first_word, number_of};
+use crate::lines::{cut_at_space, number_of};
 use std::io::{self, ErrorKind};
 
 /// The error that an act is, if it is one.
@@ -23,6 +23,6 @@ pub fn first_act(acts: &str) -> (&str, &str) {
 pub fn most_moved(act: &str) -> io::Result<usize> {
     match error_of(act) {
         Some(kind) => Err(io::Error::from(kind)),
-        None => Ok(number_of(first_word(act).1) as usize),
+        None => Ok(number_of(cut_at_space(act).1) as usize),
     }
 }

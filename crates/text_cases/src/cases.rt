@@ -97,7 +97,7 @@ fn add_word(alloc: Global, cases: &mut Vec<Case>, word: &str) -> Result<(), NoMe
 }
 
 /// Two cases for each line of a file, which is a word that is no name.
-pub fn word_cases_of(alloc: Global, file: &str) -> Result<Vec<Case>, NoMemory> {
+pub fn reserved_cases(alloc: Global, file: &str) -> Result<Vec<Case>, NoMemory> {
     let mut cases = Vec::new(alloc);
     for word in file.lines() {
         add_word(alloc, &mut cases, word)?;

@@ -17,7 +17,7 @@ pub fn print_answer(rt: &HostRuntime, answer: Result<String, NoMemory>) -> io::R
 }
 
 /// The text up to the first space, and what comes after it.
-pub fn first_word(text: &str) -> (&str, &str) {
+pub fn cut_at_space(text: &str) -> (&str, &str) {
     text.split_once(' ').unwrap_or((text, ""))
 }
 

@@ -1,6 +1,6 @@
 // Readers that act as they are told.
 use crate::acts::{first_act, most_moved};
-use crate::lines::first_word;
+use crate::lines::cut_at_space;
 use beas_core::Bytes;
 use outside::{Files, FilesError};
 use real_streams::{ReadCounts, RealFiles};
@@ -46,7 +46,7 @@ fn tell(
 
 /// Reads a text whole, by the acts that come after it.
 pub fn read_text(rt: &HostRuntime, limit: u32, case: &str) -> io::Result<()> {
-    let (text, acts) = first_word(case);
+    let (text, acts) = cut_at_space(case);
     let mut source = FakeReader {
         acts,
         text: text.as_bytes(),

@@ -1,5 +1,5 @@
 // Texts with what they are to be read as.
-use crate::cases::{Case, cases_of, word_cases_of};
+use crate::cases::{Case, cases_of, reserved_cases};
 use crate::lines::text_in;
 use crate::readings::{name_in, pieces_in, statement_in};
 use crate::tokens::{cuts_in, tokens_in};
@@ -22,7 +22,7 @@ const FILES: [&str; 8] = [
 /// The cases of a file with this name.
 fn cases_in(alloc: Global, file: &str, text: &str) -> Result<Vec<Case>, NoMemory> {
     match file {
-        "reserved" => word_cases_of(alloc, text),
+        "reserved" => reserved_cases(alloc, text),
         _ => cases_of(alloc, text),
     }
 }

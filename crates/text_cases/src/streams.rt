@@ -1,17 +1,17 @@
 // Readers and writers that act as a line tells them to.
-use crate::lines::{first_word, number_of};
+use crate::lines::{cut_at_space, number_of};
 use crate::reads::{read_endless, read_file, read_text};
-use crate::writes::write_piece;
+use crate::writes::write_text;
 use std::io;
 
 fn try_line(rt: &HostRuntime, line: &str) -> io::Result<()> {
-    let (call, rest) = first_word(line);
-    let (first, others) = first_word(rest);
+    let (call, rest) = cut_at_space(line);
+    let (first, others) = cut_at_space(rest);
     match call {
         "read" => read_text(rt, number_of(first), others),
         "endless" => read_endless(rt, number_of(first)),
         "file" => read_file(rt, number_of(first), others),
-        "write" => write_piece(rt, first, others),
+        "write" => write_text(rt, first, others),
         _ => println!(rt; "no such call"),
     }
 }

@@ -35,7 +35,7 @@ fn ending(outcome: Result<(), SinkError>) -> &'static str {
 }
 
 /// Puts a piece into a writer, by its acts.
-pub fn write_piece(rt: &HostRuntime, piece: &str, acts: &str) -> io::Result<()> {
+pub fn write_text(rt: &HostRuntime, piece: &str, acts: &str) -> io::Result<()> {
     let mut sink = RealSink::new(FakeWriter {
         acts,
         held: Vec::new(rt.alloc()),

@@ -25,7 +25,7 @@ fn place_on(catalogue: &Catalogue, table: TableId, k: usize) -> usize
     ensures { IsPlaceOn catalogue.now.accesses table.0 k result }
 {
     let id = id_in(catalogue.ids_on(table), k);
-    catalogue.place(id)
+    catalogue.position(id)
 }
 
 fn id_in(ids: &[AccessId], k: usize) -> AccessId

@@ -150,7 +150,7 @@ pub fn drop_index<I: Indexes>(
     ensures err { OnErr result (catalogue.new ≡ catalogue.old) }
     ensures indexes_stay { OnErr result ((I.seen indexes.new) ≡ (I.seen indexes.old)) }
 {
-    let place = catalogue.place_named(name);
+    let place = catalogue.position_named(name);
     catalogue.drop_access(alloc, name)?;
     match place {
         Some(place) => {

@@ -23,7 +23,7 @@ use std::alloc::Global;
 use std::sync::ledger::Ledger;
 
 /// Where a session's query stands among the open ones, if it has one.
-pub fn place_of(queries: &[OpenQuery<KeptTable>], number: u32) -> Option<usize>
+pub fn position_of(queries: &[OpenQuery<KeptTable>], number: u32) -> Option<usize>
     ensures { result ≡ position (λ query. query.session == number) queries.now }
 {
     queries.iter().position(|query| query.session == number)
@@ -100,7 +100,7 @@ pub fn step<L: Ledger>(
         steps.old steps.new) }
     ensures no_fewer { steps.old ≤ steps.new }
 {
-    let Some(place) = place_of(queries.as_slice(), number) else {
+    let Some(place) = position_of(queries.as_slice(), number) else {
         return Ok(Report::Refused {
             why: Refusal::SessionIdle { session: number },
         });
@@ -118,7 +118,7 @@ pub fn drop_query(session: &Session, queries: &mut Vec<OpenQuery<KeptTable>>, nu
     ensures dropped { seen_in session.now queries.new.items
         ≡ without_query_of number (seen_in session.now queries.old.items) }
 {
-    if let Some(place) = place_of(queries.as_slice(), number) {
+    if let Some(place) = position_of(queries.as_slice(), number) {
         drop(queries.remove(place));
     }
 }

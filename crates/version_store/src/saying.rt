@@ -16,7 +16,7 @@ ghost use Rattle.version_store.specs.Events.{changed_table, table_of_named};
 ghost use Rattle.version_store.specs.Stored.{AreKept, IsOpenAt, held_at, seen_in, state_in, table_in};
 
 use crate::freezing::freeze_for;
-use crate::going::place_of;
+use crate::going::position_of;
 use crate::open::OpenQuery;
 use crate::opening::open;
 use crate::store::{CurrentStore, KeptTable};
@@ -212,7 +212,7 @@ pub fn say<F: Files, L: Ledger>(
         (F.seen files.old) (F.seen files.new) }
     ensures later { IsLater (F.seen files.old) (F.seen files.new) }
 {
-    if place_of(queries.as_slice(), number).is_some() {
+    if position_of(queries.as_slice(), number).is_some() {
         return Ok(Report::Refused {
             why: Refusal::SessionBusy { session: number },
         });

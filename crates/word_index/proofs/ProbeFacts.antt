@@ -16,7 +16,7 @@ use Rattle.access_index.specs.Buckets.{tuples_in, counts_in, is_wide, AllTuplesP
 use Rattle.access_index.specs.Index.{members_at, stands_at}
 use Rattle.access_index.proofs.Counting.{tuples_within}
 use Rattle.access_index.proofs.Holding.{members_are, members_len, members_stand}
-use Rattle.marked_list.specs.declared.coded.Coded.{Coded}
+use Rattle.labelled_list.specs.declared.coded.Coded.{Coded}
 use Rattle.code_index.specs.Codes.{value_of}
 use Rattle.code_index.specs.Reading.{WordIndex, IsInOrderFor, IsGroup, AllKnown, AllWordsKnown, read, read_group, read_entry, read_entries, read_index, words_in, words_at, word_in}
 use Rattle.code_index.proofs.GroupFacts.{length_group}
@@ -28,7 +28,7 @@ Entry = List ℕ × List Coded
 
 tuples_read : (codes : List Value) (g : List Coded) → tuples_in (read_group codes g) ≡ map (read codes) (words_in g)
 tuples_read codes [] = refl
-tuples_read codes (c ∷ g) = ap (λ ts. read codes c.words ∷ ts) (tuples_read codes g)
+tuples_read codes (c ∷ g) = ap (λ ts. read codes c.codes ∷ ts) (tuples_read codes g)
 
 bucket_read : (codes : List Value) (es : List Entry) (k : ℕ) → get_or (values_of (read_entries codes es)) k [] ≡ read_group codes (get_or (values_of es) k [])
 bucket_read codes [] k = refl
@@ -63,7 +63,7 @@ group_wide codes n w [] k a = tt
 group_wide codes n w (e ∷ es) zero a = (a.0).wide
 group_wide codes n w (e ∷ es) (suc k) a = group_wide codes n w es k a.1
 
-member_known : (codes : List Value) (g : List Coded) (i : ℕ) (d : Coded) → AllWordsKnown codes g → i < length g → AllKnown codes (get_or g i d).words
+member_known : (codes : List Value) (g : List Coded) (i : ℕ) (d : Coded) → AllWordsKnown codes g → i < length g → AllKnown codes (get_or g i d).codes
 member_known codes [] i d a l = absurd (omega (arith, l))
 member_known codes (c ∷ g) zero d a l = a.0
 member_known codes (c ∷ g) (suc i) d a l = member_known codes g i d a.1 (omega arith)
@@ -105,7 +105,7 @@ module _ (codes : List Value) (index : WordIndex) (order : IsInOrderFor codes in
         arith,
         few,
         order.stored.total_is,
-        length-map (get_or (values_of es) k []) (λ (c : Coded). c.words),
+        length-map (get_or (values_of es) k []) (λ (c : Coded). c.codes),
         group_few codes (length (member_columns index.access)) (length index.access.key) es k order.stored.buckets,
       )
 
@@ -135,7 +135,7 @@ module _ (codes : List Value) (index : WordIndex) (order : IsInOrderFor codes in
       len,
       ap length (bucket_read codes es group),
       length_group codes (get_or (values_of es) group []),
-      length-map (get_or (values_of es) group []) (λ (c : Coded). c.words),
+      length-map (get_or (values_of es) group []) (λ (c : Coded). c.codes),
     )
 
     pub group_members : members_at (read_index codes index) found ≡ map (read codes) (words_at index group)
@@ -194,9 +194,9 @@ module _ (codes : List Value) (index : WordIndex) (order : IsInOrderFor codes in
     pub member_word : (column : ColumnId) → has_column (member_columns index.access) column ≡ true → IsWordOf codes (member_columns index.access) tuple column
     member_word column there =
         let g = get_or (values_of es) group [] in
-        let d : Coded = record { words = []; count = 0 } in
-        let within : at < length g = omega (arith, member_within, length-map g (λ (c : Coded). c.words)) in
-        let own : tuple ≡ (get_or g at d).words = get_or-map (λ (c : Coded). c.words) g at d [] within in
+        let d : Coded = record { codes = []; count = 0 } in
+        let within : at < length g = omega (arith, member_within, length-map g (λ (c : Coded). c.codes)) in
+        let own : tuple ≡ (get_or g at d).codes = get_or-map (λ (c : Coded). c.codes) g at d [] within in
         let wide = width_at codes (length (member_columns index.access)) g at d
         (group_wide codes (length (member_columns index.access)) (length index.access.key) es group order.stored.buckets) within in
         word_known codes (member_columns index.access) tuple column

@@ -13,7 +13,7 @@ use Rattle.access_index.specs.declared.tally.Tally.{Tally}
 use Rattle.access_index.specs.Buckets.{tuples_in, is_key}
 use Rattle.access_index.specs.Index.{IsIndexOf, tallies, tuple_of, key_of}
 use Rattle.access_index.proofs.Indexing.{group_tuples}
-use Rattle.marked_list.specs.declared.coded.Coded.{Coded}
+use Rattle.labelled_list.specs.declared.coded.Coded.{Coded}
 use Rattle.code_index.specs.Reading.{read_tally, read_group, read_entries, read_index, AllWordsKnown, IsInOrderFor, WordIndex}
 use Rattle.code_index.specs.Spelling.{AllHaveCodes}
 use Rattle.code_index.proofs.SpellingFacts.{read_coded}
@@ -33,7 +33,7 @@ module _ (codes : List Value) (width : ℕ) (key : List Value) where
           → AllByRecursion (IsCoded codes width key) (filter (is_key width key) (read_group codes group) ++ rest)
           → AllByRecursion (IsCoded codes width key)
           (cond b (read_tally codes c ∷ filter (is_key width key) (read_group codes group)) (filter (is_key width key) (read_group codes group)) ++ rest)
-      by true t a = (record { coded = read_coded codes c.words k.0; keyed = t }, a)
+      by true t a = (record { coded = read_coded codes c.codes k.0; keyed = t }, a)
       by false t a = a
 
   in_groups : (groups : List (List ℕ × List Coded)) → AllByRecursion (λ e. AllWordsKnown codes e.1) groups

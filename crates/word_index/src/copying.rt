@@ -9,7 +9,7 @@ use beas_core::NoMemory;
 use std::alloc::Global;
 
 /// Copies of the indexes at some places, in the order of these.
-pub fn copy_places(
+pub fn copies_at(
     alloc: Global,
     indexes: &[AnyIndex],
     places: &[usize],

@@ -23,7 +23,7 @@ fn places_on(alloc: Global, catalogue: &Catalogue, table: TableId) -> Result<Vec
     let mut places = Vec::new(alloc);
     let ids = catalogue.ids_on(table);
     for k in 0..ids.len() {
-        places.push(catalogue.place(id_in(ids, k)))?;
+        places.push(catalogue.position(id_in(ids, k)))?;
     }
     Ok(places)
 }

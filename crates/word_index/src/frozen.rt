@@ -5,9 +5,9 @@ ghost use Rattle.beas_core.specs.Derivations.{is_live};
 ghost use Rattle.catalogue.specs.Schema.{access_with_id};
 ghost use Rattle.word_index.specs.Parts.{IsPart};
 
-use crate::indexes::WordIndexes;
+use crate::indexes::CodeIndexes;
 use beas_core::{Access, AccessId, List, TableId};
-use catalogue::place_of_id;
+use catalogue::position_of_id;
 use row_store::Rows;
 
 /// A table as it was: its rows and its live constraints, each with its index over codes and all with an interner of their
@@ -19,7 +19,7 @@ pub struct Frozen {
     pub table: TableId,
     pub(crate) rows: Rows,
     pub(crate) accesses: List<Access>,
-    pub(crate) indexes: WordIndexes,
+    pub(crate) indexes: CodeIndexes,
     ghost kept: { IsPart table rows accesses indexes },
 }
 
@@ -35,13 +35,13 @@ fn frozen_fields(frozen: &Frozen) {
 
 impl Frozen {
     /// Where the constraint with this id stands.
-    pub(crate) fn place(&self, id: AccessId) -> usize
+    pub(crate) fn position(&self, id: AccessId) -> usize
         requires { IsTrue (is_live self.now.accesses id) }
         ensures within { result < length self.now.accesses }
         ensures found { (d : Constraint) → slice_index_or self.now.accesses result d ≡ access_with_id self.now.accesses id }
         ensures has_id { (access_with_id self.now.accesses id).id.0 ≡ id.0 }
     {
-        place_of_id(self.accesses.as_slice(), id)
+        position_of_id(self.accesses.as_slice(), id)
     }
 
     /// Whether a constraint of the table has this id. It takes no memory.

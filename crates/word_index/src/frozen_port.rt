@@ -17,16 +17,16 @@ impl AccessPort for Frozen {
 
     fn access(&self, id: AccessId) -> &Access {
         let accesses = self.accesses.as_slice();
-        &accesses[self.place(id)]
+        &accesses[self.position(id)]
     }
 
     fn probe<L: Ledger>(&self, id: AccessId, key: &[Value], steps: &mut Steps<L>) -> Hits {
-        let place = self.place(id);
+        let place = self.position(id);
         self.indexes.probe(place, key, steps)
     }
 
     fn value(&self, hits: &Hits, i: u32, column: ColumnId) -> &Value {
-        let place = self.place(hits.access());
+        let place = self.position(hits.access());
         self.indexes.value(place, hits, i, column)
     }
 }

@@ -8,7 +8,7 @@ ghost use Rattle.beas_core.specs.Results.{IsRefusedAs};
 ghost use Rattle.update_guard.specs.Guarding.{IsGuarded};
 ghost use Rattle.catalogue.specs.Stored.{create_access_reads};
 
-use crate::indexes::WordIndexes;
+use crate::indexes::CodeIndexes;
 use beas_core::{
     AccessId, AccessSpec, Block, Column, Fail, Limits, List, Name, Row, Steps, TableId,
 };
@@ -31,7 +31,7 @@ pub struct WordGuarded {
     /// The rows of each table, in the order of the tables.
     pub rows: List<Rows>,
     /// The index of each live constraint over codes, in the order of the constraints.
-    pub(crate) indexes: WordIndexes,
+    pub(crate) indexes: CodeIndexes,
     ghost kept: { IsGuarded catalogue rows indexes },
 }
 
@@ -63,7 +63,7 @@ impl WordGuarded {
         WordGuarded {
             catalogue: Catalogue::seeded(alloc, seed),
             rows: List::new(alloc),
-            indexes: WordIndexes::seeded(alloc, seed),
+            indexes: CodeIndexes::seeded(alloc, seed),
         }
     }
 

@@ -7,7 +7,7 @@ ghost use Rattle.update_guard.specs.Seen.{index_at};
 
 use crate::any::AnyIndex;
 use crate::bulk::{add_rows, index_of, remove_rows};
-use crate::copying::copy_places;
+use crate::copying::copies_at;
 use crate::probing::{probe_in, value_in_hits};
 use crate::rows::{add_if_holds, remove_row};
 use beas_core::{Access, ColumnId, Hits, NoMemory, Row, Steps, Value};
@@ -21,12 +21,12 @@ use update_guard::Indexes;
 /// The indexes of constraints over codes, with the values of these. Each value is kept once, whatever number of tuples
 /// have it. Contracts see the indexes of values. Its tuples are handed out after a probe alone, so it isn't `Debug`.
 #[derive(Drop)]
-pub struct WordIndexes {
+pub struct CodeIndexes {
     codes: Interner,
     indexes: Vec<AnyIndex>,
 }
 
-impl Model for WordIndexes {
+impl Model for CodeIndexes {
     ghost use Rattle.std.specs.Prelude.{List};
     ghost use Rattle.access_index.specs.Index.{Index};
     ghost use Rattle.word_index.specs.Kept.{meanings, AreKept};
@@ -39,19 +39,19 @@ impl Model for WordIndexes {
 }
 
 /// The indexes of a store have these two fields and no other: with a further field this would not compile.
-fn indexes_fields(indexes: &WordIndexes) {
-    let WordIndexes {
+fn indexes_fields(indexes: &CodeIndexes) {
+    let CodeIndexes {
         codes: _codes,
         indexes: _indexes,
     } = indexes;
 }
 
-impl WordIndexes {
+impl CodeIndexes {
     /// No indexes, whose maps will hash with a seed. It takes no memory.
-    pub fn seeded(alloc: Global, seed: u64) -> WordIndexes
+    pub fn seeded(alloc: Global, seed: u64) -> CodeIndexes
         ensures { result ≡ [] }
     {
-        WordIndexes {
+        CodeIndexes {
             codes: Interner::seeded(alloc, seed),
             indexes: Vec::new(alloc),
         }
@@ -87,20 +87,20 @@ impl WordIndexes {
     }
 
     /// Copies of the indexes at some places, in the order of these, with a copy of the interner.
-    pub fn copy_of(&self, alloc: Global, places: &[usize]) -> Result<WordIndexes, NoMemory>
+    pub fn copy_of(&self, alloc: Global, places: &[usize]) -> Result<CodeIndexes, NoMemory>
         requires { All (λ place. place < length self.now) places.now }
         ensures { IfOk result (λ copy. copy ≡ map (index_at self.now) places.now) }
     {
         let codes = self.codes.copy(alloc)?;
-        let indexes = copy_places(alloc, self.indexes.as_slice(), places)?;
-        Ok(WordIndexes { codes, indexes })
+        let indexes = copies_at(alloc, self.indexes.as_slice(), places)?;
+        Ok(CodeIndexes { codes, indexes })
     }
 
     /// Lets the indexes go.
     pub fn discard(self) {}
 }
 
-impl Indexes for WordIndexes {
+impl Indexes for CodeIndexes {
     ghost seen = { λ s. s };
 
     fn len(&self) -> usize {

@@ -17,16 +17,16 @@ impl AccessPort for WordGuarded {
 
     fn access(&self, id: AccessId) -> &Access {
         let accesses = self.catalogue.accesses().as_slice();
-        &accesses[self.catalogue.place(id)]
+        &accesses[self.catalogue.position(id)]
     }
 
     fn probe<L: Ledger>(&self, id: AccessId, key: &[Value], steps: &mut Steps<L>) -> Hits {
-        let place = self.catalogue.place(id);
+        let place = self.catalogue.position(id);
         self.indexes.probe(place, key, steps)
     }
 
     fn value(&self, hits: &Hits, i: u32, column: ColumnId) -> &Value {
-        let place = self.catalogue.place(hits.access());
+        let place = self.catalogue.position(hits.access());
         self.indexes.value(place, hits, i, column)
     }
 }

@@ -9,7 +9,7 @@ ghost use Rattle.word_index.specs.Widths.{index_in};
 
 use crate::any::AnyIndex;
 use beas_core::{NoMemory, Value};
-use code_index::{Interner, interned_words, known_codes, known_words};
+use code_index::{Interner, interned_row, known_codes, row_codes};
 use std::alloc::Global;
 
 // The place and the length of the group of a key with `N` columns at most.
@@ -66,7 +66,7 @@ pub fn remove_row(codes: &Interner, index: &mut AnyIndex, row: &[Value])
         → IsIndexOf (read_index codes.now (index_in index.old)) (front ++ row.now ∷ back)
         → IsIndexOf (read_index codes.now (index_in index.new)) (front ++ back) }
 {
-    match known_words(codes, index.access(), row) {
+    match row_codes(codes, index.access(), row) {
         Some(words) => index.remove(&words),
         None => {}
     }
@@ -92,7 +92,7 @@ pub fn add_row(
         → IsIndexOf (read_index codes.new (index_in index.new)) (front ++ row.now ∷ back)) }
     ensures err { OnErr result (index_in index.new ≡ index_in index.old) }
 {
-    let words = interned_words(alloc, codes, index.access(), row)?;
+    let words = interned_row(alloc, codes, index.access(), row)?;
     index.add(alloc, codes, &words)
 }
 
@@ -120,6 +120,6 @@ pub fn add_if_holds(
         → (IsTrue held ↔ Holds (rows ++ row.now ∷ []) (index_in index.old).access)) }
     ensures err { OnErr result (index_in index.new ≡ index_in index.old) }
 {
-    let words = interned_words(alloc, codes, index.access(), row)?;
+    let words = interned_row(alloc, codes, index.access(), row)?;
     index.add_if_holds(alloc, codes, &words)
 }

@@ -2,7 +2,7 @@ use Rattle.std.proofs.Common.{◌≡◌, ◌≢◌, ◌<◌, ◌∙◌, ℕ, Boo
 use Rattle.std.specs.Prelude.{nat_eq}
 use Rattle.std.specs.Cmp.Lexicographic.{pointwise, bytes_decides}
 use Rattle.std.proofs.lemmas.List.{length-map, get_or-map, take_more_same, take_all}
-use Rattle.code_index.specs.Reading.{pick, word_at}
+use Rattle.code_index.specs.Reading.{pick, row_code}
 use Rattle.code_index.proofs.asked.has_key.Goals as goal
 
 unlike : (xs ys : List ℕ) → xs ≢ ys → false ≡ pointwise nat_eq xs ys
@@ -17,25 +17,25 @@ returns-then-columns-key c =
     let columns = c.args.columns.now in
     let words = c.args.words.now in
     let key = c.args.key.now in
-    unlike (pick columns words) key (λ e. c.if-columns-key.true (sym (length-map columns (word_at words)) ∙ ap length e))
+    unlike (pick columns words) key (λ e. c.if-columns-key.true (sym (length-map columns (row_code words)) ∙ ap length e))
 
-pub returns-then-word_at-key : goal.returns-then-word_at-key
-returns-then-word_at-key c =
+pub returns-then-row_code-key : goal.returns-then-row_code-key
+returns-then-row_code-key c =
     let columns = c.args.columns.now in
     let words = c.args.words.now in
     let key = c.args.key.now in
     let i = c.loop-i.i in
-    let w = c.word_at.ensures ∙ sym (get_or-map (word_at words) columns i (record { 0 = 0 }) 0 c.loop-i-test.true) in
-    unlike (pick columns words) key (λ e. c.if-word_at-key.true (w ∙ ap (λ t. get_or t i 0) e))
+    let w = c.row_code.ensures ∙ sym (get_or-map (row_code words) columns i (record { 0 = 0 }) 0 c.loop-i-test.true) in
+    unlike (pick columns words) key (λ e. c.if-row_code-key.true (w ∙ ap (λ t. get_or t i 0) e))
 
 pub loop-i-preserved : goal.loop-i-preserved
 loop-i-preserved c =
     let columns = c.args.columns.now in
     let words = c.args.words.now in
     let i = c.loop-i.i in
-    let w = c.word_at.ensures ∙ sym (get_or-map (word_at words) columns i (record { 0 = 0 }) 0 c.loop-i-test.true) in
-    take_more_same (pick columns words) c.args.key.now i 0 (omega (arith, c.loop-i-test.true, length-map columns (word_at words)))
-    (omega (arith, c.loop-i-test.true, c.if-columns-key.false)) c.loop-i.invariant (sym w ∙ c.if-word_at-key.false)
+    let w = c.row_code.ensures ∙ sym (get_or-map (row_code words) columns i (record { 0 = 0 }) 0 c.loop-i-test.true) in
+    take_more_same (pick columns words) c.args.key.now i 0 (omega (arith, c.loop-i-test.true, length-map columns (row_code words)))
+    (omega (arith, c.loop-i-test.true, c.if-columns-key.false)) c.loop-i.invariant (sym w ∙ c.if-row_code-key.false)
 
 pub returns : goal.returns
 returns c =
@@ -43,7 +43,7 @@ returns c =
     let words = c.args.words.now in
     let key = c.args.key.now in
     let own = pick columns words in
-    let long = length-map columns (word_at words) in
+    let long = length-map columns (row_code words) in
     let end : c.loop-i.i ≡ length columns = omega (arith, c.loop-i-test.false, c.loop-i.auto.i-end) in
     let same = sym (take_all c.loop-i.i own (omega (arith, end, long))) ∙ c.loop-i.invariant
     ∙ take_all c.loop-i.i key (omega (arith, end, c.if-columns-key.false)) in

@@ -3,15 +3,15 @@ use Rattle.std.specs.Prelude.{Option, Some, None, MatchOption, is_some, slice_in
 use Rattle.std.specs.List.{AllByRecursion}
 use Rattle.beas_core.specs.declared.schema.Access.{Access}
 use Rattle.beas_core.specs.Groups.{member_columns}
-use Rattle.marked_list.specs.declared.coded.Coded.{Coded}
+use Rattle.labelled_list.specs.declared.coded.Coded.{Coded}
 use Rattle.code_index.specs.Reading.{pick}
 use Rattle.code_index.specs.Taking.{HasRoom}
 use Rattle.code_index.proofs.group.has_room.Goals as goal
 
 -- a full group has room where the row's tuple was found
 full : (access : Access) (words : List ℕ) (group : List Coded) → access.bound ≤ length group → (found : Option ℕ)
-    → MatchOption found (AllByRecursion (λ c. c.words ≢ pick (member_columns access) words) group)
-    (λ at. (at < length group) × ((d : Coded) → (slice_index_or group at d).words ≡ pick (member_columns access) words))
+    → MatchOption found (AllByRecursion (λ c. c.codes ≢ pick (member_columns access) words) group)
+    (λ at. (at < length group) × ((d : Coded) → (slice_index_or group at d).codes ≡ pick (member_columns access) words))
     → HasRoom (is_some found) access words group
 full access words group l (Some at) m = inr (record { at = at; within = m.0; same = m.1 })
 full access words group l None m = (l, m)

@@ -6,13 +6,13 @@ use Rattle.access_index.proofs.Places.{tuple_place, gap_at, place_le, stands_bef
 use Rattle.access_index.specs.declared.tally.Tally.{Tally}
 use Rattle.access_index.specs.Buckets.{IsGap}
 use Rattle.beas_core.specs.Groups.{member_columns}
-use Rattle.marked_list.specs.declared.coded.Coded.{Coded}
+use Rattle.labelled_list.specs.declared.coded.Coded.{Coded}
 use Rattle.code_index.specs.Reading.{read, read_group, read_tally, pick}
 use Rattle.code_index.proofs.GroupFacts.{read_at, length_group, filter_read}
 use Rattle.code_index.proofs.group.search.Goals as goal
 
-pub place_of-at-requires : goal.place_of-at-requires
-place_of-at-requires c i j d le lt e =
+pub partition_point-at-requires : goal.partition_point-at-requires
+partition_point-at-requires c i j d le lt e =
     let codes = c.args.codes.now in
     let g = c.args.group.now in
     let x = read codes (pick (member_columns c.args.access.now) c.args.words.now) in
@@ -26,25 +26,25 @@ returns-then-at-end c =
     let codes = c.args.codes.now in
     let g = c.args.group.now in
     let x = read codes (pick (member_columns c.args.access.now) c.args.words.now) in
-    gap_at x (read_group codes g) c.place_of-at.result c.requires (c.place_of-at.ensures ∙ filter_read codes (stands_before x) g)
+    gap_at x (read_group codes g) c.partition_point-at.result c.requires (c.partition_point-at.ensures ∙ filter_read codes (stands_before x) g)
     (λ d l e. omega (arith, l, c.if-at-end.true, c.len-end.ensures, length_group codes g))
 
-pub words-requires : goal.words-requires
-words-requires c =
+pub codes-requires : goal.codes-requires
+codes-requires c =
     let codes = c.args.codes.now in
     let g = c.args.group.now in
     let x = read codes (pick (member_columns c.args.access.now) c.args.words.now) in
-    omega (arith, c.if-at-end.false, c.len-end.ensures, c.place_of-at.ensures, filter_read codes (stands_before x) g, place_le x (read_group codes g), length_group codes g)
+    omega (arith, c.if-at-end.false, c.len-end.ensures, c.partition_point-at.ensures, filter_read codes (stands_before x) g, place_le x (read_group codes g), length_group codes g)
 
 pub returns-in-Equal : goal.returns-in-Equal
 returns-in-Equal c =
     let codes = c.args.codes.now in
     let g = c.args.group.now in
     let x = read codes (pick (member_columns c.args.access.now) c.args.words.now) in
-    let within : c.place_of-at.result < length g =
-    omega (arith, c.if-at-end.false, c.len-end.ensures, c.place_of-at.ensures, filter_read codes (stands_before x) g, place_le x (read_group codes g), length_group codes g) in (
+    let within : c.partition_point-at.result < length g =
+    omega (arith, c.if-at-end.false, c.len-end.ensures, c.partition_point-at.ensures, filter_read codes (stands_before x) g, place_le x (read_group codes g), length_group codes g) in (
       within,
-      λ d. ap (read codes) (sym (c.words.ensures d)) ∙ row_cmp_tells (read codes c.words.result.now) x (sym c.compare_tuple.ensures ∙ c.in-Equal.is),
+      λ d. ap (read codes) (sym (c.codes.ensures d)) ∙ row_cmp_tells (read codes c.codes.result.now) x (sym c.compare_tuple.ensures ∙ c.in-Equal.is),
     )
 
 pub returns-in_default : goal.returns-in_default
@@ -52,12 +52,12 @@ returns-in_default c =
     let codes = c.args.codes.now in
     let g = c.args.group.now in
     let x = read codes (pick (member_columns c.args.access.now) c.args.words.now) in
-    let at = c.place_of-at.result in
-    let e0 : Coded = record { words = []; count = 0 } in
-    gap_at x (read_group codes g) at c.requires (c.place_of-at.ensures ∙ filter_read codes (stands_before x) g)
+    let at = c.partition_point-at.result in
+    let e0 : Coded = record { codes = []; count = 0 } in
+    gap_at x (read_group codes g) at c.requires (c.partition_point-at.ensures ∙ filter_read codes (stands_before x) g)
     (λ d l e. c.in_default.not-Equal
     (c.compare_tuple.ensures
-    ∙ ap (λ ws. row_cmp (read codes ws) x) (c.words.ensures e0)
+    ∙ ap (λ ws. row_cmp (read codes ws) x) (c.codes.ensures e0)
     ∙ ap (λ (t : Tally). row_cmp t.tuple x) (sym (read_at codes g at e0 d (omega (arith, l, length_group codes g))))
     ∙ e))
 

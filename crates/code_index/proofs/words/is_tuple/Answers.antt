@@ -2,7 +2,7 @@ use Rattle.std.proofs.Common.{◌<◌, ◌∙◌, true≢false, length, get_or, 
 use Rattle.std.specs.Prelude.{IsTrue, ◌↔◌}
 use Rattle.std.proofs.lemmas.List.{length-map, get_or-map, take_more_same}
 use Rattle.beas_core.specs.Groups.{member_columns}
-use Rattle.code_index.specs.Reading.{pick, word_at}
+use Rattle.code_index.specs.Reading.{pick, row_code}
 use Rattle.code_index.proofs.WordFacts.{not_within, ended_alike}
 use Rattle.code_index.proofs.words.is_tuple.Goals as goal
 
@@ -12,18 +12,18 @@ returns-then-not-has_place c =
     let words = c.args.words.now in
     let past = not_within c.has_place.result c.loop-i.i (length columns) c.has_place.ensures c.if-not-has_place.true in (
       λ t. absurd (true≢false (sym t)),
-      λ e. absurd (omega (arith, past, c.loop-i-test.true, ap length e, length-map columns (word_at words))),
+      λ e. absurd (omega (arith, past, c.loop-i-test.true, ap length e, length-map columns (row_code words))),
     )
 
-pub returns-then-word-word_at : goal.returns-then-word-word_at
-returns-then-word-word_at c =
+pub returns-then-word-row_code : goal.returns-then-word-row_code
+returns-then-word-row_code c =
     let columns = member_columns c.args.access.now in
     let words = c.args.words.now in
     let i = c.loop-i.i in
     let within : i < length columns = c.has_place.ensures.0 c.if-not-has_place.false in
-    let w = c.word_at.ensures ∙ ap (word_at words) c.column_at.ensures ∙ sym (get_or-map (word_at words) columns i c.column_at.result 0 within) in (
+    let w = c.row_code.ensures ∙ ap (row_code words) c.column_at.ensures ∙ sym (get_or-map (row_code words) columns i c.column_at.result 0 within) in (
       λ t. absurd (true≢false (sym t)),
-      λ e. absurd (c.if-word-word_at.true (ap (λ t. get_or t i 0) e ∙ sym w)),
+      λ e. absurd (c.if-word-row_code.true (ap (λ t. get_or t i 0) e ∙ sym w)),
     )
 
 pub loop-i-preserved : goal.loop-i-preserved
@@ -32,11 +32,11 @@ loop-i-preserved c =
     let words = c.args.words.now in
     let i = c.loop-i.i in
     let within : i < length columns = c.has_place.ensures.0 c.if-not-has_place.false in
-    let w = c.word_at.ensures ∙ ap (word_at words) c.column_at.ensures ∙ sym (get_or-map (word_at words) columns i c.column_at.result 0 within) in
+    let w = c.row_code.ensures ∙ ap (row_code words) c.column_at.ensures ∙ sym (get_or-map (row_code words) columns i c.column_at.result 0 within) in
     record {
       within = omega (arith, within);
-      same = take_more_same c.args.tuple.now (pick columns words) i 0 c.loop-i-test.true (omega (arith, within, length-map columns (word_at words))) c.loop-i.invariant.same
-          (c.if-word-word_at.false ∙ w);
+      same = take_more_same c.args.tuple.now (pick columns words) i 0 c.loop-i-test.true (omega (arith, within, length-map columns (row_code words))) c.loop-i.invariant.same
+          (c.if-word-row_code.false ∙ w);
     }
 
 pub returns : goal.returns
@@ -45,7 +45,7 @@ returns c =
     let words = c.args.words.now in
     let tuple = c.args.tuple.now in
     let own = pick columns words in
-    let long = length-map columns (word_at words) in
+    let long = length-map columns (row_code words) in
     let b = c.has_place-2.result in
     let goes_on : IsTrue b ↔ (length tuple < length own) = subst (λ n. IsTrue b ↔ (length tuple < n)) (sym long) c.has_place-2.ensures in
     ended_alike b c.loop-i.i tuple own (omega (arith, c.loop-i-test.false, c.loop-i.auto.i-end)) (omega (arith, long, c.loop-i.invariant.within)) goes_on c.loop-i.invariant.same

@@ -17,15 +17,15 @@ subtract_last-requires g c =
     two_stand c.args.prepared.now c.args.course.now c.requires.course w c.requires.fits c.requires.agrees (inr (c.requires.at ∙ ap Some c.in-Subtract.is))
 
 pub go_on-requires : goal.go_on-requires
-go_on-requires g c = slice_get_within c.args.course.now.operations c.args.course.now.place c.args.operation c.requires.at
+go_on-requires g c = slice_get_within c.args.course.now.operations c.args.course.now.position c.args.operation c.requires.at
 
 pub go_on-requires-in-Subtract : goal.go_on-requires-in-Subtract
-go_on-requires-in-Subtract g c = slice_get_within c.args.course.now.operations c.args.course.now.place c.args.operation c.requires.at
+go_on-requires-in-Subtract g c = slice_get_within c.args.course.now.operations c.args.course.now.position c.args.operation c.requires.at
 
 pub returns-in_ok-unite_last-in-Unite-clause-course : goal.returns-in_ok-unite_last-in-Unite-clause-course
 returns-in_ok-unite_last-in-Unite-clause-course g c =
     let did = c.go_on.ensures in
-    united_course c.args.prepared.now c.args.course.now c.go_on.new.course c.requires.course did.operations did.place did.finished did.walk
+    united_course c.args.prepared.now c.args.course.now c.go_on.new.course c.requires.course did.operations did.position did.finished did.walk
     (c.requires.at ∙ ap Some c.in-Unite.is)
     (subst (λ s. IsJoined set_union c.args.course.now.stack.items s.items) (sym did.stack) c.in_ok-unite_last-in-Unite.ensures)
 
@@ -33,15 +33,15 @@ pub returns-in_ok-unite_last-in-Unite-clause-stepped : goal.returns-in_ok-unite_
 returns-in_ok-unite_last-in-Unite-clause-stepped g c =
     let did = c.go_on.ensures in record {
       operations = did.operations;
-      next = did.place;
-      same = joined_fetched c.args.prepared.now c.args.course.now c.go_on.new.course c.requires.course did.operations did.place did.finished did.walk;
+      next = did.position;
+      same = joined_fetched c.args.prepared.now c.args.course.now c.go_on.new.course c.requires.course did.operations did.position did.finished did.walk;
       cost = refl;
     }
 
 pub returns-in_ok-subtract_last-in-Subtract-clause-course : goal.returns-in_ok-subtract_last-in-Subtract-clause-course
 returns-in_ok-subtract_last-in-Subtract-clause-course g c =
     let did = c.go_on-in-Subtract.ensures in
-    subtracted_course c.args.prepared.now c.args.course.now c.go_on-in-Subtract.new.course c.requires.course did.operations did.place did.finished did.walk
+    subtracted_course c.args.prepared.now c.args.course.now c.go_on-in-Subtract.new.course c.requires.course did.operations did.position did.finished did.walk
     (c.requires.at ∙ ap Some c.in-Subtract.is)
     (subst (λ s. IsJoined set_difference c.args.course.now.stack.items s.items) (sym did.stack) c.in_ok-subtract_last-in-Subtract.ensures)
 
@@ -49,8 +49,8 @@ pub returns-in_ok-subtract_last-in-Subtract-clause-stepped : goal.returns-in_ok-
 returns-in_ok-subtract_last-in-Subtract-clause-stepped g c =
     let did = c.go_on-in-Subtract.ensures in record {
       operations = did.operations;
-      next = did.place;
-      same = joined_fetched c.args.prepared.now c.args.course.now c.go_on-in-Subtract.new.course c.requires.course did.operations did.place did.finished
+      next = did.position;
+      same = joined_fetched c.args.prepared.now c.args.course.now c.go_on-in-Subtract.new.course c.requires.course did.operations did.position did.finished
           did.walk;
       cost = refl;
     }

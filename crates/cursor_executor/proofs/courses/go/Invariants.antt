@@ -10,4 +10,4 @@ invariant-operations g l = record {
 }
 
 abbrev pub decreases-operations : goal.decreases-operations
-decreases-operations g l = length l.course.operations - l.course.place
+decreases-operations g l = length l.course.operations - l.course.position

@@ -86,7 +86,7 @@ module _ (g : given.Over) (c : goal.Then-is_some g) where
 
   abbrev turned_course : Course
   turned_course = let old = c.args.course.now in
-      record { operations = old.operations; place = old.place; stack = old.stack; finished = old.finished; walk = c.block_turn.new.walk }
+      record { operations = old.operations; position = old.position; stack = old.stack; finished = old.finished; walk = c.block_turn.new.walk }
 
   turned : IsCourse c.args.prepared.now turned_course
       × Stepped turned_world c.args.prepared.now c.in_ok-reads.reads c.args.course.now turned_course c.args.steps.now c.block_turn.new.steps
@@ -146,12 +146,12 @@ module _ (g : given.Over) (c : goal.In_ok-finish_block g) where
             c.block_at-block.result.now (option_copied c.guide_in-guide.result) c.plan_at-plan.result.now normal_is own_is steps_is
             old.walk refl c.in-Some.walk tidy stands c.in_ok-reads.reads c.args.steps.now c.block_turn.new.steps after none_made
             c.answer-rows.new.walk c.answer-rows.ensures.fetched c.answer-rows.result c.answer-rows.ensures.rows c.finish_block.new.course
-            did.operations did.place did.stack (did.finished c.answer-rows.new.walk refl) did.walk,
+            did.operations did.position did.stack (did.finished c.answer-rows.new.walk refl) did.walk,
         step_ran ended_world c.args.prepared.now req.fits old req.course c.args.place req.at req.agrees
             c.block_at-block.result.now (option_copied c.guide_in-guide.result) c.plan_at-plan.result.now normal_is own_is steps_is
             old.walk refl c.in-Some.walk tidy stands c.in_ok-reads.reads c.args.steps.now c.block_turn.new.steps after none_made
             c.answer-rows.new.walk c.answer-rows.ensures.fetched c.answer-rows.result c.answer-rows.ensures.rows c.finish_block.new.course
-            did.operations did.place did.stack (did.finished c.answer-rows.new.walk refl) did.walk,
+            did.operations did.position did.stack (did.finished c.answer-rows.new.walk refl) did.walk,
       )
 
 pub returns-in_ok-finish_block-clause-course : goal.returns-in_ok-finish_block-clause-course

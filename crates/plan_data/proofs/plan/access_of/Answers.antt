@@ -9,6 +9,6 @@ returns-clause-sound c =
     let schema = c.args.catalogue.now in
     let same : c.as_slice.result.now ≡ schema.accesses = c.as_slice.ensures ∙ c.accesses.ensures.accesses in
     let each : All (AccessIsSound schema) c.as_slice.result.now = rw same c.accesses.ensures.sound.accesses in
-    let found = All-get_or (AccessIsSound schema) c.as_slice.result.now c.place-position.result c.index-as_slice-position.result
-    (rw same c.place-position.ensures.within) each in
+    let found = All-get_or (AccessIsSound schema) c.as_slice.result.now c.position-position.result c.index-as_slice-position.result
+    (rw same c.position-position.ensures.within) each in
     subst (AccessIsSound schema) (sym c.index-as_slice-position.is) found

@@ -13,8 +13,8 @@ use Rattle.plan_ops.proofs.JoinFacts.{joined_length, joined_small, is_within, le
 use Rattle.plan_ops.proofs.TableFacts.{places_of_classes}
 use Rattle.plan_ops.proofs.joining.join_of.Goals as goal
 
-pub first_places-requires : goal.first_places-requires
-first_places-requires c =
+pub first_positions-requires : goal.first_positions-requires
+first_positions-requires c =
     let u : Use = record { atom = c.args.atom; access = c.args.access.now } in
     let is = c.with_columns-joined.ensures
     ∙ ap (λ cs. c.args.classes.now ++ map (class_at c.args.block.now c.args.atom) cs) (c.deref.ensures.value ∙ c.in_ok-columns.ensures) in
@@ -59,7 +59,7 @@ returns c =
     ∙ ap (λ cs. c.args.classes.now ++ map (class_at c.args.block.now c.args.atom) cs) (c.deref.ensures.value ∙ c.in_ok-columns.ensures) in
     let classes = c.in_ok-bound.ensures ∙ ap (λ js. classes_in (set_of normal js)) is in
     let width = c.len-width.ensures ∙ ap length is in
-    let sources = c.places_held-sources.ensures
+    let sources = c.positions_held-sources.ensures
     ∙ ap (λ n. filter (λ place. ltb place n) c.in_ok-places.places.items) width
     ∙ ap (filter (λ place. ltb place (length joined))) (c.in_ok-places.ensures ∙ ap (places_in normal.count) is)
     ∙ places_of_classes normal joined in

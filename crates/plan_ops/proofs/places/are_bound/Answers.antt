@@ -17,12 +17,12 @@ use Rattle.plan_ops.proofs.places.are_bound.Goals as goal
 abbrev no_place : Place
 no_place = record { atom = 0; column = record { 0 = 0 } }
 
-pub place_in-requires : goal.place_in-requires
-place_in-requires c = subst (IsInOrder nat_cmp) (sym c.requires.classes) (classes_rise (set_of c.args.block.now c.args.classes.now))
+pub position_in-requires : goal.position_in-requires
+position_in-requires c = subst (IsInOrder nat_cmp) (sym c.requires.classes) (classes_rise (set_of c.args.block.now c.args.classes.now))
 
 -- a class that has no place among them
-pub returns-then-place_in-classes : goal.returns-then-place_in-classes
-returns-then-place_in-classes c =
+pub returns-then-position_in-classes : goal.returns-then-position_in-classes
+returns-then-position_in-classes c =
     let normal = c.args.block.now in
     let classes = c.args.classes.now in
     let places = c.args.places.now in
@@ -30,7 +30,7 @@ returns-then-place_in-classes c =
     let place = get_or places c.loop-place.place-index no_place in
     let class = place_class normal place in
     let far : length classes ≡ place_of classes class =
-    sym c.if-place_in-classes.true ∙ c.place_in.ensures ∙ ap (place_of classes) c.class_at-class.ensures in
+    sym c.if-position_in-classes.true ∙ c.position_in.ensures ∙ ap (place_of classes) c.class_at-class.ensures in
     let none : has set class ≡ false = held_by_place normal classes class (c.requires.ranges place.atom place.column)
     ∙ is_above (place_of classes class) (length classes) (omega (arith, far)) in
     elim (which (holds_classes set (map (place_class normal) places))) [
@@ -50,9 +50,9 @@ loop-place-preserved c =
     let place = get_or places i no_place in
     let class = place_class normal place in
     let test : Place → Bool = λ p. has set (place_class normal p) in
-    let is = c.place_in.ensures ∙ ap (place_of classes) c.class_at-class.ensures in
+    let is = c.position_in.ensures ∙ ap (place_of classes) c.class_at-class.ensures in
     let le = place-le classes class in
-    let other = c.if-place_in-classes.false in
+    let other = c.if-position_in-classes.false in
     let held : has set class ≡ true = held_by_place normal classes class (c.requires.ranges place.atom place.column)
     ∙ is_below (place_of classes class) (length classes) (omega (arith, is, le, other)) in
     ap (list_all test) (take_more places i no_place c.loop-place-test.true) ∙ list_all-append test (take i places) (place ∷ [])

@@ -6,8 +6,8 @@ use Rattle.plan_ops.proofs.BoundSets.{counted, few_classes}
 use Rattle.plan_ops.proofs.PlaceFacts.{classes_rise, place-le}
 use Rattle.plan_ops.proofs.places.column_in.Goals as goal
 
-pub place_in-requires : goal.place_in-requires
-place_in-requires c = subst (IsInOrder nat_cmp) (sym c.requires) (classes_rise (set_of c.args.block.now c.args.classes.now))
+pub position_in-requires : goal.position_in-requires
+position_in-requires c = subst (IsInOrder nat_cmp) (sym c.requires) (classes_rise (set_of c.args.block.now c.args.classes.now))
 
 pub overflow_cast-result : goal.overflow_cast-result
 overflow_cast-result c =
@@ -15,5 +15,5 @@ overflow_cast-result c =
     let count = counted c.args.block.now c.args.classes.now in
     let are = ap length c.requires in
     let le = place-le c.args.classes.now c.args.class in
-    let is = c.place_in.ensures in
+    let is = c.position_in.ensures in
     omega (arith, few, count, are, le, is)

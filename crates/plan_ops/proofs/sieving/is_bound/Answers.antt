@@ -14,8 +14,8 @@ returns-in-Fixed c = λ t.
     let set = set_of normal c.args.classes.now in
     let left = place_class normal c.args.comparison.now.left in
     let le = place-le c.args.classes.now left in
-    let at = c.place_among.ensures in
-    let ne = c.if-place_among-classes.false in
+    let at = c.position_among.ensures in
+    let ne = c.if-position_among-classes.false in
     and_both (has set left) (operand_is_bound normal set c.args.comparison.now.right)
     (bound_there normal c.args.classes.now c.requires.classes left (omega (arith, le, at, ne))) (ap (operand_is_bound normal set) c.in-Fixed.is)
 
@@ -26,10 +26,10 @@ returns-in-At c = λ t.
     let left = place_class normal c.args.comparison.now.left in
     let right = place_class normal c.in-At.place in
     let le = place-le c.args.classes.now left in
-    let at = c.place_among.ensures in
-    let ne = c.if-place_among-classes.false in
-    let below = ltb-true c.place_among-in-At.result (length c.args.classes.now) t in
-    let other = c.place_among-in-At.ensures in
+    let at = c.position_among.ensures in
+    let ne = c.if-position_among-classes.false in
+    let below = ltb-true c.position_among-in-At.result (length c.args.classes.now) t in
+    let other = c.position_among-in-At.ensures in
     and_both (has set left) (operand_is_bound normal set c.args.comparison.now.right)
     (bound_there normal c.args.classes.now c.requires.classes left (omega (arith, le, at, ne)))
     (ap (operand_is_bound normal set) c.in-At.is ∙ bound_there normal c.args.classes.now c.requires.classes right (omega (arith, below, other)))

@@ -11,8 +11,8 @@ use Rattle.plan_ops.proofs.starting.start.Goals as goal
 abbrev firsts : List Binding → List ℕ
 firsts cs = map (λ b. b.0) cs
 
-pub first_places-requires : goal.first_places-requires
-first_places-requires c =
+pub first_positions-requires : goal.first_positions-requires
+first_positions-requires c =
     let is = c.of-list.ensures ∙ c.deref.ensures.value ∙ c.in_ok-equated.ensures ∙ ap firsts c.as_slice-constants.ensures in
     subst (All (λ class. class < c.args.block.now.count)) (sym is) (constants_small c.args.block.now.count c.args.block.now.constants c.requires)
 

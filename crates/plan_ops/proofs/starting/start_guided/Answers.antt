@@ -10,8 +10,8 @@ use Rattle.plan_ops.proofs.BoundSets.{counted, set_again}
 use Rattle.plan_ops.proofs.GuidedStarts.{keys, keys_small, start_set, kept_starts, starts_wide, distinct_wide}
 use Rattle.plan_ops.proofs.starting.start_guided.Goals as goal
 
-pub first_places-requires : goal.first_places-requires
-first_places-requires c =
+pub first_positions-requires : goal.first_positions-requires
+first_positions-requires c =
     let block = c.args.block.now in
     subst (All (λ class. class < block.count)) (sym (c.of-list.ensures ∙ c.deref.ensures.value ∙ c.in_ok-equated.ensures))
     (keys_small block c.requires.constants c.requires.ranges)

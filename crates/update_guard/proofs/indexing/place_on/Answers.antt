@@ -11,6 +11,6 @@ place-requires c =
 pub returns : goal.returns
 returns c =
     let within : c.args.k < length c.ids_on.result.now = omega (arith, c.requires.within, ap length c.ids_on.ensures.ids) in
-    place_on c.args.catalogue.now.accesses c.args.table.0 c.args.k c.place.result c.ids_on.result.now c.id_in-id.result c.ids_on.ensures.sound.ids_rise
+    place_on c.args.catalogue.now.accesses c.args.table.0 c.args.k c.position.result c.ids_on.result.now c.id_in-id.result c.ids_on.ensures.sound.ids_rise
     c.ids_on.ensures.ids within c.id_in-id.ensures
-    c.place.ensures.within c.place.ensures.found
+    c.position.ensures.within c.position.ensures.found

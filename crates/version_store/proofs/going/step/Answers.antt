@@ -13,13 +13,13 @@ use Rattle.version_store.proofs.going.step.Goals as goal
 
 pub returns-in_default-clause-did : goal.returns-in_default-clause-did
 returns-in_default-clause-did g c =
-    let none = fact.where_found c.args.queries.now.items c.as_slice.result.now c.args.number c.place_of.result _ c.as_slice.ensures.value c.place_of.ensures
+    let none = fact.where_found c.args.queries.now.items c.as_slice.result.now c.args.number c.position_of.result _ c.as_slice.ensures.value c.position_of.ensures
     c.in_default.is in
     fact.idle_happens c.args.session.now c.args.queries.now.items c.args.number none (SessionIdle c.args.number) c.args.steps.now refl
 
 pub turn_over-requires : goal.turn_over-requires
 turn_over-requires g c =
-    let found = fact.where_found c.args.queries.now.items c.as_slice.result.now c.args.number c.place_of.result _ c.as_slice.ensures.value c.place_of.ensures
+    let found = fact.where_found c.args.queries.now.items c.as_slice.result.now c.args.number c.position_of.result _ c.as_slice.ensures.value c.position_of.ensures
     c.in-Some.is in
     record {
       kept = fact.open_there c.args.session.now c.args.queries.now.items c.args.number c.in-Some.place c.index_mut.result.now c.index_mut.result.now found
@@ -28,14 +28,14 @@ turn_over-requires g c =
 
 pub returns-in_err-turn_over-clause-kept : goal.returns-in_err-turn_over-clause-kept
 returns-in_err-turn_over-clause-kept g c =
-    let found = fact.where_found c.args.queries.now.items c.as_slice.result.now c.args.number c.place_of.result _ c.as_slice.ensures.value c.place_of.ensures
+    let found = fact.where_found c.args.queries.now.items c.as_slice.result.now c.args.number c.position_of.result _ c.as_slice.ensures.value c.position_of.ensures
     c.in-Some.is in
     fact.kept_lost c.args.session.now c.args.queries.now.items c.args.number c.in-Some.place c.index_mut.result.now c.turn_over.new.query found
     c.index_mut.ensures.value c.requires.kept c.turn_over.ensures.kept c.turn_over.ensures.session c.in_err-turn_over.ensures.lost
 
 pub returns-in_err-turn_over-clause-err : goal.returns-in_err-turn_over-clause-err
 returns-in_err-turn_over-clause-err g c =
-    let found = fact.where_found c.args.queries.now.items c.as_slice.result.now c.args.number c.place_of.result _ c.as_slice.ensures.value c.place_of.ensures
+    let found = fact.where_found c.args.queries.now.items c.as_slice.result.now c.args.number c.position_of.result _ c.as_slice.ensures.value c.position_of.ensures
     c.in-Some.is in
     let p = err_from_is_err_and c.from_residual.result c.from_residual.ensures.1 in
     rw (p.1)
@@ -44,7 +44,7 @@ returns-in_err-turn_over-clause-err g c =
 
 pub returns-in_err-turn_over-clause-at_most : goal.returns-in_err-turn_over-clause-at_most
 returns-in_err-turn_over-clause-at_most g c =
-    let found = fact.where_found c.args.queries.now.items c.as_slice.result.now c.args.number c.place_of.result _ c.as_slice.ensures.value c.place_of.ensures
+    let found = fact.where_found c.args.queries.now.items c.as_slice.result.now c.args.number c.position_of.result _ c.as_slice.ensures.value c.position_of.ensures
     c.in-Some.is in
     let s = c.args.session.now in
     let queries = c.args.queries.now.items in
@@ -58,7 +58,7 @@ returns-in_err-turn_over-clause-at_most g c =
 
 pub returns-in-Probed-clause-kept : goal.returns-in-Probed-clause-kept
 returns-in-Probed-clause-kept g c =
-    let found = fact.where_found c.args.queries.now.items c.as_slice.result.now c.args.number c.place_of.result _ c.as_slice.ensures.value c.place_of.ensures
+    let found = fact.where_found c.args.queries.now.items c.as_slice.result.now c.args.number c.position_of.result _ c.as_slice.ensures.value c.position_of.ensures
     c.in-Some.is in
     let s = c.args.session.now in
     let db = database_of s in
@@ -72,7 +72,7 @@ returns-in-Probed-clause-kept g c =
 
 pub returns-in-Probed-clause-did : goal.returns-in-Probed-clause-did
 returns-in-Probed-clause-did g c =
-    let found = fact.where_found c.args.queries.now.items c.as_slice.result.now c.args.number c.place_of.result _ c.as_slice.ensures.value c.place_of.ensures
+    let found = fact.where_found c.args.queries.now.items c.as_slice.result.now c.args.number c.position_of.result _ c.as_slice.ensures.value c.position_of.ensures
     c.in-Some.is in
     let db = database_of c.args.session.now in
     let old = c.index_mut.result.now in
@@ -84,7 +84,7 @@ returns-in-Probed-clause-did g c =
 
 pub returns-in-Probed-clause-goes_on : goal.returns-in-Probed-clause-goes_on
 returns-in-Probed-clause-goes_on g c =
-    let found = fact.where_found c.args.queries.now.items c.as_slice.result.now c.args.number c.place_of.result _ c.as_slice.ensures.value c.place_of.ensures
+    let found = fact.where_found c.args.queries.now.items c.as_slice.result.now c.args.number c.position_of.result _ c.as_slice.ensures.value c.position_of.ensures
     c.in-Some.is in
     let db = database_of c.args.session.now in
     let old = c.index_mut.result.now in
@@ -96,14 +96,14 @@ returns-in-Probed-clause-goes_on g c =
 
 pub returns-in-Done-clause-kept : goal.returns-in-Done-clause-kept
 returns-in-Done-clause-kept g c =
-    let found = fact.where_found c.args.queries.now.items c.as_slice.result.now c.args.number c.place_of.result _ c.as_slice.ensures.value c.place_of.ensures
+    let found = fact.where_found c.args.queries.now.items c.as_slice.result.now c.args.number c.position_of.result _ c.as_slice.ensures.value c.position_of.ensures
     c.in-Some.is in
     fact.kept_answered c.args.session.now c.args.queries.now.items c.args.number c.in-Some.place c.index_mut.result.now c.turn_over.new.query found
     c.index_mut.ensures.value c.requires.kept c.remove.new.self.items c.remove.ensures.items
 
 pub returns-in-Done-clause-did : goal.returns-in-Done-clause-did
 returns-in-Done-clause-did g c =
-    let found = fact.where_found c.args.queries.now.items c.as_slice.result.now c.args.number c.place_of.result _ c.as_slice.ensures.value c.place_of.ensures
+    let found = fact.where_found c.args.queries.now.items c.as_slice.result.now c.args.number c.position_of.result _ c.as_slice.ensures.value c.position_of.ensures
     c.in-Some.is in
     let s = c.args.session.now in
     let db = database_of s in
@@ -122,7 +122,7 @@ returns-in-Done-clause-did g c =
 
 pub returns-in-Done-clause-goes_on : goal.returns-in-Done-clause-goes_on
 returns-in-Done-clause-goes_on g c =
-    let found = fact.where_found c.args.queries.now.items c.as_slice.result.now c.args.number c.place_of.result _ c.as_slice.ensures.value c.place_of.ensures
+    let found = fact.where_found c.args.queries.now.items c.as_slice.result.now c.args.number c.position_of.result _ c.as_slice.ensures.value c.position_of.ensures
     c.in-Some.is in
     let s = c.args.session.now in
     let db = database_of s in

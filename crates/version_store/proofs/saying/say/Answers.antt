@@ -24,7 +24,7 @@ returns-then-is_some-clause-did g c =
     let seen = seen_in s queries in
     let x = g.F.Files.seen c.args.files.now in
     let n = c.args.steps.now in
-    let busy = open_is s queries c.as_slice.result.now k c.place_of.result c.as_slice.ensures.value c.place_of.ensures
+    let busy = open_is s queries c.as_slice.result.now k c.position_of.result c.as_slice.ensures.value c.position_of.ensures
     ∙ sym c.is_some.ensures ∙ c.if-is_some.true in
     subst (λ (a : DeskAction). Takes s.limits.file a (Refused (SessionBusy k)) seen seen n n x x) (sym (busy_is (settings_of s) state k c.args.statement.now busy))
     (refused_takes s.limits.file state (SessionBusy k) seen n x refl)
@@ -53,7 +53,7 @@ returns-then-is_some-clause-loaded g c =
     let s = c.args.session.now in
     let queries = c.args.queries.now.items in
     let x = g.F.Files.seen c.args.files.now in
-    let busy = open_is s queries c.as_slice.result.now c.args.number c.place_of.result c.as_slice.ensures.value c.place_of.ensures
+    let busy = open_is s queries c.as_slice.result.now c.args.number c.position_of.result c.as_slice.ensures.value c.position_of.ensures
     ∙ sym c.is_some.ensures ∙ c.if-is_some.true in
     subst (λ (a : DeskAction). MayLoad (Some a) x x) (sym (busy_is (settings_of s) (state_in s queries) c.args.number c.args.statement.now busy)) refl
 
@@ -73,7 +73,7 @@ say_idle-requires-clause-idle g c =
     let s = c.args.session.now in
     let queries = c.args.queries.now.items in
     none_is c.args.number (state_in s queries)
-    (open_is s queries c.as_slice.result.now c.args.number c.place_of.result c.as_slice.ensures.value c.place_of.ensures
+    (open_is s queries c.as_slice.result.now c.args.number c.position_of.result c.as_slice.ensures.value c.position_of.ensures
     ∙ sym c.is_some.ensures ∙ c.if-is_some.false)
 
 pub returns-clause-kept : goal.returns-clause-kept
@@ -83,7 +83,7 @@ pub returns-clause-did : goal.returns-clause-did
 returns-clause-did g c =
     let s = c.args.session.now in
     let queries = c.args.queries.now.items in
-    let idle = open_is s queries c.as_slice.result.now c.args.number c.place_of.result c.as_slice.ensures.value c.place_of.ensures
+    let idle = open_is s queries c.as_slice.result.now c.args.number c.position_of.result c.as_slice.ensures.value c.position_of.ensures
     ∙ sym c.is_some.ensures ∙ c.if-is_some.false in
     subst (λ (a : DeskAction). IfOk c.say_idle.result (λ given. Takes s.limits.file a given (seen_in s queries)
     (seen_in c.say_idle.new.session c.say_idle.new.queries.items) c.args.steps.now c.say_idle.new.steps
@@ -106,7 +106,7 @@ pub returns-clause-at_most : goal.returns-clause-at_most
 returns-clause-at_most g c =
     let s = c.args.session.now in
     let queries = c.args.queries.now.items in
-    let idle = open_is s queries c.as_slice.result.now c.args.number c.place_of.result c.as_slice.ensures.value c.place_of.ensures
+    let idle = open_is s queries c.as_slice.result.now c.args.number c.position_of.result c.as_slice.ensures.value c.position_of.ensures
     ∙ sym c.is_some.ensures ∙ c.if-is_some.false in
     subst (λ (a : DeskAction). MayCost a c.args.steps.now c.say_idle.new.steps)
     (sym (idle_is (settings_of s) (state_in s queries) c.args.number c.args.statement.now idle)) c.say_idle.ensures.at_most
@@ -118,7 +118,7 @@ pub returns-clause-unread : goal.returns-clause-unread
 returns-clause-unread g c =
     let s = c.args.session.now in
     let queries = c.args.queries.now.items in
-    let idle = open_is s queries c.as_slice.result.now c.args.number c.place_of.result c.as_slice.ensures.value c.place_of.ensures
+    let idle = open_is s queries c.as_slice.result.now c.args.number c.position_of.result c.as_slice.ensures.value c.position_of.ensures
     ∙ sym c.is_some.ensures ∙ c.if-is_some.false in
     λ none. c.say_idle.ensures.unread (ap (λ (a : DeskAction). waits_for_file (Some a))
     (sym (idle_is (settings_of s) (state_in s queries) c.args.number c.args.statement.now idle)) ∙ none)
@@ -127,7 +127,7 @@ pub returns-clause-loaded : goal.returns-clause-loaded
 returns-clause-loaded g c =
     let s = c.args.session.now in
     let queries = c.args.queries.now.items in
-    let idle = open_is s queries c.as_slice.result.now c.args.number c.place_of.result c.as_slice.ensures.value c.place_of.ensures
+    let idle = open_is s queries c.as_slice.result.now c.args.number c.position_of.result c.as_slice.ensures.value c.position_of.ensures
     ∙ sym c.is_some.ensures ∙ c.if-is_some.false in
     subst (λ (a : DeskAction). MayLoad (Some a) (g.F.Files.seen c.args.files.now) (g.F.Files.seen c.say_idle.new.files))
     (sym (idle_is (settings_of s) (state_in s queries) c.args.number c.args.statement.now idle)) c.say_idle.ensures.loaded

@@ -7,4 +7,4 @@ use Rattle.code_index.proofs.asked.AskedRowHash.hash.Given as goal
 -- what was fed since the number of words
 abbrev pub invariant-loop-column : goal.invariant-loop-column
 invariant-loop-column g l =
-    l.state ≡ fold g.H.Hasher.write l.initial.state (flat_map fed.u64 (pick (take l.column-index l.self.columns.now) l.self.words.now))
+    l.state ≡ fold g.H.Hasher.write l.initial.state (flat_map fed.u64 (pick (take l.column-index l.self.columns.now) l.self.codes.now))

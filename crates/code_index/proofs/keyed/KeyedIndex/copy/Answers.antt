@@ -8,7 +8,7 @@ invariant_of-result g c =
     let same : record { access = c.in_ok-access.access; total = c.self.inside.total; groups = c.in_ok-groups.groups.entries }
     ≡ record { access = c.self.inside.access; total = c.self.inside.total; groups = c.self.inside.groups.entries } =
     (λ j. record { access = c.in_ok-access.ensures j; total = c.self.inside.total; groups = c.in_ok-groups.ensures j }) in (
-      subst (λ (a : Access). g.W.OwnWords.fits (length a.key)) (sym c.in_ok-access.ensures) c.self.invariant.0,
+      subst (λ (a : Access). g.W.OwnCodes.fits (length a.key)) (sym c.in_ok-access.ensures) c.self.invariant.0,
       subst IsOrdered (sym same) c.self.invariant.1,
     )
 

@@ -7,7 +7,7 @@ use Rattle.beas_core.specs.Groups.{group_of}
 use Rattle.access_index.proofs.Counting.{tuples_within}
 use Rattle.access_index.proofs.Holding.{at_place, none_from}
 use Rattle.access_index.specs.Index.{IsIndexOf}
-use Rattle.marked_list.specs.declared.coded.Coded.{Coded}
+use Rattle.labelled_list.specs.declared.coded.Coded.{Coded}
 use Rattle.code_index.specs.Reading.{WordIndex, IsInOrderFor, read, read_index, read_group, words_at, words_in}
 use Rattle.code_index.proofs.GroupFacts.{length_group}
 use Rattle.code_index.proofs.Ordering.{group_holds, group_within}
@@ -43,7 +43,7 @@ returns-in-Some-clause-len g c =
     let g0 = c.index.result.now in
     let there = at_place (values_of es) c.in-Some.index g0 [] c.index.ensures in
     subst (λ (x : WordIndex). c.len.result ≡ length (words_at x c.in-Some.index)) c.self.view_is
-    (c.len.ensures ∙ sym (length-map g0 (λ (k : Coded). k.words)) ∙ ap (λ h. length (words_in h)) (sym there))
+    (c.len.ensures ∙ sym (length-map g0 (λ (k : Coded). k.codes)) ∙ ap (λ h. length (words_in h)) (sym there))
 
 pub returns-in-Some-clause-group : goal.returns-in-Some-clause-group
 returns-in-Some-clause-group g c codes rows o known is =

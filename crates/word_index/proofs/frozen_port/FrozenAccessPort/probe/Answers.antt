@@ -13,66 +13,66 @@ use Rattle.word_index.proofs.frozen_port.FrozenAccessPort.probe.Goals as goal
 pub probe-requires-clause-within : goal.probe-requires-clause-within
 probe-requires-clause-within g c =
     let s = c.args.self.now in
-    let e = c.place-place.ensures in
-    let at : Located s.accesses c.args.id c.place-place.result = record { within = e.within; found = e.found; has_id = e.has_id } in
-    let p = place_in_part s.table s.rows s.accesses s.indexes c.args.id c.place-place.result s.kept at in
+    let e = c.position-place.ensures in
+    let at : Located s.accesses c.args.id c.position-place.result = record { within = e.within; found = e.found; has_id = e.has_id } in
+    let p = place_in_part s.table s.rows s.accesses s.indexes c.args.id c.position-place.result s.kept at in
     p.within
 
 pub probe-requires-clause-width : goal.probe-requires-clause-width
 probe-requires-clause-width g c =
     let s = c.args.self.now in
-    let e = c.place-place.ensures in
-    let at : Located s.accesses c.args.id c.place-place.result = record { within = e.within; found = e.found; has_id = e.has_id } in
-    let p = place_in_part s.table s.rows s.accesses s.indexes c.args.id c.place-place.result s.kept at in
+    let e = c.position-place.ensures in
+    let at : Located s.accesses c.args.id c.position-place.result = record { within = e.within; found = e.found; has_id = e.has_id } in
+    let p = place_in_part s.table s.rows s.accesses s.indexes c.args.id c.position-place.result s.kept at in
     c.requires.width ∙ ap (λ (a : Access). length a.key) (sym p.access_is)
 
 pub returns-clause-access : goal.returns-clause-access
 returns-clause-access g c =
     let s = c.args.self.now in
-    let e = c.place-place.ensures in
-    let at : Located s.accesses c.args.id c.place-place.result = record { within = e.within; found = e.found; has_id = e.has_id } in
-    let p = place_in_part s.table s.rows s.accesses s.indexes c.args.id c.place-place.result s.kept at in
+    let e = c.position-place.ensures in
+    let at : Located s.accesses c.args.id c.position-place.result = record { within = e.within; found = e.found; has_id = e.has_id } in
+    let p = place_in_part s.table s.rows s.accesses s.indexes c.args.id c.position-place.result s.kept at in
     c.probe.ensures.access ∙ p.id_is
 
 pub returns-clause-members : goal.returns-clause-members
 returns-clause-members g c =
     let s = c.args.self.now in
-    let e = c.place-place.ensures in
-    let at : Located s.accesses c.args.id c.place-place.result = record { within = e.within; found = e.found; has_id = e.has_id } in
-    let p = place_in_part s.table s.rows s.accesses s.indexes c.args.id c.place-place.result s.kept at in
-    let same : index_with_id s.indexes c.probe.result.access ≡ index_at s.indexes c.place-place.result =
+    let e = c.position-place.ensures in
+    let at : Located s.accesses c.args.id c.position-place.result = record { within = e.within; found = e.found; has_id = e.has_id } in
+    let p = place_in_part s.table s.rows s.accesses s.indexes c.args.id c.position-place.result s.kept at in
+    let same : index_with_id s.indexes c.probe.result.access ≡ index_at s.indexes c.position-place.result =
     ap (index_with_id s.indexes) (c.probe.ensures.access ∙ p.id_is) ∙ p.found in
     let a = access_in s.accesses c.args.id in
     ap (λ i. members_at i c.probe.result) same ∙ c.probe.ensures.members s.rows p.index_is
     ∙ ap (λ x. group_of s.rows x c.args.key.now) p.access_is
-    ∙ ap (λ rs. group_of rs a c.args.key.now) (sym (own_rows s.table s.rows a.table (on_part s.table s.rows s.accesses s.indexes c.args.id c.place-place.result s.kept at)))
+    ∙ ap (λ rs. group_of rs a c.args.key.now) (sym (own_rows s.table s.rows a.table (on_part s.table s.rows s.accesses s.indexes c.args.id c.position-place.result s.kept at)))
 
 pub returns-clause-len : goal.returns-clause-len
 returns-clause-len g c =
     let s = c.args.self.now in
-    let e = c.place-place.ensures in
-    let at : Located s.accesses c.args.id c.place-place.result = record { within = e.within; found = e.found; has_id = e.has_id } in
-    let p = place_in_part s.table s.rows s.accesses s.indexes c.args.id c.place-place.result s.kept at in
-    let same : index_with_id s.indexes c.probe.result.access ≡ index_at s.indexes c.place-place.result =
+    let e = c.position-place.ensures in
+    let at : Located s.accesses c.args.id c.position-place.result = record { within = e.within; found = e.found; has_id = e.has_id } in
+    let p = place_in_part s.table s.rows s.accesses s.indexes c.args.id c.position-place.result s.kept at in
+    let same : index_with_id s.indexes c.probe.result.access ≡ index_at s.indexes c.position-place.result =
     ap (index_with_id s.indexes) (c.probe.ensures.access ∙ p.id_is) ∙ p.found in
     c.probe.ensures.len ∙ ap (λ i. length (members_at i c.probe.result)) (sym same)
 
 pub returns-clause-stands : goal.returns-clause-stands
 returns-clause-stands g c =
     let s = c.args.self.now in
-    let e = c.place-place.ensures in
-    let at : Located s.accesses c.args.id c.place-place.result = record { within = e.within; found = e.found; has_id = e.has_id } in
-    let p = place_in_part s.table s.rows s.accesses s.indexes c.args.id c.place-place.result s.kept at in
-    let same : index_with_id s.indexes c.probe.result.access ≡ index_at s.indexes c.place-place.result =
+    let e = c.position-place.ensures in
+    let at : Located s.accesses c.args.id c.position-place.result = record { within = e.within; found = e.found; has_id = e.has_id } in
+    let p = place_in_part s.table s.rows s.accesses s.indexes c.args.id c.position-place.result s.kept at in
+    let same : index_with_id s.indexes c.probe.result.access ≡ index_at s.indexes c.position-place.result =
     ap (index_with_id s.indexes) (c.probe.ensures.access ∙ p.id_is) ∙ p.found in
     subst (λ (i : Index). stands_at i c.probe.result) (sym same) c.probe.ensures.stands
 
 pub returns-clause-bounded : goal.returns-clause-bounded
 returns-clause-bounded g c =
     let s = c.args.self.now in
-    let e = c.place-place.ensures in
-    let at : Located s.accesses c.args.id c.place-place.result = record { within = e.within; found = e.found; has_id = e.has_id } in
-    let p = place_in_part s.table s.rows s.accesses s.indexes c.args.id c.place-place.result s.kept at in
+    let e = c.position-place.ensures in
+    let at : Located s.accesses c.args.id c.position-place.result = record { within = e.within; found = e.found; has_id = e.has_id } in
+    let p = place_in_part s.table s.rows s.accesses s.indexes c.args.id c.position-place.result s.kept at in
     let a = access_in s.accesses c.args.id in
     let e = c.probe.ensures.len ∙ ap length (c.probe.ensures.members s.rows p.index_is
     ∙ ap (λ x. group_of s.rows x c.args.key.now) p.access_is) in

@@ -12,26 +12,26 @@ use Rattle.word_index.proofs.port.WordGuardedAccessPort.value.Goals as goal
 pub value-requires-clause-within : goal.value-requires-clause-within
 value-requires-clause-within c =
     let s = c.args.self.now in
-    let e = c.place-place.ensures in
-    let p = place_in_guard s.catalogue s.rows s.indexes c.access.result c.place-place.result e.sound s.kept
+    let e = c.position-place.ensures in
+    let p = place_in_guard s.catalogue s.rows s.indexes c.access.result c.position-place.result e.sound s.kept
     (record { within = e.within; found = e.found; has_id = e.has_id }) in
     p.within
 
 pub value-requires-clause-stands : goal.value-requires-clause-stands
 value-requires-clause-stands c =
     let s = c.args.self.now in
-    let e = c.place-place.ensures in
-    let p = place_in_guard s.catalogue s.rows s.indexes c.access.result c.place-place.result e.sound s.kept
+    let e = c.position-place.ensures in
+    let p = place_in_guard s.catalogue s.rows s.indexes c.access.result c.position-place.result e.sound s.kept
     (record { within = e.within; found = e.found; has_id = e.has_id }) in
-    let same : index_with_id s.indexes c.args.hits.now.access ≡ index_at s.indexes c.place-place.result =
+    let same : index_with_id s.indexes c.args.hits.now.access ≡ index_at s.indexes c.position-place.result =
     ap (index_with_id s.indexes) (sym c.access.ensures) ∙ p.found in
     subst (λ (i : Index). stands_at i c.args.hits.now) same c.requires.stands
 
 pub value-requires-clause-column : goal.value-requires-clause-column
 value-requires-clause-column c =
     let s = c.args.self.now in
-    let e = c.place-place.ensures in
-    let p = place_in_guard s.catalogue s.rows s.indexes c.access.result c.place-place.result e.sound s.kept
+    let e = c.position-place.ensures in
+    let p = place_in_guard s.catalogue s.rows s.indexes c.access.result c.position-place.result e.sound s.kept
     (record { within = e.within; found = e.found; has_id = e.has_id }) in
     subst (λ (a : Access). IsTrue (has_column (member_columns a) c.args.column))
     (sym (p.access_is ∙ ap (access_in s.catalogue.accesses) c.access.ensures)) c.requires.column
@@ -39,12 +39,12 @@ value-requires-clause-column c =
 pub returns : goal.returns
 returns c =
     let s = c.args.self.now in
-    let e = c.place-place.ensures in
-    let p = place_in_guard s.catalogue s.rows s.indexes c.access.result c.place-place.result e.sound s.kept
+    let e = c.position-place.ensures in
+    let p = place_in_guard s.catalogue s.rows s.indexes c.access.result c.position-place.result e.sound s.kept
     (record { within = e.within; found = e.found; has_id = e.has_id }) in
-    let same : index_with_id s.indexes c.args.hits.now.access ≡ index_at s.indexes c.place-place.result =
+    let same : index_with_id s.indexes c.args.hits.now.access ≡ index_at s.indexes c.position-place.result =
     ap (index_with_id s.indexes) (sym c.access.ensures) ∙ p.found in
-    let index = index_at s.indexes c.place-place.result in
+    let index = index_at s.indexes c.position-place.result in
     c.value.ensures
     ∙ ap (λ (a : Access). value_in (member_columns a) (get_or (members_at index c.args.hits.now) c.args.i []) c.args.column)
     (p.access_is ∙ ap (access_in s.catalogue.accesses) c.access.ensures)

@@ -1,0 +1,13 @@
+use Rattle.std.proofs.Common.{◌≡◌, ◌<◌, ℕ, length, get_or}
+use Rattle.beas_core.specs.declared.schema.ColumnId.{ColumnId}
+use Rattle.beas_core.specs.Groups.{member_columns}
+use Rattle.code_index.specs.Reading.{KeepsCodes}
+use Rattle.code_index.specs.Spelling.{IsCodeIn}
+use Rattle.code_index.proofs.spelling.interned_row.Given as goal
+
+abbrev pub invariant-loop-i : goal.invariant-loop-i
+invariant-loop-i l = record {
+  len : length l.words ≡ 64;
+  kept : KeepsCodes l.initial.codes l.codes;
+  right : (j : ℕ) (d : ColumnId) → j < l.i → IsCodeIn l.codes l.words l.row (get_or (member_columns l.access) j d);
+}

@@ -1,0 +1,4 @@
+pub mod Hashing
+pub mod Kept
+pub mod Labels
+pub mod Spreads

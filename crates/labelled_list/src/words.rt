@@ -1,0 +1,135 @@
+// The words of a tuple as a key of a map.
+ghost use Rattle.std.specs.Prelude.{◌≡◌, ◌≤◌, length, nat_eq, IfOk};
+ghost use Rattle.std.specs.Cmp.{partial_equiv_from_equiv};
+ghost use Rattle.std.specs.Cmp.Lexicographic.{pointwise, nat_list_eq_equiv};
+ghost use Rattle.std.specs.Hash as fed;
+ghost use Rattle.labelled_list.specs.Hashing.{words_alike};
+ghost use Rattle.labelled_list.specs.Kept.{kept_words, IsKept};
+
+use beas_core::{Duplicate, NoMemory};
+use indexmap::Equivalent;
+use std::alloc::Global;
+use std::hash::{Hash, Hasher};
+use std::marker::Model;
+
+/// As many words stand in place at most: such tuples have a key of three columns and one that is fetched, say.
+const FEW: usize = 4;
+
+/// Where the words of a tuple lie. A few stand in place, so that they cost no block of memory and are read where the tuple
+/// is found, without a jump. Their number takes no room of its own, as it lies beside the tag.
+#[derive(Drop)]
+enum Kept {
+    Short { len: u8, words: [u64; FEW] },
+    Long(Vec<u64>),
+}
+
+/// A few words, in place.
+fn in_place(words: &[u64]) -> Kept
+    requires { length words.now ≤ 4 }
+    ensures kept { IsKept result }
+    ensures words { kept_words result ≡ words.now }
+{
+    let len = words.len();
+    let mut short = [0; FEW];
+    short[..len].copy_from_slice(words);
+    Kept::Short {
+        len: len as u8,
+        words: short,
+    }
+}
+
+/// The words of a tuple, seen as their list. Up to four of them stand in place.
+#[derive(Drop)]
+pub struct TupleCodes {
+    kept: Kept,
+}
+
+impl Model for TupleCodes {
+    ghost use Rattle.std.specs.Prelude.{List, ℕ};
+    ghost use Rattle.labelled_list.specs.Kept.{kept_words, IsKept};
+
+    ghost Value = { List ℕ };
+
+    ghost view = { λ s. kept_words s.kept };
+
+    ghost invariant = { λ s. IsKept s.kept };
+}
+
+impl TupleCodes {
+    /// These words. It takes no memory.
+    pub fn from_vec(words: Vec<u64>) -> TupleCodes
+        ensures { result ≡ words.items }
+    {
+        let kept = if words.len() > FEW {
+            Kept::Long(words)
+        } else {
+            in_place(&words)
+        };
+        TupleCodes { kept }
+    }
+
+    /// The same words. It takes no memory for up to four.
+    pub fn of(alloc: Global, words: &[u64]) -> Result<TupleCodes, NoMemory>
+        ensures { IfOk result (λ key. key ≡ words.now) }
+    {
+        let kept = if words.len() > FEW {
+            Kept::Long(words.to_vec(alloc)?)
+        } else {
+            in_place(words)
+        };
+        Ok(TupleCodes { kept })
+    }
+
+    /// The words. It takes no memory.
+    pub fn as_slice(&self) -> &[u64]
+        ensures { result.now ≡ self.now }
+    {
+        match &self.kept {
+            Kept::Short { len, words } => &words[..*len as usize],
+            Kept::Long(words) => words.as_slice(),
+        }
+    }
+}
+
+impl Duplicate for TupleCodes {
+    fn copy(&self, alloc: Global) -> Result<TupleCodes, NoMemory> {
+        TupleCodes::of(alloc, self.as_slice())
+    }
+}
+
+impl PartialEq for TupleCodes {
+    ghost eq = { pointwise nat_eq };
+
+    ghost laws = { partial_equiv_from_equiv nat_list_eq_equiv };
+
+    fn eq(&self, other: &TupleCodes) -> bool {
+        self.as_slice() == other.as_slice()
+    }
+}
+
+impl Eq for TupleCodes {
+    ghost laws = { nat_list_eq_equiv };
+}
+
+impl Hash for TupleCodes {
+    ghost hash_input = { fed.slice fed.u64 };
+
+    ghost respects_eq = { words_alike };
+
+    fn hash<H: Hasher>(&self, state: &mut H) {
+        self.as_slice().hash(state);
+    }
+}
+
+/// A tuple is looked up by its words, which takes no memory.
+impl Equivalent<TupleCodes> for &[u64] {
+    ghost equivalent = { λ q. pointwise nat_eq q.now };
+
+    ghost respects_hash = { λ q. words_alike q.now };
+
+    ghost respects_eq = { λ q x y. nat_list_eq_equiv.congr q.now x y };
+
+    fn equivalent(&self, key: &TupleCodes) -> bool {
+        *self == key.as_slice()
+    }
+}

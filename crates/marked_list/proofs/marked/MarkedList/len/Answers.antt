@@ -1,5 +1,0 @@
-use Rattle.marked_list.proofs.KeyFacts.{items_distinct}
-use Rattle.marked_list.proofs.marked.MarkedList.len.Goals as goal
-
-pub returns-clause-distinct : goal.returns-clause-distinct
-returns-clause-distinct c = items_distinct c.self.inside.tuples.entries c.self.inside.slots c.args.self.now c.self.invariant.places c.len.ensures.unique c.self.view_is

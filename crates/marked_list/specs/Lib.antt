@@ -1,4 +1,0 @@
-pub mod Hashing
-pub mod Kept
-pub mod Marks
-pub mod Spreads
