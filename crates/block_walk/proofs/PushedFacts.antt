@@ -1,6 +1,6 @@
 -- Tuples that are copied one after another, where a sieve passes them.
 use Rattle.std.proofs.Common.{◌≡◌, ◌+◌, ◌*◌, ◌<◌, ◌≤◌, ◌++◌, ◌∷◌, ◌∙◌, [], ℕ, Bool, true, false, cond, List, length, take, drop, get_or, refl, ap, sym, subst, arith, add-one, length-append, length-drop}
-use Rattle.std.specs.List.{filter, list_all}
+use Rattle.std.specs.List.{filter}
 use Rattle.std.proofs.Math.Seq.{take-suc}
 use Rattle.std.proofs.lemmas.List.{append-nil, drop-append-le, take-append-drop, take-append-le, take_all}
 use Rattle.std.proofs.lemmas.List.Elements.{filter-append}
@@ -8,15 +8,9 @@ use Rattle.beas_core.specs.declared.value.Value.{Value}
 use Rattle.beas_core.specs.declared.plan.Normal.{Normal}
 use Rattle.beas_core.specs.Types.{Row}
 use Rattle.plan_ops.specs.declared.sieving.Sieve.{Sieve}
-use Rattle.plan_ops.specs.Sieves.{is_met_alone, passes, sieved}
-use Rattle.plan_ops.proofs.MeetFacts.{filter_true}
-use Rattle.plan_ops.specs.declared.sieving.Own.{Own}
+use Rattle.plan_ops.specs.Sieves.{passes, sieved}
 use Rattle.block_walk.specs.Fetched.{Pushed, rows_in}
 use Rattle.block_walk.proofs.FetchedFacts.{rows_more}
-
-pub nothing : {K : Type 0} (xs : List K) → length xs ≡ 0 → xs ≡ []
-nothing [] e = refl
-nothing (x ∷ xs) e = absurd (omega (arith, e))
 
 pub pushed_none : (width : ℕ) (values : List Value) → Pushed width values values [] 0
 pushed_none width values = record { front = take_all (length values) values (omega arith); whole = omega arith; cut = refl }
@@ -88,8 +82,3 @@ module _ (normal : Normal) (sieve : Sieve) (tuples : List Row) where
           let empty : filter p tuples ≡ [] = sym h.cut ∙ ap (λ n. rows_in width n (drop (length old) values)) (none refl) in
           subst (λ rows. Pushed width old values rows count) (empty ∙ sym (ap (take 1) empty)) h
       by false none h = h
-
-  -- nothing is asked of a tuple
-  pub all_kept_by : sieve.own.items ≡ [] → (one : Bool) → one ≡ false → sieved normal sieve one tuples ≡ tuples
-  all_kept_by none one all = ap (λ b. sieved normal sieve b tuples) all
-      ∙ filter_true p tuples (λ t h. ap (λ (os : List Own). list_all (is_met_alone normal t) os) none)

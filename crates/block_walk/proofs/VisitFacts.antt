@@ -26,7 +26,7 @@ use Rattle.block_walk.specs.Stacks.{IsStack, pending_in}
 use Rattle.block_walk.specs.declared.known.Known.{Known}
 use Rattle.block_walk.specs.declared.known.Found.{Found}
 use Rattle.block_walk.specs.declared.walking.Walk.{Walk}
-use Rattle.block_walk.specs.Walks.{accesses_in, no_access, classes_at, fetched_at, fetched_in, IsTidy, IsStageAt, WasMade, set_at, children, probe_of, found_at, next_at}
+use Rattle.block_walk.specs.Walks.{accesses_in, no_access, Begins, classes_at, fetched_at, fetched_in, IsMadeFor, IsTidy, IsStageAt, WasMade, set_at, children, probe_of, found_at, next_at}
 use Rattle.block_walk.proofs.KeptFacts.{kept_elsewhere}
 use Rattle.block_walk.proofs.OrderFacts.{Has-put, Has-put_old, Has-from_put, IsInOrder-put, fetched_from, fetched_here, in_order_more, length-put, reads-put}
 use Rattle.block_walk.proofs.WorldFacts.{next_kept, set_is, set_more, stage_access, step_access, use_by}
@@ -205,15 +205,74 @@ Goes r at s tuples old new =
     GoesOn (length r.steps) at rows (map (output_row r.normal (bound_with r.normal (use_at s) (set_before r.normal s))) rows)
     (pending_in old.pending) (pending_in new.pending) old.through new.through
 
+-- the stages of a walk once the step before which a valuation stands is begun
+pub record IsBegun (w : World) (r : Route) (at : Pending) (old : Walk) (stages : List Stage) (s : Stage) : Type 0 where
+  pub serves : Serves w r at s
+  pub at_step : IsStageAt r old.first old.stages.items at.step s
+  pub reach : at.step ≤ length old.stages.items
+  pub few : length stages ≤ length r.steps
+  pub alike : (j : ℕ) (d : Stage) → j < length old.stages.items → get_or stages j d ≡ get_or old.stages.items j d
+  pub longer : length old.stages.items ≤ length stages
+  pub only : (j : ℕ) → j < length stages → (j < length old.stages.items) ⊎ (j ≡ at.step)
+  pub inside : at.step < length stages
+  pub here : (d : Stage) → get_or stages at.step d ≡ s
+  pub kept : AreKept r.normal s (is_last r at.step) old.known at.step
+
+module _ (w : World) (r : Route) (at : Pending) (old : Walk) (tidy : IsTidy r old) (agree : AgreesWith w r.steps (fetched_in old))
+    (below : at.step < length r.steps) where
+  -- the step was begun before
+  begun_before : at.step < length old.stages.items → (s : Stage) → get_or old.stages.items at.step s ≡ s → IsBegun w r at old old.stages.items s
+  begun_before begun s here = record {
+    serves = subst (Serves w r at) here (serves_begun w r at old tidy agree begun s);
+    at_step = subst (IsStageAt r old.first old.stages.items at.step) here (tidy.stages at.step s begun);
+    reach = omega (arith, begun);
+    few = tidy.few;
+    alike = λ j d l. refl;
+    longer = omega arith;
+    only = λ j l. inl l;
+    inside = begun;
+    here = λ d. get_or_any old.stages.items at.step d s begun ∙ here;
+    kept = subst (λ (x : Stage). AreKept r.normal x (is_last r at.step) old.known at.step) here (tidy.kept at.step s begun);
+  }
+
+  abbrev MadeHere : Stage → Type 0
+  MadeHere = IsMadeFor r.normal (step_at r at.step).atom (access_in w.accesses (step_at r at.step).access)
+      (classes_at old.first old.stages.items (length old.stages.items))
+
+  -- it is begun now, and no key was probed at it
+  begun_now : (s : Stage) → at.step ≡ length old.stages.items → MadeHere s → IsBegun w r at old (old.stages.items ++ s ∷ []) s
+  begun_now s next is =
+      let counted : length (old.stages.items ++ s ∷ []) ≡ length old.stages.items + 1 = length-append old.stages.items (s ∷ []) in
+      let from : s.from.value ≡ classes_at old.first old.stages.items at.step = is.from ∙ ap (classes_at old.first old.stages.items) (sym next) in
+      record {
+        serves = record {
+          stage = is.stage;
+          uses = ap (λ k. record { atom = k; access = s.access.value }) is.atom ∙ ap (use_by (step_at r at.step)) is.access;
+          before = ap (set_of r.normal) from ∙ set_is w r old tidy agree at.step (omega (arith, next));
+        };
+        at_step = record { stage = is.stage; atom = is.atom; from = from };
+        reach = omega (arith, next);
+        few = omega (arith, counted, next, below);
+        alike = λ j d l. get_or-front old.stages.items s d j l;
+        longer = omega (arith, counted);
+        only = λ j l. elim (least j (length old.stages.items) (omega (arith, l, counted))) [ inl m ↦ inl m | inr e ↦ inr (e ∙ sym next) ];
+        inside = omega (arith, counted, next);
+        here = λ d. ap (λ n. get_or (old.stages.items ++ s ∷ []) n d) next ∙ get_or-last old.stages.items s d;
+        kept = λ i l e.
+            (let b = tidy.steps (entry_of old.known i) (Has-get_or (entries_in old.known) i ((0, []), []) l) in absurd (omega (arith, b, e, next)));
+      }
+
+  pub is_begun : (stages : List Stage) → Begins MadeHere at.step old.stages.items stages → (s : Stage) → get_or stages at.step s ≡ s
+      → IsBegun w r at old stages s
+  is_begun stages (inl b) s here = subst (λ ss. IsBegun w r at old ss s) (sym b.1) (begun_before b.0 s (ap (λ ss. get_or ss at.step s) (sym b.1) ∙ here))
+  is_begun stages (inr b) s here =
+      let now = begun_now b.0 b.1 b.3 in
+      let same : b.0 ≡ s = sym (now.here s) ∙ ap (λ ss. get_or ss at.step s) (sym b.2) ∙ here in
+      subst (IsBegun w r at old stages) same (subst (λ ss. IsBegun w r at old ss b.0) (sym b.2) now)
+
 -- a visit by a stage
-module _ (w : World) (r : Route) (at : Pending) (old new : Walk) (tidy : IsTidy r old) (s : Stage) (serves : Serves w r at s)
-    (is_at_step : IsStageAt r old.first old.stages.items at.step s) (reach : at.step ≤ length old.stages.items)
-    (first_same : new.first ≡ old.first) (few_new : length new.stages.items ≤ length r.steps)
-    (alike : (j : ℕ) (d : Stage) → j < length old.stages.items → get_or new.stages.items j d ≡ get_or old.stages.items j d)
-    (longer : length old.stages.items ≤ length new.stages.items)
-    (only : (j : ℕ) → j < length new.stages.items → (j < length old.stages.items) ⊎ (j ≡ at.step))
-    (inside : at.step < length new.stages.items) (here : (d : Stage) → get_or new.stages.items at.step d ≡ s)
-    (agree : AgreesWith w r.steps (fetched_in old)) (found : Found) (before now : ℕ)
+module _ (w : World) (r : Route) (at : Pending) (old new : Walk) (tidy : IsTidy r old) (agree : AgreesWith w r.steps (fetched_in old)) (s : Stage)
+    (begun : IsBegun w r at old new.stages.items s) (first_same : new.first ≡ old.first) (found : Found) (before now : ℕ)
     (stage_finds : Finds w.rows w.accesses (step_at r at.step).access at.step (key_by r.normal (use_at s) (set_before r.normal s) at.row)
     found old.known new.known before now)
     (goes : Goes r at s (entry_of new.known found.place).1 old new) (known_new : IsKnown new.known)
@@ -225,45 +284,49 @@ module _ (w : World) (r : Route) (at : Pending) (old new : Walk) (tidy : IsTidy 
   key = (probe_of w r at).key
 
   below : at.step < length r.steps
-  below = omega (arith, inside, few_new)
+  below = let inside = begun.inside in let few = begun.few in omega (arith, inside, few)
 
   abbrev tuples : List Row
   tuples = (entry_of new.known found.place).1
 
   is_group : tuples ≡ (found_at w r at).tuples
-  is_group = found_tuples w r at old agree below s serves found new.known before now stage_finds
+  is_group = found_tuples w r at old agree below s begun.serves found new.known before now stage_finds
 
   classes_alike : (j : ℕ) → j ≤ length old.stages.items → classes_at new.first new.stages.items j ≡ classes_at old.first old.stages.items j
   classes_alike zero l = first_same
   classes_alike (suc j) l =
       let b : j < length old.stages.items = omega (arith, l) in
+      let longer = begun.longer in
       get_or-map (λ (x : Stage). x.join.classes) new.stages.items j s [] (omega (arith, b, longer))
-      ∙ ap (λ (x : Stage). x.join.classes) (alike j s b)
+      ∙ ap (λ (x : Stage). x.join.classes) (begun.alike j s b)
       ∙ sym (get_or-map (λ (x : Stage). x.join.classes) old.stages.items j s [] b)
 
   classes_next : classes_at new.first new.stages.items (n + 1) ≡ s.join.classes
-  classes_next = ap (classes_at new.first new.stages.items) (add-one n) ∙ get_or-map (λ (x : Stage). x.join.classes) new.stages.items n s [] inside
-      ∙ ap (λ (x : Stage). x.join.classes) (here s)
+  classes_next = ap (classes_at new.first new.stages.items) (add-one n) ∙ get_or-map (λ (x : Stage). x.join.classes) new.stages.items n s [] begun.inside
+      ∙ ap (λ (x : Stage). x.join.classes) (begun.here s)
 
   access_alike : (j : ℕ) → j < length old.stages.items → get_or (accesses_in new.stages.items) j no_access ≡ get_or (accesses_in old.stages.items) j no_access
-  access_alike j l = get_or-map (λ (x : Stage). x.access.value) new.stages.items j s no_access (omega (arith, l, longer))
-      ∙ ap (λ (x : Stage). x.access.value) (alike j s l) ∙ sym (get_or-map (λ (x : Stage). x.access.value) old.stages.items j s no_access l)
+  access_alike j l =
+      let longer = begun.longer in
+      get_or-map (λ (x : Stage). x.access.value) new.stages.items j s no_access (omega (arith, l, longer))
+      ∙ ap (λ (x : Stage). x.access.value) (begun.alike j s l) ∙ sym (get_or-map (λ (x : Stage). x.access.value) old.stages.items j s no_access l)
 
   access_new : get_or (accesses_in new.stages.items) n no_access ≡ access_in w.accesses (step_at r n).access
-  access_new = get_or-map (λ (x : Stage). x.access.value) new.stages.items n s no_access inside ∙ ap (λ (x : Stage). x.access.value) (here s) ∙ access_is w r at s serves
+  access_new = get_or-map (λ (x : Stage). x.access.value) new.stages.items n s no_access begun.inside
+      ∙ ap (λ (x : Stage). x.access.value) (begun.here s) ∙ access_is w r at s begun.serves
 
   stages_new : (j : ℕ) (d : Stage) → j < length new.stages.items → IsStageAt r new.first new.stages.items j (get_or new.stages.items j d)
-  stages_new j d l = elim (only j l) [
-    | inl b ↦ subst (IsStageAt r new.first new.stages.items j) (sym (alike j d b)) (record {
+  stages_new j d l = elim (begun.only j l) [
+    | inl b ↦ subst (IsStageAt r new.first new.stages.items j) (sym (begun.alike j d b)) (record {
       stage = (tidy.stages j d b).stage;
       atom = (tidy.stages j d b).atom;
       from = (tidy.stages j d b).from ∙ sym (classes_alike j (omega (arith, b)));
     })
     | inr e ↦ subst (λ k. IsStageAt r new.first new.stages.items k (get_or new.stages.items k d)) (sym e)
-        (subst (IsStageAt r new.first new.stages.items n) (sym (here d)) (record {
-          stage = is_at_step.stage;
-          atom = is_at_step.atom;
-          from = is_at_step.from ∙ sym (classes_alike n reach);
+        (subst (IsStageAt r new.first new.stages.items n) (sym (begun.here d)) (record {
+          stage = begun.at_step.stage;
+          atom = begun.at_step.atom;
+          from = begun.at_step.from ∙ sym (classes_alike n begun.reach);
         }))
   ]
 
@@ -271,9 +334,9 @@ module _ (w : World) (r : Route) (at : Pending) (old new : Walk) (tidy : IsTidy 
   kept_new : (j : ℕ) (d : Stage) → j < length new.stages.items → AreKept r.normal (get_or new.stages.items j d) (is_last r j) new.known j
   kept_new j d l = elim (cases_eq j n) [
     | inl e ↦ subst (λ k. AreKept r.normal (get_or new.stages.items k d) (is_last r k) new.known k) (sym e)
-        (subst (λ (x : Stage). AreKept r.normal x (is_last r n) new.known n) (sym (here d)) kept_here)
-    | inr ne ↦ elim (only j l) [
-      | inl b ↦ subst (λ (x : Stage). AreKept r.normal x (is_last r j) new.known j) (sym (alike j d b))
+        (subst (λ (x : Stage). AreKept r.normal x (is_last r n) new.known n) (sym (begun.here d)) kept_here)
+    | inr ne ↦ elim (begun.only j l) [
+      | inl b ↦ subst (λ (x : Stage). AreKept r.normal x (is_last r j) new.known j) (sym (begun.alike j d b))
           (kept_elsewhere w.rows w.accesses (step_at r n).access n (key_by r.normal (use_at s) (set_before r.normal s) at.row) found old.known new.known
           before now stage_finds r.normal (get_or old.stages.items j d) (is_last r j) j ne (tidy.kept j d b))
       | inr e ↦ absurd (ne e)
@@ -294,21 +357,23 @@ module _ (w : World) (r : Route) (at : Pending) (old new : Walk) (tidy : IsTidy 
   pending_new p h = elim (pending_from p h) [
     | inl k ↦ (
         let l = tidy.pending p k in
+        let longer = begun.longer in
         (omega (arith, l, longer), tidy.wide p k ∙ ap length (sym (classes_alike p.step l))))
     | inr k ↦ (
         let m = Has-from_map (pending_at (n + 1)) (next_by r.normal (use_at s) (set_before r.normal s) at.row tuples) p k in
+        let inside = begun.inside in
         subst (λ (q : Pending). (q.step ≤ length new.stages.items) × (length q.row ≡ length (classes_at new.first new.stages.items q.step))) (sym m.2)
-        (omega (arith, inside), next_wide r.normal s at.row tuples m.0 serves.stage m.1 ∙ ap length (sym classes_next)))
+        (omega (arith, inside), next_wide r.normal s at.row tuples m.0 begun.serves.stage m.1 ∙ ap length (sym classes_next)))
   ]
 
   set_next : bound_with r.normal (use_at s) (set_before r.normal s) ≡ set_at w r (n + 1)
-  set_next = ap (λ v. bound_with r.normal v (set_before r.normal s)) serves.uses
-      ∙ ap (bound_with r.normal (use_by (step_at r n) (access_in w.accesses (step_at r n).access))) serves.before
-      ∙ sym (set_more w r n (omega (arith, inside, few_new)))
+  set_next = ap (λ v. bound_with r.normal v (set_before r.normal s)) begun.serves.uses
+      ∙ ap (bound_with r.normal (use_by (step_at r n) (access_in w.accesses (step_at r n).access))) begun.serves.before
+      ∙ sym (set_more w r n below)
 
   gone_on : GoesOn (length r.steps) at (next_at w r at) (outputs_at w r at) (pending_in old.pending) (pending_in new.pending) old.through new.through
   gone_on =
-      let same = next_is w r at s serves tuples is_group in
+      let same = next_is w r at s begun.serves tuples is_group in
       elim goes [
         | inl x ↦ inl (
           x.0,
@@ -338,10 +403,10 @@ module _ (w : World) (r : Route) (at : Pending) (old new : Walk) (tidy : IsTidy 
     known_outcome = record {
       tidy = record {
         first = first_same ∙ tidy.first;
-        few = few_new;
+        few = begun.few;
         stages = stages_new;
-        steps = λ e h. (let l = tidy.steps e (subst (λ es. Has es e) entries h) in omega (arith, l, longer));
-        each = λ j l. elim (only j l) [
+        steps = λ e h. (let l = tidy.steps e (subst (λ es. Has es e) entries h) in let longer = begun.longer in omega (arith, l, longer));
+        each = λ j l. elim (begun.only j l) [
           | inl b ↦ (let e = tidy.each j b in (e.0, subst (λ es. Has es e.0) (sym entries) e.1, e.2))
           | inr e ↦ (one, subst (λ es. Has es one) (sym entries) known, sym e)
         ];
@@ -392,13 +457,13 @@ module _ (w : World) (r : Route) (at : Pending) (old new : Walk) (tidy : IsTidy 
     probed_outcome = record {
       tidy = record {
         first = first_same ∙ tidy.first;
-        few = few_new;
+        few = begun.few;
         stages = stages_new;
         steps = λ e h. elim (from_new e h) [
-          | inl k ↦ subst (λ (x : Entry). x.0.0 < length new.stages.items) (sym k) inside
-          | inr k ↦ (let l = tidy.steps e k in omega (arith, l, longer))
+          | inl k ↦ subst (λ (x : Entry). x.0.0 < length new.stages.items) (sym k) begun.inside
+          | inr k ↦ (let l = tidy.steps e k in let longer = begun.longer in omega (arith, l, longer))
         ];
-        each = λ j l. elim (only j l) [
+        each = λ j l. elim (begun.only j l) [
           | inl b ↦ (let e = tidy.each j b in (e.0, stays e.0 e.1, e.2))
           | inr e ↦ (one, has_one, sym e)
         ];
@@ -425,88 +490,9 @@ module _ (w : World) (r : Route) (at : Pending) (old new : Walk) (tidy : IsTidy 
         differ : true ≡ false → ⊥
         differ e = cc
 
-  outcome : Outcome w r at (probed found.reads) old new
-  outcome = by found.reads (finds w r at old agree below s serves found new.known before now stage_finds).grew
+  pub outcome : Outcome w r at (probed found.reads) old new
+  outcome = by found.reads (finds w r at old agree below s begun.serves found new.known before now stage_finds).grew
     where
       by : (o : Option ℕ) → Grew w.rows w.accesses (step_at r at.step).access at.step key o old.known new.known before now → Outcome w r at (probed o) old new
-      by None grew = known_outcome grew.0 (known_entry w r at old agree below s serves found new.known before now stage_finds grew.0)
+      by None grew = known_outcome grew.0 (known_entry w r at old agree below s begun.serves found new.known before now stage_finds grew.0)
       by (Some reads) grew = probed_outcome grew.0 grew.1
-
--- a step that was begun
-module _ (w : World) (r : Route) (at : Pending) (old new : Walk) (tidy : IsTidy r old) (agree : AgreesWith w r.steps (fetched_in old)) (s : Stage)
-    (begun : at.step < length old.stages.items) (here : get_or old.stages.items at.step s ≡ s) (first : new.first ≡ old.first)
-    (stages : new.stages.items ≡ old.stages.items) where
-  pub serves_again : Serves w r at s
-  serves_again = subst (Serves w r at) here (serves_begun w r at old tidy agree begun s)
-
-  pub at_again : IsStageAt r old.first old.stages.items at.step s
-  at_again = subst (IsStageAt r old.first old.stages.items at.step) here (tidy.stages at.step s begun)
-
-  few_again : length new.stages.items ≤ length r.steps
-  few_again = subst (λ ss. length ss ≤ length r.steps) (sym stages) tidy.few
-
-  reach_again : at.step ≤ length old.stages.items
-  reach_again = omega (arith, begun)
-
-  pub below_again : at.step < length r.steps
-  below_again = let few = tidy.few in omega (arith, begun, few)
-
-  longer_again : length old.stages.items ≤ length new.stages.items
-  longer_again = let c = ap length stages in omega (arith, c)
-
-  inside_again : at.step < length new.stages.items
-  inside_again = subst (λ ss. at.step < length ss) (sym stages) begun
-
-  pub kept_again : AreKept r.normal s (is_last r at.step) old.known at.step
-  kept_again = subst (λ (x : Stage). AreKept r.normal x (is_last r at.step) old.known at.step) here (tidy.kept at.step s begun)
-
-  pub visited_again : (found : Found) (before now : ℕ)
-      → Finds w.rows w.accesses (step_at r at.step).access at.step (key_by r.normal (use_at s) (set_before r.normal s) at.row)
-      found old.known new.known before now
-      → Goes r at s (entry_of new.known found.place).1 old new → IsKnown new.known → AreKept r.normal s (is_last r at.step) new.known at.step
-      → IsStack new.pending → Outcome w r at (probed found.reads) old new
-  visited_again found before now stage_finds goes known kept stack =
-      outcome w r at old new tidy s serves_again at_again reach_again first few_again (λ j d l. ap (λ ss. get_or ss j d) stages) longer_again
-      (λ j l. inl (subst (λ ss. j < length ss) stages l)) inside_again
-      (λ d. ap (λ ss. get_or ss at.step d) stages ∙ get_or_any old.stages.items at.step d s begun ∙ here) agree found before now stage_finds goes known kept stack
-
--- the first visit before a step
-module _ (w : World) (r : Route) (at : Pending) (old : Walk) (tidy : IsTidy r old) (agree : AgreesWith w r.steps (fetched_in old)) (s : Stage)
-    (next : at.step ≡ length old.stages.items) (below : at.step < length r.steps) (is : IsStage r.normal s) (atom : s.atom ≡ (step_at r at.step).atom)
-    (access : s.access.value ≡ access_in w.accesses (step_at r at.step).access)
-    (from : s.from.value ≡ classes_at old.first old.stages.items (length old.stages.items)) where
-  at_first : IsStageAt r old.first old.stages.items at.step s
-  at_first = record { stage = is; atom = atom; from = from ∙ ap (classes_at old.first old.stages.items) (sym next) }
-
-  reach_first : at.step ≤ length old.stages.items
-  reach_first = omega (arith, next)
-
-  pub serves_first : Serves w r at s
-  serves_first = record {
-    stage = is;
-    uses = ap (λ k. record { atom = k; access = s.access.value }) atom ∙ ap (use_by (step_at r at.step)) access;
-    before = ap (set_of r.normal) at_first.from ∙ set_is w r old tidy agree at.step reach_first;
-  }
-
-  -- no key was probed at the step
-  pub kept_first : AreKept r.normal s (is_last r at.step) old.known at.step
-  kept_first i l e =
-      let b = tidy.steps (entry_of old.known i) (Has-get_or (entries_in old.known) i ((0, []), []) l) in
-      absurd (omega (arith, b, e, next))
-
-  pub visited_first : (new : Walk) → new.first ≡ old.first → new.stages.items ≡ old.stages.items ++ s ∷ [] → (found : Found) (before now : ℕ)
-      → Finds w.rows w.accesses (step_at r at.step).access at.step (key_by r.normal (use_at s) (set_before r.normal s) at.row)
-      found old.known new.known before now
-      → Goes r at s (entry_of new.known found.place).1 old new → IsKnown new.known → AreKept r.normal s (is_last r at.step) new.known at.step
-      → IsStack new.pending → Outcome w r at (probed found.reads) old new
-  visited_first new first stages found before now stage_finds goes known kept stack =
-      let counted : length new.stages.items ≡ length old.stages.items + 1 = ap length stages ∙ length-append old.stages.items (s ∷ []) in
-      outcome w r at old new tidy s serves_first at_first reach_first first (omega (arith, counted, next, below))
-      (λ j d l. ap (λ ss. get_or ss j d) stages ∙ get_or-front old.stages.items s d j l) (omega (arith, counted))
-      (λ j l. below_or j l counted) (omega (arith, counted, next))
-      (λ d. ap (λ ss. get_or ss at.step d) stages ∙ ap (λ n. get_or (old.stages.items ++ s ∷ []) n d) next ∙ get_or-last old.stages.items s d)
-      agree found before now stage_finds goes known kept stack
-    where
-      below_or : (j : ℕ) → j < length new.stages.items → length new.stages.items ≡ length old.stages.items + 1
-          → (j < length old.stages.items) ⊎ (j ≡ at.step)
-      below_or j l c = elim (least j (length old.stages.items) (omega (arith, l, c))) [ inl m ↦ inl m | inr e ↦ inr (e ∙ sym next) ]

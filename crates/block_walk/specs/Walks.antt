@@ -2,6 +2,8 @@
 --     fetched_in walk               what the walk has fetched, by step and then key; `fetched_at` is one entry of it
 --     WasMade fetched p             the probe was made
 --     classes_at first stages n     the classes that are bound before step n, where the steps before it were begun
+--     IsMadeFor .. stage            the stage is made for a use of this constraint on this atom, after these classes
+--     Begins P n old new            step n was begun, or it is begun now: then its stage, of which P holds, stands behind the others
 --     IsStageAt ..                  what is kept of a step that was begun is as the block says
 --     IsTidy route walk             so it is of each step that was begun, which has probed some key; what is known and what is pending stands
 --                                   where it is said to, no step and key was probed twice, and of each entry's tuples those are kept that
@@ -17,7 +19,7 @@
 --     Stands route walk             so it is in every world that agrees with what was fetched
 --     IsTidyForAll, StandsForAll    so it is whatever the steps are
 --     HasEnded walk                 no valuation is left to go on from
-use Rattle.std.specs.Prelude.{◌≡◌, ◌+◌, ◌<◌, ◌≤◌, ◌⊎◌, ℕ, List, [], ◌∷◌, length, map, flat_map, take, drop, slice_index_or}
+use Rattle.std.specs.Prelude.{◌≡◌, ◌+◌, ◌<◌, ◌≤◌, ◌⊎◌, ◌++◌, ℕ, List, [], ◌∷◌, length, map, flat_map, take, drop, slice_index_or}
 use Rattle.beas_core.specs.declared.schema.Access.{Access}
 use Rattle.beas_core.specs.declared.plan.DStep.{DStep}
 use Rattle.beas_core.specs.declared.plan.Normal.{Normal}
@@ -59,6 +61,15 @@ WasMade fetched p = Has (made fetched) p
 
 abbrev pub classes_at : List ℕ → List Stage → ℕ → List ℕ
 classes_at first stages n = slice_index_or (first ∷ map (λ (s : Stage). s.join.classes) stages) n []
+
+pub record IsMadeFor (normal : Normal) (of_atom : ℕ) (by_access : Access) (classes : List ℕ) (s : Stage) : Type 0 where
+  pub stage : IsStage normal s
+  pub atom : s.atom ≡ of_atom
+  pub access : s.access.value ≡ by_access
+  pub from : s.from.value ≡ classes
+
+abbrev pub Begins : (Stage → Type 0) → ℕ → List Stage → List Stage → Type 0
+Begins P n old new = ((n < length old) × (new ≡ old)) ⊎ ((s : Stage) × (n ≡ length old) × (new ≡ old ++ s ∷ []) × P s)
 
 pub record IsStageAt (r : Route) (first : List ℕ) (stages : List Stage) (n : ℕ) (s : Stage) : Type 0 where
   pub stage : IsStage r.normal s

@@ -1,10 +1,10 @@
 // What one probe fetches, added to what is kept.
-ghost use Rattle.std.specs.Prelude.{◌≡◌, ◌+◌, ◌*◌, ◌++◌, ◌<◌, ◌≤◌, length, pos, slice_index_or, take, drop, vec_capacity, vec_len, [], All, IfOk, IsTrue, OnOk};
+ghost use Rattle.std.specs.Prelude.{◌≡◌, ◌+◌, ◌++◌, ◌<◌, ◌≤◌, length, pos, slice_index_or, take, vec_capacity, vec_len, [], All, IfOk, IsTrue, OnOk};
 ghost use Rattle.beas_core.specs.declared.value.Value.TheVariants.{Int};
 ghost use Rattle.beas_core.specs.Derivations.{access_in, is_live};
 ghost use Rattle.beas_core.specs.Groups.{group_of, member_columns};
 ghost use Rattle.beas_core.specs.Reads.{probe_reads};
-ghost use Rattle.block_walk.specs.Fetched.{Pushed, rows_in};
+ghost use Rattle.block_walk.specs.Fetched.{Pushed};
 ghost use Rattle.plan_ops.specs.Joins.{HitsAre};
 ghost use Rattle.plan_ops.specs.Sieves.{IsOwn, is_met_alone, passes as passes_by, sieved};
 ghost use Rattle.plan_ops.specs.Stages.{IsStage};
@@ -30,8 +30,8 @@ fn push_key(alloc: Global, key: &[Value], values: &mut Vec<Value>) -> Result<(),
     Ok(())
 }
 
-// Adds the values of one tuple that a probe found, where there is room for them. It begins with the key that was probed,
-// so that the port is asked for the others alone.
+// Adds the values of one tuple that a probe found. It begins with the key that was probed, so that the port is asked for the
+// others alone.
 fn push_tuple<P: AccessPort>(
     alloc: Global,
     port: &P,
@@ -46,44 +46,12 @@ fn push_tuple<P: AccessPort>(
     requires member { i < hits.now.len }
     requires width { length key.now ≤ length columns.now }
     requires begins { take (length key.now) (slice_index_or (P.members port.now hits.now) i []) ≡ key.now }
-    requires room { vec_len values.old + length columns.now ≤ vec_capacity values.old }
-    ensures items { OnOk result (values.new.items ≡ values.old.items ++ slice_index_or (P.members port.now hits.now) i []) }
-    ensures len { OnOk result (vec_len values.new ≡ vec_len values.old + length columns.now) }
-    ensures room { OnOk result (vec_capacity values.new ≡ vec_capacity values.old) }
+    ensures { OnOk result (values.new.items ≡ values.old.items ++ slice_index_or (P.members port.now hits.now) i []) }
 {
+    values.reserve(columns.len())?;
     push_key(alloc, key, values)?;
     for at in key.len()..columns.len() {
         push_copy(alloc, port.value(hits, i, columns[at]), values)?;
-    }
-    Ok(())
-}
-
-// Adds the values of the tuples that a probe of a key found.
-fn push_tuples<P: AccessPort>(
-    alloc: Global,
-    port: &P,
-    columns: &[ColumnId],
-    key: &[Value],
-    hits: &Hits,
-    values: &mut Vec<Value>,
-) -> Result<(), NoMemory>
-    requires hits { HitsAre (P.accesses port.now) (P.stands port.now) (P.members port.now) hits.now }
-    requires columns { columns.now ≡ member_columns (access_in (P.accesses port.now) hits.now.access) }
-    requires width { length key.now ≤ length columns.now }
-    requires begins { All (λ tuple. take (length key.now) tuple ≡ key.now) (P.members port.now hits.now) }
-    ensures front { OnOk result (take (length values.old.items) values.new.items ≡ values.old.items) }
-    ensures len { OnOk result (length values.new.items
-        ≡ length values.old.items + hits.now.len * length columns.now) }
-    ensures tuples { OnOk result
-        (rows_in (length columns.now) hits.now.len (drop (length values.old.items) values.new.items)
-        ≡ P.members port.now hits.now) }
-{
-    let Some(room) = columns.len().checked_mul(hits.len() as usize) else {
-        return Err(NoMemory);
-    };
-    values.reserve(room)?;
-    for i in 0..hits.len() {
-        push_tuple(alloc, port, columns, key, hits, i, values)?;
     }
     Ok(())
 }
@@ -148,9 +116,9 @@ fn passes<P: AccessPort>(port: &P, block: &Normal, stage: &Stage, hits: &Hits, i
     true
 }
 
-// Adds the values of the tuples that pass the sieve, or of the first one that does, and says how many these are. One that
-// doesn't is not copied.
-fn push_passing<P: AccessPort>(
+// Adds the values of the tuples that pass the sieve, or of the first one that does, and says how many these are. One that doesn't
+// pass isn't copied.
+fn push_kept<P: AccessPort>(
     alloc: Global,
     port: &P,
     block: &Normal,
@@ -172,7 +140,6 @@ fn push_passing<P: AccessPort>(
     let mut kept = 0;
     for i in 0..hits.len() {
         if passes(port, block, stage, hits, i) {
-            values.reserve(columns.len())?;
             push_tuple(alloc, port, columns, key, hits, i, values)?;
             kept += 1;
             if one {
@@ -181,32 +148,6 @@ fn push_passing<P: AccessPort>(
         }
     }
     Ok(kept)
-}
-
-// Adds the values of the tuples to keep, and says how many these are.
-fn push_kept<P: AccessPort>(
-    alloc: Global,
-    port: &P,
-    block: &Normal,
-    stage: &Stage,
-    one: bool,
-    key: &[Value],
-    hits: &Hits,
-    values: &mut Vec<Value>,
-) -> Result<usize, NoMemory>
-    requires hits { HitsAre (P.accesses port.now) (P.stands port.now) (P.members port.now) hits.now }
-    requires columns { stage.now.join.columns.items ≡ member_columns (access_in (P.accesses port.now) hits.now.access) }
-    requires own { All (IsOwn block.now stage.now.atom stage.now.join.columns.items) stage.now.sieve.own.items }
-    requires width { length key.now ≤ length stage.now.join.columns.items }
-    requires begins { All (λ tuple. take (length key.now) tuple ≡ key.now) (P.members port.now hits.now) }
-    ensures { IfOk result (Pushed (length stage.now.join.columns.items) values.old.items values.new.items
-        (sieved block.now stage.now.sieve one (P.members port.now hits.now))) }
-{
-    if one || !stage.sieve.own.is_empty() {
-        return push_passing(alloc, port, block, stage, one, key, hits, values);
-    }
-    push_tuples(alloc, port, &stage.join.columns, key, hits, values)?;
-    Ok(hits.len() as usize)
 }
 
 /// What a probe found: how many tuples, of how many the values were added, and all of them for clauses.

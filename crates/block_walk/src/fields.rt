@@ -1,5 +1,5 @@
 // What a walk is made of.
-use crate::known::Known;
+use crate::known::{Known, Spot};
 use crate::ordered::OrderedKeys;
 use crate::stack::Stack;
 use crate::walking::Walk;
@@ -27,4 +27,17 @@ pub fn walk_fields(walk: &Walk) {
         values: _left,
         valuations: _marks,
     } = pending;
+}
+
+/// So it is with what stands for each entry that its probes found.
+fn spot_fields(spot: &Spot) {
+    let Spot {
+        step: _step,
+        from: _from,
+        width: _width,
+        count: _count,
+        key_width: _key_width,
+        index: _index,
+        all: _all,
+    } = spot;
 }

@@ -1,4 +1,5 @@
-// The tuples that a probe found, for clauses.
+// All tuples that a probe found, in a ghost field. Clauses speak of each of them, and the program has copies of those alone that
+// it keeps.
 ghost use Rattle.std.specs.Prelude.{◌≡◌, List};
 ghost use Rattle.std.specs.Borrow.{ftrue};
 ghost use Rattle.beas_core.specs.Types.{Row};
@@ -6,8 +7,7 @@ ghost use Rattle.beas_core.specs.Types.{Row};
 use beas_core::{AccessPort, Hits};
 use std::marker::Model;
 
-/// All tuples that a probe found, as clauses see them: a tuple that is of no use is seen there too, and not copied. It has no
-/// bytes and owns nothing.
+/// All tuples that a probe found, for clauses. It has no bytes and owns nothing.
 #[derive(Drop)]
 pub struct Group {
     pub ghost rows: { List Row },
@@ -18,7 +18,7 @@ impl Model for Group {
 }
 
 impl Group {
-    /// Those that hits stand for.
+    /// The tuples that hits stand for.
     pub fn of<P: AccessPort>(_port: &P, _hits: &Hits) -> Group
         ensures { result.rows ≡ P.members _port.now _hits.now }
     {

@@ -23,7 +23,7 @@ use std::alloc::Global;
 use std::sync::ledger::Ledger;
 
 /// Where the values of an entry stand: those of its tuples that are kept, one after another from a place on. Each begins with the
-/// key; where there is none, the key stands there by itself.
+/// key; where none is kept, the key stands there by itself.
 #[derive(Drop)]
 pub struct Spot {
     pub step: usize,
@@ -74,7 +74,8 @@ const ENTRIES: usize = 24;
 // Fewer tuples are soon read one after another.
 const MANY: usize = 32;
 
-// Empties a key. Its values are kept where it found nothing, behind those that were kept; tuples that it found begin with them.
+// Empties a key of which so many tuples are kept. Each of them begins with its values. Where none is, since it found none or the
+// sieve refuses all, the key's values are added by themselves, so that it is found again.
 #[inline(always)]
 fn keep_key(count: usize, key: &mut Vec<Value>, values: &mut Vec<Value>) -> Result<(), NoMemory>
     ensures key { OnOk result (key.new.items ≡ []) }

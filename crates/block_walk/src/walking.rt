@@ -11,7 +11,7 @@ ghost use Rattle.plan_ops.specs.Sieves.{sieved};
 ghost use Rattle.plan_ops.specs.Stages.{IsPair, IsStage, bound_with, joined_row, key_by, next_by, set_before, use_at};
 ghost use Rattle.block_walk.specs.Worlds.{AgreesWith, World, world};
 ghost use Rattle.block_walk.specs.Routes.{IsSoundIn, route};
-ghost use Rattle.block_walk.specs.Walks.{HasEnded, IsTidy, IsTidyForAll, Stands, StandsForAll, children, classes_at, fetched_in};
+ghost use Rattle.block_walk.specs.Walks.{Begins, HasEnded, IsMadeFor, IsTidy, IsTidyForAll, Stands, StandsForAll, children, classes_at, fetched_in};
 ghost use Rattle.block_walk.specs.Entries.{AreKept, IsKnown, entries_in, entry_of, kept_of};
 ghost use Rattle.block_walk.specs.Stacks.{IsInside, IsStack, pending_in, pending_of, row_of};
 ghost use Rattle.block_walk.specs.Finding.{FindSpent, Finds};
@@ -226,18 +226,46 @@ fn next_stage<P: AccessPort>(
         classes ≡ classes_in (set_of block.now classes) }
     requires key { IsTrue (holds_classes (set_of block.now (classes_at first.now stages.now (length stages.now)))
         (key_classes block.now (record { atom = step.now.atom; access = access_in (P.accesses port.now) step.now.access }))) }
-    ensures stage { IfOk result (IsStage block.now) }
-    ensures atom { IfOk result (λ stage. stage.atom ≡ step.now.atom) }
-    ensures access { IfOk result (λ stage. stage.access.value ≡ access_in (P.accesses port.now) step.now.access) }
-    ensures from { IfOk result (λ stage. stage.from.value ≡ classes_at first.now stages.now (length stages.now)) }
+    ensures { IfOk result (IsMadeFor block.now step.now.atom (access_in (P.accesses port.now) step.now.access)
+        (classes_at first.now stages.now (length stages.now))) }
 {
     let classes = classes_so_far(first, stages);
     let access = port.access(step.access);
     stage_of(alloc, block, step.atom, access, classes)
 }
 
-// Finds the entry of the key that a valuation gives to a step, after which another one comes or not. The key is probed where it
-// wasn't yet.
+// Begins the step with a number, where it wasn't begun: then it is the next one.
+#[inline(always)]
+fn begin_step<P: AccessPort>(
+    alloc: Global,
+    port: &P,
+    block: &Normal,
+    step: &DStep,
+    number: usize,
+    first: &List<u16>,
+    stages: &mut Vec<Stage>,
+) -> Result<(), NoMemory>
+    requires live { IsTrue (is_live (P.accesses port.now) step.now.access) }
+    requires ranges { ClassesInRange block.now }
+    requires next { number ≤ length stages.old.items }
+    requires classes { let classes = classes_at first.now stages.old.items (length stages.old.items) in
+        classes ≡ classes_in (set_of block.now classes) }
+    requires key { IsTrue (holds_classes (set_of block.now (classes_at first.now stages.old.items number))
+        (key_classes block.now (record { atom = step.now.atom; access = access_in (P.accesses port.now) step.now.access }))) }
+    ensures there { OnOk result (number < length stages.new.items) }
+    ensures begins { OnOk result (Begins (IsMadeFor block.now step.now.atom (access_in (P.accesses port.now) step.now.access)
+        (classes_at first.now stages.old.items (length stages.old.items))) number stages.old.items stages.new.items) }
+{
+    if number < stages.len() {
+        return Ok(());
+    }
+    let stage = next_stage(alloc, port, block, step, first, stages.as_slice())?;
+    stages.push(stage)?;
+    Ok(())
+}
+
+// Finds the entry of the key that a valuation gives to a step. The key is probed where it wasn't yet. `is_last` says that no step
+// comes after this one: then one tuple of the key may be enough.
 #[inline(always)]
 fn entry_for<P: AccessPort, L: Ledger>(
     alloc: Global,
@@ -281,125 +309,6 @@ fn entry_for<P: AccessPort, L: Ledger>(
     )
 }
 
-// Visits a valuation before a step that was begun.
-fn visit_again<P: AccessPort, L: Ledger>(
-    alloc: Global,
-    port: &P,
-    block: &Normal,
-    guide: Option<&List<Row>>,
-    plan: &[DStep],
-    walk: &mut Walk,
-    at: StackedValuation,
-    steps: &mut Steps<L>,
-) -> Result<Option<usize>, NoMemory>
-    requires sound { IsSound block.now (P.accesses port.now)
-        (start_classes block.now (is_some (option_copied guide))) plan.now }
-    requires tidy { IsTidy (route block.now (option_copied guide) plan.now) walk.old }
-    requires agrees { AgreesWith (world (P.rows port.now) (P.accesses port.now)) plan.now (fetched_in walk.old) }
-    requires begun { at.step < length walk.old.stages.items }
-    requires wide { length (row_of walk.old.pending at)
-        ≡ length (classes_at walk.old.first walk.old.stages.items at.step) }
-    requires inside { IsInside walk.old.pending.values.items at }
-    requires room { at.step + 1 < 18446744073709551616 }
-    ensures tidy { OnOk result (IsTidy (route block.now (option_copied guide.entry) plan.now) walk.new) }
-    ensures visited { IfOk result (λ reads. Visited (world (P.rows port.now) (P.accesses port.now))
-        (route block.now (option_copied guide.entry) plan.now) (pending_of walk.old.pending.values.items at)
-        (probed reads) walk.old walk.new) }
-    ensures cost { IfOk result (λ reads. VisitCosts (world (P.rows port.now) (P.accesses port.now))
-        (route block.now (option_copied guide.entry) plan.now) (pending_of walk.old.pending.values.items at)
-        reads steps.old steps.new) }
-    ensures spent { OnErr result (VisitSpent (world (P.rows port.now) (P.accesses port.now))
-        (route block.now (option_copied guide.entry) plan.now) (pending_of walk.old.pending.values.items at)
-        walk.old steps.old steps.new) }
-{
-    let stage = &walk.stages[at.step];
-    let id = plan[at.step].access;
-    let (pending, known, key) = (&walk.pending, &mut walk.known, &mut walk.key);
-    let count = plan.len();
-    let is_last = at.step + 1 == count;
-    let found = entry_for(
-        alloc, port, block, id, stage, is_last, at, pending, known, key, steps,
-    )?;
-    go_on(
-        alloc,
-        block,
-        stage,
-        at,
-        count,
-        &walk.known,
-        found.place,
-        &mut walk.pending,
-        &mut walk.through,
-    )?;
-    Ok(found.reads)
-}
-
-// Visits a valuation before a step that wasn't begun: it is probed, since no key was.
-fn visit_first<P: AccessPort, L: Ledger>(
-    alloc: Global,
-    port: &P,
-    block: &Normal,
-    guide: Option<&List<Row>>,
-    plan: &[DStep],
-    walk: &mut Walk,
-    at: StackedValuation,
-    steps: &mut Steps<L>,
-) -> Result<Option<usize>, NoMemory>
-    requires ranges { ClassesInRange block.now }
-    requires sound { IsSound block.now (P.accesses port.now)
-        (start_classes block.now (is_some (option_copied guide))) plan.now }
-    requires tidy { IsTidy (route block.now (option_copied guide) plan.now) walk.old }
-    requires agrees { AgreesWith (world (P.rows port.now) (P.accesses port.now)) plan.now (fetched_in walk.old) }
-    requires next { at.step ≡ length walk.old.stages.items }
-    requires below { at.step < length plan.now }
-    requires wide { length (row_of walk.old.pending at)
-        ≡ length (classes_at walk.old.first walk.old.stages.items at.step) }
-    requires inside { IsInside walk.old.pending.values.items at }
-    requires room { at.step + 1 < 18446744073709551616 }
-    ensures tidy { OnOk result (IsTidy (route block.now (option_copied guide.entry) plan.now) walk.new) }
-    ensures visited { IfOk result (λ reads. Visited (world (P.rows port.now) (P.accesses port.now))
-        (route block.now (option_copied guide.entry) plan.now) (pending_of walk.old.pending.values.items at)
-        (probed reads) walk.old walk.new) }
-    ensures cost { IfOk result (λ reads. VisitCosts (world (P.rows port.now) (P.accesses port.now))
-        (route block.now (option_copied guide.entry) plan.now) (pending_of walk.old.pending.values.items at)
-        reads steps.old steps.new) }
-    ensures spent { OnErr result (VisitSpent (world (P.rows port.now) (P.accesses port.now))
-        (route block.now (option_copied guide.entry) plan.now) (pending_of walk.old.pending.values.items at)
-        walk.old steps.old steps.new) }
-{
-    let step = &plan[at.step];
-    let stage = next_stage(alloc, port, block, step, &walk.first, &walk.stages)?;
-    let (pending, known, key) = (&walk.pending, &mut walk.known, &mut walk.key);
-    let count = plan.len();
-    let is_last = at.step + 1 == count;
-    let found = entry_for(
-        alloc,
-        port,
-        block,
-        step.access,
-        &stage,
-        is_last,
-        at,
-        pending,
-        known,
-        key,
-        steps,
-    )?;
-    go_on(
-        alloc,
-        block,
-        &stage,
-        at,
-        count,
-        &walk.known,
-        found.place,
-        &mut walk.pending,
-        &mut walk.through,
-    )?;
-    walk.stages.push(stage)?;
-    Ok(found.reads)
-}
-
 // Visits a valuation before a step: those that it leads to go on top. Gives how many reads the probe took that it made.
 fn visit<P: AccessPort, L: Ledger>(
     alloc: Global,
@@ -433,11 +342,45 @@ fn visit<P: AccessPort, L: Ledger>(
         (route block.now (option_copied guide.entry) plan.now) (pending_of walk.old.pending.values.items at)
         walk.old steps.old steps.new) }
 {
-    if at.step < walk.stages.len() {
-        visit_again(alloc, port, block, guide, plan, walk, at, steps)
-    } else {
-        visit_first(alloc, port, block, guide, plan, walk, at, steps)
-    }
+    let step = &plan[at.step];
+    begin_step(
+        alloc,
+        port,
+        block,
+        step,
+        at.step,
+        &walk.first,
+        &mut walk.stages,
+    )?;
+    let stage = &walk.stages[at.step];
+    let (pending, known, key) = (&walk.pending, &mut walk.known, &mut walk.key);
+    let count = plan.len();
+    let is_last = at.step + 1 == count;
+    let found = entry_for(
+        alloc,
+        port,
+        block,
+        step.access,
+        stage,
+        is_last,
+        at,
+        pending,
+        known,
+        key,
+        steps,
+    )?;
+    go_on(
+        alloc,
+        block,
+        stage,
+        at,
+        count,
+        &walk.known,
+        found.place,
+        &mut walk.pending,
+        &mut walk.through,
+    )?;
+    Ok(found.reads)
 }
 
 // Adds the output of a valuation after the last step.

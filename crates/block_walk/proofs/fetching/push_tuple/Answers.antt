@@ -14,12 +14,14 @@ loop-at-preserved g c =
     let j = c.loop-at.at in
     let at = get_or columns j (record { 0 = 0 }) in
     let len = c.loop-at.invariant.len in
-    let long = c.in_ok-push_copy.ensures.len in record {
+    let long = c.in_ok-push_copy.ensures.len in
+    let same = c.in_ok-push_copy.ensures.room in
+    let room = c.loop-at.invariant.room in record {
       items = c.in_ok-push_copy.ensures.items
           ∙ ap (λ v. c.loop-at.values.items ++ v ∷ []) (c.value.ensures ∙ ap (λ cs. value_in cs tuple at) (sym c.requires.columns))
           ∙ ap (λ vs. vs ++ value_in columns tuple at ∷ []) c.loop-at.invariant.items
           ∙ append_assoc c.args.values.now.items (take j tuple) (value_in columns tuple at ∷ [])
           ∙ ap (λ vs. c.args.values.now.items ++ vs) (copied_more columns tuple is j (record { 0 = 0 }) (omega arith));
       len = omega (arith, len, long);
-      room = c.in_ok-push_copy.ensures.room ∙ c.loop-at.invariant.room;
+      room = omega (arith, same, room);
     }

@@ -2,7 +2,7 @@ use Rattle.std.proofs.Common.{◌≡◌, ◌≤◌, true, length, take}
 use Rattle.std.specs.List.{filter}
 use Rattle.plan_ops.specs.Sieves.{passes}
 use Rattle.block_walk.specs.Fetched.{Pushed}
-use Rattle.block_walk.proofs.fetching.push_passing.Given as goal
+use Rattle.block_walk.proofs.fetching.push_kept.Given as goal
 
 abbrev pub invariant-loop-i : goal.invariant-loop-i
 invariant-loop-i g l = record {
