@@ -1,5 +1,5 @@
 -- A row goes out of its group: its tuple is counted once less, or the group goes with its last row.
-use Rattle.std.proofs.Common.{◌≡◌, ◌≤◌, ◌<◌, ◌-◌, ◌∙◌, ℕ, List, [], length, get_or, ap, sym, subst, arith}
+use Rattle.std.proofs.Common.{◌≡◌, ◌≤◌, ◌<◌, ◌∙◌, ℕ, List, [], length, get_or, ap, sym, subst, arith}
 use Rattle.std.specs.Prelude.{nat_eq, Some, max}
 use Rattle.std.specs.List.{IsDistinct}
 use Rattle.std.specs.Map.{keys_of, lookup, set_value}
@@ -35,11 +35,6 @@ module _ (access : Access) (total : ℕ) (es : List Entry) (words : List ℕ) (s
       omega (arith, there, length_group w.codes g, tuples_within (read_group w.codes g) b.counted, group_within access w.codes total es key w.in_order g found)
 
   module _ (same : (d : Coded) → (get_or g at d).codes ≡ pick (member_columns access) words) (new : List Entry) where
-    -- what is left is in order for some interner too
-    pub still_ordered : ((codes : List Value) → IsInOrderFor codes self → Left access total es new words self codes)
-        → IsOrdered (record { access = access; total = total - 1; groups = new })
-    still_ordered left = record { codes = w.codes; in_order = (left w.codes (subst (IsInOrderFor w.codes) view w.in_order)).in_order }
-
     pub left_counted : (less : List Coded) → new ≡ set_value (pointwise nat_eq key) es less → IsDistinct (pointwise nat_eq) (keys_of new)
         → ((codes : List Value) (d : Coded) → IsInOrder row_cmp (tuples_in (read_group codes g)) → AllCounted (read_group codes g)
         → IsOneMore (read_group codes less) (read_group codes g) (read codes (get_or g at d).codes))

@@ -1,5 +1,5 @@
 // A group: the tuples of one key in the order of their values, each with how many rows have it.
-ghost use Rattle.std.specs.Prelude.{◌≡◌, ◌+◌, ◌<◌, ◌≤◌, ◌^◌, [], ◌∷◌, ℕ, List, length, slice_index_or, MatchResult, IsTrue, OnOk, OnErr, IfOk};
+ghost use Rattle.std.specs.Prelude.{◌≡◌, ◌↔◌, ◌+◌, ◌<◌, ◌≤◌, ◌^◌, [], ◌∷◌, ℕ, List, length, slice_index_or, MatchResult, IsTrue, false, OnOk, OnErr, IfOk};
 ghost use Rattle.std.specs.Ordering.{is_lt};
 ghost use Rattle.beas_core.specs.declared.value.Value.{Value};
 ghost use Rattle.beas_core.specs.Order.{row_cmp};
@@ -96,6 +96,28 @@ pub fn has_room(group: &Group, access: &Access, words: &[u64]) -> bool
         return true;
     }
     group.position_of(access, words).is_some()
+}
+
+/// Whether a row may come into the group of its key: any row where no bound counts. It takes no memory.
+pub fn may_come(bounded: bool, group: &Group, access: &Access, words: &[u64]) -> bool
+    ensures bound { IsTrue bounded → HasRoom result access.now words.now group.now }
+    ensures free { bounded ≡ false → IsTrue result }
+{
+    if bounded {
+        return has_room(group, access, words);
+    }
+    true
+}
+
+/// Whether a key's first row may come. It takes no memory.
+pub fn may_begin(bounded: bool, access: &Access) -> bool
+    ensures bound { IsTrue bounded → (IsTrue result ↔ (0 < access.now.bound)) }
+    ensures free { bounded ≡ false → IsTrue result }
+{
+    if bounded {
+        return access.bound > 0;
+    }
+    true
 }
 
 /// So many words of a tuple stand in place.

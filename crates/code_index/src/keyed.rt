@@ -1,5 +1,5 @@
 // The index of one access constraint over codes, whatever holds the words of its keys.
-ghost use Rattle.std.specs.Prelude.{◌≡◌, ◌+◌, ◌<◌, ◌≤◌, ◌^◌, ◌↔◌, ◌++◌, ◌∷◌, [], ℕ, List, length, map, slice_index_or, IsTrue, IfOk, IfSome, MatchOption, OnOk, OnErr, if◌then◌else◌};
+ghost use Rattle.std.specs.Prelude.{◌≡◌, ◌+◌, ◌<◌, ◌≤◌, ◌^◌, ◌↔◌, ◌++◌, ◌∷◌, [], ℕ, List, length, map, slice_index_or, IsTrue, false, IfOk, IfSome, MatchOption, OnOk, OnErr, if◌then◌else◌};
 ghost use Rattle.beas_core.specs.declared.value.Value.{Value};
 ghost use Rattle.beas_core.specs.Groups.{Holds, greatest, group_of, member_columns, has_column};
 ghost use Rattle.access_index.specs.Index.{IsIndexOf, WouldHold};
@@ -8,7 +8,7 @@ ghost use Rattle.code_index.specs.Reading.{read, read_index, pick, AllKnown, Spe
 ghost use Rattle.code_index.specs.Taking.{CountsWhere, HoldsWhere};
 
 use crate::asked::{AskedCodes, AskedRow};
-use crate::group::{count_down, count_up, has_room, of_one, put_copy};
+use crate::group::{count_down, count_up, has_room, may_begin, may_come, of_one, put_copy};
 use crate::interner::Interner;
 use crate::own_words::{GroupKey, OwnCodes};
 use crate::tuples::Group;
@@ -123,19 +123,7 @@ impl<W: OwnCodes> KeyedIndex<W> {
             → IsIndexOf (read_index codes.now self.new) (front ++ row ∷ back)) }
         ensures err { OnErr result (self.new ≡ self.old) }
     {
-        let asked = AskedRow {
-            columns: self.access.key.as_slice(),
-            words,
-        };
-        if let Some(group) = self.groups.get_mut(asked) {
-            count_up(alloc, codes, group, &self.access, words)?;
-            self.total += 1;
-            return Ok(());
-        }
-        let group = of_one(alloc, &self.access, words)?;
-        let key = GroupKey::of_row(alloc, self.access.key.as_slice(), words)?;
-        self.groups.insert(key, group)?;
-        self.total += 1;
+        self.add_where(alloc, codes, words, false)?;
         Ok(())
     }
 
@@ -177,19 +165,43 @@ impl<W: OwnCodes> KeyedIndex<W> {
         ensures holds { IfOk result (λ held. HoldsWhere held codes.now words.now self.old) }
         ensures err { OnErr result (self.new ≡ self.old) }
     {
+        self.add_where(alloc, codes, words, true)
+    }
+
+    /// Counts one row more, wherever among the rows it stands. Where it is bounded, it does so only if the row's tuple is
+    /// there or its group has fewer members than the bound, and else it stays the index of its rows. The group is looked up
+    /// once. After an error the index is as it was.
+    fn add_where(
+        &mut self,
+        alloc: Global,
+        codes: &Interner,
+        words: &[u64],
+        bounded: bool,
+    ) -> Result<bool, NoMemory>
+        requires in_order { IsInOrderFor codes.now self.old }
+        requires known { AllKnown codes.now (pick (member_columns self.old.access) words.now) }
+        requires room { self.old.total + 1 < 2 ^ 32 }
+        ensures access { self.new.access ≡ self.old.access }
+        ensures total { IfOk result (λ held. self.new.total ≡ self.old.total + (if held then 1 else 0)) }
+        ensures in_order { IsInOrderFor codes.now self.new }
+        ensures index { IfOk result (λ held. CountsWhere held codes.now words.now self.old self.new) }
+        ensures holds { IfOk result (λ held. IsTrue bounded → HoldsWhere held codes.now words.now self.old) }
+        ensures all { IfOk result (λ held. bounded ≡ false → IsTrue held) }
+        ensures err { OnErr result (self.new ≡ self.old) }
+    {
         let asked = AskedRow {
             columns: self.access.key.as_slice(),
             words,
         };
         if let Some(group) = self.groups.get_mut(asked) {
-            if !has_room(group, &self.access, words) {
+            if !may_come(bounded, group, &self.access, words) {
                 return Ok(false);
             }
             count_up(alloc, codes, group, &self.access, words)?;
             self.total += 1;
             return Ok(true);
         }
-        if self.access.bound == 0 {
+        if !may_begin(bounded, &self.access) {
             return Ok(false);
         }
         let group = of_one(alloc, &self.access, words)?;

@@ -1,4 +1,4 @@
-use Rattle.std.proofs.Common.{◌≡◌, length, take}
+use Rattle.std.proofs.Common.{◌≡◌, take}
 use Rattle.code_index.specs.Reading.{pick}
 use Rattle.code_index.proofs.asked.has_key.Given as goal
 

@@ -1,4 +1,4 @@
-use Rattle.std.proofs.Common.{◌≡◌, ◌∙◌, ◌++◌, ◌∷◌, [], ℕ, length, take, ap, sym, subst, arith}
+use Rattle.std.proofs.Common.{◌≡◌, ◌∙◌, ◌++◌, ◌∷◌, [], length, take, ap, sym, subst, arith}
 use Rattle.std.specs.List.{fold, flat_map}
 use Rattle.std.specs.Hash as fed
 use Rattle.std.proofs.lemmas.List.{flat_map_more, length-map, map_more, take_all}
