@@ -8,15 +8,14 @@ ghost use Rattle.beas_core.specs.Results.{IsRefusedAs};
 ghost use Rattle.update_guard.specs.Guarding.{IsGuarded};
 ghost use Rattle.catalogue.specs.Stored.{create_access_reads};
 
-use crate::deleting::delete_from;
-use crate::inserting::insert_into;
-use crate::making::{drop_index, make_access, make_table};
+use crate::deleting::delete;
+use crate::inserting::insert;
+use crate::making::{create_table, drop_index, make_access};
 use access_index::AccessIndex;
 use beas_core::{
     AccessId, AccessSpec, Block, Column, Fail, Limits, List, Name, Row, Steps, TableId,
 };
 use catalogue::Catalogue;
-use row_checks::table_of;
 use row_store::Rows;
 use std::alloc::Global;
 use std::mem;
@@ -64,10 +63,14 @@ impl Guarded {
         ensures ok { OnOk result (database_in self.new ≡ with_table (database_in self.old) name columns) }
         ensures err { OnErr result (database_in self.new ≡ database_in self.old) }
     {
-        let mut rows = mem::replace(&mut self.rows, List::new(alloc)).into_vec();
-        let made = make_table(alloc, &mut self.catalogue, &mut rows, limits, name, columns);
-        self.rows = List::from_vec(rows);
-        made
+        create_table(
+            alloc,
+            &mut self.catalogue,
+            &mut self.rows,
+            limits,
+            name,
+            columns,
+        )
     }
 
     /// Makes a constraint that holds over the rows as they are. It reads each row of the table once where
@@ -137,24 +140,18 @@ impl Guarded {
         ensures ok { OnOk result (database_in self.new ≡ with_more_rows (database_in self.old) table rows) }
         ensures err { OnErr result (database_in self.new ≡ database_in self.old) }
     {
-        let count = rows.len() as u32;
-        let mut stores = mem::replace(&mut self.rows, List::new(alloc)).into_vec();
         let mut indexes = mem::replace(&mut self.indexes, List::new(alloc)).into_vec();
-        let outcome = insert_into(
+        let count = insert(
             alloc,
             &self.catalogue,
-            table,
-            &mut stores,
+            &mut self.rows,
             &mut indexes,
             limits,
+            table,
             rows,
         );
-        self.rows = List::from_vec(stores);
         self.indexes = List::from_vec(indexes);
-        match outcome {
-            Ok(()) => Ok(count),
-            Err(why) => Err(why),
-        }
+        count
     }
 
     /// Takes the rows of a table out that meet all conditions of a block over it, and answers how many; the
@@ -170,19 +167,9 @@ impl Guarded {
             ≡ length (rows_at (database_in self.old) (block_table filter.now)) }
         ensures cost { steps.new ≡ steps.old + length (rows_at (database_in self.old) (block_table filter.now)) }
     {
-        let table = table_of(filter);
         let alloc = self.catalogue.alloc();
-        let mut stores = mem::replace(&mut self.rows, List::new(alloc)).into_vec();
         let mut indexes = mem::replace(&mut self.indexes, List::new(alloc)).into_vec();
-        let gone = delete_from(
-            &self.catalogue,
-            table,
-            &mut stores,
-            &mut indexes,
-            filter,
-            steps,
-        );
-        self.rows = List::from_vec(stores);
+        let gone = delete(&self.catalogue, &mut self.rows, &mut indexes, filter, steps);
         self.indexes = List::from_vec(indexes);
         gone
     }

@@ -2,10 +2,11 @@
 ghost use Rattle.std.specs.Prelude.{◌≡◌, ◌+◌, ◌<◌, ◌≤◌, ◌^◌, nat_lt, ◌++◌, ◌∷◌, List, [], length, All, IfOk, OnOk, OnErr, vec_len, option_map, slice_index_or, slice_set};
 ghost use Rattle.beas_core.specs.Types.{Row};
 ghost use Rattle.catalogue.specs.Schema.{accesses_on, columns_at};
-ghost use Rattle.catalogue.specs.Refusing.{wrong_width, wrong_type, breaks_bound, broken, broken_bound};
+ghost use Rattle.catalogue.specs.Refusing.{wrong_width, wrong_type, breaks_bound, broken, broken_bound, insert_refusal};
+ghost use Rattle.catalogue.specs.Database.{with_more_rows};
 ghost use Rattle.beas_core.specs.Results.{IsRefusedAs, refused_if};
 ghost use Rattle.update_guard.specs.Guarding.{IndexesOf, IsGuarded};
-ghost use Rattle.catalogue.specs.Stored.{HoldOver};
+ghost use Rattle.catalogue.specs.Stored.{HoldOver, database_of};
 ghost use Rattle.update_guard.specs.Indexing.{SomeRows, AreOwn};
 ghost use Rattle.update_guard.specs.Inserting.{IsRefusedOver, TakeRows, StayIndexed, HoldWith};
 ghost use Rattle.std.specs.Option.{option_or};
@@ -17,10 +18,7 @@ use catalogue::Catalogue;
 use row_checks::{broken_by, refuse_too_many, refuse_types, refuse_widths};
 use row_store::Rows;
 use std::alloc::Global;
-
-/// From how many rows on they are tried together. Each index then takes them in its own order, which pays where
-/// searches would miss the processor's caches. Fewer rows gain nothing by it, and need no memory for an order.
-const MANY: usize = 64;
+use std::mem;
 
 /// Puts the row with this number into the indexes of its table's constraints, or into none. It is refused
 /// where a constraint would not hold with it.
@@ -87,9 +85,10 @@ fn add_each<I: Indexes>(
 
 /// Puts rows, which are to come after those of their table, into the indexes of its constraints, or into
 /// none. The first row that breaks a constraint after those before it is refused, with the first such
-/// constraint. Many rows are first tried together, which is quick but tells no more than whether all can go in;
-/// where they can't, the one to be refused is found row by row.
-pub fn add_rows<I: Indexes>(
+/// constraint. More rows than one are first tried together: each index takes them in its own order, which spares it
+/// searches that miss the processor's caches. This tells no more than whether all can go in; where they can't, the one
+/// to be refused is found row by row.
+fn add_rows<I: Indexes>(
     alloc: Global,
     catalogue: &Catalogue,
     table: TableId,
@@ -107,7 +106,7 @@ pub fn add_rows<I: Indexes>(
     ensures err { OnErr result (StayIndexed catalogue.now.accesses table (I.seen indexes.old) (I.seen indexes.new)) }
     ensures len { length (I.seen indexes.new) ≡ length (I.seen indexes.old) }
 {
-    if rows.len() < MANY {
+    if rows.len() < 2 {
         return add_each(alloc, catalogue, table, indexes, rows);
     }
     if add_all(alloc, catalogue, table, indexes, rows)? {
@@ -117,7 +116,7 @@ pub fn add_rows<I: Indexes>(
 }
 
 /// Moves rows to the end of a table and puts them into its indexes, all or none.
-pub fn insert_rows<I: Indexes>(
+fn insert_rows<I: Indexes>(
     alloc: Global,
     catalogue: &Catalogue,
     table: TableId,
@@ -162,7 +161,7 @@ pub fn insert_rows<I: Indexes>(
 }
 
 /// Checks rows and adds them at the end of a table and to its indexes, all or none.
-pub fn insert_into<I: Indexes>(
+fn insert_into<I: Indexes>(
     alloc: Global,
     catalogue: &Catalogue,
     table: TableId,
@@ -190,4 +189,35 @@ pub fn insert_into<I: Indexes>(
     refuse_types(alloc, columns, rows.as_slice())?;
     let store = &mut stores[table.0 as usize];
     insert_rows(alloc, catalogue, table, store, indexes, limits, rows)
+}
+
+/// Adds rows at the end of a table and to its indexes, all or none, and answers how many.
+pub fn insert<I: Indexes>(
+    alloc: Global,
+    catalogue: &Catalogue,
+    rows: &mut List<Rows>,
+    indexes: &mut I,
+    limits: &Limits,
+    table: TableId,
+    added: List<Row>,
+) -> Result<u32, Fail>
+    requires kept { IsGuarded catalogue.now rows.old (I.seen indexes.old) }
+    requires live { table.0 < length (database_of catalogue.now rows.old).tables }
+    requires few { length added < 2 ^ 32 }
+    requires narrow { All (λ row. length row < 2 ^ 32) added }
+    ensures guarded { IsGuarded catalogue.now rows.new (I.seen indexes.new) }
+    ensures refused { IsRefusedAs result (insert_refusal limits.now (database_of catalogue.now rows.old) table added) }
+    ensures count { IfOk result (λ count. count ≡ length added) }
+    ensures ok { OnOk result (database_of catalogue.now rows.new
+        ≡ with_more_rows (database_of catalogue.now rows.old) table added) }
+    ensures err { OnErr result (database_of catalogue.now rows.new ≡ database_of catalogue.now rows.old) }
+{
+    let count = added.len() as u32;
+    let mut stores = mem::replace(rows, List::new(alloc)).into_vec();
+    let outcome = insert_into(alloc, catalogue, table, &mut stores, indexes, limits, added);
+    *rows = List::from_vec(stores);
+    match outcome {
+        Ok(()) => Ok(count),
+        Err(why) => Err(why),
+    }
 }

@@ -7,7 +7,7 @@ mod indexes;
 mod indexing;
 pub mod inserting;
 pub mod making;
-mod port;
+pub mod port;
 
 pub use guarded::Guarded;
 pub use indexes::Indexes;

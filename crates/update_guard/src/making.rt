@@ -6,6 +6,9 @@ ghost use Rattle.access_index.specs.Index.{Index};
 ghost use Rattle.catalogue.specs.Schema.{has_access, schema_with_table, schema_with_access, schema_without_access};
 ghost use Rattle.catalogue.specs.Refusing.{add_table_refusal, admit_refusal, already_broken, new_access, drop_access_refusal};
 ghost use Rattle.beas_core.specs.Results.{IsRefusedAs};
+ghost use Rattle.catalogue.specs.Database.{schema_of, with_table};
+ghost use Rattle.catalogue.specs.Stored.{database_of};
+ghost use Rattle.update_guard.specs.Guarding.{IsGuarded};
 ghost use Rattle.update_guard.specs.Making.{AddsIndex, DropsIndex};
 
 use crate::indexes::Indexes;
@@ -15,10 +18,11 @@ use beas_core::{
 use catalogue::Catalogue;
 use row_store::Rows;
 use std::alloc::Global;
+use std::mem;
 use std::sync::ledger::Ledger;
 
 /// Makes a table, and a place for its rows.
-pub fn make_table(
+fn make_table(
     alloc: Global,
     catalogue: &mut Catalogue,
     rows: &mut Vec<Rows>,
@@ -38,6 +42,32 @@ pub fn make_table(
     let id = catalogue.add_table(alloc, limits, name, columns)?;
     rows.push_reserved(Rows::new(alloc));
     Ok(id)
+}
+
+/// Makes a table without rows, whatever the indexes of the constraints are.
+pub fn create_table(
+    alloc: Global,
+    catalogue: &mut Catalogue,
+    rows: &mut List<Rows>,
+    limits: &Limits,
+    name: Name,
+    columns: List<Column>,
+) -> Result<TableId, Fail>
+    requires some { 1 ≤ length columns }
+    requires tables { length rows.old ≡ length catalogue.old.tables }
+    ensures guarded { (indexes : List Index) → IsGuarded catalogue.old rows.old indexes
+        → IsGuarded catalogue.new rows.new indexes }
+    ensures refused { IsRefusedAs result (add_table_refusal limits.now
+        (schema_of (database_of catalogue.old rows.old)) name columns) }
+    ensures id { IfOk result (λ id. id.0 ≡ length (database_of catalogue.old rows.old).tables) }
+    ensures ok { OnOk result (database_of catalogue.new rows.new
+        ≡ with_table (database_of catalogue.old rows.old) name columns) }
+    ensures err { OnErr result (database_of catalogue.new rows.new ≡ database_of catalogue.old rows.old) }
+{
+    let mut stores = mem::replace(rows, List::new(alloc)).into_vec();
+    let made = make_table(alloc, catalogue, &mut stores, limits, name, columns);
+    *rows = List::from_vec(stores);
+    made
 }
 
 /// Adds the index of rows for a constraint at the end, which is refused where the constraint doesn't hold over them.
