@@ -1,5 +1,5 @@
-// Binds a query of one block at once where nothing in it is to be refused, as in most queries. Where something may be,
-// it answers nothing, and `binding` finds out what.
+// Binds a query of one block of at most four atoms at once where nothing in it is to be refused, as in most queries. Where
+// something may be, it answers nothing, and `binding` finds out what.
 ghost use Rattle.std.specs.Prelude.{◌≡◌, ◌<◌, ◌==◌, ◌∷◌, true, false, Some, None, [], IfOk, MatchOption, map, length};
 ghost use Rattle.std.specs.List.{list_any};
 ghost use Rattle.beas_core.specs.declared.query.Block.{Block as MadeBlock};
