@@ -13,14 +13,12 @@ use beas_core::{
     AccessId, AccessSpec, Block, Column, Fail, Limits, List, Name, Row, Steps, TableId,
 };
 use catalogue::Catalogue;
-use row_checks::table_of;
 use row_store::Rows;
 use std::alloc::Global;
-use std::mem;
 use std::sync::ledger::Ledger;
-use update_guard::deleting::delete_from;
-use update_guard::inserting::insert_into;
-use update_guard::making::{drop_index, make_access, make_table};
+use update_guard::deleting::delete;
+use update_guard::inserting::insert;
+use update_guard::making::{create_table, drop_index, make_access};
 
 /// Tables with their rows, and each live constraint with its index. Every constraint holds. It isn't `Debug`, since its
 /// rows are handed out by `Rows::row` and by probes alone.
@@ -82,10 +80,14 @@ impl WordGuarded {
         ensures ok { OnOk result (database_in self.new ≡ with_table (database_in self.old) name columns) }
         ensures err { OnErr result (database_in self.new ≡ database_in self.old) }
     {
-        let mut rows = mem::replace(&mut self.rows, List::new(alloc)).into_vec();
-        let made = make_table(alloc, &mut self.catalogue, &mut rows, limits, name, columns);
-        self.rows = List::from_vec(rows);
-        made
+        create_table(
+            alloc,
+            &mut self.catalogue,
+            &mut self.rows,
+            limits,
+            name,
+            columns,
+        )
     }
 
     /// Makes a constraint that holds over the rows as they are. It reads each row of the table once where
@@ -149,22 +151,15 @@ impl WordGuarded {
         ensures ok { OnOk result (database_in self.new ≡ with_more_rows (database_in self.old) table rows) }
         ensures err { OnErr result (database_in self.new ≡ database_in self.old) }
     {
-        let count = rows.len() as u32;
-        let mut stores = mem::replace(&mut self.rows, List::new(alloc)).into_vec();
-        let outcome = insert_into(
+        insert(
             alloc,
             &self.catalogue,
-            table,
-            &mut stores,
+            &mut self.rows,
             &mut self.indexes,
             limits,
+            table,
             rows,
-        );
-        self.rows = List::from_vec(stores);
-        match outcome {
-            Ok(()) => Ok(count),
-            Err(why) => Err(why),
-        }
+        )
     }
 
     /// Takes the rows of a table out that meet all conditions of a block over it, and answers how many; the
@@ -180,19 +175,13 @@ impl WordGuarded {
             ≡ length (rows_at (database_in self.old) (block_table filter.now)) }
         ensures cost { steps.new ≡ steps.old + length (rows_at (database_in self.old) (block_table filter.now)) }
     {
-        let table = table_of(filter);
-        let alloc = self.catalogue.alloc();
-        let mut stores = mem::replace(&mut self.rows, List::new(alloc)).into_vec();
-        let gone = delete_from(
+        delete(
             &self.catalogue,
-            table,
-            &mut stores,
+            &mut self.rows,
             &mut self.indexes,
             filter,
             steps,
-        );
-        self.rows = List::from_vec(stores);
-        gone
+        )
     }
 
     /// Lets the database go.

@@ -2,6 +2,7 @@
 use crate::guarded::WordGuarded;
 use beas_core::{Access, AccessId, AccessPort, ColumnId, Hits, Steps, Value};
 use std::sync::ledger::Ledger;
+use update_guard::port::live_access;
 
 impl AccessPort for WordGuarded {
     ghost use Rattle.catalogue.specs.Database.{rows_at};
@@ -16,8 +17,7 @@ impl AccessPort for WordGuarded {
     ghost stands = { stands_in };
 
     fn access(&self, id: AccessId) -> &Access {
-        let accesses = self.catalogue.accesses().as_slice();
-        &accesses[self.catalogue.position(id)]
+        live_access(&self.catalogue, id)
     }
 
     fn probe<L: Ledger>(&self, id: AccessId, key: &[Value], steps: &mut Steps<L>) -> Hits {

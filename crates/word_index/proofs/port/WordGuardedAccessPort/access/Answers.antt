@@ -1,31 +1,4 @@
-use Rattle.std.proofs.Common.{◌≡◌, ◌∙◌, ◌≤◌, List, [], ap, sym, subst, get_or}
-use Rattle.beas_core.specs.declared.schema.Access.{Access}
-use Rattle.beas_core.specs.Types.{Row}
-use Rattle.beas_core.specs.Groups.{Holds}
-use Rattle.catalogue.proofs.StoredFacts.{rows_at_stored}
-use Rattle.update_guard.proofs.PortFacts.{same_access}
 use Rattle.word_index.proofs.port.WordGuardedAccessPort.access.Goals as goal
 
-pub returns-clause-access : goal.returns-clause-access
-returns-clause-access c =
-    let own = c.index-accesses-place.result in
-    c.index-accesses-place.is ∙ ap (λ xs. get_or xs c.place.result own) (c.as_slice-accesses.ensures ∙ c.accesses.ensures.accesses) ∙ c.place.ensures.found own
-    ∙ same_access c.args.self.now.catalogue.accesses c.args.id
-
 pub returns-clause-holds : goal.returns-clause-holds
-returns-clause-holds c =
-    let own = c.index-accesses-place.result in
-    let g = c.args.self.now in
-    let at : get_or g.catalogue.accesses c.place.result own ≡ own = sym
-    (c.index-accesses-place.is ∙ ap (λ xs. get_or xs c.place.result own) (c.as_slice-accesses.ensures ∙ c.accesses.ensures.accesses)) in
-    let P : Access → Type 0 = λ a. Holds (get_or g.rows a.table.0 []) a in
-    subst (λ (rs : List Row). Holds rs own) (sym (rows_at_stored g.catalogue g.rows own.table g.kept.tables))
-    (subst P at (g.kept.hold c.place.result own c.place.ensures.within))
-
-pub returns-clause-bound : goal.returns-clause-bound
-returns-clause-bound c =
-    let own = c.index-accesses-place.result in
-    let g = c.args.self.now in
-    let at : get_or g.catalogue.accesses c.place.result own ≡ own = sym
-    (c.index-accesses-place.is ∙ ap (λ xs. get_or xs c.place.result own) (c.as_slice-accesses.ensures ∙ c.accesses.ensures.accesses)) in
-    subst (λ (a : Access). 1 ≤ a.bound) at (c.accesses.ensures.sound.accesses c.place.result own c.place.ensures.within).form.bound
+returns-clause-holds c = c.live_access.ensures.holds c.args.self.now.rows c.args.self.now.indexes c.args.self.now.kept
