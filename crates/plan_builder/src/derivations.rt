@@ -23,9 +23,6 @@ use std::alloc::Global;
 /// than a queue where there are many.
 const FEW_USES: usize = 16;
 
-/// The most classes a set of which lies in a call's own frame. A set of more takes a block of memory.
-pub const FEW_CLASSES: usize = 64;
-
 // Adds a use as the next step. The set has the classes that are bound before it.
 fn push_step(
     steps: &mut List<DStep>,
@@ -238,29 +235,7 @@ fn greedy_by_queue(
     Ok(Some(steps))
 }
 
-// The steps of `greedy` by going over all uses for each. The set has the start's classes, and takes those of the steps.
-fn greedy_over(
-    alloc: Global,
-    accesses: &[Access],
-    block: &Normal,
-    uses: &[UseAt<'_>],
-    set: &mut [bool],
-) -> Result<Option<List<DStep>>, NoMemory>
-    requires atoms { length block.now.atoms < 65536 }
-    requires needed { length block.now.needed ≤ 65536 }
-    requires ids { EachIdOnce accesses.now }
-    requires uses { map as_use uses.now ≡ uses_in block.now accesses.now }
-    ensures { IfOk result (λ steps. steps ≡ greedy_steps block.now accesses.now set.old) }
-{
-    let mut steps = List::from_vec(Vec::with_capacity(alloc, block.atoms.len())?);
-    if !add_best(&mut steps, set, block, accesses, uses)? {
-        return Ok(None);
-    }
-    serve_atoms(&mut steps, set, block, accesses, uses)?;
-    Ok(Some(steps))
-}
-
-// The steps of `greedy` from few uses. A copy of a start of few classes takes no block of memory.
+// The steps of `greedy` from few uses, by going over all of them for each.
 fn greedy_among(
     alloc: Global,
     accesses: &[Access],
@@ -274,15 +249,14 @@ fn greedy_among(
     requires uses { map as_use uses.now ≡ uses_in block.now accesses.now }
     ensures { IfOk result (λ steps. steps ≡ greedy_steps block.now accesses.now start.now) }
 {
-    let count = start.len();
-    if count <= FEW_CLASSES {
-        let mut room = [false; FEW_CLASSES];
-        let set = &mut room[..count];
-        set.copy_from_slice(start);
-        return greedy_over(alloc, accesses, block, uses, set);
+    let mut copy = Vec::from_slice(alloc, start)?;
+    let set = copy.as_mut_slice();
+    let mut steps = List::from_vec(Vec::with_capacity(alloc, block.atoms.len())?);
+    if !add_best(&mut steps, set, block, accesses, uses)? {
+        return Ok(None);
     }
-    let mut set = Vec::from_slice(alloc, start)?;
-    greedy_over(alloc, accesses, block, uses, &mut set)
+    serve_atoms(&mut steps, set, block, accesses, uses)?;
+    Ok(Some(steps))
 }
 
 /// The steps of a derivation from a start set of classes: those that add classes, and then those that serve atoms.

@@ -10,9 +10,6 @@ use beas_core::{Access, AccessId, Atom, Block, Duplicate, List, NoMemory, TableI
 use catalogue::Catalogue;
 use std::alloc::Global;
 
-/// Of so many live constraints none is left out.
-const FEW_ACCESSES: usize = 64;
-
 /// Those on a block's tables are copied where they are at most one in so many.
 const SHARE: usize = 4;
 
@@ -39,11 +36,7 @@ pub fn are_few(catalogue: &Catalogue, block: &Block, extra: &[Access]) -> bool
     requires { BlockIsOver catalogue.now block.now }
     ensures { IsTrue result → extra.now ≡ [] }
 {
-    let all = catalogue.accesses().len();
-    if !extra.is_empty() || all <= FEW_ACCESSES {
-        return false;
-    }
-    count_own(catalogue, block) <= all / SHARE
+    extra.is_empty() && count_own(catalogue, block) <= catalogue.accesses().len() / SHARE
 }
 
 fn has_table(accesses: &[Access], table: TableId) -> bool

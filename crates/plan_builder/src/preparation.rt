@@ -3,7 +3,7 @@ ghost use Rattle.std.specs.Prelude.{◌≡◌, ◌<◌, ◌≤◌, ◌+◌, ◌+
 ghost use Rattle.beas_core.specs.declared.refusal.Refusal.TheVariants.{TooLarge};
 ghost use Rattle.beas_core.specs.declared.schema.Access.{Access};
 ghost use Rattle.beas_core.specs.Classes.{normal_of};
-ghost use Rattle.beas_core.specs.Coverage.{ClassesInRange, constant_classes as classes_of_constants};
+ghost use Rattle.beas_core.specs.Coverage.{ClassesInRange};
 ghost use Rattle.beas_core.specs.Fits.{Fits, PlanFits};
 ghost use Rattle.beas_core.specs.Guiding.{after, block_tasks, first_uncovered, is_guided_task, task_reason, task_steps};
 ghost use Rattle.beas_core.specs.Queries.{announced_in, query_bound, size_of};
@@ -16,10 +16,10 @@ ghost use Rattle.plan_builder.specs.Parts.{Grows, block_reads, block_size, block
 ghost use Rattle.plan_builder.specs.Preparation.{IsWellFormedIn, block_header, constraints_with, header_of, not_covered, place_name, preparation, preparation_over, refusal_of, with_lists};
 
 use crate::blocks::{BlockAt, count_blocks, joined, joined_all, lend, push_blocks};
-use crate::derivations::{FEW_CLASSES, derive_from, steps_if_covered, why_none};
+use crate::derivations::{derive_from, steps_if_covered, why_none};
 use crate::own::{are_few, own_accesses};
 use crate::sets::guided_start;
-use attribute_closure::{add_constants, constant_classes};
+use attribute_closure::constant_classes;
 use beas_core::{
     Access, Block, Derivation, Duplicate, Fail, List, Name, NoMemory, Normal, NotCovered, Place,
     Prepared, Query, QueryNode, Refusal,
@@ -135,24 +135,24 @@ fn not_covered(
 
 // The derivation of a block from the classes of its constants; where it isn't covered from there and has a guide, from
 // the classes of its output too.
-fn plan_from(
+fn plan_normal(
     alloc: Global,
     accesses: &List<Access>,
     normal: &Normal,
     has_guide: bool,
-    start: &[bool],
 ) -> Result<Result<TaskPlan, NotCovered>, NoMemory>
     requires ranges { ClassesInRange normal.now }
     requires atoms { length normal.now.atoms < 65536 }
     requires needed { length normal.now.needed ≤ 65536 }
     requires ids { EachIdOnce accesses.now }
-    requires start { start.now ≡ classes_of_constants normal.now }
     ensures { IfOk result (λ found. MatchResult found
         (λ plan. (plan.guided ≡ is_guided_task (normal_task normal.now accesses.now has_guide))
         × (task_steps (normal_task normal.now accesses.now has_guide) ≡ Some plan.derivation.steps)
         × (task_reason (normal_task normal.now accesses.now has_guide) ≡ None))
         (λ why. task_reason (normal_task normal.now accesses.now has_guide) ≡ Some why)) }
 {
+    let constants = constant_classes(alloc, normal)?;
+    let start = constants.as_slice();
     if let Some(steps) = steps_if_covered(alloc, accesses, normal, start)? {
         return Ok(Ok(TaskPlan {
             derivation: Derivation { steps },
@@ -170,35 +170,6 @@ fn plan_from(
         })),
         Err(why) => Ok(Err(why)),
     }
-}
-
-// The derivation of a block, from the classes of its output too where it has a guide and isn't covered by itself. A set
-// of few classes takes no block of memory.
-fn plan_normal(
-    alloc: Global,
-    accesses: &List<Access>,
-    normal: &Normal,
-    has_guide: bool,
-) -> Result<Result<TaskPlan, NotCovered>, NoMemory>
-    requires ranges { ClassesInRange normal.now }
-    requires atoms { length normal.now.atoms < 65536 }
-    requires needed { length normal.now.needed ≤ 65536 }
-    requires ids { EachIdOnce accesses.now }
-    ensures { IfOk result (λ found. MatchResult found
-        (λ plan. (plan.guided ≡ is_guided_task (normal_task normal.now accesses.now has_guide))
-        × (task_steps (normal_task normal.now accesses.now has_guide) ≡ Some plan.derivation.steps)
-        × (task_reason (normal_task normal.now accesses.now has_guide) ≡ None))
-        (λ why. task_reason (normal_task normal.now accesses.now has_guide) ≡ Some why)) }
-{
-    let count = usize::from(normal.count);
-    if count <= FEW_CLASSES {
-        let mut room = [false; FEW_CLASSES];
-        let start = &mut room[..count];
-        add_constants(normal.constants.as_slice(), start);
-        return plan_from(alloc, accesses, normal, has_guide, start);
-    }
-    let start = constant_classes(alloc, normal)?;
-    plan_from(alloc, accesses, normal, has_guide, start.as_slice())
 }
 
 // The derivation of a block over the live constraints followed by its own.
