@@ -1,7 +1,9 @@
 pub mod Lists
 pub mod Marks
 pub mod Places
-pub mod Rounds
+pub mod Masks
+pub mod Tables
+pub mod Filled
 pub mod Added
 pub mod Asked
 pub mod Closed

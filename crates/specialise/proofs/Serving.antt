@@ -1,5 +1,5 @@
 -- Whether each atom is served, told by servers, is whether constants for the candidates that the start holds make the block covered.
-use Rattle.std.proofs.Common.{◌≡◌, ◌==◌, ◌&&◌, ◌<◌, ℕ, zero, suc, Bool, true, false, not, List, [], ◌∷◌, length, map, pos, inl, inr, refl, ap, sym, ◌∙◌, subst, arith, zero-add}
+use Rattle.std.proofs.Common.{◌≡◌, ◌==◌, ◌&&◌, ◌<◌, ℕ, zero, suc, Bool, true, false, not, List, [], ◌∷◌, length, map, get_or, pos, inl, inr, refl, ap, sym, ◌∙◌, subst, arith, zero-add}
 use Rattle.std.specs.List.{Contains, list_any, filter, slice_index_or, enumerate_from}
 use Rattle.std.proofs.lemmas.Bool.{eqb-true}
 use Rattle.std.proofs.lemmas.List.{length-map}
@@ -24,12 +24,12 @@ use Rattle.evaluation_facts.proofs.BindingFacts.{Has-range, from_range}
 use Rattle.evaluation_facts.proofs.ClassSetFacts.{holds-within}
 use Rattle.evaluation_facts.proofs.ReasonFacts.{covered_in_words, covered_from_words}
 use Rattle.specialise.specs.declared.candidates.Candidate.{Candidate}
-use Rattle.specialise.specs.declared.rules.Rule.{Rule}
 use Rattle.specialise.specs.declared.servers.Server.{Server}
 use Rattle.specialise.specs.Specialised.{candidates, first_place, with_constants}
-use Rattle.specialise.specs.Trials.{candidate_of, rules_of, lacks, server_of, servers_on, servers_of, serves_now, some_serves, all_serve, IsLeastUnder, IsStart, is_covered_from}
+use Rattle.specialise.specs.Trials.{apart, candidate_of, found_in, is_held, mask_where, rules_of, lacks, server_of, servers_on, servers_of, serves_now, some_serves, all_serve, within, IsLeastUnder, IsStart, is_covered_from}
 use Rattle.specialise.proofs.Added.{is_first_place, covered_same, start_more, needed_before, needed_first, needed_with, uses_same, keys_same, fetched_same}
-use Rattle.specialise.proofs.Closed.{holds_whole, holds_part, reached_is_least, candidate_below, set_reached, reached_set}
+use Rattle.specialise.proofs.Closed.{candidate_below, key_reached, position_of, reached_is_least, reached_key}
+use Rattle.specialise.proofs.Masks.{no_candidate, apart_at, apart_by, has_at, mask_at, mask_has}
 
 same_bools : (a b : Bool) → (a ≡ true → b ≡ true) → (b ≡ true → a ≡ true) → a ≡ b
 same_bools true b f g = sym (f refl)
@@ -39,8 +39,8 @@ same_bools false false f g = refl
 never : (b : Bool) → b ≡ true → b ≡ false → ⊥
 never b p q = cc
 
-module _ (accesses : List Access) (block : Block) (shape : BlockIsWellFormed block) (start set : ClassSet) (is : IsStart accesses block start)
-    (least : IsLeastUnder (rules_of accesses block) start set) where
+module _ (accesses : List Access) (block : Block) (shape : BlockIsWellFormed block) (start : ClassSet) (is : IsStart accesses block start) (mask : ℕ)
+    (least : IsLeastUnder (rules_of accesses block) (mask_where (is_held start) (found_in accesses block)) mask) where
   abbrev normal : Normal
   normal = normal_of block
 
@@ -87,20 +87,11 @@ module _ (accesses : List Access) (block : Block) (shape : BlockIsWellFormed blo
   covered_reached : Within covered reached
   covered_reached c h = sym (ap (λ s. has s c) covered_is) ∙ h
 
-  set_covered : Within set covered
-  set_covered c h = reached_covered c (set_reached accesses block shape start set is least c h)
-
-  covered_held : Within covered set
-  covered_held c h = reached_set accesses block shape start set is least c (covered_reached c h)
-
-  cover_held : Within cover set
-  cover_held c h = least.from_start c (is.holds c h)
-
-  cover_covered : Within cover covered
-  cover_covered c h = set_covered c (cover_held c h)
-
   abbrev found : List Candidate
-  found = map (candidate_of block) (candidates accesses block)
+  found = found_in accesses block
+
+  abbrev held : ℕ
+  held = mask_where (is_held start) found
 
   first_given : (p : Place) → Has (map (λ g. first_place block g.0) constants) p → (c : ℕ) × (Has given c) × (p ≡ first_place block c)
   first_given p h =
@@ -121,11 +112,11 @@ module _ (accesses : List Access) (block : Block) (shape : BlockIsWellFormed blo
     member : Has (uses normal accesses) by
     on_atom : by.atom ≡ atom
     needed : holds_needed normal by ≡ true
-    is_made : s ≡ server_of normal cover found by
+    is_made : s ≡ server_of normal found by
 
-  from_list : (atom : ℕ) (s : Server) → Has (servers_on normal cover found (uses normal accesses) atom) s → From atom s
+  from_list : (atom : ℕ) (s : Server) → Has (servers_on normal found (uses normal accesses) atom) s → From atom s
   from_list atom s h =
-      let m = Has-from_map (server_of normal cover found) (filter (test_use atom) (uses normal accesses)) s h in
+      let m = Has-from_map (server_of normal found) (filter (test_use atom) (uses normal accesses)) s h in
       let f = Has-from_filter (test_use atom) (uses normal accesses) m.0 m.1 in
       record {
         by = m.0;
@@ -135,14 +126,15 @@ module _ (accesses : List Access) (block : Block) (shape : BlockIsWellFormed blo
         is_made = m.2;
       }
 
-  not_lost : (u : Use) → list_any (has start) (server_of normal cover found u).loses ≡ false → (c : ℕ) → Has given c → lacks u (candidate_of block c) ≡ false
+  not_lost : (u : Use) → apart (server_of normal found u).loses held ≡ true → (c : ℕ) → Has given c → lacks u (candidate_of block c) ≡ false
   not_lost u none c h = elim (which (lacks u (candidate_of block c))) [
     | inr e ↦ e
     | inl e ↦ (
         let f = Has-from_filter (has start) (candidates accesses block) c h in
-        let m = Has-map (λ (x : Candidate). x.class) (filter (lacks u) found) (candidate_of block c)
-        (Has-filter (lacks u) found (candidate_of block c) (Has-map (candidate_of block) (candidates accesses block) c f.0) e) in
-        absurd (never (has start c) f.1 (none_has (has start) (server_of normal cover found u).loses c none m)))
+        let i = position_of accesses block shape c f.0 in
+        let lost = mask_has (lacks u) found i.0 no_candidate i.1 (subst (λ (x : Candidate). lacks u x ≡ true) (sym i.2) e) in
+        let given_it = mask_has (is_held start) found i.0 no_candidate i.1 (subst (λ (x : Candidate). has start x.class ≡ true) (sym i.2) f.1) in
+        absurd (apart_at (server_of normal found u).loses held i.0 none lost given_it))
   ]
 
   holds_first : (u : Use) (c : ℕ) → lacks u (candidate_of block c) ≡ false → (first_place block c).atom ≡ u.atom
@@ -155,14 +147,14 @@ module _ (accesses : List Access) (block : Block) (shape : BlockIsWellFormed blo
           (and_both ((first_place block c).atom == u.atom) (not (has_column (member_columns u.access) (first_place block c).column))
           (same_number (first_place block c).atom u.atom same) (ap not t)) e)
 
-  serving : (atom : ℕ) → atom < length block.atoms → (s : Server) → From atom s → serves_now start set s ≡ true → ServingUse more accesses covered atom
+  serving : (atom : ℕ) → atom < length block.atoms → (s : Server) → From atom s → serves_now held mask s ≡ true → ServingUse more accesses covered atom
   serving atom l s from now =
       let u = from.by in
-      let made = server_of normal cover found u in
-      let here = subst (λ x. serves_now start set x ≡ true) from.is_made now in
-      let key = and_left (holds_classes set made.key) (not (list_any (has start) made.loses)) here in
-      let none = from_not (list_any (has start) made.loses) (and_right (holds_classes set made.key) (not (list_any (has start) made.loses)) here) in
-      let keys = holds-within set covered (key_classes normal u) set_covered (holds_whole cover set (key_classes normal u) cover_held key) in
+      let made = server_of normal found u in
+      let here = subst (λ x. serves_now held mask x ≡ true) from.is_made now in
+      let key = and_left (within made.key mask) (apart made.loses held) here in
+      let none = and_right (within made.key mask) (apart made.loses held) here in
+      let keys = holds-within reached covered (key_classes normal u) reached_covered (key_reached accesses block shape start is mask least u from.member key) in
       let below = subst (λ n. n < length block.atoms) (sym from.on_atom) l in
       let needed = needed_with accesses block constants u below from.needed (λ p m e.
       let g = first_given p m in
@@ -176,16 +168,16 @@ module _ (accesses : List Access) (block : Block) (shape : BlockIsWellFormed blo
             (ap (holds_classes covered) (keys_same accesses block constants u) ∙ keys) needed;
       }
 
-  atom_listed : (atom : ℕ) → atom < length block.atoms → Has (servers_of accesses block) (servers_on normal cover found (uses normal accesses) atom)
+  atom_listed : (atom : ℕ) → atom < length block.atoms → Has (servers_of accesses block) (servers_on normal found (uses normal accesses) atom)
   unfolding normal_of
-  atom_listed atom l = Has-map (servers_on normal cover found (uses normal accesses)) (atoms_of normal) atom
+  atom_listed atom l = Has-map (servers_on normal found (uses normal accesses)) (atoms_of normal) atom
       (Has-range (length block.atoms) 0 atom (omega arith) (omega (arith, l)))
 
-  served : all_serve start set (servers_of accesses block) ≡ true → (atom : ℕ) → atom < length block.atoms → ServingUse more accesses covered atom
+  served : all_serve held mask (servers_of accesses block) ≡ true → (atom : ℕ) → atom < length block.atoms → ServingUse more accesses covered atom
   served all atom l =
-      let list = servers_on normal cover found (uses normal accesses) atom in
-      let some = all_has (some_serves start set) (servers_of accesses block) list all (atom_listed atom l) in
-      let r = any_has (serves_now start set) list some in
+      let list = servers_on normal found (uses normal accesses) atom in
+      let some = all_has (some_serves held mask) (servers_of accesses block) list all (atom_listed atom l) in
+      let r = any_has (serves_now held mask) list some in
       serving atom l r.0 (from_list atom r.0 r.1) r.2
 
   atoms_more : length more.atoms ≡ length block.atoms
@@ -236,7 +228,7 @@ module _ (accesses : List Access) (block : Block) (shape : BlockIsWellFormed blo
       same_lists (x ∷ xs) zero = refl
       same_lists (x ∷ xs) (suc i) = same_lists xs i
 
-  to_covered : all_serve start set (servers_of accesses block) ≡ true → own_is_covered more accesses ≡ true
+  to_covered : all_serve held mask (servers_of accesses block) ≡ true → own_is_covered more accesses ≡ true
   to_covered all = covered_from_words more accesses covered (record {
     columns = λ place m. let n = needed_at place (Has-from_contains (needed_places more) place m) in column_covered place (served all place.atom n.0) n.1;
     atoms = λ atom l. served all atom (subst (λ n. atom < n) atoms_more l);
@@ -244,30 +236,23 @@ module _ (accesses : List Access) (block : Block) (shape : BlockIsWellFormed blo
 
   -- ---- from coverage to servers
 
-  keeps : (u : Use) → u.atom < length block.atoms → holds_needed more u ≡ true → list_any (has start) (server_of normal cover found u).loses ≡ false
-  keeps u l needed = none_by (has start) (server_of normal cover found u).loses (λ c m. elim (which (has start c)) [
-    | inr e ↦ e
-    | inl e ↦ absurd (lost c m e)
-  ])
-    where
-      lost : (c : ℕ) → Has (server_of normal cover found u).loses c → has start c ≡ true → ⊥
-      lost c m held =
-          let r = Has-from_map (λ (x : Candidate). x.class) (filter (lacks u) found) c m in
-          let f = Has-from_filter (lacks u) found r.0 r.1 in
-          let k = Has-from_map (candidate_of block) (candidates accesses block) r.0 f.0 in
-          let class : c ≡ k.0 = r.2 ∙ ap (λ (x : Candidate). x.class) k.2 in
-          let own = Has-filter (has start) (candidates accesses block) k.0 k.1 (subst (λ d. has start d ≡ true) class held) in
-          let lack = subst (λ x. lacks u x ≡ true) k.2 f.1 in
-          let atom = eqb-true (first_place block k.0).atom u.atom
-          (and_left ((first_place block k.0).atom == u.atom) (not (has_column (member_columns u.access) (first_place block k.0).column)) lack) in
-          let column = from_not (has_column (member_columns u.access) (first_place block k.0).column)
-          (and_right ((first_place block k.0).atom == u.atom) (not (has_column (member_columns u.access) (first_place block k.0).column)) lack) in
-          never (has_column (member_columns u.access) (first_place block k.0).column)
-          (needed_first accesses block constants u l needed (first_place block k.0) (given_first k.0 own)
-          (is_first_place block k.0 (given_below k.0 own)).is_place atom) column
+  keeps : (u : Use) → u.atom < length block.atoms → holds_needed more u ≡ true → apart (server_of normal found u).loses held ≡ true
+  keeps u l needed = apart_by (server_of normal found u).loses held (λ i e f.
+      let lost = mask_at (lacks u) found i no_candidate e in
+      let given_it = mask_at (is_held start) found i no_candidate f in
+      let k = Has-from_map (candidate_of block) (candidates accesses block) (get_or found i no_candidate) (has_at found i no_candidate lost.0) in
+      let own = Has-filter (has start) (candidates accesses block) k.0 k.1 (subst (λ (x : Candidate). has start x.class ≡ true) k.2 given_it.1) in
+      let lack = subst (λ x. lacks u x ≡ true) k.2 lost.1 in
+      let atom = eqb-true (first_place block k.0).atom u.atom
+      (and_left ((first_place block k.0).atom == u.atom) (not (has_column (member_columns u.access) (first_place block k.0).column)) lack) in
+      let column = from_not (has_column (member_columns u.access) (first_place block k.0).column)
+      (and_right ((first_place block k.0).atom == u.atom) (not (has_column (member_columns u.access) (first_place block k.0).column)) lack) in
+      never (has_column (member_columns u.access) (first_place block k.0).column)
+      (needed_first accesses block constants u l needed (first_place block k.0) (given_first k.0 own)
+      (is_first_place block k.0 (given_below k.0 own)).is_place atom) column)
 
   atom_serves : IsCovered more accesses covered → (atom : ℕ) → atom < length block.atoms
-      → some_serves start set (servers_on normal cover found (uses normal accesses) atom) ≡ true
+      → some_serves held mask (servers_on normal found (uses normal accesses) atom) ≡ true
   atom_serves so atom l =
       let s = so.atoms atom (subst (λ n. atom < n) (sym atoms_more) l) in
       let u = s.by in
@@ -276,30 +261,30 @@ module _ (accesses : List Access) (block : Block) (shape : BlockIsWellFormed blo
       let needed = and_right (holds_classes covered (key_classes more u)) (holds_needed more u) s.serves_it in
       let member = Has-from_contains (uses normal accesses) u (subst (λ us. Contains us u) (uses_same accesses block constants) s.member) in
       let passes = and_both (u.atom == atom) (holds_needed normal u) (same_number u.atom atom s.on_atom) (needed_before accesses block constants u below needed) in
-      let key = holds_part cover set (key_classes normal u)
-      (holds-within covered set (key_classes normal u) covered_held (sym (ap (holds_classes covered) (keys_same accesses block constants u)) ∙ keys)) in
-      any_by (serves_now start set) (servers_on normal cover found (uses normal accesses) atom) (server_of normal cover found u)
-      (Has-map (server_of normal cover found) (filter (test_use atom) (uses normal accesses)) u (Has-filter (test_use atom) (uses normal accesses) u member passes))
-      (and_both (holds_classes set (server_of normal cover found u).key) (not (list_any (has start) (server_of normal cover found u).loses)) key
-      (to_not (list_any (has start) (server_of normal cover found u).loses) (keeps u below needed)))
+      let key = reached_key accesses block shape start is mask least u
+      (holds-within covered reached (key_classes normal u) covered_reached (sym (ap (holds_classes covered) (keys_same accesses block constants u)) ∙ keys)) in
+      any_by (serves_now held mask) (servers_on normal found (uses normal accesses) atom) (server_of normal found u)
+      (Has-map (server_of normal found) (filter (test_use atom) (uses normal accesses)) u (Has-filter (test_use atom) (uses normal accesses) u member passes))
+      (and_both (within (server_of normal found u).key mask) (apart (server_of normal found u).loses held) key (keeps u below needed))
 
-  from_covered : own_is_covered more accesses ≡ true → all_serve start set (servers_of accesses block) ≡ true
+  from_covered : own_is_covered more accesses ≡ true → all_serve held mask (servers_of accesses block) ≡ true
   unfolding normal_of
   from_covered h =
       let so = covered_in_words more accesses covered h in
-      all_by (some_serves start set) (servers_of accesses block) (λ list m.
-      let r = Has-from_map (servers_on normal cover found (uses normal accesses)) (atoms_of normal) list m in
+      all_by (some_serves held mask) (servers_of accesses block) (λ list m.
+      let r = Has-from_map (servers_on normal found (uses normal accesses)) (atoms_of normal) list m in
       let below = from_range (length block.atoms) 0 r.0 r.1 in
-      ap (some_serves start set) r.2 ∙ atom_serves so r.0 (omega (arith, below)))
+      ap (some_serves held mask) r.2 ∙ atom_serves so r.0 (omega (arith, below)))
 
-  pub serves_is : all_serve start set (servers_of accesses block) ≡ is_covered_from accesses block start
-  serves_is = same_bools (all_serve start set (servers_of accesses block)) (is_covered_from accesses block start) to_covered from_covered
+  pub serves_is : all_serve held mask (servers_of accesses block) ≡ is_covered_from accesses block start
+  serves_is = same_bools (all_serve held mask (servers_of accesses block)) (is_covered_from accesses block start) to_covered from_covered
 
 -- the same, as the code has it
-pub covers_is : (accesses : List Access) (block : Block) → BlockIsWellFormed block → (start set : ClassSet) → IsStart accesses block start
-    → (rules : List Rule) → rules ≡ rules_of accesses block → (copied : ClassSet) → copied ≡ start → IsLeastUnder rules copied set
-    → (servers : List (List Server)) → servers ≡ servers_of accesses block → (b : Bool) → b ≡ all_serve start set servers
+pub covers_is : (accesses : List Access) (block : Block) → BlockIsWellFormed block → (start : ClassSet) → IsStart accesses block start
+    → (first mask : ℕ) → first ≡ mask_where (is_held start) (found_in accesses block) → IsLeastUnder (rules_of accesses block) first mask
+    → (servers : List (List Server)) → servers ≡ servers_of accesses block → (b : Bool) → b ≡ all_serve first mask servers
     → b ≡ is_covered_from accesses block start
-covers_is accesses block shape start set is rules er copied ec least servers es b eb =
-    let own = subst (λ s. IsLeastUnder (rules_of accesses block) s set) ec (subst (λ rs. IsLeastUnder rs copied set) er least) in
-    eb ∙ ap (all_serve start set) es ∙ serves_is accesses block shape start set is own
+covers_is accesses block shape start is first mask eh least servers es b eb =
+    let own = subst (λ n. IsLeastUnder (rules_of accesses block) n mask) eh least in
+    eb ∙ ap (λ n. all_serve n mask servers) eh ∙ ap (all_serve (mask_where (is_held start) (found_in accesses block)) mask) es
+    ∙ serves_is accesses block shape start is mask own

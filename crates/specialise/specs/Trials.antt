@@ -1,24 +1,28 @@
--- What sets of candidates are tried by. All sets of classes that are tried hold the covered set, so keys and fetched classes are told without it.
+-- What sets of candidates are tried by.
+--     mask_where test found           the positions of the candidates that pass a test
 --     Rule                            a use of a constraint: where a set holds its key, it holds what it gives
---     IsLeastUnder rules start set    the least set that holds the start and what each rule gives whose key it holds
+--     IsLeastUnder rules start mask   the least set that holds the start and what each rule gives whose key it holds
+--     IsFilled rules table            the entry of each rule's key holds what it gives
+--     IsTable rules table             the entry of each set holds what all rules give whose key it holds
+--     United table mask count all     the entry of a set, and those of the sets that lack one of its first positions
 --     Server                          a use that holds its atom's needed columns: it serves where a set holds its key, unless one of the candidates whose
 --                                     column it lacks has a constant
---     all_serve servers start set     each atom has a server, where the start's classes have constants and the set is what they cover
---     Applied rule old new more       one rule over a set of classes; `more` tells whether it added anything
---     Grown rules old new more        one round of the rules; `more` tells whether it added anything
+--     all_serve start mask servers    each atom has a server, where the start's classes have constants and the mask is what they cover
 --     IsStart accesses block start    the covered set, and some candidates
 --     AreUntried accesses block start classes
 --                                     candidates that the start lacks, ascending
 --     Walked test sets old new found  the first of some sets that passes a test, added to a set of classes; where none does, nothing
-use Rattle.std.specs.Prelude.{◌≡◌, ◌<◌, ◌&&◌, if◌then◌else◌, ◌==◌, Bool, true, false, not, ℕ, List, [], ◌∷◌, length, map, filter, find, IsTrue, Contains, ◌⊎◌, Option, is_some, unwrap_or}
+use Rattle.std.specs.Prelude.{◌≡◌, ◌<◌, ◌+◌, ◌*◌, ◌^◌, ◌&&◌, if◌then◌else◌, ◌==◌, bit_and, bit_or, bit_xor, Bool, true, false, not, ℕ, List, [], ◌∷◌, length, map, filter, find, slice_index_or, slice_set, IsTrue, Contains, ◌⊎◌, Option, is_some, unwrap_or}
+use Rattle.std.specs.Int.{bit_at}
 use Rattle.std.specs.List.{AllByRecursion, list_any, list_all}
+use Rattle.beas_core.specs.declared.schema.ColumnId.{ColumnId}
 use Rattle.beas_core.specs.declared.schema.Access.{Access}
 use Rattle.beas_core.specs.declared.query.Block.{Block}
 use Rattle.beas_core.specs.declared.plan.Normal.{Normal}
 use Rattle.beas_core.specs.Types.{ClassSet, Use}
 use Rattle.beas_core.specs.Groups.{has_column, member_columns}
 use Rattle.beas_core.specs.Classes.{normal_of}
-use Rattle.beas_core.specs.Coverage.{has, with_classes, holds_classes, uses, key_classes, fetched_classes, holds_needed, own_cover, atoms_of, Within}
+use Rattle.beas_core.specs.Coverage.{has, with_classes, class_at, uses, holds_needed, own_cover, atoms_of, Within}
 use Rattle.specialise.specs.declared.candidates.Candidate.{Candidate}
 use Rattle.specialise.specs.declared.rules.Rule.{Rule}
 use Rattle.specialise.specs.declared.servers.Server.{Server}
@@ -31,43 +35,75 @@ is_marked cover marks class = not (has cover class) && has marks class
 abbrev pub candidate_of : Block → ℕ → Candidate
 candidate_of block class = record { class = class; place = first_place block class }
 
--- those of some classes that a set lacks
-abbrev pub outside : ClassSet → List ℕ → List ℕ
-outside cover classes = filter (λ c. not (has cover c)) classes
+-- ---- masks: sets of positions in the list of the candidates, of which the first is the lowest bit
+
+abbrev pub within : ℕ → ℕ → Bool
+within mask other = bit_and mask other == mask
+
+abbrev pub apart : ℕ → ℕ → Bool
+apart mask other = bit_and mask other == 0
+
+abbrev pub with_first : Bool → ℕ → ℕ
+with_first b rest = (if b then 1 else 0) + 2 * rest
+
+-- the positions of the candidates that pass a test
+abbrev pub mask_where : (Candidate → Bool) → List Candidate → ℕ
+mask_where p [] = 0
+mask_where p (c ∷ cs) = with_first (p c) (mask_where p cs)
+
+-- a candidate whose class some columns of an atom have
+abbrev pub is_among : Normal → ℕ → List ColumnId → Candidate → Bool
+is_among normal atom columns c = list_any (λ column. class_at normal atom column == c.class) columns
+
+abbrev pub is_held : ClassSet → Candidate → Bool
+is_held set c = has set c.class
 
 -- ---- what constants cover
 
-abbrev pub rule_of : Normal → ClassSet → Use → Rule
-rule_of normal cover u = record { key = outside cover (key_classes normal u); gives = outside cover (fetched_classes normal u) }
+abbrev pub rule_of : Normal → List Candidate → Use → Rule
+rule_of normal found u = record {
+  key = mask_where (is_among normal u.atom u.access.key) found;
+  gives = mask_where (is_among normal u.atom u.access.fetched) found;
+}
+
+abbrev pub found_in : List Access → Block → List Candidate
+found_in accesses block = map (candidate_of block) (candidates accesses block)
 
 abbrev pub rules_of : List Access → Block → List Rule
-rules_of accesses block = map (rule_of (normal_of block) (own_cover (normal_of block) accesses)) (uses (normal_of block) accesses)
+rules_of accesses block = map (rule_of (normal_of block) (found_in accesses block)) (uses (normal_of block) accesses)
 
-abbrev pub IsClosedUnder : List Rule → ClassSet → Type 0
-IsClosedUnder rules set = (r : Rule) → Contains rules r → IsTrue (holds_classes set r.key) → IsTrue (holds_classes set r.gives)
+abbrev pub IsClosedUnder : List Rule → ℕ → Type 0
+IsClosedUnder rules mask = (r : Rule) → Contains rules r → IsTrue (within r.key mask) → IsTrue (within r.gives mask)
 
-pub record IsLeastUnder (rules : List Rule) (start set : ClassSet) : Type 0 where
-  pub from_start : Within start set
-  pub closed : IsClosedUnder rules set
-  pub least : (other : ClassSet) → Within start other → IsClosedUnder rules other → Within set other
+pub record IsLeastUnder (rules : List Rule) (start mask : ℕ) : Type 0 where
+  pub from_start : IsTrue (within start mask)
+  pub closed : IsClosedUnder rules mask
+  pub least : (other : ℕ) → IsTrue (within start other) → IsClosedUnder rules other → IsTrue (within mask other)
 
--- how many classes a set holds
-abbrev pub size : ClassSet → ℕ
-size set = length (filter (λ b. b) set)
+abbrev pub entry_at : List ℕ → ℕ → ℕ
+entry_at table mask = slice_index_or table mask 0
 
-abbrev pub grows : Rule → ClassSet → Bool
-grows rule set = holds_classes set rule.key && not (holds_classes set rule.gives)
+abbrev pub with_rule : List ℕ → Rule → List ℕ
+with_rule table r = slice_set table r.key (bit_or (entry_at table r.key) r.gives)
 
-pub record Applied (rule : Rule) (old new : ClassSet) (more : Bool) : Type 0 where
-  pub tells : more ≡ grows rule old
-  pub adds : new ≡ (if grows rule old then with_classes old rule.gives else old)
+-- no entry holds more than the rules can give
+abbrev pub HoldsNoMore : List Rule → List ℕ → Type 0
+HoldsNoMore rules table = (mask other : ℕ) → mask < length table → IsTrue (within mask other) → IsClosedUnder rules other
+    → IsTrue (within (entry_at table mask) other)
 
-pub record Grown (rules : List Rule) (old new : ClassSet) (more : Bool) : Type 0 where
-  pub classes : length new ≡ length old
-  pub keeps : Within old new
-  pub least : (other : ClassSet) → Within old other → IsClosedUnder rules other → Within new other
-  pub grows : more ≡ true → size old < size new
-  pub closed : more ≡ false → IsClosedUnder rules new
+pub record IsFilled (rules : List Rule) (table : List ℕ) : Type 0 where
+  pub own : (r : Rule) → Contains rules r → IsTrue (within r.gives (entry_at table r.key))
+  pub no_more : HoldsNoMore rules table
+
+pub record IsTable (rules : List Rule) (table : List ℕ) : Type 0 where
+  pub all : (r : Rule) (mask : ℕ) → Contains rules r → mask < length table → IsTrue (within r.key mask) → IsTrue (within r.gives (entry_at table mask))
+  pub no_more : HoldsNoMore rules table
+
+pub record United (table : List ℕ) (mask count all : ℕ) : Type 0 where
+  pub own : IsTrue (within (entry_at table mask) all)
+  pub each : (i : ℕ) → i < count → bit_at mask i ≡ 1 → IsTrue (within (entry_at table (bit_xor mask (2 ^ i))) all)
+  pub least : (other : ℕ) → IsTrue (within (entry_at table mask) other)
+      → ((i : ℕ) → i < count → bit_at mask i ≡ 1 → IsTrue (within (entry_at table (bit_xor mask (2 ^ i))) other)) → IsTrue (within all other)
 
 -- ---- what serves an atom
 
@@ -75,33 +111,25 @@ pub record Grown (rules : List Rule) (old new : ClassSet) (more : Bool) : Type 0
 abbrev pub lacks : Use → Candidate → Bool
 lacks u c = (c.place.atom == u.atom) && not (has_column (member_columns u.access) c.place.column)
 
-abbrev pub server_of : Normal → ClassSet → List Candidate → Use → Server
-server_of normal cover found u = record {
-  key = outside cover (key_classes normal u);
-  loses = map (λ (c : Candidate). c.class) (filter (lacks u) found);
-}
+abbrev pub server_of : Normal → List Candidate → Use → Server
+server_of normal found u = record { key = mask_where (is_among normal u.atom u.access.key) found; loses = mask_where (lacks u) found }
 
-abbrev pub servers_on : Normal → ClassSet → List Candidate → List Use → ℕ → List Server
-servers_on normal cover found us atom = map (server_of normal cover found) (filter (λ u. (u.atom == atom) && holds_needed normal u) us)
+abbrev pub servers_on : Normal → List Candidate → List Use → ℕ → List Server
+servers_on normal found us atom = map (server_of normal found) (filter (λ u. (u.atom == atom) && holds_needed normal u) us)
 
 abbrev pub servers_of : List Access → Block → List (List Server)
-servers_of accesses block =
-    map (servers_on (normal_of block) (own_cover (normal_of block) accesses) (map (candidate_of block) (candidates accesses block)) (uses (normal_of block)
-    accesses)) (atoms_of (normal_of block))
+servers_of accesses block = map (servers_on (normal_of block) (found_in accesses block) (uses (normal_of block) accesses)) (atoms_of (normal_of block))
 
-abbrev pub serves_now : ClassSet → ClassSet → Server → Bool
-serves_now start set s = holds_classes set s.key && not (list_any (has start) s.loses)
+abbrev pub serves_now : ℕ → ℕ → Server → Bool
+serves_now start mask s = within s.key mask && apart s.loses start
 
-abbrev pub some_serves : ClassSet → ClassSet → List Server → Bool
-some_serves start set servers = list_any (serves_now start set) servers
+abbrev pub some_serves : ℕ → ℕ → List Server → Bool
+some_serves start mask servers = list_any (serves_now start mask) servers
 
-abbrev pub all_serve : ClassSet → ClassSet → List (List Server) → Bool
-all_serve start set servers = list_all (some_serves start set) servers
+abbrev pub all_serve : ℕ → ℕ → List (List Server) → Bool
+all_serve start mask servers = list_all (some_serves start mask) servers
 
 -- ---- sets that are tried
-
-abbrev pub is_held : ClassSet → Candidate → Bool
-is_held set c = has set c.class
 
 pub record IsStart (accesses : List Access) (block : Block) (start : ClassSet) : Type 0 where
   pub classes : length start ≡ (normal_of block).count

@@ -61,15 +61,7 @@ fn search(
     if number > LIMIT {
         return Err(Fail::Refused(too_many(number, normal.count)));
     }
-    let trial = trial_of(
-        alloc,
-        accesses,
-        block,
-        normal,
-        cover,
-        found.as_slice(),
-        candidates,
-    )?;
+    let trial = trial_of(alloc, accesses, block, normal, found.as_slice(), candidates)?;
     Ok(trial.search(alloc, cover)?)
 }
 

@@ -1,122 +1,173 @@
-// What more constants cover, by rules over the classes that the covered set lacks.
-ghost use Rattle.std.specs.Prelude.{◌≡◌, ◌<◌, All, IfOk, length, map, not};
-ghost use Rattle.beas_core.specs.Coverage.{class_at as class_of_column, has, holds_classes, with_classes};
+// What more constants cover, by rules over sets of candidates.
+ghost use Rattle.std.specs.Prelude.{◌≡◌, ◌≤◌, ◌<◌, ◌^◌, IfOk, List as Items, All, fold, length, map, replicate};
 ghost use Rattle.attribute_closure.specs.Uses.{as_use};
-ghost use Rattle.specialise.specs.Trials.{Applied, Grown, IsLeastUnder, outside, rule_of};
+ghost use Rattle.specialise.specs.Trials.{IsFilled, IsLeastUnder, IsTable, United, is_among, is_held, mask_where, rule_of, with_first, with_rule};
 
+use crate::candidates::Candidate;
 use attribute_closure::{UseAt, has_class};
-use beas_core::{ColumnId, List, NoMemory, Normal, class_at};
+use beas_core::{ColumnId, NoMemory, Normal, class_at};
 use std::alloc::Global;
 
-/// A use of a constraint, told by the classes that the covered set lacks: where a set holds its key, it holds what it gives.
-#[derive(Drop)]
+/// A use of a constraint, told by the positions of candidates: where a set holds its key, it holds what it gives.
+#[derive(Clone, Copy)]
 pub struct Rule {
-    pub key: List<u16>,
-    pub gives: List<u16>,
+    pub key: u32,
+    pub gives: u32,
 }
 
-/// The classes of some columns of an atom that a set lacks.
-pub(crate) fn outside(
-    alloc: Global,
+fn is_among(block: &Normal, atom: u16, columns: &[ColumnId], candidate: &Candidate) -> bool
+    ensures { result ≡ is_among block.now atom columns.now candidate.now }
+{
+    columns
+        .iter()
+        .any(|column| class_at(block, atom, *column) == candidate.class)
+}
+
+/// A mask of the candidates behind the first one, moved up, with the first one in it or not.
+pub(crate) fn with_first(holds: bool, rest: u32) -> u32
+    requires { rest < 65536 }
+    ensures { result ≡ with_first holds rest }
+{
+    let moved = 2 * rest;
+    if holds { 1 + moved } else { moved }
+}
+
+/// The positions of the candidates whose class some columns of an atom have.
+pub(crate) fn positions_of(
     block: &Normal,
-    cover: &[bool],
     atom: u16,
     columns: &[ColumnId],
-) -> Result<List<u16>, NoMemory>
-    ensures { IfOk result (λ found. found ≡ outside cover.now (map (class_of_column block.now atom) columns.now)) }
+    candidates: &[Candidate],
+) -> u32
+    requires { length candidates.now ≤ 16 }
+    ensures { result ≡ mask_where (is_among block.now atom columns.now) candidates.now }
 {
-    let mut found = List::new(alloc);
-    for column in columns {
-        let class = class_at(block, atom, *column);
-        if !has_class(cover, class) {
-            found.push(class)?;
+    match candidates {
+        [] => 0,
+        [first, others @ ..] => {
+            let rest = positions_of(block, atom, columns, others);
+            with_first(is_among(block, atom, columns, first), rest)
         }
     }
-    Ok(found)
 }
 
-fn rule_of(
-    alloc: Global,
-    block: &Normal,
-    cover: &[bool],
-    found: UseAt<'_>,
-) -> Result<Rule, NoMemory>
-    ensures { IfOk result (λ rule. rule ≡ rule_of block.now cover.now (as_use found.entry)) }
+/// Whether a set of classes holds a candidate's.
+pub(crate) fn is_held(set: &[bool], candidate: &Candidate) -> bool
+    ensures { result ≡ is_held set.now candidate.now }
 {
-    let key = outside(alloc, block, cover, found.atom, found.access.key.as_slice())?;
-    let gives = outside(
-        alloc,
-        block,
-        cover,
-        found.atom,
-        found.access.fetched.as_slice(),
-    )?;
-    Ok(Rule { key, gives })
+    has_class(set, candidate.class)
 }
 
-/// The rules of some uses.
-pub(crate) fn rules_of(
-    alloc: Global,
-    block: &Normal,
-    cover: &[bool],
-    found: &[UseAt<'_>],
-) -> Result<List<Rule>, NoMemory>
-    ensures { IfOk result (λ rules. rules ≡ map (rule_of block.now cover.now) (map as_use found.now)) }
+/// The positions of the candidates that a set of classes holds.
+pub(crate) fn held_positions(set: &[bool], candidates: &[Candidate]) -> u32
+    requires { length candidates.now ≤ 16 }
+    ensures { result ≡ mask_where (is_held set.now) candidates.now }
 {
-    let mut rules = List::new(alloc);
+    match candidates {
+        [] => 0,
+        [first, others @ ..] => {
+            let rest = held_positions(set, others);
+            with_first(is_held(set, first), rest)
+        }
+    }
+}
+
+fn rule_of(block: &Normal, candidates: &[Candidate], found: UseAt<'_>) -> Rule
+    requires { length candidates.now ≤ 16 }
+    ensures { result ≡ rule_of block.now candidates.now (as_use found.entry) }
+{
+    let columns = found.access.fetched.as_slice();
+    Rule {
+        key: positions_of(block, found.atom, found.access.key.as_slice(), candidates),
+        gives: positions_of(block, found.atom, columns, candidates),
+    }
+}
+
+fn add_rule(table: &mut [u32], rule: Rule)
+    requires { rule.key < length table.old }
+    ensures { table.new ≡ with_rule table.old rule }
+{
+    let key = rule.key as usize;
+    table[key] |= rule.gives;
+}
+
+// Adds to the entry of each rule's key what it gives.
+fn add_rules(table: &mut [u32], block: &Normal, candidates: &[Candidate], found: &[UseAt<'_>])
+    requires few { length candidates.now ≤ 16 }
+    requires sets { length table.old ≡ 2 ^ length candidates.now }
+    ensures { table.new ≡ fold with_rule table.old (map (rule_of block.now candidates.now) (map as_use found.now)) }
+{
     for use_at in found {
-        rules.push(rule_of(alloc, block, cover, *use_at)?)?;
-    }
-    Ok(rules)
-}
-
-/// Whether a set holds some classes.
-pub(crate) fn holds_all(set: &[bool], classes: &[u16]) -> bool
-    ensures { result ≡ holds_classes set.now classes.now }
-{
-    classes.iter().all(|class| has_class(set, *class))
-}
-
-fn add_all(set: &mut [bool], classes: &[u16])
-    requires { All (λ c. c < length set.old) classes.now }
-    ensures { set.new ≡ with_classes set.old classes.now }
-{
-    for class in classes {
-        set[usize::from(*class)] = true;
+        add_rule(table, rule_of(block, candidates, *use_at));
     }
 }
 
-// Adds what a rule gives where the set holds its key. Whether it added a class.
-fn apply(rule: &Rule, set: &mut [bool]) -> bool
-    requires { All (λ c. c < length set.old) rule.now.gives }
-    ensures { Applied rule.now set.old set.new result }
+// The entry of a set together with those of the sets that lack one of its positions.
+fn united(table: &[u32], set: usize, count: usize) -> u32
+    requires few { count ≤ 16 }
+    requires sets { length table.now ≡ 2 ^ count }
+    requires set { set < length table.now }
+    ensures { United table.now set count result }
 {
-    let gives = rule.gives.as_slice();
-    let grows = holds_all(set, rule.key.as_slice()) && !holds_all(set, gives);
-    if grows {
-        add_all(set, gives);
-    }
-    grows
-}
-
-// One round of the rules. Whether it added a class.
-fn grow(rules: &[Rule], set: &mut [bool]) -> bool
-    requires { All (λ r. All (λ c. c < length set.old) r.gives) rules.now }
-    ensures { Grown rules.now set.old set.new result }
-{
-    let mut more = false;
-    for rule in rules {
-        if apply(rule, set) {
-            more = true;
+    let mut all = table[set];
+    for position in 0..count {
+        if (set >> position) & 1 == 1 {
+            all |= table[set ^ (1 << position)];
         }
     }
-    more
+    all
 }
 
-/// Adds all that the rules give.
-pub(crate) fn close_under(rules: &[Rule], set: &mut [bool])
-    requires { All (λ r. All (λ c. c < length set.old) r.gives) rules.now }
-    ensures { IsLeastUnder rules.now set.old set.new }
+// Adds to the entry of each set those of the sets within it, the smaller ones first.
+fn spread(table: &mut [u32], count: usize)
+    requires few { count ≤ 16 }
+    requires sets { length table.old ≡ 2 ^ count }
+    ensures { (rules : Items Rule) → IsFilled rules table.old → IsTable rules table.new }
 {
-    while grow(rules, set) {}
+    for set in 0..table.len() {
+        let all = united(table, set, count);
+        table[set] = all;
+    }
+}
+
+// Fills the table of all sets, whose entries are empty.
+fn fill(table: &mut [u32], block: &Normal, candidates: &[Candidate], found: &[UseAt<'_>])
+    requires few { length candidates.now ≤ 16 }
+    requires empty { table.old ≡ replicate (2 ^ length candidates.now) 0 }
+    ensures { IsTable (map (rule_of block.now candidates.now) (map as_use found.now)) table.new }
+{
+    add_rules(table, block, candidates, found);
+    spread(table, candidates.len());
+}
+
+/// For each set of candidates all that the rules give of which it holds the key.
+pub(crate) fn table_of(
+    alloc: Global,
+    block: &Normal,
+    candidates: &[Candidate],
+    found: &[UseAt<'_>],
+) -> Result<Vec<u32>, NoMemory>
+    requires { length candidates.now ≤ 16 }
+    ensures sets { IfOk result (λ table. length table.items ≡ 2 ^ length candidates.now) }
+    ensures table { IfOk result (λ table.
+        IsTable (map (rule_of block.now candidates.now) (map as_use found.now)) table.items) }
+{
+    let sets: usize = 1 << candidates.len();
+    let mut table = vec![in alloc; 0u32; sets]?;
+    fill(&mut table, block, candidates, found);
+    Ok(table)
+}
+
+/// The set together with all that the rules give from it. The table is that of so many candidates.
+pub(crate) fn closed_under(table: &[u32], count: usize, set: u32) -> u32
+    requires sets { length table.now ≡ 2 ^ count }
+    requires set { set < length table.now }
+    requires entries { All (λ entry. entry < length table.now) table.now }
+    ensures { (rules : Items Rule) → IsTable rules table.now → IsLeastUnder rules set result }
+{
+    let mut held = set;
+    while held | table[held as usize] != held {
+        held |= table[held as usize];
+    }
+    held
 }

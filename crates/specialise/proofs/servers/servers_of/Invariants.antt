@@ -5,4 +5,4 @@ use Rattle.specialise.specs.Trials.{servers_on}
 use Rattle.specialise.proofs.servers.servers_of.Given as goal
 
 abbrev pub invariant-loop-number : goal.invariant-loop-number
-invariant-loop-number l = l.servers ≡ map (servers_on l.block l.cover l.candidates (map as_use l.found)) (range_with_len 0 l.number)
+invariant-loop-number l = l.servers ≡ map (servers_on l.block l.candidates (map as_use l.found)) (range_with_len 0 l.number)

@@ -34,7 +34,7 @@ try_sets-requires t c =
         c.requires.shape,
         (
           start_with accesses block start class (others rest) c.requires.start untried,
-          (untried_with accesses block start class (others rest) untried, c.requires.room ∙ sym (length-set start class true)),
+          untried_with accesses block start class (others rest) untried,
         ),
       ),
     )
@@ -86,10 +86,7 @@ try_sets-requires-in-len1-up t c =
         c.requires.shape,
         (
           subst (IsStart accesses block) (sym restored) c.requires.start,
-          (
-            subst (λ s. AreUntried accesses block s (others rest)) (sym restored) (untried_rest accesses block start class (others rest) untried),
-            c.try_sets.auto.room ∙ c.requires.room ∙ sym (ap length restored),
-          ),
+          subst (λ s. AreUntried accesses block s (others rest)) (sym restored) (untried_rest accesses block start class (others rest) untried),
         ),
       ),
     )
