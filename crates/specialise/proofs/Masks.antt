@@ -1,5 +1,5 @@
 -- Masks as sets of positions.
-use Rattle.std.proofs.Common.{◌≡◌, ◌==◌, ◌<◌, ◌≤◌, ◌+◌, ◌-◌, ◌*◌, ◌/◌, ◌%◌, ◌^◌, bit_and, bit_or, bit_xor, min, max, ℕ, zero, suc, Bool, true, false, not, cond, List, [], ◌∷◌, length, get_or, take, drop, ◌⊎◌, inl, inr, refl, ap, sym, ◌∙◌, subst, arith, mod-eq_of_lt, pow-suc}
+use Rattle.std.proofs.Common.{◌≡◌, ◌==◌, ◌<◌, ◌≤◌, ◌+◌, ◌-◌, ◌*◌, ◌/◌, ◌%◌, ◌^◌, bit_and, bit_or, bit_xor, min, max, ℕ, zero, suc, Bool, true, false, cond, List, [], ◌∷◌, length, get_or, take, drop, ◌⊎◌, inl, inr, refl, ap, sym, ◌∙◌, subst, arith, mod-eq_of_lt, pow-suc}
 use Rattle.std.specs.Int.{bit_at}
 use Rattle.std.proofs.Math.Seq.{take-length}
 use Rattle.std.proofs.lemmas.Bool.{eqb-true}

@@ -1,6 +1,6 @@
 -- Whether each atom is served, told by servers, is whether constants for the candidates that the start holds make the block covered.
 use Rattle.std.proofs.Common.{◌≡◌, ◌==◌, ◌&&◌, ◌<◌, ℕ, zero, suc, Bool, true, false, not, List, [], ◌∷◌, length, map, get_or, pos, inl, inr, refl, ap, sym, ◌∙◌, subst, arith, zero-add}
-use Rattle.std.specs.List.{Contains, list_any, filter, slice_index_or, enumerate_from}
+use Rattle.std.specs.List.{Contains, filter, slice_index_or, enumerate_from}
 use Rattle.std.proofs.lemmas.Bool.{eqb-true}
 use Rattle.std.proofs.lemmas.List.{length-map}
 use Rattle.std.proofs.lemmas.List.FromFn.{length-enumerate_from}
@@ -18,7 +18,7 @@ use Rattle.beas_core.specs.Classes.{leaders, class_of, needed_columns, normal_of
 use Rattle.beas_core.specs.Coverage.{has, with_classes, holds_classes, class_at, place_class, uses, key_classes, fetched_classes, constant_classes, covered_set, own_cover, own_is_covered, needed_of, needed_places, holds_needed, atoms_of, Within}
 use Rattle.beas_core.proofs.Sets.{Has, Has-map, Has-from_map, Has-filter, Has-from_filter, Has-append_cases, Has-from_contains, Contains-from_has}
 use Rattle.evaluation_facts.specs.Covered.{Server as ServingUse, IsCovered}
-use Rattle.evaluation_facts.proofs.MemberTests.{and_left, and_right, and_both, from_not, to_not, which, all_has, all_by, any_has, any_by, none_has, none_by, Has-from_flat_map}
+use Rattle.evaluation_facts.proofs.MemberTests.{and_left, and_right, and_both, from_not, which, all_has, all_by, any_has, any_by, Has-from_flat_map}
 use Rattle.evaluation_facts.proofs.UseFacts.{same_number, enumerated}
 use Rattle.evaluation_facts.proofs.BindingFacts.{Has-range, from_range}
 use Rattle.evaluation_facts.proofs.ClassSetFacts.{holds-within}

@@ -1,5 +1,5 @@
 -- Tables of what rules give, entry by entry.
-use Rattle.std.proofs.Common.{◌≡◌, ◌==◌, ◌<◌, ◌≤◌, ◌+◌, ◌-◌, ◌*◌, ◌/◌, ◌%◌, ◌^◌, bit_and, bit_or, bit_xor, ℕ, zero, suc, Bool, true, false, List, [], ◌∷◌, length, fold, replicate, get_or, ◌⊎◌, inl, inr, refl, ap, sym, ◌∙◌, subst, arith, length-set, get_or-set_same, get_or-set_other}
+use Rattle.std.proofs.Common.{◌≡◌, ◌==◌, ◌<◌, ◌≤◌, ◌+◌, ◌-◌, ◌*◌, ◌/◌, ◌%◌, ◌^◌, bit_and, bit_or, bit_xor, ℕ, zero, suc, Bool, true, false, List, [], ◌∷◌, length, fold, replicate, inl, inr, refl, ap, sym, ◌∙◌, subst, arith, length-set, get_or-set_same, get_or-set_other}
 use Rattle.std.specs.Int.{bit_at}
 use Rattle.std.specs.List.{All, Contains, slice_set}
 use Rattle.std.proofs.lemmas.Bool.{eqb-true}
@@ -10,8 +10,8 @@ use Rattle.beas_core.proofs.Sets.{Has, Has-from_contains, Contains-from_has, all
 use Rattle.evaluation_facts.proofs.MemberTests.{which}
 use Rattle.evaluation_facts.proofs.UseFacts.{same_number}
 use Rattle.specialise.specs.declared.rules.Rule.{Rule}
-use Rattle.specialise.specs.Trials.{within, entry_at, with_rule, HoldsNoMore, IsClosedUnder, IsFilled, IsLeastUnder, IsTable, United}
-use Rattle.specialise.proofs.Masks.{at_has, below_full, full_below, missing, none_within, or_within, pow_few, still_within, within_chain, within_itself, within_le, within_left, within_right, without, without_less, without_within}
+use Rattle.specialise.specs.Trials.{within, entry_at, with_rule, HoldsNoMore, IsClosedUnder, IsFilled, IsTable, United}
+use Rattle.specialise.proofs.Masks.{at_has, below_full, full_below, missing, none_within, or_within, pow_few, still_within, within_chain, within_itself, within_left, within_right, without, without_less, without_within}
 
 never : (b : Bool) → b ≡ true → b ≡ false → ⊥
 never b p q = cc

@@ -12,7 +12,7 @@
 --     AreUntried accesses block start classes
 --                                     candidates that the start lacks, ascending
 --     Walked test sets old new found  the first of some sets that passes a test, added to a set of classes; where none does, nothing
-use Rattle.std.specs.Prelude.{◌≡◌, ◌<◌, ◌+◌, ◌*◌, ◌^◌, ◌&&◌, if◌then◌else◌, ◌==◌, bit_and, bit_or, bit_xor, Bool, true, false, not, ℕ, List, [], ◌∷◌, length, map, filter, find, slice_index_or, slice_set, IsTrue, Contains, ◌⊎◌, Option, is_some, unwrap_or}
+use Rattle.std.specs.Prelude.{◌≡◌, ◌<◌, ◌+◌, ◌*◌, ◌^◌, ◌&&◌, if◌then◌else◌, ◌==◌, bit_and, bit_or, bit_xor, Bool, false, not, ℕ, List, [], ◌∷◌, length, map, filter, find, slice_index_or, slice_set, IsTrue, Contains, ◌⊎◌, Option, is_some, unwrap_or}
 use Rattle.std.specs.Int.{bit_at}
 use Rattle.std.specs.List.{AllByRecursion, list_any, list_all}
 use Rattle.beas_core.specs.declared.schema.ColumnId.{ColumnId}

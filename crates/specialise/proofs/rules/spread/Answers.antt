@@ -1,4 +1,4 @@
-use Rattle.std.proofs.Common.{◌<◌, ◌≤◌, ◌∙◌, length, subst, sym}
+use Rattle.std.proofs.Common.{◌<◌, ◌≤◌, ◌∙◌, subst, sym}
 use Rattle.specialise.proofs.Tables.{spread_all, spread_more}
 use Rattle.specialise.proofs.rules.spread.Goals as goal
 
