@@ -100,12 +100,12 @@ narrow access form = All-append (λ (c : ColumnId). c.0 < 64) access.key access.
 -- codes stay codes when an interner grows
 pub code_stays : (codes more : List Value) → KeepsCodes codes more → (code : ℕ) (value : Value) → IsCodeOf codes code value → IsCodeOf more code value
 code_stays codes more k code value h =
-    let w = k.codes (code ∷ []) (h.known, tt) in
+    let w = k.words (code ∷ []) (h.known, tt) in
     record { known = w.0.0; same = ap (λ xs. get_or xs 0 value) w.1 ∙ h.same }
 
 pub kept_twice : (codes middle more : List Value) → KeepsCodes codes middle → KeepsCodes middle more → KeepsCodes codes more
 kept_twice codes middle more k l = record {
-  words = λ ws h. let first = k.codes ws h in let then = l.words ws first.0 in (then.0, then.1 ∙ first.1);
+  words = λ ws h. let first = k.words ws h in let then = l.words ws first.0 in (then.0, then.1 ∙ first.1);
   in_order = λ index o. l.in_order index (k.in_order index o);
   same = λ index o. l.same index (k.in_order index o) ∙ k.same index o;
 }

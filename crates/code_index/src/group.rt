@@ -34,10 +34,10 @@ struct TuplePlace<'a> {
 
 impl Before<TupleCodes> for TuplePlace<'_> {
     ghost before = { λ wanted tuple. is_lt (row_cmp (read wanted.codes.now tuple)
-        (read wanted.codes.now (pick (member_columns wanted.access.now) wanted.codes.now))) };
+        (read wanted.codes.now (pick (member_columns wanted.access.now) wanted.words.now))) };
 
     fn is_before(&self, tuple: &TupleCodes) -> bool {
-        compare_tuple(self.codes, tuple.as_slice(), self.access, self.codes) == Ordering::Less
+        compare_tuple(self.codes, tuple.as_slice(), self.access, self.words) == Ordering::Less
     }
 }
 
@@ -138,7 +138,13 @@ pub fn of_one(alloc: Global, access: &Access, words: &[u64]) -> Result<Group, No
     ensures { IfOk result (λ group. group ≡ record { codes = pick (member_columns access.now) words.now; count = 1 } ∷ []) }
 {
     let words = own_tuple(alloc, access, words)?;
-    Group::of(alloc, Coded { words, count: 1 })
+    Group::of(
+        alloc,
+        Coded {
+            codes: words,
+            count: 1,
+        },
+    )
 }
 
 /// Counts a tuple once more. After an error the group is as it was.
@@ -167,7 +173,15 @@ pub fn count_up(
         }
         Err(at) => {
             let words = own_tuple(alloc, access, words)?;
-            group.insert(alloc, codes.hashing(), at, Coded { words, count: 1 })
+            group.insert(
+                alloc,
+                codes.hashing(),
+                at,
+                Coded {
+                    codes: words,
+                    count: 1,
+                },
+            )
         }
     }
 }

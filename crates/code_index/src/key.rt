@@ -21,9 +21,9 @@ impl<const N: usize> Model for KeyCodes<N> {
 
     ghost Value = { List ℕ };
 
-    ghost view = { λ s. take s.len s.codes };
+    ghost view = { λ s. take s.len s.words };
 
-    ghost invariant = { λ s. (s.len ≤ N) × (length s.codes ≡ N) };
+    ghost invariant = { λ s. (s.len ≤ N) × (length s.words ≡ N) };
 }
 
 impl<const N: usize> KeyCodes<N> {
@@ -46,7 +46,7 @@ impl<const N: usize> KeyCodes<N> {
     pub fn as_slice(&self) -> &[u64]
         ensures { result.now ≡ self.now }
     {
-        &self.codes[..self.len]
+        &self.words[..self.len]
     }
 }
 

@@ -139,7 +139,7 @@ impl<W: OwnCodes> KeyedIndex<W> {
     {
         let asked = AskedRow {
             columns: self.access.key.as_slice(),
-            words,
+            codes: words,
         };
         match self.groups.get(asked) {
             None => self.access.bound > 0,
@@ -191,7 +191,7 @@ impl<W: OwnCodes> KeyedIndex<W> {
     {
         let asked = AskedRow {
             columns: self.access.key.as_slice(),
-            words,
+            codes: words,
         };
         if let Some(group) = self.groups.get_mut(asked) {
             if !may_come(bounded, group, &self.access, words) {
@@ -223,7 +223,7 @@ impl<W: OwnCodes> KeyedIndex<W> {
     {
         let asked = AskedRow {
             columns: self.access.key.as_slice(),
-            words,
+            codes: words,
         };
         let group = match self.groups.get_mut(asked) {
             Some(group) => group,
@@ -241,7 +241,7 @@ impl<W: OwnCodes> KeyedIndex<W> {
         }
         self.groups.swap_remove(AskedRow {
             columns: self.access.key.as_slice(),
-            words,
+            codes: words,
         });
         self.total -= 1;
     }
