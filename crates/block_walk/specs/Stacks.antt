@@ -1,10 +1,10 @@
 -- The valuations that a walk has yet to visit, the next one last.
---     pending_of values m        the valuation that a mark stands for among these values
---     row_of stack m             its row
---     pending_in stack           the valuations of all valuations
---     IsInside values m          the mark's values are there
---     StandBetween from valuations e  the values of these valuations stand one behind another between the places from and e
---     IsStack stack              so those of all its valuations stand among its values
+--     pending_of values m        a stacked valuation as it is read, with its values among these
+--     row_of stack m             its values
+--     pending_in stack           all valuations of a stack, as they are read
+--     IsInside values m          its values are there
+--     StandBetween from ms end   the values of these valuations stand one behind another from one position to another
+--     IsStack stack              the values of all its valuations stand so among its values
 use Rattle.std.specs.Prelude.{ℕ, ◌+◌, ◌≤◌, List, [], ◌∷◌, length, map}
 use Rattle.beas_core.specs.declared.value.Value.{Value}
 use Rattle.beas_core.specs.Types.{Row}

@@ -25,11 +25,11 @@ pub fn walk_fields(walk: &Walk) {
     let OrderedKeys { steps: _steps } = ordered;
     let Stack {
         values: _left,
-        valuations: _marks,
+        valuations: _valuations,
     } = pending;
 }
 
-/// So it is with what stands for each entry that its probes found.
+/// A spot has these fields and no other: with a further field this would not compile.
 fn spot_fields(spot: &Spot) {
     let Spot {
         step: _step,

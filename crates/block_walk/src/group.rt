@@ -1,5 +1,4 @@
-// All tuples that a probe found, in a ghost field. Clauses speak of each of them, and the program has copies of those alone that
-// it keeps.
+// All tuples that a probe found, in a ghost field. Clauses speak of each of them. The program copies only those that it keeps.
 ghost use Rattle.std.specs.Prelude.{◌≡◌, List};
 ghost use Rattle.std.specs.Borrow.{ftrue};
 ghost use Rattle.beas_core.specs.Types.{Row};

@@ -74,8 +74,8 @@ const ENTRIES: usize = 24;
 // Fewer tuples are soon read one after another.
 const MANY: usize = 32;
 
-// Empties a key of which so many tuples are kept. Each of them begins with its values. Where none is, since it found none or the
-// sieve refuses all, the key's values are added by themselves, so that it is found again.
+// Empties a key of which so many tuples are kept. A tuple that is kept begins with the key's values. If none is kept, because
+// the probe found none or the sieve refuses all, the key's values are added by themselves, so that the key is found again.
 #[inline(always)]
 fn keep_key(count: usize, key: &mut Vec<Value>, values: &mut Vec<Value>) -> Result<(), NoMemory>
     ensures key { OnOk result (key.new.items ≡ []) }

@@ -234,7 +234,7 @@ fn next_stage<P: AccessPort>(
     stage_of(alloc, block, step.atom, access, classes)
 }
 
-// Begins the step with a number, where it wasn't begun: then it is the next one.
+// Begins the step with this number, unless it was begun. A step that wasn't is the next one.
 #[inline(always)]
 fn begin_step<P: AccessPort>(
     alloc: Global,

@@ -64,7 +64,7 @@ module _ (codes tail : List Value) where
   }
 
 pub kept_codes : (codes : List Value) → KeepsCodes codes codes
-kept_codes codes = record { codes = λ ws k. (k, refl); in_order = λ index o. o; same = λ index o. refl }
+kept_codes codes = record { words = λ ws k. (k, refl); in_order = λ index o. o; same = λ index o. refl }
 
 -- after a value is interned
 pub kept_extended : (codes : List Value) (value : Value) → AreDistinct (extended codes value) → KeepsCodes codes (extended codes value)

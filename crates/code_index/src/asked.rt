@@ -1,4 +1,4 @@
-// Keys by which a map of groups is asked, read where their words lie.
+// Keys by which a map of groups is asked, read where their codes lie.
 ghost use Rattle.std.specs.Prelude.{◌≡◌, nat_eq};
 ghost use Rattle.std.proofs.Common.{ap};
 ghost use Rattle.std.specs.Cmp.Lexicographic.{pointwise, bytes_decides, nat_list_eq_equiv};
@@ -12,20 +12,20 @@ use beas_core::ColumnId;
 use indexmap::Equivalent;
 use std::hash::{Hash, Hasher};
 
-/// The words of a key whose group is asked for. They aren't copied.
+/// The codes of a key whose group is asked for. They aren't copied.
 #[derive(Clone, Copy, PartialEq, Eq, Hash)]
 pub struct AskedCodes<'a> {
     pub codes: &'a [u64],
 }
 
-/// A row whose group is asked for by its words in the columns of a key. They aren't copied.
+/// A row whose group is asked for by its codes in the columns of a key. They aren't copied.
 #[derive(Clone, Copy, PartialEq, Eq)]
 pub struct AskedRow<'a> {
     pub columns: &'a [ColumnId],
     pub codes: &'a [u64],
 }
 
-/// Whether two keys have the same words. Most have three at most; longer ones are compared by a call, which takes longer.
+/// Whether two keys have the same codes. Most have three at most; longer ones are compared by a call, which takes longer.
 fn same_words(left: &[u64], right: &[u64]) -> bool
     ensures { result ≡ pointwise nat_eq left.now right.now }
 {
@@ -64,7 +64,7 @@ impl<W: OwnCodes> Equivalent<GroupKey<W>> for AskedCodes<'_> {
     }
 }
 
-/// It feeds what its words in the columns do.
+/// It feeds what its codes in the columns do.
 impl Hash for AskedRow<'_> {
     ghost hash_input = { λ asked. fed.slice fed.u64 (pick asked.columns.now asked.codes.now) };
 

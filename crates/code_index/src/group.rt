@@ -24,7 +24,7 @@ use std::alloc::Global;
 use std::cmp::Ordering;
 use std::hash::Hash;
 
-/// The place of a row's tuple by the values of its words.
+/// The place of a row's tuple by the values of its codes.
 #[derive(Drop)]
 struct TuplePlace<'a> {
     codes: &'a Interner,
@@ -57,7 +57,7 @@ fn ends_before(codes: &Interner, group: &Group, access: &Access, words: &[u64]) 
     }
 }
 
-/// Where a tuple is by the values of its words, or else where it goes in.
+/// Where a tuple is by the values of its codes, or else where it goes in.
 pub fn search(
     codes: &Interner,
     group: &Group,
@@ -120,10 +120,10 @@ pub fn may_begin(bounded: bool, access: &Access) -> bool
     true
 }
 
-/// So many words of a tuple stand in place.
+/// So many codes of a tuple stand in place.
 const FEW: usize = 4;
 
-/// The words of a row's tuple. Those of a short one are read in place, without a block of memory on their way.
+/// The codes of a row's tuple. Those of a short one are read in place, without a block of memory on their way.
 fn own_tuple(alloc: Global, access: &Access, words: &[u64]) -> Result<TupleCodes, NoMemory>
     ensures { IfOk result (λ tuple. tuple ≡ pick (member_columns access.now) words.now) }
 {

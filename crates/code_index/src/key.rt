@@ -9,7 +9,7 @@ use crate::words::{column_at, row_code};
 use beas_core::{Access, ColumnId, Value};
 use std::marker::Model;
 
-/// The words of a whole tuple, up to `N` of them, by which a map is asked. They lie in place and take no memory.
+/// The codes of a whole tuple, up to `N` of them, by which a map is asked. They lie in place and take no memory.
 #[derive(Drop)]
 pub struct KeyCodes<const N: usize> {
     words: [u64; N],
@@ -27,7 +27,7 @@ impl<const N: usize> Model for KeyCodes<N> {
 }
 
 impl<const N: usize> KeyCodes<N> {
-    /// The words of a row's tuple, or none where it has more than `N`.
+    /// The codes of a row's tuple, or none where it has more than `N`.
     #[tactic(auto, using(crate::proofs::Members::members_long))]
     pub fn tuple(access: &Access, words: &[u64]) -> Option<KeyCodes<N>>
         ensures { IfSome result (λ tuple. tuple ≡ pick (member_columns access.now) words.now) }
@@ -50,7 +50,7 @@ impl<const N: usize> KeyCodes<N> {
     }
 }
 
-/// The codes of a key's values, at the front of `N` words, or none where one of them was never interned.
+/// The codes of a key's values, at the front of `N` numbers, or none where one of them was never interned.
 pub fn known_codes<const N: usize>(codes: &Interner, key: &[Value]) -> Option<[u64; N]>
     requires { length key.now ≤ N }
     ensures { MatchOption result (AllHaveCodes codes.now key.now → ⊥)

@@ -1,4 +1,4 @@
-// The index of one access constraint over codes, whatever holds the words of its keys.
+// The index of one access constraint over codes, whatever holds the codes of its keys.
 ghost use Rattle.std.specs.Prelude.{◌≡◌, ◌+◌, ◌<◌, ◌≤◌, ◌^◌, ◌↔◌, ◌++◌, ◌∷◌, [], ℕ, List, length, map, slice_index_or, IsTrue, false, IfOk, IfSome, MatchOption, OnOk, OnErr, if◌then◌else◌};
 ghost use Rattle.beas_core.specs.declared.value.Value.{Value};
 ghost use Rattle.beas_core.specs.Groups.{Holds, greatest, group_of, member_columns, has_column};
@@ -265,7 +265,7 @@ impl<W: OwnCodes> KeyedIndex<W> {
         }
     }
 
-    /// A column's word of a tuple that `find` found, while the index is as it was. It takes no memory.
+    /// A column's code of a tuple that `find` found, while the index is as it was. It takes no memory.
     pub fn word(&self, place: u64, i: u32, column: ColumnId) -> u64
         requires stands { place < length self.now.groups }
         requires member { i < length (words_at self.now place) }

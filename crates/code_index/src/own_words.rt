@@ -1,4 +1,4 @@
-// What holds the words of a group's key: an array where their number is fixed, else `TupleCodes`.
+// What holds the codes of a group's key: an array where their number is fixed, else `TupleCodes`.
 ghost use Rattle.std.specs.Prelude.{◌≡◌, ◌≤◌, ℕ, List, length, nat_eq, IfOk};
 ghost use Rattle.std.specs.Cmp.{partial_equiv_from_equiv};
 ghost use Rattle.std.specs.Cmp.Lexicographic.{pointwise, nat_list_eq_equiv};
@@ -13,27 +13,27 @@ use std::alloc::Global;
 use std::hash::{Hash, Hasher};
 use std::marker::Model;
 
-/// What holds the words of a key: an array where their number is fixed, else `TupleCodes`.
+/// What holds the codes of a key: an array where their number is fixed, else `TupleCodes`.
 pub trait OwnCodes: Drop {
     ghost seen: { Self → List ℕ };
 
     ghost fits: { ℕ → Type 0 };
 
-    /// The words. It takes no memory.
+    /// The codes. It takes no memory.
     fn as_slice(&self) -> &[u64]
         ensures { result.now ≡ seen self.now };
 
-    /// The words of a row in some columns.
+    /// The codes of a row in some columns.
     fn of_row(alloc: Global, columns: &[ColumnId], words: &[u64]) -> Result<Self, NoMemory>
         requires { fits (length columns.now) }
         ensures { IfOk result (λ own. seen own ≡ pick columns.now words.now) };
 
-    /// The same words.
+    /// The same codes.
     fn copy(&self, alloc: Global) -> Result<Self, NoMemory>
         ensures { IfOk result (λ copy. seen copy ≡ seen self.now) };
 }
 
-/// Exactly `K` words, in place. They take no memory.
+/// Exactly `K` codes, in place. They take no memory.
 impl<const K: usize> OwnCodes for [u64; K] {
     ghost seen = { λ s. s };
 
@@ -52,7 +52,7 @@ impl<const K: usize> OwnCodes for [u64; K] {
     }
 }
 
-/// Up to 64 words, as many as a key can have.
+/// Up to 64 codes, as many as a key can have.
 impl OwnCodes for TupleCodes {
     ghost seen = { λ s. s };
 
@@ -73,7 +73,7 @@ impl OwnCodes for TupleCodes {
     }
 }
 
-/// The key of a group, seen as its words.
+/// The key of a group, seen as its codes.
 #[derive(Drop)]
 pub struct GroupKey<W: OwnCodes> {
     own: W,
@@ -102,7 +102,7 @@ impl<W: OwnCodes> GroupKey<W> {
         })
     }
 
-    /// Its words. It takes no memory.
+    /// Its codes. It takes no memory.
     pub fn as_slice(&self) -> &[u64]
         ensures { result.now ≡ self.now }
     {

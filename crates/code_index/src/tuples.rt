@@ -21,10 +21,10 @@ use std::marker::Model;
 /// A short group has as many tuples at most.
 const SHORT: usize = 512;
 
-/// A tuple has mostly as many words at most, since a table has 64 columns.
+/// A tuple has mostly as many codes at most, since a table has 64 columns.
 const FEW: usize = 64;
 
-/// No tuple has more words: 64 of a key, and 64 of fetched columns.
+/// No tuple has more codes: 64 of a key, and 64 of fetched columns.
 const MANY: usize = 128;
 
 /// The tuples of one key in an order that only the writer knows, each with how many rows have it.
@@ -48,7 +48,7 @@ fn group_fields(group: &Group) {
     let Group { form: _form } = group;
 }
 
-/// The place of a tuple by the place of its words.
+/// The place of a tuple by the place of its codes.
 #[derive(Drop)]
 struct CodedPlace<'a, B> {
     wanted: &'a B,
@@ -84,7 +84,7 @@ impl Group {
         }
     }
 
-    /// The words of the tuple at a place. It takes no memory.
+    /// The codes of the tuple at a place. It takes no memory.
     pub fn codes(&self, at: usize) -> &[u64]
         requires { at < length self.now }
         ensures { (d : Coded) → result.now ≡ (slice_index_or self.now at d).codes }
@@ -132,7 +132,7 @@ impl Group {
         None
     }
 
-    /// Where a row's tuple of more than `FEW` words is, as where a key and the fetched columns overlap. Of a table's 64
+    /// Where a row's tuple of more than `FEW` codes is, as where a key and the fetched columns overlap. Of a table's 64
     /// columns a constraint has each at most once in its key and once among those that it fetches.
     #[inline(never)]
     fn wide_position_of(&self, access: &Access, words: &[u64]) -> Option<usize>
@@ -150,8 +150,8 @@ impl Group {
         }
     }
 
-    /// Where a row's tuple is by its words alone: in a short group by a look at each tuple's words, in a long one by its
-    /// mark. It takes no memory.
+    /// Where a row's tuple is by its codes alone: in a short group by a look at each tuple's codes, in a long one by its
+    /// label. It takes no memory.
     pub fn position_of(&self, access: &Access, words: &[u64]) -> Option<usize>
         ensures { MatchOption result
             (AllByRecursion (λ (tuple : Coded). tuple.codes ≢ pick (member_columns access.now) words.now) self.now)
@@ -167,7 +167,7 @@ impl Group {
         }
     }
 
-    /// Gives a short group that is full the form of a long one, whose words are hashed in this way. The tuples stay.
+    /// Gives a short group that is full the form of a long one, whose codes are hashed in this way. The tuples stay.
     fn widen(&mut self, alloc: Global, hashing: SeededHashing) -> Result<(), NoMemory>
         requires few { length self.old < 2 ^ 32 }
         requires distinct { AreDistinct self.old }
@@ -186,7 +186,7 @@ impl Group {
         Ok(())
     }
 
-    /// Puts a tuple that isn't there in at a place. If it makes the group a long one, words will be hashed in this way. After
+    /// Puts a tuple that isn't there in at a place. If it makes the group a long one, codes will be hashed in this way. After
     /// an error all is as before.
     pub fn insert(
         &mut self,

@@ -34,7 +34,7 @@ pub fn column_at(access: &Access, i: usize) -> ColumnId
     }
 }
 
-/// The word of a row in a column. A column that the row doesn't have counts as 0.
+/// The code of a row in a column. A column that the row doesn't have counts as 0.
 pub fn row_code(words: &[u64], column: ColumnId) -> u64
     ensures { result ≡ row_code words.now column }
 {
@@ -98,7 +98,7 @@ pub fn is_tuple(tuple: &[u64], access: &Access, words: &[u64]) -> bool
     !has_place(access, tuple.len())
 }
 
-/// Adds a row's words in some columns to a tuple.
+/// Adds a row's codes in some columns to a tuple.
 pub fn push_codes(tuple: &mut Vec<u64>, columns: &[ColumnId], words: &[u64]) -> Result<(), NoMemory>
     ensures { OnOk result (tuple.new.items ≡ tuple.old.items ++ pick columns.now words.now) }
 {
@@ -108,7 +108,7 @@ pub fn push_codes(tuple: &mut Vec<u64>, columns: &[ColumnId], words: &[u64]) -> 
     Ok(())
 }
 
-/// The words of a row's tuple.
+/// The codes of a row's tuple.
 pub fn tuple_codes(alloc: Global, access: &Access, words: &[u64]) -> Result<TupleCodes, NoMemory>
     ensures { IfOk result (λ tuple. tuple ≡ pick (member_columns access.now) words.now) }
 {
@@ -119,7 +119,7 @@ pub fn tuple_codes(alloc: Global, access: &Access, words: &[u64]) -> Result<Tupl
     Ok(TupleCodes::from_vec(tuple))
 }
 
-/// The words of a row in the columns of a key.
+/// The codes of a row in the columns of a key.
 pub fn key_of<const K: usize>(columns: &[ColumnId], words: &[u64]) -> [u64; K]
     requires width { length columns.now ≡ K }
     ensures { result ≡ pick columns.now words.now }
@@ -131,7 +131,7 @@ pub fn key_of<const K: usize>(columns: &[ColumnId], words: &[u64]) -> [u64; K]
     key
 }
 
-/// A column's word of a tuple.
+/// A column's code of a tuple.
 pub fn tuple_code(access: &Access, tuple: &[u64], column: ColumnId) -> u64
     requires width { length tuple.now ≡ length (member_columns access.now) }
     requires column { IsTrue (has_column (member_columns access.now) column) }

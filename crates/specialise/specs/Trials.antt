@@ -2,9 +2,9 @@
 --     mask_where test found           the positions of the candidates that pass a test
 --     Rule                            a use of a constraint: where a set holds its key, it holds what it gives
 --     IsLeastUnder rules start mask   the least set that holds the start and what each rule gives whose key it holds
---     IsFilled rules table            the entry of each rule's key holds what it gives
---     IsTable rules table             the entry of each set holds what all rules give whose key it holds
---     United table mask count all     the entry of a set, and those of the sets that lack one of its first positions
+--     IsFilled rules table            the entry of each set holds what the rules give whose key it is, and no more
+--     IsTable rules table             the entry of each set holds what all rules give whose key it holds, and no more
+--     United table mask count all     the least that holds the entry of a set, and those of the sets that lack one of its first positions
 --     Server                          a use that holds its atom's needed columns: it serves where a set holds its key, unless one of the candidates whose
 --                                     column it lacks has a constant
 --     all_serve start mask servers    each atom has a server, where the start's classes have constants and the mask is what they cover

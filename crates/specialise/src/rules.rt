@@ -23,7 +23,7 @@ fn is_among(block: &Normal, atom: u16, columns: &[ColumnId], candidate: &Candida
         .any(|column| class_at(block, atom, *column) == candidate.class)
 }
 
-/// A mask of the candidates behind the first one, moved up, with the first one in it or not.
+/// A mask over candidates: one over all but the first, moved up by a position, with the first in it or not.
 pub(crate) fn with_first(holds: bool, rest: u32) -> u32
     requires { rest < 65536 }
     ensures { result ≡ with_first holds rest }
@@ -140,7 +140,7 @@ fn fill(table: &mut [u32], block: &Normal, candidates: &[Candidate], found: &[Us
     spread(table, candidates.len());
 }
 
-/// For each set of candidates all that the rules give of which it holds the key.
+/// A table with an entry for each set of candidates: all that those rules give whose key the set holds.
 pub(crate) fn table_of(
     alloc: Global,
     block: &Normal,
@@ -158,7 +158,7 @@ pub(crate) fn table_of(
     Ok(table)
 }
 
-/// The set together with all that the rules give from it. The table is that of so many candidates.
+/// The set together with all that the rules give from it, by the table over so many candidates.
 pub(crate) fn closed_under(table: &[u32], count: usize, set: u32) -> u32
     requires sets { length table.now ≡ 2 ^ count }
     requires set { set < length table.now }

@@ -11,7 +11,7 @@ use attribute_closure::{UseAt, holds_needed};
 use beas_core::{ColumnId, List, NoMemory, Normal};
 use std::alloc::Global;
 
-/// A use that holds its atom's needed columns. It serves the atom where a set holds its key, unless a candidate that it loses by
+/// A use that holds its atom's needed columns. It serves the atom if a set holds its key, unless one of the candidates in `loses`
 /// has a constant: the column of that candidate is then needed, too, and the constraint lacks it.
 #[derive(Clone, Copy)]
 pub struct Server {

@@ -191,7 +191,8 @@ fn insert_into<I: Indexes>(
     insert_rows(alloc, catalogue, table, store, indexes, limits, rows)
 }
 
-/// Adds rows at the end of a table and to its indexes, all or none, and answers how many.
+/// Adds rows at the end of a table and to its indexes, all or none, and answers how many. They are refused as by
+/// `Guarded::insert`; after an error the rows and what the indexes mean are as they were.
 pub fn insert<I: Indexes>(
     alloc: Global,
     catalogue: &Catalogue,

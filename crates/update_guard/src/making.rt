@@ -44,7 +44,7 @@ fn make_table(
     Ok(id)
 }
 
-/// Makes a table without rows, whatever the indexes of the constraints are.
+/// Makes a table without rows, over whatever indexes. It is refused as `Guarded::create_table` is; after an error all is as it was.
 pub fn create_table(
     alloc: Global,
     catalogue: &mut Catalogue,

@@ -13,7 +13,7 @@ use beas_core::{Access, AccessId, AccessPort, ColumnId, Hits, Steps, Value};
 use catalogue::Catalogue;
 use std::sync::ledger::Ledger;
 
-/// The live constraint with this id. It holds over its table's rows, whatever keeps these. It takes no memory.
+/// The live constraint with this id. It holds over its table's rows, in whatever store they are. It takes no memory.
 pub fn live_access(catalogue: &Catalogue, id: AccessId) -> &Access
     requires { IsTrue (is_live catalogue.now.accesses id) }
     ensures access { result.now ≡ access_in catalogue.now.accesses id }

@@ -112,8 +112,8 @@ returns-then-is_some-clause-course g c = (turned g c).0
 pub returns-then-is_some-clause-stepped : goal.returns-then-is_some-clause-stepped
 returns-then-is_some-clause-stepped g c = (turned g c).1
 
-pub finish_block-requires-clause-place : goal.finish_block-requires-clause-place
-finish_block-requires-clause-place g c =
+pub finish_block-requires-clause-position : goal.finish_block-requires-clause-position
+finish_block-requires-clause-position g c =
     let w = world (g.P.AccessPort.rows c.args.port.now) (g.P.AccessPort.accesses c.args.port.now) in
     let prepared = c.args.prepared.now in
     let req = c.requires in
