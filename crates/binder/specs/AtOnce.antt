@@ -36,7 +36,7 @@ told_among atoms ref = meaning_by ref (found_in (named_by (map source_of atoms) 
 abbrev pub meaning_of : Sound → Meaning
 meaning_of (sound.At column) = At column
 meaning_of (sound.Number number) = Fixed (Int number)
-meaning_of (sound.Words words) = Fixed (Str words.now)
+meaning_of (sound.Text words) = Fixed (Str words.now)
 
 abbrev pub IsSoundly : ℕ → Sound → Meaning → Type 0
 IsSoundly limit side meaning = (meaning_of side ≡ meaning) × (has_flaw limit (meaning_of side) ≡ false)
