@@ -1,4 +1,5 @@
 """Inputs of each kind that grow, at any size n."""
+import itertools
 import random
 from collections.abc import Callable, Iterable
 from typing import NamedTuple
@@ -114,6 +115,20 @@ def specialised(size: int) -> Input:
     key = ", ".join(columns)
     accesses = (f"CREATE ACCESS k{nth} ON t ({key}) FETCH (c0) LIMIT 5;\n" for nth in range(size))
     return Input(f"{table}{''.join(accesses)}SPECIALISE SELECT DISTINCT {key} FROM t;\n")
+
+
+def specialised_apart(size: int) -> Input:
+    """Constraints of which each has a key of its own, so that none stands for another, over 16 candidates, or 10 where few are made. The
+    second table has no constraint, so all sets of them are tried."""
+    last = 15 if size >= 1000 else 9
+    keys = [it for long in range(last // 2 + 1, last + 1) for it in itertools.combinations(range(1, last + 1), long)]
+    tables = f"CREATE TABLE t ({', '.join(f'c{nth} INTEGER' for nth in range(64))});\nCREATE TABLE u (a INTEGER);\n"
+
+    def access(nth: int) -> str:
+        key = ", ".join(f"c{it}" for it in keys[nth % len(keys)])
+        return f"CREATE ACCESS k{nth} ON t ({key}) FETCH (c0, c{16 + nth // len(keys)}) LIMIT 5;\n"
+
+    return Input(f"{tables}{''.join(map(access, range(size)))}SPECIALISE SELECT DISTINCT t.c0 FROM t, u WHERE u.a = t.c0;\n")
 
 
 # ---- wide tuples
