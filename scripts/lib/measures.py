@@ -5,6 +5,7 @@ import re
 import resource
 import shutil
 import signal
+import statistics
 import subprocess
 import tempfile
 from collections.abc import Callable
@@ -121,10 +122,12 @@ class Found(NamedTuple):
 
     @property
     def exponent(self) -> float:
-        """That of the last doubling; none is known where a run took too long."""
+        """The slope of the straight line that fits best, over the logarithms of sizes and work, since seconds vary. None is known where a run took
+        too long."""
         if len(self.work) < len(self.sizes):
             return math.inf
-        return math.log2(self.work[-1] / max(self.work[-2], 1e-9))
+        heights = [math.log2(max(it, 1e-9)) for it in self.work]
+        return statistics.linear_regression([math.log2(it) for it in self.sizes], heights).slope
 
     @property
     def is_above(self) -> bool:
