@@ -133,8 +133,8 @@ class Found(NamedTuple):
     def is_above(self) -> bool:
         return self.exponent > self.row.most + self.measure.room
 
-    def line(self, is_small: bool) -> str:
-        word = "held" if not self.is_above else "known" if is_small and self.row.known else "FAILED"
+    def line(self) -> str:
+        word = "held" if not self.is_above else "known" if self.row.known else "FAILED"
         took = ", ".join(f"{size:,}: {work:.3g}" for size, work in zip(self.sizes, self.work))
         late = f", more than {SECONDS_OF_A_RUN} s" * (len(self.work) < len(self.sizes))
         known = f" ({self.row.known})" if self.is_above and self.row.known else ""
