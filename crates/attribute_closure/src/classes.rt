@@ -29,9 +29,9 @@ pub fn holds_columns(block: &Normal, set: &[bool], atom: u16, columns: &[ColumnI
     true
 }
 
-/// Adds the classes of constants to a set. A class past its end is left out.
+// Adds the classes of constants to a set. A class past its end is left out.
 #[tactic(auto, using(crate::proofs::Sets::constants_more, crate::proofs::Sets::constants_past))]
-pub fn add_constants(constants: &[(u16, Value)], set: &mut [bool])
+fn add_constants(constants: &[(u16, Value)], set: &mut [bool])
     ensures { set.new ≡ with_classes set.old (map (λ c. c.0) constants.now) }
 {
     for constant in constants {

@@ -8,7 +8,7 @@ mod keys;
 mod reasons;
 mod uses;
 
-pub use classes::{add_constants, constant_classes, has_class, holds_columns};
+pub use classes::{constant_classes, has_class, holds_columns};
 pub use closure::{close, close_from};
 pub use columns::are_same_columns;
 pub use keys::Keys;
