@@ -2,7 +2,7 @@
 ghost use Rattle.std.specs.Prelude.{◌≡◌, ◌≤◌, ◌<◌, ◌++◌, ◌∷◌, [], All, IfOk, IsTrue, OnOk, MatchBool, MatchResult, None, Some, length, map, take};
 ghost use Rattle.std.specs.List.{list_any};
 ghost use Rattle.beas_core.specs.declared.schema.Access.{Access};
-ghost use Rattle.beas_core.specs.Coverage.{ClassesInRange, atoms_of, covered_set, holds_needed, is_covered, own_reason, reason, uses as uses_in};
+ghost use Rattle.beas_core.specs.Coverage.{ClassesInRange, atoms_of, covered_set, holds_needed, is_covered, own_reason, reason, start_classes, uses as uses_in};
 ghost use Rattle.beas_core.specs.Derivations.{adding_steps, greedy_steps, is_live, is_served_by, serving_steps, step_of, use_of, with_use};
 ghost use Rattle.beas_core.specs.Pruning.{derivation, own_derivation};
 ghost use Rattle.beas_core.specs.Shapes.{EachIdOnce};
@@ -13,8 +13,8 @@ ghost use Rattle.plan_builder.specs.Plans.{HasCome, served_among};
 use crate::candidates::Candidates;
 use crate::choices::{best_adding, best_serving};
 use crate::pruning::needed_steps;
-use crate::sets::{add_use, adds};
-use attribute_closure::{UseAt, close_from, constant_classes, holds_needed, uses_within, why_not};
+use crate::sets::{add_use, adds, start_of};
+use attribute_closure::{UseAt, close_from, holds_needed, uses_within, why_not};
 use beas_core::{Access, DStep, Derivation, List, NoMemory, Normal, NotCovered};
 use bound_calculator::access_with;
 use std::alloc::Global;
@@ -235,22 +235,20 @@ fn greedy_by_queue(
     Ok(Some(steps))
 }
 
-// The steps of `greedy` from few uses, by going over all of them for each.
+// The steps of `greedy` from few uses, by going over all of them for each. The start itself grows.
 fn greedy_among(
     alloc: Global,
     accesses: &[Access],
     block: &Normal,
     uses: &[UseAt<'_>],
-    start: &[bool],
+    set: &mut [bool],
 ) -> Result<Option<List<DStep>>, NoMemory>
     requires atoms { length block.now.atoms < 65536 }
     requires needed { length block.now.needed ≤ 65536 }
     requires ids { EachIdOnce accesses.now }
     requires uses { map as_use uses.now ≡ uses_in block.now accesses.now }
-    ensures { IfOk result (λ steps. steps ≡ greedy_steps block.now accesses.now start.now) }
+    ensures { IfOk result (λ steps. steps ≡ greedy_steps block.now accesses.now set.old) }
 {
-    let mut copy = Vec::from_slice(alloc, start)?;
-    let set = copy.as_mut_slice();
     let mut steps = List::from_vec(Vec::with_capacity(alloc, block.atoms.len())?);
     if !add_best(&mut steps, set, block, accesses, uses)? {
         return Ok(None);
@@ -259,97 +257,97 @@ fn greedy_among(
     Ok(Some(steps))
 }
 
-/// The steps of a derivation from a start set of classes: those that add classes, and then those that serve atoms.
-/// Nothing where the constraints don't cover the block from there.
-pub fn greedy(
+// The steps of a derivation from a start set of classes: those that add classes, and then those that serve atoms.
+// Nothing where the constraints don't cover the block from there. The start may grow, so that it needs no copy.
+fn greedy(
     alloc: Global,
     accesses: &List<Access>,
     block: &Normal,
-    start: &[bool],
+    set: &mut [bool],
 ) -> Result<Option<List<DStep>>, NoMemory>
     requires ranges { ClassesInRange block.now }
-    requires classes { length start.now ≡ block.now.count }
+    requires classes { length set.old ≡ block.now.count }
     requires atoms { length block.now.atoms < 65536 }
     requires needed { length block.now.needed ≤ 65536 }
     requires ids { EachIdOnce accesses.now }
-    ensures { IfOk result (λ steps. steps ≡ greedy_steps block.now accesses.now start.now) }
+    ensures { IfOk result (λ steps. steps ≡ greedy_steps block.now accesses.now set.old) }
 {
     let live = accesses.as_slice();
     let Some(access) = live.first() else {
-        return greedy_by_queue(alloc, accesses, block, start);
+        return greedy_by_queue(alloc, accesses, block, set);
     };
     let mut room = [UseAt { atom: 0, access }; FEW_USES];
     match uses_within(block, live, &mut room) {
-        Some(count) => greedy_among(alloc, live, block, &room[..count], start),
-        None => greedy_by_queue(alloc, accesses, block, start),
+        Some(count) => greedy_among(alloc, live, block, &room[..count], set),
+        None => greedy_by_queue(alloc, accesses, block, set),
     }
 }
 
-/// The derivation of a block from a start set of classes. Nothing where the constraints don't cover it from there.
+/// The derivation of a block, guided or not. Nothing where the constraints don't cover it so.
 pub fn steps_if_covered(
     alloc: Global,
     accesses: &List<Access>,
     block: &Normal,
-    start: &[bool],
+    guided: bool,
 ) -> Result<Option<List<DStep>>, NoMemory>
     requires ranges { ClassesInRange block.now }
-    requires classes { length start.now ≡ block.now.count }
     requires atoms { length block.now.atoms < 65536 }
     requires needed { length block.now.needed ≤ 65536 }
     requires ids { EachIdOnce accesses.now }
-    ensures { IfOk result (λ steps. steps ≡ derivation block.now accesses.now start.now) }
+    ensures { IfOk result (λ steps. steps ≡ derivation block.now accesses.now (start_classes block.now guided)) }
 {
-    match greedy(alloc, accesses, block, start)? {
+    let mut set = start_of(alloc, block, guided)?;
+    match greedy(alloc, accesses, block, &mut set)? {
         Some(steps) => {
-            let steps = needed_steps(alloc, accesses.as_slice(), block, start, steps)?;
+            let steps = needed_steps(alloc, accesses.as_slice(), block, guided, steps)?;
             Ok(Some(steps))
         }
         None => Ok(None),
     }
 }
 
-/// Why the constraints don't cover a block from a start set of classes, where there is no derivation from it.
+/// Why the constraints don't cover a block, guided or not, where it has no derivation so. It makes the start anew.
 pub fn why_none(
     alloc: Global,
     accesses: &List<Access>,
     block: &Normal,
-    start: &[bool],
+    guided: bool,
 ) -> Result<NotCovered, NoMemory>
     requires ranges { ClassesInRange block.now }
-    requires classes { length start.now ≡ block.now.count }
     requires atoms { length block.now.atoms < 65536 }
     requires needed { length block.now.needed ≤ 65536 }
-    requires none { derivation block.now accesses.now start.now ≡ None }
-    ensures { IfOk result (λ why.
-        reason block.now accesses.now (covered_set block.now accesses.now start.now) ≡ Some why) }
+    requires none { derivation block.now accesses.now (start_classes block.now guided) ≡ None }
+    ensures { IfOk result (λ why. reason block.now accesses.now
+        (covered_set block.now accesses.now (start_classes block.now guided)) ≡ Some why) }
 {
-    let covered = close_from(alloc, block, accesses, start)?;
+    let start = start_of(alloc, block, guided)?;
+    let covered = close_from(alloc, block, accesses, &start)?;
     match why_not(block, accesses.as_slice(), covered.as_slice()) {
         Some(why) => Ok(why),
         None => unreachable!(),
     }
 }
 
-/// The derivation of a block from a start set of classes, or why its constraints don't cover it from there.
+/// The derivation of a block, guided or not, or why its constraints don't cover it so.
 pub fn derive_from(
     alloc: Global,
     accesses: &List<Access>,
     block: &Normal,
-    start: &[bool],
+    guided: bool,
 ) -> Result<Result<Derivation, NotCovered>, NoMemory>
     requires ranges { ClassesInRange block.now }
-    requires classes { length start.now ≡ block.now.count }
     requires atoms { length block.now.atoms < 65536 }
     requires needed { length block.now.needed ≤ 65536 }
     requires ids { EachIdOnce accesses.now }
     ensures { IfOk result (λ found. MatchResult found
-        (λ plan. derivation block.now accesses.now start.now ≡ Some plan.steps)
-        (λ why. (derivation block.now accesses.now start.now ≡ None)
-        × (reason block.now accesses.now (covered_set block.now accesses.now start.now) ≡ Some why))) }
+        (λ plan. derivation block.now accesses.now (start_classes block.now guided) ≡ Some plan.steps)
+        (λ why. (derivation block.now accesses.now (start_classes block.now guided) ≡ None)
+        × (reason block.now accesses.now
+        (covered_set block.now accesses.now (start_classes block.now guided)) ≡ Some why))) }
 {
-    match steps_if_covered(alloc, accesses, block, start)? {
+    match steps_if_covered(alloc, accesses, block, guided)? {
         Some(steps) => Ok(Ok(Derivation { steps })),
-        None => Ok(Err(why_none(alloc, accesses, block, start)?)),
+        None => Ok(Err(why_none(alloc, accesses, block, guided)?)),
     }
 }
 
@@ -367,6 +365,5 @@ pub fn derive(
         (λ derivation. own_derivation block.now accesses.now ≡ Some derivation.steps)
         (λ why. (own_derivation block.now accesses.now ≡ None) × (own_reason block.now accesses.now ≡ Some why))) }
 {
-    let start = constant_classes(alloc, block)?;
-    derive_from(alloc, accesses, block, start.as_slice())
+    derive_from(alloc, accesses, block, false)
 }

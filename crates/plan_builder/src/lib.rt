@@ -13,6 +13,6 @@ mod sets;
 mod uncovered;
 
 pub use blocks::{BlockAt, push_blocks};
-pub use derivations::{derive, greedy};
+pub use derivations::derive;
 pub use preparation::{prepare, prepare_over};
 pub use uncovered::{block_reason, lacking};

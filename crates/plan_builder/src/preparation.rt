@@ -18,8 +18,6 @@ ghost use Rattle.plan_builder.specs.Preparation.{IsWellFormedIn, block_header, c
 use crate::blocks::{BlockAt, count_blocks, joined, joined_all, lend, push_blocks};
 use crate::derivations::{derive_from, steps_if_covered, why_none};
 use crate::own::{are_few, own_accesses};
-use crate::sets::guided_start;
-use attribute_closure::constant_classes;
 use beas_core::{
     Access, Block, Derivation, Duplicate, Fail, List, Name, NoMemory, Normal, NotCovered, Place,
     Prepared, Query, QueryNode, Refusal,
@@ -151,19 +149,16 @@ fn plan_normal(
         × (task_reason (normal_task normal.now accesses.now has_guide) ≡ None))
         (λ why. task_reason (normal_task normal.now accesses.now has_guide) ≡ Some why)) }
 {
-    let constants = constant_classes(alloc, normal)?;
-    let start = constants.as_slice();
-    if let Some(steps) = steps_if_covered(alloc, accesses, normal, start)? {
+    if let Some(steps) = steps_if_covered(alloc, accesses, normal, false)? {
         return Ok(Ok(TaskPlan {
             derivation: Derivation { steps },
             guided: false,
         }));
     }
     if !has_guide {
-        return Ok(Err(why_none(alloc, accesses, normal, start)?));
+        return Ok(Err(why_none(alloc, accesses, normal, false)?));
     }
-    let more = guided_start(alloc, normal)?;
-    match derive_from(alloc, accesses, normal, more.as_slice())? {
+    match derive_from(alloc, accesses, normal, true)? {
         Ok(derivation) => Ok(Ok(TaskPlan {
             derivation,
             guided: true,

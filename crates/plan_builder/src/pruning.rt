@@ -2,6 +2,7 @@
 // uses of constraints alone.
 ghost use Rattle.std.specs.Prelude.{◌≡◌, ◌≤◌, ◌<◌, All, IfOk, IsTrue, length, map, nat_lt, not};
 ghost use Rattle.std.specs.Bool.{OnTrue};
+ghost use Rattle.beas_core.specs.Coverage.{start_classes};
 ghost use Rattle.beas_core.specs.Derivations.{IsSound, is_live, use_of};
 ghost use Rattle.beas_core.specs.Pruning.{pruned};
 ghost use Rattle.beas_core.specs.Shapes.{EachIdOnce};
@@ -11,6 +12,7 @@ ghost use Rattle.plan_builder.specs.Trials.{all_are_served, are_sound, steps_fro
 
 use crate::derivations::{is_served_among, take_step};
 use crate::fronts::{Front, take_uses};
+use crate::sets::start_of;
 use attribute_closure::{UseAt, open_place};
 use beas_core::{Access, DStep, List, NoMemory, Normal, Sizes};
 use bound_calculator::access_with;
@@ -175,24 +177,25 @@ fn steps_of(
 }
 
 /// The steps of a derivation that are left after each, from the last to the first, has gone where it may. It takes no
-/// memory where there are no more steps than atoms: each atom needs one, so that none may go.
+/// memory where there are no more steps than atoms: each atom needs one, so that none may go. Else it makes the start
+/// anew.
 pub fn needed_steps(
     alloc: Global,
     accesses: &[Access],
     block: &Normal,
-    start: &[bool],
+    guided: bool,
     steps: List<DStep>,
 ) -> Result<List<DStep>, NoMemory>
     requires needed { length block.now.needed ≤ 65536 }
     requires ids { EachIdOnce accesses.now }
-    requires sound { IsSound block.now accesses.now start.now steps }
-    ensures { IfOk result (λ left. left ≡ pruned block.now accesses.now start.now steps) }
+    requires sound { IsSound block.now accesses.now (start_classes block.now guided) steps }
+    ensures { IfOk result (λ left. left ≡ pruned block.now accesses.now (start_classes block.now guided) steps) }
 {
     if steps.len() <= block.atoms.len() {
         return Ok(steps);
     }
     let uses = uses_of_steps(alloc, accesses, steps.as_slice())?;
-    let left = prune(alloc, block, start, uses)?;
-    let mut set = Vec::from_slice(alloc, start)?;
+    let mut set = start_of(alloc, block, guided)?;
+    let left = prune(alloc, block, &set, uses)?;
     steps_of(alloc, block, &mut set, left.as_slice())
 }

@@ -1,11 +1,11 @@
 // Sets of classes that grow by the columns of a use.
-ghost use Rattle.std.specs.Prelude.{◌≡◌, IfOk, map, true};
+ghost use Rattle.std.specs.Prelude.{◌≡◌, IfOk, map};
 ghost use Rattle.beas_core.specs.Coverage.{class_at, place_class, start_classes, with_classes};
 ghost use Rattle.beas_core.specs.Derivations.{adds_class, with_use};
 ghost use Rattle.attribute_closure.specs.Uses.{as_use};
 
 use attribute_closure::{UseAt, constant_classes, holds_columns};
-use beas_core::{ColumnId, List, NoMemory, Normal, Place, class_at};
+use beas_core::{ColumnId, NoMemory, Normal, Place, class_at};
 use std::alloc::Global;
 
 /// Whether a use adds a class to a set.
@@ -48,11 +48,15 @@ fn add_places(block: &Normal, places: &[Place], set: &mut [bool])
     }
 }
 
-/// The classes that are bound before the first step of a guided block: those of its constants and of its output.
-pub fn guided_start(alloc: Global, block: &Normal) -> Result<List<bool>, NoMemory>
-    ensures { IfOk result (λ set. set ≡ start_classes block.now true) }
+/// The classes that are bound before the first step of a block: those of its constants, and if it is guided those of its
+/// output too. It takes one block of memory, in which the set may grow.
+pub fn start_of(alloc: Global, block: &Normal, guided: bool) -> Result<Vec<bool>, NoMemory>
+    ensures { IfOk result (λ set. set.items ≡ start_classes block.now guided) }
 {
     let mut set = constant_classes(alloc, block)?.into_vec();
+    if !guided {
+        return Ok(set);
+    }
     add_places(block, block.output.as_slice(), &mut set);
-    Ok(List::from_vec(set))
+    Ok(set)
 }

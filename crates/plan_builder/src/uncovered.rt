@@ -8,7 +8,7 @@ ghost use Rattle.plan_builder.specs.Parts.{blocks_at, normal_task, task_at};
 ghost use Rattle.plan_builder.specs.Preparation.{constraints_with};
 
 use crate::blocks::{BlockAt, count_blocks, joined, push_blocks};
-use crate::sets::guided_start;
+use crate::sets::start_of;
 use attribute_closure::{close, close_from, why_not};
 use beas_core::{Access, List, NoMemory, Normal, NotCovered, Query};
 use catalogue::Catalogue;
@@ -37,8 +37,8 @@ pub fn block_reason(
             }
         }
     }
-    let start = guided_start(alloc, normal)?;
-    let covered = close_from(alloc, normal, accesses, start.as_slice())?;
+    let start = start_of(alloc, normal, true)?;
+    let covered = close_from(alloc, normal, accesses, &start)?;
     Ok(why_not(normal, accesses.as_slice(), covered.as_slice()))
 }
 

@@ -5,7 +5,7 @@ use Rattle.plan_builder.proofs.PreparationFacts.{none_alone, reason_from}
 use Rattle.plan_builder.proofs.uncovered.block_reason.Goals as goal
 
 pub close_from-requires-clause-classes : goal.close_from-requires-clause-classes
-close_from-requires-clause-classes c = ap length (c.as_slice-3.ensures ∙ c.in_ok-start.ensures) ∙ start_counted c.args.normal.now true
+close_from-requires-clause-classes c = ap length (c.deref.ensures.value ∙ c.in_ok-start.ensures) ∙ start_counted c.args.normal.now true
 
 pub returns-in-None : goal.returns-in-None
 returns-in-None c =
@@ -23,7 +23,7 @@ returns c =
     let own : own_reason normal accesses ≡ Some c.in-Some.why =
     sym (c.why_not.ensures ∙ ap (λ a. reason normal a c.as_slice-2.result.now) c.as_slice.ensures
     ∙ ap (reason normal accesses) (c.as_slice-2.ensures ∙ c.in_ok-own.ensures)) ∙ c.in-Some.is in
-    c.why_not-2.ensures ∙ ap (λ a. reason normal a c.as_slice-5.result.now) c.as_slice-4.ensures
-    ∙ ap (reason normal accesses) (c.as_slice-5.ensures ∙ c.in_ok-covered.ensures ∙ ap (covered_set normal accesses) (c.as_slice-3.ensures ∙ c.in_ok-start.ensures))
+    c.why_not-2.ensures ∙ ap (λ a. reason normal a c.as_slice-4.result.now) c.as_slice-3.ensures
+    ∙ ap (reason normal accesses) (c.as_slice-4.ensures ∙ c.in_ok-covered.ensures ∙ ap (covered_set normal accesses) (c.deref.ensures.value ∙ c.in_ok-start.ensures))
     ∙ sym (reason_from normal accesses c.args.has_guide c.in-Some.why own
     ∙ ap (λ g. reason normal accesses (covered_set normal accesses (start_classes normal g))) c.if-not-has_guide.false)
