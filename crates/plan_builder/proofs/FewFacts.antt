@@ -10,7 +10,7 @@ use Rattle.beas_core.specs.declared.schema.Access.{Access}
 use Rattle.beas_core.specs.Types.{ClassSet, Use}
 use Rattle.beas_core.specs.Shapes.{EachIdOnce}
 use Rattle.beas_core.specs.Coverage.{atoms_of, constant_classes, covered_set, fetched_classes, grow, grow_times, has, holds_classes, is_covered, is_open, key_classes, needed_places, own_cover, own_is_covered, reason, serves, start_classes, uses}
-use Rattle.beas_core.specs.Derivations.{access_in, adding_steps, adds_class, bound_after, enabled_uses, greedy_steps, is_live, is_served_by, least_bound, serving_steps, step_of, then_step, use_of, with_use}
+use Rattle.beas_core.specs.Derivations.{adding_steps, adds_class, bound_after, enabled_uses, greedy_steps, is_live, is_served_by, least_bound, serving_steps, step_of, then_step, use_of, with_use}
 use Rattle.beas_core.specs.Guiding.{is_guided_task, task_reason, task_start, task_steps}
 use Rattle.beas_core.specs.Pruning.{derivation, pruned}
 use Rattle.beas_core.proofs.Sets.{Has, Has-append_left, Contains-from_has}

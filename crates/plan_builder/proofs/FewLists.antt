@@ -1,5 +1,5 @@
 -- The constraints on the tables of some atoms.
-use Rattle.std.proofs.Common.{◌≡◌, ◌≢◌, ◌==◌, ◌<◌, ◌+◌, ℕ, Bool, true, false, cond, List, [], ◌∷◌, ◌++◌, length, map, take, get_or, ◌⊎◌, inl, inr, refl, ap, sym, ◌∙◌, subst, arith, eq-eqb, append_assoc, add-one, ◌≤◌}
+use Rattle.std.proofs.Common.{◌≡◌, ◌≢◌, ◌==◌, ◌<◌, ◌+◌, ℕ, Bool, true, false, cond, List, [], ◌∷◌, ◌++◌, length, map, take, get_or, inl, inr, refl, ap, sym, ◌∙◌, subst, arith, eq-eqb, append_assoc, add-one, ◌≤◌}
 use Rattle.std.specs.Prelude.{fold}
 use Rattle.std.specs.List.{Contains, filter, flat_map, enumerate_from, list_any}
 use Rattle.std.proofs.lemmas.Bool.{eqb-true}

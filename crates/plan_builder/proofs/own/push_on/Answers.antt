@@ -1,4 +1,4 @@
-use Rattle.std.proofs.Common.{◌∙◌, ap, arith}
+use Rattle.std.proofs.Common.{◌∙◌, arith}
 use Rattle.plan_builder.proofs.FewLists.{copied_all, copied_more, id_is_live}
 use Rattle.plan_builder.proofs.PreparationFacts.{ids_once}
 use Rattle.plan_builder.proofs.own.push_on.Goals as goal
