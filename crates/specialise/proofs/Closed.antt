@@ -1,8 +1,9 @@
 -- What the rules give from a start is what more constants cover.
-use Rattle.std.proofs.Common.{◌≡◌, ◌==◌, ◌&&◌, ◌||◌, ◌<◌, ◌^◌, ℕ, Bool, true, false, not, List, map, length, get_or, ◌⊎◌, inl, inr, refl, ap, sym, ◌∙◌, subst, arith, zero-add}
+use Rattle.std.proofs.Common.{◌≡◌, ◌==◌, ◌&&◌, ◌||◌, ◌<◌, ◌+◌, ◌^◌, ℕ, zero, suc, Bool, true, false, not, cond, List, [], ◌∷◌, map, length, get_or, inl, inr, refl, ap, sym, ◌∙◌, subst, arith, zero-add}
 use Rattle.std.specs.Int.{bit_at}
-use Rattle.std.specs.List.{All, list_any, list_all, filter, flat_map, range_with_len}
+use Rattle.std.specs.List.{list_any, list_all, filter, flat_map, range_with_len}
 use Rattle.std.proofs.lemmas.Bool.{eqb-true}
+use Rattle.std.proofs.lemmas.List.{get_or-map, length-map}
 use Rattle.std.proofs.lemmas.List.FromFn.{get_or-map-range_with_len}
 use Rattle.beas_core.specs.declared.schema.Access.{Access}
 use Rattle.beas_core.specs.declared.schema.ColumnId.{ColumnId}
@@ -15,7 +16,7 @@ use Rattle.beas_core.specs.Coverage.{has, with_classes, holds_classes, class_at,
 use Rattle.beas_core.proofs.Sets.{Has, Has-append_right, Has-map, Has-from_map, Has-filter, Has-from_filter, Has-from_contains, Contains-from_has}
 use Rattle.evaluation_facts.proofs.MemberTests.{and_both, and_left, or_cases, or_left, or_right, to_not, from_not, which, all_has, all_by, any_has, any_by, Has-flat_map}
 use Rattle.evaluation_facts.proofs.UseFacts.{same_number}
-use Rattle.evaluation_facts.proofs.BindingFacts.{Has-range, from_range}
+use Rattle.evaluation_facts.proofs.BindingFacts.{Has-range, from_range, range_least}
 use Rattle.evaluation_facts.proofs.ClassSetFacts.{has_below, length-with, has-with_kept, has-with_new, has-with_cases}
 use Rattle.evaluation_facts.proofs.ClassFacts.{classes_in_range}
 use Rattle.evaluation_facts.proofs.StartFacts.{start_counted}
@@ -23,9 +24,35 @@ use Rattle.evaluation_facts.proofs.CoveredSetFacts.{covered_set_least}
 use Rattle.specialise.specs.declared.candidates.Candidate.{Candidate}
 use Rattle.specialise.specs.declared.rules.Rule.{Rule}
 use Rattle.specialise.specs.Specialised.{candidates, asked_classes}
-use Rattle.specialise.specs.Trials.{candidate_of, found_in, is_among, is_held, mask_where, rule_of, rules_of, within, IsClosedUnder, IsLeastUnder, IsStart, IsTable}
-use Rattle.specialise.proofs.Masks.{no_candidate, at_has, has_at, holds_in, mask_at, mask_below, mask_has, masks_within, within_by, within_chain}
-use Rattle.specialise.proofs.Tables.{entries_all}
+use Rattle.specialise.specs.Trials.{candidate_of, classes_in, found_in, is_among, mask_where, rule_of, rules_of, within, IsClosedUnder, IsLeastUnder}
+use Rattle.specialise.proofs.Masks.{no_candidate, at_has, bit_below, class_there, has_at, holds_in, mask_at, mask_has, masks_within, stands_at, within_by, within_chain}
+
+abbrev is_held : ClassSet → Candidate → Bool
+is_held set c = has set c.class
+
+-- ---- numbers that ascend, of which each stands at one position
+
+abbrev Ascend : List ℕ → Type 0
+Ascend [] = Unit {0}
+Ascend (c ∷ cs) = ((d : ℕ) → Has cs d → c < d) × Ascend cs
+
+one_position : (cs : List ℕ) → Ascend cs → (i j d : ℕ) → i < length cs → j < length cs → get_or cs i d ≡ get_or cs j d → i ≡ j
+one_position [] up i j d l m e = absurd (omega (arith, l))
+one_position (c ∷ cs) up zero zero d l m e = refl
+one_position (c ∷ cs) up zero (suc j) d l m e = absurd (let b = up.0 (get_or cs j d) (has_at cs j d (omega (arith, m))) in omega (arith, b, e))
+one_position (c ∷ cs) up (suc i) zero d l m e = absurd (let b = up.0 (get_or cs i d) (has_at cs i d (omega (arith, l))) in omega (arith, b, e))
+one_position (c ∷ cs) up (suc i) (suc j) d l m e = ap suc (one_position cs up.1 i j d (omega (arith, l)) (omega (arith, m)) e)
+
+ascend_filter : (p : ℕ → Bool) (n from : ℕ) → Ascend (filter p (range_with_len from n))
+ascend_filter p zero from = tt
+ascend_filter p (suc n) from = by (p from) (ascend_filter p n (from + 1))
+  where
+    rest : List ℕ
+    rest = filter p (range_with_len (from + 1) n)
+
+    by : (b : Bool) → Ascend rest → Ascend (cond b (from ∷ rest) rest)
+    by true later = (λ d m. let l = range_least n (from + 1) d (Has-from_filter p (range_with_len (from + 1) n) d m).0 in omega (arith, l), later)
+    by false later = later
 
 module _ (accesses : List Access) (block : Block) (shape : BlockIsWellFormed block) where
   abbrev normal : Normal
@@ -57,11 +84,6 @@ module _ (accesses : List Access) (block : Block) (shape : BlockIsWellFormed blo
       let l = from_range normal.count 0 c f.0 in
       omega (arith, l)
 
-  pub entries_small : (table : List ℕ) → length table ≡ 2 ^ length found → IsTable rules table → All (λ entry. entry < length table) table
-  entries_small table e is = entries_all rules table (length found) e (λ r m.
-      let u = Has-from_map (rule_of normal found) (uses normal accesses) r m in
-      subst (λ (x : Rule). x.gives < 2 ^ length found) (sym u.2) (mask_below (is_among normal u.0.atom u.0.access.fetched) found)) is
-
   -- ---- keys and fetched classes, by the candidates among them
 
   abbrev pub at : ℕ → Candidate
@@ -82,8 +104,45 @@ module _ (accesses : List Access) (block : Block) (shape : BlockIsWellFormed blo
   pub class_at_position : (i : ℕ) → i < length found → Has (candidates accesses block) (at i).class
   class_at_position i l = let r = candidate_at i l in subst (Has (candidates accesses block)) (sym (ap (λ (c : Candidate). c.class) r.2)) r.1
 
-  pub position_of : (c : ℕ) → Has (candidates accesses block) c → (i : ℕ) × (i < length found) × (at i ≡ candidate_of block c)
+  position_of : (c : ℕ) → Has (candidates accesses block) c → (i : ℕ) × (i < length found) × (at i ≡ candidate_of block c)
   position_of c h = at_has found (candidate_of block c) no_candidate (Has-map (candidate_of block) (candidates accesses block) c h)
+
+  -- ---- candidates that are held
+
+  counted_alike : length found ≡ length (candidates accesses block)
+  counted_alike = length-map (candidates accesses block) (candidate_of block)
+
+  at_is : (i : ℕ) → i < length found → at i ≡ candidate_of block (get_or (candidates accesses block) i 0)
+  at_is i l = get_or-map (candidate_of block) (candidates accesses block) i 0 no_candidate (subst (λ n. i < n) counted_alike l)
+
+  class_is : (i : ℕ) → i < length found → (at i).class ≡ get_or (candidates accesses block) i 0
+  class_is i l = ap (λ (c : Candidate). c.class) (at_is i l)
+
+  -- where a candidate that a mask holds stands
+  pub position_held : (held c : ℕ) → Has (classes_in accesses block held) c
+      → (i : ℕ) × (i < length found) × (at i ≡ candidate_of block c) × (bit_at held i ≡ 1)
+  position_held held c h =
+      let r = stands_at held (candidates accesses block) c 0 h in
+      let l = subst (λ n. r.0 < n) (sym counted_alike) r.1 in
+      (r.0, l, at_is r.0 l ∙ ap (candidate_of block) r.2, r.3)
+
+  pub held_candidate : (held c : ℕ) → Has (classes_in accesses block held) c → Has (candidates accesses block) c
+  held_candidate held c h =
+      let r = position_held held c h in
+      subst (Has (candidates accesses block)) (ap (λ (d : Candidate). d.class) r.2) (class_at_position r.0 r.1)
+
+  pub class_held : (held i : ℕ) → i < length found → bit_at held i ≡ 1 → Has (classes_in accesses block held) (at i).class
+  class_held held i l e = subst (Has (classes_in accesses block held)) (sym (class_is i l))
+      (class_there held (candidates accesses block) i 0 (subst (λ n. i < n) counted_alike l) e)
+
+  -- it stands nowhere else
+  held_by_class : (held c : ℕ) → Has (classes_in accesses block held) c → (i : ℕ) → i < length found → (at i).class ≡ c → bit_at held i ≡ 1
+  held_by_class held c h i l e =
+      let r = stands_at held (candidates accesses block) c 0 h in
+      let asked : ℕ → Bool = λ d. list_any (λ k. k == d) (asked_classes normal accesses) in
+      let same = one_position (candidates accesses block) (ascend_filter (λ d. not (has cover d) && asked d) normal.count 0) r.0 i 0 r.1
+      (subst (λ n. i < n) counted_alike l) (r.2 ∙ sym e ∙ class_is i l) in
+      subst (λ n. bit_at held n ≡ 1) same r.3
 
   candidate_free : (c : ℕ) → Has (candidates accesses block) c → has cover c ≡ false
   candidate_free c h =
@@ -131,18 +190,12 @@ module _ (accesses : List Access) (block : Block) (shape : BlockIsWellFormed blo
   fetched_held set u h = masks_within (is_among normal u.atom u.access.fetched) (is_held set) found no_candidate (λ c m e.
       all_has (has set) (fetched_classes normal u) c.class h (among_classes u u.access.fetched c e))
 
-  module _ (start : ClassSet) (is : IsStart accesses block start) (mask : ℕ) (least : IsLeastUnder rules (mask_where (is_held start) found) mask) where
+  module _ (held : ℕ) (few : held < 2 ^ length found) (mask : ℕ) (least : IsLeastUnder rules held mask) where
     abbrev given : List ℕ
-    given = filter (has start) (candidates accesses block)
+    given = classes_in accesses block held
 
     abbrev reached : ClassSet
     reached = covered_set normal accesses (with_classes (constant_classes normal) given)
-
-    held_given : (c : ℕ) → has start c ≡ true → (has cover c ≡ true) ⊎ Has given c
-    held_given c h = elim (is.only c h) [
-      | inl e ↦ inl e
-      | inr m ↦ inr (Has-filter (has start) (candidates accesses block) c (Has-from_contains (candidates accesses block) c m) h)
-    ]
 
     constants_reached : Within (constant_classes normal) reached
     constants_reached c h = (reached_is_least given).from_start c (has-with_kept given (constant_classes normal) c h)
@@ -150,14 +203,10 @@ module _ (accesses : List Access) (block : Block) (shape : BlockIsWellFormed blo
     pub cover_reached : Within cover reached
     cover_reached = cover_is_least.least reached constants_reached (reached_is_least given).closed
 
-    start_reached : Within start reached
-    start_reached c h = elim (held_given c h) [
-      | inl e ↦ cover_reached c e
-      | inr m ↦ (reached_is_least given).from_start c
-          (has-with_new given (constant_classes normal) c m
-          (subst (λ n. c < n) (sym (start_counted normal false))
-          (candidate_below c (Has-from_filter (has start) (candidates accesses block) c m).0)))
-    ]
+    given_reached : (c : ℕ) → Has given c → has reached c ≡ true
+    given_reached c m = (reached_is_least given).from_start c
+        (has-with_new given (constant_classes normal) c m
+        (subst (λ n. c < n) (sym (start_counted normal false)) (candidate_below c (held_candidate held c m))))
 
     -- ---- what the mask holds is reached
 
@@ -172,8 +221,9 @@ module _ (accesses : List Access) (block : Block) (shape : BlockIsWellFormed blo
         (fetched_held reached u.0 ((reached_is_least given).closed u.0 (Contains-from_has (uses normal accesses) u.0 u.1) keys))
 
     mask_reached : within mask reached_mask ≡ true
-    mask_reached = least.least reached_mask
-        (masks_within (is_held start) (is_held reached) found no_candidate (λ c m e. start_reached c.class e)) reached_closed
+    mask_reached = least.least reached_mask (within_by held reached_mask (λ i e.
+        let l = bit_below (length found) held i few e in
+        mask_has (is_held reached) found i no_candidate l (given_reached (at i).class (class_held held i l e)))) reached_closed
 
     pub key_reached : (u : Use) → Has (uses normal accesses) u → within (key_mask u) mask ≡ true → holds_classes reached (key_classes normal u) ≡ true
     key_reached u m w = key_held reached cover_reached u m (within_chain (key_mask u) mask reached_mask w mask_reached)
@@ -218,10 +268,7 @@ module _ (accesses : List Access) (block : Block) (shape : BlockIsWellFormed blo
         let below : c < normal.count = subst (λ n. c < n) (counted given) (has_below (with_classes (constant_classes normal) given) c h) in
         to_allowed c below (λ i l e. elim (has-with_cases given (constant_classes normal) c h) [
           | inl k ↦ absurd (no_candidate_is i l e (cover_is_least.from_start c k))
-          | inr m ↦ (
-              let f = Has-from_filter (has start) (candidates accesses block) c m in
-              let bit = mask_has (is_held start) found i no_candidate l (subst (λ d. has start d ≡ true) (sym e) f.1) in
-              holds_in (mask_where (is_held start) found) mask i least.from_start bit)
+          | inr m ↦ holds_in held mask i least.from_start (held_by_class held c m i l e)
         ])
       where
         no_candidate_is : (i : ℕ) → i < length found → (at i).class ≡ c → has cover c ≡ true → ⊥

@@ -1,15 +1,15 @@
 -- Masks as sets of positions.
-use Rattle.std.proofs.Common.{◌≡◌, ◌==◌, ◌<◌, ◌≤◌, ◌+◌, ◌-◌, ◌*◌, ◌/◌, ◌%◌, ◌^◌, bit_and, bit_or, bit_xor, min, max, ℕ, zero, suc, Bool, true, false, cond, List, [], ◌∷◌, length, get_or, take, drop, ◌⊎◌, inl, inr, refl, ap, sym, ◌∙◌, subst, arith, mod-eq_of_lt, pow-suc}
+use Rattle.std.proofs.Common.{◌≡◌, ◌==◌, ◌<◌, ◌≤◌, ◌+◌, ◌-◌, ◌*◌, ◌/◌, ◌%◌, ◌^◌, bit_and, bit_or, bit_xor, min, max, ℕ, zero, suc, Bool, true, false, cond, nat_lt, List, [], ◌∷◌, ◌++◌, length, get_or, take, drop, ◌⊎◌, inl, inr, refl, ap, sym, ◌∙◌, subst, arith, mod-eq_of_lt, pow-suc}
 use Rattle.std.specs.Int.{bit_at}
 use Rattle.std.proofs.Math.Seq.{take-length}
-use Rattle.std.proofs.lemmas.Bool.{eqb-true}
-use Rattle.std.proofs.lemmas.Nat.{and_le_r, and_mask, pow_below, pow_pos}
+use Rattle.std.proofs.lemmas.Bool.{eqb-true, ltb-true, ltb-false}
+use Rattle.std.proofs.lemmas.Nat.{and_le_r, and_mask, or_comm, or_shifted, pow_below, pow_pos}
 use Rattle.std.proofs.lemmas.Nat.Bits.{bit_at_lowest, bit_at-suc, bit_at_and, bit_at_or, bit_at_xor, bit_at-pow_same, bit_at-pow_other, bit_at-lt, bit_at_above, same_from_bits, same_from_bits_below}
 use Rattle.beas_core.proofs.Sets.{Has}
 use Rattle.evaluation_facts.proofs.MemberTests.{which}
 use Rattle.evaluation_facts.proofs.UseFacts.{same_number}
 use Rattle.specialise.specs.declared.candidates.Candidate.{Candidate}
-use Rattle.specialise.specs.Trials.{within, apart, with_first, mask_where}
+use Rattle.specialise.specs.Trials.{within, apart, with_first, mask_where, classes_at}
 
 never : (b : Bool) → b ≡ true → b ≡ false → ⊥
 never b p q = cc
@@ -263,13 +263,119 @@ pow_few n m = elim (which (n == 16)) [
       omega (arith, b, e))
 ]
 
-pub mask_few : (p : Candidate → Bool) (cs : List Candidate) → length cs ≤ 16 → mask_where p cs < 65536
-mask_few p cs l = let b = mask_below p cs in let k = pow_few (length cs) l in omega (arith, b, k)
-
-pub rest_few : (p : Candidate → Bool) (cs : List Candidate) (n : ℕ) → n ≡ mask_where p (take (length cs - 1) (drop 1 cs)) → 1 ≤ length cs → length cs ≤ 16 → n < 65536
-rest_few p [] n e l m = absurd (omega (arith, l))
-rest_few p (c ∷ cs) n e l m =
+-- the others of a list, as the pattern of a slice has them
+others_counted : {A : Type 0} (cs : List A) → 1 ≤ length cs → suc (length (take (length cs - 1) (drop 1 cs))) ≡ length cs
+others_counted [] l = absurd (omega (arith, l))
+others_counted (c ∷ cs) l =
     let k : suc (length cs) - 1 ≡ length cs = omega arith in
-    let same : n ≡ mask_where p cs = e ∙ ap (mask_where p) (ap (λ j. take j cs) k ∙ take-length cs) in
-    let few = mask_few p cs (omega (arith, m)) in
-    omega (arith, same, few)
+    ap (λ j. suc (length (take j cs))) k ∙ ap (λ xs. suc (length xs)) (take-length cs)
+
+pub rest_few : {A : Type 0} (cs : List A) (n : ℕ) → n < 2 ^ length (take (length cs - 1) (drop 1 cs)) → 1 ≤ length cs → length cs ≤ 16 → n < 65536
+rest_few cs n b l m =
+    let k = others_counted cs l in
+    let few = pow_few (length (take (length cs - 1) (drop 1 cs))) (omega (arith, k, m)) in
+    omega (arith, b, few)
+
+pub first_mask : (p : Candidate → Bool) (cs : List Candidate) (d : Candidate) (b : Bool) (n : ℕ) → 1 ≤ length cs → b ≡ p (get_or cs 0 d)
+    → n ≡ mask_where p (take (length cs - 1) (drop 1 cs)) → with_first b n ≡ mask_where p cs
+first_mask p [] d b n l eb en = absurd (omega (arith, l))
+first_mask p (c ∷ cs) d b n l eb en =
+    let k : suc (length cs) - 1 ≡ length cs = omega arith in
+    ap (λ x. with_first x n) eb ∙ ap (with_first (p c)) (en ∙ ap (λ j. mask_where p (take j cs)) k ∙ ap (mask_where p) (take-length cs))
+
+-- ---- the classes at a mask's positions
+
+odd_bit : (mask : ℕ) → (mask % 2 == 1) ≡ true → bit_at mask 0 ≡ 1
+odd_bit mask e = bit_at_lowest mask ∙ eqb-true (mask % 2) 1 e
+
+bit_odd : (mask : ℕ) → bit_at mask 0 ≡ 1 → (mask % 2 == 1) ≡ true
+bit_odd mask e = same_number (mask % 2) 1 (sym (bit_at_lowest mask) ∙ e)
+
+pub bit_below : (n mask i : ℕ) → mask < 2 ^ n → bit_at mask i ≡ 1 → i < n
+bit_below n mask i l e = elim (which (nat_lt i n)) [
+  | inl t ↦ ltb-true i n t
+  | inr f ↦ absurd (let z = bit_at_above mask n i l (ltb-false i n f) in omega (arith, z, e))
+]
+
+-- a position of a list that a mask has, at which a class stands
+abbrev pub StandsAt : ℕ → List ℕ → ℕ → ℕ → Type 0
+StandsAt mask cs c d = (i : ℕ) × (i < length cs) × (get_or cs i d ≡ c) × (bit_at mask i ≡ 1)
+
+stands_later : (mask : ℕ) (cs : List ℕ) (x c d : ℕ) → StandsAt (mask / 2) cs c d → StandsAt mask (x ∷ cs) c d
+stands_later mask cs x c d r = (suc r.0, omega (arith, r.1), r.2, bit_at-suc mask r.0 ∙ r.3)
+
+pub stands_at : (mask : ℕ) (cs : List ℕ) (c d : ℕ) → Has (classes_at mask cs) c → StandsAt mask cs c d
+stands_at mask [] c d h = absurd h
+stands_at mask (x ∷ cs) c d h = by (mask % 2 == 1) refl h (λ g. stands_at (mask / 2) cs c d g)
+  where
+    by : (b : Bool) → (mask % 2 == 1) ≡ b → Has (cond b (x ∷ classes_at (mask / 2) cs) (classes_at (mask / 2) cs)) c
+        → (Has (classes_at (mask / 2) cs) c → StandsAt (mask / 2) cs c d) → StandsAt mask (x ∷ cs) c d
+    by false e g later = stands_later mask cs x c d (later g)
+    by true e (inl same) later = (0, omega arith, sym same, odd_bit mask e)
+    by true e (inr g) later = stands_later mask cs x c d (later g)
+
+pub class_there : (mask : ℕ) (cs : List ℕ) (i d : ℕ) → i < length cs → bit_at mask i ≡ 1 → Has (classes_at mask cs) (get_or cs i d)
+class_there mask [] i d l e = absurd (omega (arith, l))
+class_there mask (x ∷ cs) zero d l e =
+    subst (λ b. Has (cond b (x ∷ classes_at (mask / 2) cs) (classes_at (mask / 2) cs)) x) (sym (bit_odd mask e)) (inl refl)
+class_there mask (x ∷ cs) (suc i) d l e =
+    by (mask % 2 == 1) (class_there (mask / 2) cs i d (omega (arith, l)) (sym (bit_at-suc mask i) ∙ e))
+  where
+    by : (b : Bool) → Has (classes_at (mask / 2) cs) (get_or cs i d)
+        → Has (cond b (x ∷ classes_at (mask / 2) cs) (classes_at (mask / 2) cs)) (get_or cs i d)
+    by true h = inr h
+    by false h = h
+
+pub no_classes : (cs : List ℕ) → classes_at 0 cs ≡ []
+no_classes [] = refl
+no_classes (c ∷ cs) = no_classes cs
+
+under_both : (b : Bool) (c : ℕ) (xs ys : List ℕ) → cond b (c ∷ (xs ++ ys)) (xs ++ ys) ≡ cond b (c ∷ xs) xs ++ ys
+under_both true c xs ys = refl
+under_both false c xs ys = refl
+
+-- one position more, past all others
+classes_plus : (p mask : ℕ) (cs : List ℕ) (d : ℕ) → mask < 2 ^ p → p < length cs → classes_at (mask + 2 ^ p) cs ≡ classes_at mask cs ++ get_or cs p d ∷ []
+classes_plus p mask [] d l k = absurd (omega (arith, k))
+classes_plus zero mask (c ∷ cs) d l k =
+    let one : 2 ^ 0 ≡ 1 = refl in
+    let z : mask ≡ 0 = omega (arith, l, one) in
+    ap (λ m. classes_at (m + 2 ^ 0) (c ∷ cs)) z ∙ ap (λ ds. c ∷ ds) (no_classes cs)
+    ∙ sym (ap (λ ds. ds ++ c ∷ []) (no_classes (c ∷ cs))) ∙ sym (ap (λ m. classes_at m (c ∷ cs) ++ c ∷ []) z)
+classes_plus (suc p) mask (c ∷ cs) d l k =
+    let rest : (mask + 2 ^ suc p) % 2 ≡ mask % 2 = omega (arith, pow-suc 2 p) in
+    let half : (mask + 2 ^ suc p) / 2 ≡ mask / 2 + 2 ^ p = omega (arith, pow-suc 2 p) in
+    let less : mask / 2 < 2 ^ p = omega (arith, l, pow-suc 2 p) in
+    let y = get_or cs p d in
+    ap (λ n. cond (n == 1) (c ∷ classes_at ((mask + 2 ^ suc p) / 2) cs) (classes_at ((mask + 2 ^ suc p) / 2) cs)) rest
+    ∙ ap (λ n. cond (mask % 2 == 1) (c ∷ classes_at n cs) (classes_at n cs)) half
+    ∙ ap (λ ds. cond (mask % 2 == 1) (c ∷ ds) ds) (classes_plus p (mask / 2) cs d less (omega (arith, k)))
+    ∙ under_both (mask % 2 == 1) c (classes_at (mask / 2) cs) (y ∷ [])
+
+or_is_plus : (p mask : ℕ) → mask < 2 ^ p → bit_or mask (2 ^ p) ≡ mask + 2 ^ p
+or_is_plus p mask l =
+    let one : 2 ^ p ≡ 1 * 2 ^ p = omega arith in
+    let swap : 1 * 2 ^ p + mask ≡ mask + 2 ^ p = omega arith in
+    or_comm mask (2 ^ p) ∙ ap (λ n. bit_or n mask) one ∙ or_shifted 1 p mask l ∙ swap
+
+pub classes_more : (p mask : ℕ) (cs : List ℕ) (d : ℕ) → mask < 2 ^ p → p < length cs
+    → classes_at (bit_or mask (2 ^ p)) cs ≡ classes_at mask cs ++ get_or cs p d ∷ []
+classes_more p mask cs d l k = ap (λ m. classes_at m cs) (or_is_plus p mask l) ∙ classes_plus p mask cs d l k
+
+pub more_below : (p mask : ℕ) → mask < 2 ^ p → bit_or mask (2 ^ p) < 2 ^ (p + 1)
+more_below p mask l =
+    let e = or_is_plus p mask l in
+    let d = pow-suc 2 p in
+    let n : suc p ≡ p + 1 = omega arith in
+    subst (λ k. bit_or mask (2 ^ p) < 2 ^ k) n (omega (arith, e, d, l))
+
+-- the classes so far
+pub classes_to : (p mask : ℕ) (cs : List ℕ) (d : ℕ) → p < length cs
+    → classes_at mask (take (suc p) cs) ≡ classes_at mask (take p cs) ++ cond (bit_at mask p == 1) (get_or cs p d ∷ []) []
+classes_to p mask [] d l = absurd (omega (arith, l))
+classes_to zero mask (c ∷ cs) d l = ap (λ n. cond (n == 1) (c ∷ []) []) (sym (bit_at_lowest mask))
+classes_to (suc p) mask (c ∷ cs) d l =
+    let before = classes_at (mask / 2) (take p cs) in
+    ap (λ ds. cond (mask % 2 == 1) (c ∷ ds) ds) (classes_to p (mask / 2) cs d (omega (arith, l)))
+    ∙ under_both (mask % 2 == 1) c before (cond (bit_at (mask / 2) p == 1) (get_or cs p d ∷ []) [])
+    ∙ ap (λ n. cond (mask % 2 == 1) (c ∷ before) before ++ cond (n == 1) (get_or cs p d ∷ []) []) (sym (bit_at-suc mask p))

@@ -1,5 +1,5 @@
--- Whether each atom is served, told by servers, is whether constants for the candidates that the start holds make the block covered.
-use Rattle.std.proofs.Common.{◌≡◌, ◌==◌, ◌&&◌, ◌<◌, ℕ, zero, suc, Bool, true, false, not, List, [], ◌∷◌, length, map, get_or, pos, inl, inr, refl, ap, sym, ◌∙◌, subst, arith, zero-add}
+-- Whether each atom is served, told by servers, is whether constants for the candidates that are held make the block covered.
+use Rattle.std.proofs.Common.{◌≡◌, ◌==◌, ◌&&◌, ◌<◌, ◌^◌, ℕ, zero, suc, Bool, true, false, not, List, [], ◌∷◌, length, map, get_or, pos, inl, inr, refl, ap, sym, ◌∙◌, subst, arith, zero-add}
 use Rattle.std.specs.List.{Contains, filter, slice_index_or, enumerate_from}
 use Rattle.std.proofs.lemmas.Bool.{eqb-true}
 use Rattle.std.proofs.lemmas.List.{length-map}
@@ -25,10 +25,10 @@ use Rattle.evaluation_facts.proofs.ClassSetFacts.{holds-within}
 use Rattle.evaluation_facts.proofs.ReasonFacts.{covered_in_words, covered_from_words}
 use Rattle.specialise.specs.declared.candidates.Candidate.{Candidate}
 use Rattle.specialise.specs.declared.servers.Server.{Server}
-use Rattle.specialise.specs.Specialised.{candidates, first_place, with_constants}
-use Rattle.specialise.specs.Trials.{apart, candidate_of, found_in, is_held, mask_where, rules_of, lacks, server_of, servers_on, servers_of, serves_now, some_serves, all_serve, within, IsLeastUnder, IsStart, is_covered_from}
+use Rattle.specialise.specs.Specialised.{candidates, first_place, is_covered_with, with_constants}
+use Rattle.specialise.specs.Trials.{apart, candidate_of, classes_in, found_in, rules_of, lacks, server_of, servers_on, servers_of, serves_now, some_serves, all_serve, within, IsLeastUnder}
 use Rattle.specialise.proofs.Added.{is_first_place, covered_same, start_more, needed_before, needed_first, needed_with, uses_same, keys_same, fetched_same}
-use Rattle.specialise.proofs.Closed.{candidate_below, key_reached, position_of, reached_is_least, reached_key}
+use Rattle.specialise.proofs.Closed.{candidate_below, class_held, held_candidate, key_reached, position_held, reached_is_least, reached_key}
 use Rattle.specialise.proofs.Masks.{no_candidate, apart_at, apart_by, has_at, mask_at, mask_has}
 
 same_bools : (a b : Bool) → (a ≡ true → b ≡ true) → (b ≡ true → a ≡ true) → a ≡ b
@@ -39,8 +39,8 @@ same_bools false false f g = refl
 never : (b : Bool) → b ≡ true → b ≡ false → ⊥
 never b p q = cc
 
-module _ (accesses : List Access) (block : Block) (shape : BlockIsWellFormed block) (start : ClassSet) (is : IsStart accesses block start) (mask : ℕ)
-    (least : IsLeastUnder (rules_of accesses block) (mask_where (is_held start) (found_in accesses block)) mask) where
+module _ (accesses : List Access) (block : Block) (shape : BlockIsWellFormed block) (held : ℕ) (few : held < 2 ^ length (found_in accesses block)) (mask : ℕ)
+    (least : IsLeastUnder (rules_of accesses block) held mask) where
   abbrev normal : Normal
   normal = normal_of block
 
@@ -48,7 +48,7 @@ module _ (accesses : List Access) (block : Block) (shape : BlockIsWellFormed blo
   cover = own_cover (normal_of block) accesses
 
   abbrev given : List ℕ
-  given = filter (has start) (candidates accesses block)
+  given = classes_in accesses block held
 
   abbrev constant_for : ℕ → ℕ × Value
   constant_for c = (c, Int (pos 0))
@@ -67,7 +67,7 @@ module _ (accesses : List Access) (block : Block) (shape : BlockIsWellFormed blo
 
   given_below : (c : ℕ) → Has given c → c < length (leaders block)
   unfolding normal_of
-  given_below c h = candidate_below accesses block shape c (Has-from_filter (has start) (candidates accesses block) c h).0
+  given_below c h = candidate_below accesses block shape c (held_candidate accesses block shape held c h)
 
   own_classes : (cs : List ℕ) → ((c : ℕ) → Has cs c → c < length (leaders block))
       → map (λ (g : ℕ × Value). class_of block (first_place block g.0)) (map constant_for cs) ≡ cs
@@ -89,9 +89,6 @@ module _ (accesses : List Access) (block : Block) (shape : BlockIsWellFormed blo
 
   abbrev found : List Candidate
   found = found_in accesses block
-
-  abbrev held : ℕ
-  held = mask_where (is_held start) found
 
   first_given : (p : Place) → Has (map (λ g. first_place block g.0) constants) p → (c : ℕ) × (Has given c) × (p ≡ first_place block c)
   first_given p h =
@@ -130,11 +127,9 @@ module _ (accesses : List Access) (block : Block) (shape : BlockIsWellFormed blo
   not_lost u none c h = elim (which (lacks u (candidate_of block c))) [
     | inr e ↦ e
     | inl e ↦ (
-        let f = Has-from_filter (has start) (candidates accesses block) c h in
-        let i = position_of accesses block shape c f.0 in
+        let i = position_held accesses block shape held c h in
         let lost = mask_has (lacks u) found i.0 no_candidate i.1 (subst (λ (x : Candidate). lacks u x ≡ true) (sym i.2) e) in
-        let given_it = mask_has (is_held start) found i.0 no_candidate i.1 (subst (λ (x : Candidate). has start x.class ≡ true) (sym i.2) f.1) in
-        absurd (apart_at (server_of normal found u).loses held i.0 none lost given_it))
+        absurd (apart_at (server_of normal found u).loses held i.0 none lost i.3))
   ]
 
   holds_first : (u : Use) (c : ℕ) → lacks u (candidate_of block c) ≡ false → (first_place block c).atom ≡ u.atom
@@ -154,7 +149,7 @@ module _ (accesses : List Access) (block : Block) (shape : BlockIsWellFormed blo
       let here = subst (λ x. serves_now held mask x ≡ true) from.is_made now in
       let key = and_left (within made.key mask) (apart made.loses held) here in
       let none = and_right (within made.key mask) (apart made.loses held) here in
-      let keys = holds-within reached covered (key_classes normal u) reached_covered (key_reached accesses block shape start is mask least u from.member key) in
+      let keys = holds-within reached covered (key_classes normal u) reached_covered (key_reached accesses block shape held few mask least u from.member key) in
       let below = subst (λ n. n < length block.atoms) (sym from.on_atom) l in
       let needed = needed_with accesses block constants u below from.needed (λ p m e.
       let g = first_given p m in
@@ -239,9 +234,8 @@ module _ (accesses : List Access) (block : Block) (shape : BlockIsWellFormed blo
   keeps : (u : Use) → u.atom < length block.atoms → holds_needed more u ≡ true → apart (server_of normal found u).loses held ≡ true
   keeps u l needed = apart_by (server_of normal found u).loses held (λ i e f.
       let lost = mask_at (lacks u) found i no_candidate e in
-      let given_it = mask_at (is_held start) found i no_candidate f in
       let k = Has-from_map (candidate_of block) (candidates accesses block) (get_or found i no_candidate) (has_at found i no_candidate lost.0) in
-      let own = Has-filter (has start) (candidates accesses block) k.0 k.1 (subst (λ (x : Candidate). has start x.class ≡ true) k.2 given_it.1) in
+      let own = subst (Has given) (ap (λ (x : Candidate). x.class) k.2) (class_held accesses block shape held i lost.0 f) in
       let lack = subst (λ x. lacks u x ≡ true) k.2 lost.1 in
       let atom = eqb-true (first_place block k.0).atom u.atom
       (and_left ((first_place block k.0).atom == u.atom) (not (has_column (member_columns u.access) (first_place block k.0).column)) lack) in
@@ -261,7 +255,7 @@ module _ (accesses : List Access) (block : Block) (shape : BlockIsWellFormed blo
       let needed = and_right (holds_classes covered (key_classes more u)) (holds_needed more u) s.serves_it in
       let member = Has-from_contains (uses normal accesses) u (subst (λ us. Contains us u) (uses_same accesses block constants) s.member) in
       let passes = and_both (u.atom == atom) (holds_needed normal u) (same_number u.atom atom s.on_atom) (needed_before accesses block constants u below needed) in
-      let key = reached_key accesses block shape start is mask least u
+      let key = reached_key accesses block shape held few mask least u
       (holds-within covered reached (key_classes normal u) covered_reached (sym (ap (holds_classes covered) (keys_same accesses block constants u)) ∙ keys)) in
       any_by (serves_now held mask) (servers_on normal found (uses normal accesses) atom) (server_of normal found u)
       (Has-map (server_of normal found) (filter (test_use atom) (uses normal accesses)) u (Has-filter (test_use atom) (uses normal accesses) u member passes))
@@ -276,15 +270,10 @@ module _ (accesses : List Access) (block : Block) (shape : BlockIsWellFormed blo
       let below = from_range (length block.atoms) 0 r.0 r.1 in
       ap (some_serves held mask) r.2 ∙ atom_serves so r.0 (omega (arith, below)))
 
-  pub serves_is : all_serve held mask (servers_of accesses block) ≡ is_covered_from accesses block start
-  serves_is = same_bools (all_serve held mask (servers_of accesses block)) (is_covered_from accesses block start) to_covered from_covered
+  serves_is : all_serve held mask (servers_of accesses block) ≡ is_covered_with accesses block (classes_in accesses block held)
+  serves_is = same_bools (all_serve held mask (servers_of accesses block)) (is_covered_with accesses block given) to_covered from_covered
 
--- the same, as the code has it
-pub covers_is : (accesses : List Access) (block : Block) → BlockIsWellFormed block → (start : ClassSet) → IsStart accesses block start
-    → (first mask : ℕ) → first ≡ mask_where (is_held start) (found_in accesses block) → IsLeastUnder (rules_of accesses block) first mask
-    → (servers : List (List Server)) → servers ≡ servers_of accesses block → (b : Bool) → b ≡ all_serve first mask servers
-    → b ≡ is_covered_from accesses block start
-covers_is accesses block shape start is first mask eh least servers es b eb =
-    let own = subst (λ n. IsLeastUnder (rules_of accesses block) n mask) eh least in
-    eb ∙ ap (λ n. all_serve n mask servers) eh ∙ ap (all_serve (mask_where (is_held start) (found_in accesses block)) mask) es
-    ∙ serves_is accesses block shape start is mask own
+  -- the same, as the code has it
+  pub covers_is : (servers : List (List Server)) → servers ≡ servers_of accesses block → (b : Bool) → b ≡ all_serve held mask servers
+      → b ≡ is_covered_with accesses block (classes_in accesses block held)
+  covers_is servers es b eb = eb ∙ ap (all_serve held mask) es ∙ serves_is

@@ -1,5 +1,5 @@
 -- Tables of what rules give, entry by entry.
-use Rattle.std.proofs.Common.{◌≡◌, ◌==◌, ◌<◌, ◌≤◌, ◌+◌, ◌-◌, ◌*◌, ◌/◌, ◌%◌, ◌^◌, bit_and, bit_or, bit_xor, ℕ, zero, suc, Bool, true, false, List, [], ◌∷◌, length, fold, replicate, inl, inr, refl, ap, sym, ◌∙◌, subst, arith, length-set, get_or-set_same, get_or-set_other}
+use Rattle.std.proofs.Common.{◌≡◌, ◌==◌, ◌<◌, ◌≤◌, ◌+◌, ◌-◌, ◌*◌, ◌/◌, ◌%◌, ◌^◌, bit_and, bit_or, bit_xor, ℕ, zero, suc, Bool, true, false, cond, List, [], ◌∷◌, length, fold, replicate, inl, inr, refl, ap, sym, ◌∙◌, subst, arith, length-set, get_or-set_same, get_or-set_other}
 use Rattle.std.specs.Int.{bit_at}
 use Rattle.std.specs.List.{All, Contains, slice_set}
 use Rattle.std.proofs.lemmas.Bool.{eqb-true}
@@ -10,7 +10,7 @@ use Rattle.beas_core.proofs.Sets.{Has, Has-from_contains, Contains-from_has, all
 use Rattle.evaluation_facts.proofs.MemberTests.{which}
 use Rattle.evaluation_facts.proofs.UseFacts.{same_number}
 use Rattle.specialise.specs.declared.rules.Rule.{Rule}
-use Rattle.specialise.specs.Trials.{within, entry_at, with_rule, HoldsNoMore, IsClosedUnder, IsFilled, IsTable, United}
+use Rattle.specialise.specs.Trials.{within, entry_at, reached, with_rule, HoldsNoMore, IsClosedTable, IsClosedUnder, IsFilled, IsLeastUnder, IsTable, United}
 use Rattle.specialise.proofs.Masks.{at_has, below_full, full_below, missing, none_within, or_within, pow_few, still_within, within_chain, within_itself, within_left, within_right, without, without_less, without_within}
 
 never : (b : Bool) → b ≡ true → b ≡ false → ⊥
@@ -174,6 +174,111 @@ pub closed_when : (rules : List Rule) (table : List ℕ) (held : ℕ) → held <
 closed_when rules table held l is e r m w =
     subst (λ n. within r.gives n ≡ true) e (within_right held (entry_at table held) r.gives (is.all r held m l w))
 
+-- a set with its entry is still below, and more
+pub or_below : (table : List ℕ) (n held entry : ℕ) → length table ≡ 2 ^ n → held < length table → entry < length table → bit_or held entry < length table
+or_below table n held entry e l m =
+    subst (λ k. bit_or held entry < k) (sym e) (or_lt n held entry (subst (λ k. held < k) e l) (subst (λ k. entry < k) e m))
+
+pub or_more : (held entry : ℕ) → (bit_or held entry ≡ held → ⊥) → held < bit_or held entry
+or_more held entry ne = let l = le_or_l held entry in let ne2 : (held ≡ bit_or held entry → ⊥) = λ e. ne (sym e) in omega (arith, l, ne2)
+
+-- ---- entries that are closed, the larger sets first
+
+-- the entries from a number on are closed, those below are as they were
+pub record Closing (old : List ℕ) (number : ℕ) (table : List ℕ) : Type 0 where
+  pub inside : (k : ℕ) → k < length table → entry_at table k < length table
+  pub same : (k : ℕ) → k < number → entry_at table k ≡ entry_at old k
+  pub done : (rules : List Rule) → IsTable rules old → (k : ℕ) → number ≤ k → k < length table → IsLeastUnder rules k (entry_at table k)
+
+pub closing_all : (old table : List ℕ) → Closing old 0 table → (rules : List Rule) → IsTable rules old → IsClosedTable rules table
+closing_all old table so rules is mask l = so.done rules is mask (omega arith) l
+
+module _ (old table : List ℕ) (number count : ℕ) (l : number < length table) (same_length : length table ≡ length old) (power : length table ≡ 2 ^ count)
+    (so : Closing old (number + 1) table) where
+  abbrev entry : ℕ
+  entry = entry_at table number
+
+  abbrev more : ℕ
+  more = bit_or number (entry_at table number)
+
+  pub more_inside : more < length table
+  more_inside = or_below table count number entry power l (so.inside number l)
+
+  own_entry : entry ≡ entry_at old number
+  own_entry = so.same number (omega arith)
+
+  reached_when : (b : Bool) → (more == number) ≡ b → reached table number ≡ cond b number (entry_at table more)
+  reached_when b e = ap (λ x. cond x number (entry_at table more)) e
+
+  -- the entry of the set is less than the table's length, and closed
+  record IsEntry (v : ℕ) : Type 0 where
+    inside : v < length table
+    least : (rules : List Rule) → IsTable rules old → IsLeastUnder rules number v
+
+  itself : more ≡ number → IsEntry number
+  itself e = record {
+    inside = l;
+    least = λ rules is. record {
+      from_start = within_itself number;
+      closed = closed_when rules old number (subst (λ n. number < n) same_length l) is (ap (bit_or number) (sym own_entry) ∙ e);
+      least = λ other w closed. w;
+    };
+  }
+
+  larger : (more ≡ number → ⊥) → IsEntry (entry_at table more)
+  larger ne = record {
+    inside = so.inside more more_inside;
+    least = λ rules is.
+        let past = or_more number entry ne in
+        let up = so.done rules is more (omega (arith, past)) more_inside in
+        record {
+          from_start = within_chain number more (entry_at table more) (within_left number entry number (within_itself number)) up.from_start;
+          closed = up.closed;
+          least = λ other w closed. up.least other
+              (or_within number entry other w
+              (subst (λ n. within n other ≡ true) (sym own_entry) (is.no_more number other (subst (λ n. number < n) same_length l) w closed))) closed;
+        };
+  }
+
+  reached_is : IsEntry (reached table number)
+  reached_is = elim (which (more == number)) [
+    | inl t ↦ subst IsEntry (sym (reached_when true t)) (itself (eqb-true more number t))
+    | inr f ↦ subst IsEntry (sym (reached_when false f)) (larger (λ e. never (more == number) (same_number more number e) f))
+  ]
+
+  pub closing_more : (v : ℕ) → v ≡ reached table number → Closing old number (slice_set table number v)
+  closing_more v e = record {
+    inside = λ k b. subst (λ n. entry_at new k < n) (sym counted) (elim (which (k == number)) [
+      | inl t ↦ subst (λ n. n < length table) (sym (now_there k (eqb-true k number t))) at.inside
+      | inr f ↦ subst (λ n. n < length table) (sym (elsewhere k (λ m. never (k == number) (same_number k number m) f)))
+          (so.inside k (subst (λ n. k < n) counted b))
+    ]);
+    same = λ k b. elsewhere k (λ m. omega (arith, m, b)) ∙ so.same k (omega (arith, b));
+    done = λ rules is k from b. elim (which (k == number)) [
+      | inl t ↦ subst (λ n. IsLeastUnder rules k n) (sym (now_there k (eqb-true k number t)))
+          (subst (λ n. IsLeastUnder rules n v) (sym (eqb-true k number t)) (at.least rules is))
+      | inr f ↦ (
+          let ne : (k ≡ number → ⊥) = λ m. never (k == number) (same_number k number m) f in
+          subst (λ n. IsLeastUnder rules k n) (sym (elsewhere k ne))
+          (so.done rules is k (omega (arith, from, ne)) (subst (λ n. k < n) counted b)))
+    ];
+  }
+    where
+      new : List ℕ
+      new = slice_set table number v
+
+      counted : length new ≡ length table
+      counted = length-set table number v
+
+      at : IsEntry v
+      at = subst IsEntry (sym e) reached_is
+
+      now_there : (k : ℕ) → k ≡ number → entry_at new k ≡ v
+      now_there k m = subst (λ n. entry_at new n ≡ v) (sym m) (get_or-set_same table number v 0 l)
+
+      elsewhere : (k : ℕ) → (k ≡ number → ⊥) → entry_at new k ≡ entry_at table k
+      elsewhere k ne = get_or-set_other table number k v 0 ne
+
 -- ---- the union of some entries
 
 module _ (table : List ℕ) (mask : ℕ) where
@@ -214,11 +319,3 @@ few_sets n count e l = let p = pow_few count l in omega (arith, e, p)
 
 pub bit_back : (s k : ℕ) → bit_at s k ≡ 1 → bit_and (s / 2 ^ k) 1 ≡ 1
 bit_back s k e = shr_and_one s k ∙ e
-
--- what one more turn gives is still below, and more
-pub or_below : (table : List ℕ) (n held entry : ℕ) → length table ≡ 2 ^ n → held < length table → entry < length table → bit_or held entry < length table
-or_below table n held entry e l m =
-    subst (λ k. bit_or held entry < k) (sym e) (or_lt n held entry (subst (λ k. held < k) e l) (subst (λ k. entry < k) e m))
-
-pub or_more : (held entry : ℕ) → (bit_or held entry ≡ held → ⊥) → held < bit_or held entry
-or_more held entry ne = let l = le_or_l held entry in let ne2 : (held ≡ bit_or held entry → ⊥) = λ e. ne (sym e) in omega (arith, l, ne2)

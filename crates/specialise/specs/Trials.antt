@@ -1,20 +1,23 @@
 -- What sets of candidates are tried by.
 --     mask_where test found           the positions of the candidates that pass a test
+--     Tells gives test                a call gives of each candidate whether it passes a test
 --     Rule                            a use of a constraint: where a set holds its key, it holds what it gives
 --     IsLeastUnder rules start mask   the least set that holds the start and what each rule gives whose key it holds
 --     IsFilled rules table            the entry of each set holds what the rules give whose key it is, and no more
 --     IsTable rules table             the entry of each set holds what all rules give whose key it holds, and no more
+--     IsClosedTable rules table       the entry of each set is the least set that holds it and what the rules give
+--     reached table mask              a set with its entry, and where that is a larger set the entry of the larger one
 --     United table mask count all     the least that holds the entry of a set, and those of the sets that lack one of its first positions
 --     Server                          a use that holds its atom's needed columns: it serves where a set holds its key, unless one of the candidates whose
 --                                     column it lacks has a constant
---     all_serve start mask servers    each atom has a server, where the start's classes have constants and the mask is what they cover
---     IsStart accesses block start    the covered set, and some candidates
---     AreUntried accesses block start classes
---                                     candidates that the start lacks, ascending
---     Walked test sets old new found  the first of some sets that passes a test, added to a set of classes; where none does, nothing
-use Rattle.std.specs.Prelude.{◌≡◌, ◌<◌, ◌+◌, ◌*◌, ◌^◌, ◌&&◌, if◌then◌else◌, ◌==◌, bit_and, bit_or, bit_xor, Bool, false, not, ℕ, List, [], ◌∷◌, length, map, filter, find, slice_index_or, slice_set, IsTrue, Contains, ◌⊎◌, Option, is_some, unwrap_or}
+--     all_serve start mask servers    each atom has a server, where the start's candidates have constants and the mask is what they cover
+--     classes_in accesses block mask  the candidates at a mask's positions
+--     first_from accesses block size position held
+--                                     the first set that makes the block covered, of those with so many candidates from a position on and all
+--                                     that are held
+use Rattle.std.specs.Prelude.{◌≡◌, ◌<◌, ◌+◌, ◌*◌, ◌/◌, ◌%◌, ◌^◌, ◌&&◌, if◌then◌else◌, ◌==◌, bit_and, bit_or, bit_xor, Bool, not, ℕ, List, [], ◌∷◌, ◌++◌, length, map, drop, filter, find, slice_index_or, slice_set, IsTrue, Contains, Option}
 use Rattle.std.specs.Int.{bit_at}
-use Rattle.std.specs.List.{AllByRecursion, list_any, list_all}
+use Rattle.std.specs.List.{list_any, list_all}
 use Rattle.beas_core.specs.declared.schema.ColumnId.{ColumnId}
 use Rattle.beas_core.specs.declared.schema.Access.{Access}
 use Rattle.beas_core.specs.declared.query.Block.{Block}
@@ -22,11 +25,11 @@ use Rattle.beas_core.specs.declared.plan.Normal.{Normal}
 use Rattle.beas_core.specs.Types.{ClassSet, Use}
 use Rattle.beas_core.specs.Groups.{has_column, member_columns}
 use Rattle.beas_core.specs.Classes.{normal_of}
-use Rattle.beas_core.specs.Coverage.{has, with_classes, class_at, uses, holds_needed, own_cover, atoms_of, Within}
+use Rattle.beas_core.specs.Coverage.{has, class_at, uses, holds_needed, atoms_of}
 use Rattle.specialise.specs.declared.candidates.Candidate.{Candidate}
 use Rattle.specialise.specs.declared.rules.Rule.{Rule}
 use Rattle.specialise.specs.declared.servers.Server.{Server}
-use Rattle.specialise.specs.Specialised.{candidates, first_place, is_covered_with}
+use Rattle.specialise.specs.Specialised.{candidates, first_place, is_covered_with, sublists}
 
 -- a class that is marked, and that the covered set lacks
 abbrev pub is_marked : ClassSet → ClassSet → ℕ → Bool
@@ -51,12 +54,21 @@ abbrev pub mask_where : (Candidate → Bool) → List Candidate → ℕ
 mask_where p [] = 0
 mask_where p (c ∷ cs) = with_first (p c) (mask_where p cs)
 
+-- where a call gives a truth value of a candidate, that is what the test says
+abbrev pub Tells : (Candidate → Bool → Type 0) → (Candidate → Bool) → Type 0
+Tells gives test = (c : Candidate) (b : Bool) → gives c b → b ≡ test c
+
+-- the classes at a mask's positions
+abbrev pub classes_at : ℕ → List ℕ → List ℕ
+classes_at mask [] = []
+classes_at mask (c ∷ cs) = if mask % 2 == 1 then c ∷ classes_at (mask / 2) cs else classes_at (mask / 2) cs
+
+abbrev pub classes_in : List Access → Block → ℕ → List ℕ
+classes_in accesses block mask = classes_at mask (candidates accesses block)
+
 -- a candidate whose class some columns of an atom have
 abbrev pub is_among : Normal → ℕ → List ColumnId → Candidate → Bool
 is_among normal atom columns c = list_any (λ column. class_at normal atom column == c.class) columns
-
-abbrev pub is_held : ClassSet → Candidate → Bool
-is_held set c = has set c.class
 
 -- ---- what constants cover
 
@@ -99,6 +111,13 @@ pub record IsTable (rules : List Rule) (table : List ℕ) : Type 0 where
   pub all : (r : Rule) (mask : ℕ) → Contains rules r → mask < length table → IsTrue (within r.key mask) → IsTrue (within r.gives (entry_at table mask))
   pub no_more : HoldsNoMore rules table
 
+abbrev pub IsClosedTable : List Rule → List ℕ → Type 0
+IsClosedTable rules table = (mask : ℕ) → mask < length table → IsLeastUnder rules mask (entry_at table mask)
+
+-- a set with its entry, and where that is a larger set the entry of the larger one
+abbrev pub reached : List ℕ → ℕ → ℕ
+reached table mask = if bit_or mask (entry_at table mask) == mask then mask else entry_at table (bit_or mask (entry_at table mask))
+
 pub record United (table : List ℕ) (mask count all : ℕ) : Type 0 where
   pub own : IsTrue (within (entry_at table mask) all)
   pub each : (i : ℕ) → i < count → bit_at mask i ≡ 1 → IsTrue (within (entry_at table (bit_xor mask (2 ^ i))) all)
@@ -131,29 +150,7 @@ all_serve start mask servers = list_all (some_serves start mask) servers
 
 -- ---- sets that are tried
 
-pub record IsStart (accesses : List Access) (block : Block) (start : ClassSet) : Type 0 where
-  pub classes : length start ≡ (normal_of block).count
-  pub holds : Within (own_cover (normal_of block) accesses) start
-  pub only : (c : ℕ) → IsTrue (has start c) → (IsTrue (has (own_cover (normal_of block) accesses) c)) ⊎ Contains (candidates accesses block) c
-
-abbrev pub Ascend : List ℕ → Type 0
-Ascend [] = Unit {0}
-Ascend (c ∷ cs) = AllByRecursion (λ d. c < d) cs × Ascend cs
-
--- candidates that aren't in the start, ascending
-pub record AreUntried (accesses : List Access) (block : Block) (start : ClassSet) (classes : List ℕ) : Type 0 where
-  pub among : (c : ℕ) → Contains classes c → Contains (candidates accesses block) c
-  pub free : (c : ℕ) → Contains classes c → has start c ≡ false
-  pub ascend : Ascend classes
-
--- constants for the candidates that the set holds make the block covered
-abbrev pub is_covered_from : List Access → Block → ClassSet → Bool
-is_covered_from accesses block start = is_covered_with accesses block (filter (has start) (candidates accesses block))
-
--- the first of some sets that passes, once its classes are added
-abbrev pub first_added : (ClassSet → Bool) → ClassSet → List (List ℕ) → Option (List ℕ)
-first_added test old sets = find (λ set. test (with_classes old set)) sets
-
-pub record Walked (test : ClassSet → Bool) (sets : List (List ℕ)) (old new : ClassSet) (found : Bool) : Type 0 where
-  pub tells : found ≡ is_some (first_added test old sets)
-  pub adds : new ≡ with_classes old (unwrap_or (first_added test old sets) [])
+abbrev pub first_from : List Access → Block → ℕ → ℕ → ℕ → Option (List ℕ)
+first_from accesses block size position held =
+    find (is_covered_with accesses block)
+    (map (λ set. classes_in accesses block held ++ set) (sublists size (drop position (candidates accesses block))))

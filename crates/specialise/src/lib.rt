@@ -62,7 +62,7 @@ fn search(
         return Err(Fail::Refused(too_many(number, normal.count)));
     }
     let trial = trial_of(alloc, accesses, block, normal, found.as_slice(), candidates)?;
-    Ok(trial.search(alloc, cover)?)
+    Ok(trial.search(alloc)?)
 }
 
 // What is answered of a block, whose sets of candidates are tried against each of the constraints.

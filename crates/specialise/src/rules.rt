@@ -1,10 +1,12 @@
 // What more constants cover, by rules over sets of candidates.
-ghost use Rattle.std.specs.Prelude.{◌≡◌, ◌≤◌, ◌<◌, ◌^◌, IfOk, List as Items, All, fold, length, map, replicate};
+ghost use Rattle.std.specs.Prelude.{◌≡◌, ◌≤◌, ◌<◌, ◌^◌, bit_or, Bool, IfOk, ℕ, List as Items, All, fold, length, map, replicate};
+ghost use Rattle.std.specs.Fn.{FnReturnsAt};
 ghost use Rattle.attribute_closure.specs.Uses.{as_use};
-ghost use Rattle.specialise.specs.Trials.{IsFilled, IsLeastUnder, IsTable, United, is_among, is_held, mask_where, rule_of, with_first, with_rule};
+ghost use Rattle.specialise.specs.declared.candidates.Candidate.{Candidate};
+ghost use Rattle.specialise.specs.Trials.{IsClosedTable, IsFilled, IsTable, Tells, United, entry_at, is_among, mask_where, reached, rule_of, with_first, with_rule};
 
 use crate::candidates::Candidate;
-use attribute_closure::{UseAt, has_class};
+use attribute_closure::UseAt;
 use beas_core::{ColumnId, NoMemory, Normal, class_at};
 use std::alloc::Global;
 
@@ -23,13 +25,30 @@ fn is_among(block: &Normal, atom: u16, columns: &[ColumnId], candidate: &Candida
         .any(|column| class_at(block, atom, *column) == candidate.class)
 }
 
-/// A mask over candidates: one over all but the first, moved up by a position, with the first in it or not.
-pub(crate) fn with_first(holds: bool, rest: u32) -> u32
+// A mask over candidates: one over all but the first, moved up by a position, with the first in it or not.
+fn with_first(holds: bool, rest: u32) -> u32
     requires { rest < 65536 }
     ensures { result ≡ with_first holds rest }
 {
     let moved = 2 * rest;
     if holds { 1 + moved } else { moved }
+}
+
+/// The positions of the candidates that pass a test.
+pub(crate) fn mask_where<F: Fn(&Candidate) -> bool>(candidates: &[Candidate], test: &F) -> u32
+    requires few { length candidates.now ≤ 16 }
+    requires test { F.IsAlwaysCallable test.now }
+    ensures below { result < 2 ^ length candidates.now }
+    ensures mask { (passes : Candidate → Bool) → Tells (FnReturnsAt F.Fn test.now) passes
+        → result ≡ mask_where passes candidates.now }
+{
+    match candidates {
+        [] => 0,
+        [first, others @ ..] => {
+            let rest = mask_where(others, test);
+            with_first(test(first), rest)
+        }
+    }
 }
 
 /// The positions of the candidates whose class some columns of an atom have.
@@ -42,34 +61,10 @@ pub(crate) fn positions_of(
     requires { length candidates.now ≤ 16 }
     ensures { result ≡ mask_where (is_among block.now atom columns.now) candidates.now }
 {
-    match candidates {
-        [] => 0,
-        [first, others @ ..] => {
-            let rest = positions_of(block, atom, columns, others);
-            with_first(is_among(block, atom, columns, first), rest)
-        }
-    }
-}
-
-/// Whether a set of classes holds a candidate's.
-pub(crate) fn is_held(set: &[bool], candidate: &Candidate) -> bool
-    ensures { result ≡ is_held set.now candidate.now }
-{
-    has_class(set, candidate.class)
-}
-
-/// The positions of the candidates that a set of classes holds.
-pub(crate) fn held_positions(set: &[bool], candidates: &[Candidate]) -> u32
-    requires { length candidates.now ≤ 16 }
-    ensures { result ≡ mask_where (is_held set.now) candidates.now }
-{
-    match candidates {
-        [] => 0,
-        [first, others @ ..] => {
-            let rest = held_positions(set, others);
-            with_first(is_held(set, first), rest)
-        }
-    }
+    mask_where(
+        candidates,
+        &|candidate: &Candidate| is_among(block, atom, columns, candidate),
+    )
 }
 
 fn rule_of(block: &Normal, candidates: &[Candidate], found: UseAt<'_>) -> Rule
@@ -130,17 +125,46 @@ fn spread(table: &mut [u32], count: usize)
     }
 }
 
+// A set with its entry, and where that is a larger set the entry of the larger one.
+fn reached(table: &[u32], set: usize) -> u32
+    requires few { length table.now ≤ 65536 }
+    requires set { set < length table.now }
+    requires inside { bit_or set (entry_at table.now set) < length table.now }
+    ensures { result ≡ reached table.now set }
+{
+    let more = set as u32 | table[set];
+    if more as usize == set {
+        more
+    } else {
+        table[more as usize]
+    }
+}
+
+// Adds to the entry of each set the set itself and all that the rules give from both, the larger ones first.
+fn close(table: &mut [u32])
+    requires few { length table.old ≤ 65536 }
+    requires sets { (count : ℕ) × (length table.old ≡ 2 ^ count) }
+    requires entries { All (λ entry. entry < length table.old) table.old }
+    ensures { (rules : Items Rule) → IsTable rules table.old → IsClosedTable rules table.new }
+{
+    for set in (0..table.len()).rev() {
+        let all = reached(table, set);
+        table[set] = all;
+    }
+}
+
 // Fills the table of all sets, whose entries are empty.
 fn fill(table: &mut [u32], block: &Normal, candidates: &[Candidate], found: &[UseAt<'_>])
     requires few { length candidates.now ≤ 16 }
     requires empty { table.old ≡ replicate (2 ^ length candidates.now) 0 }
-    ensures { IsTable (map (rule_of block.now candidates.now) (map as_use found.now)) table.new }
+    ensures { IsClosedTable (map (rule_of block.now candidates.now) (map as_use found.now)) table.new }
 {
     add_rules(table, block, candidates, found);
     spread(table, candidates.len());
+    close(table);
 }
 
-/// A table with an entry for each set of candidates: all that those rules give whose key the set holds.
+/// A table with an entry for each set of candidates: the set together with all that the rules give from it.
 pub(crate) fn table_of(
     alloc: Global,
     block: &Normal,
@@ -150,24 +174,10 @@ pub(crate) fn table_of(
     requires { length candidates.now ≤ 16 }
     ensures sets { IfOk result (λ table. length table.items ≡ 2 ^ length candidates.now) }
     ensures table { IfOk result (λ table.
-        IsTable (map (rule_of block.now candidates.now) (map as_use found.now)) table.items) }
+        IsClosedTable (map (rule_of block.now candidates.now) (map as_use found.now)) table.items) }
 {
     let sets: usize = 1 << candidates.len();
     let mut table = vec![in alloc; 0u32; sets]?;
     fill(&mut table, block, candidates, found);
     Ok(table)
-}
-
-/// The set together with all that the rules give from it, by the table over so many candidates.
-pub(crate) fn closed_under(table: &[u32], count: usize, set: u32) -> u32
-    requires sets { length table.now ≡ 2 ^ count }
-    requires set { set < length table.now }
-    requires entries { All (λ entry. entry < length table.now) table.now }
-    ensures { (rules : Items Rule) → IsTable rules table.now → IsLeastUnder rules set result }
-{
-    let mut held = set;
-    while held | table[held as usize] != held {
-        held |= table[held as usize];
-    }
-    held
 }

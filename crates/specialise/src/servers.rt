@@ -3,10 +3,10 @@ ghost use Rattle.std.specs.Prelude.{◌≡◌, ◌≤◌, IfOk, length, map};
 ghost use Rattle.beas_core.specs.Coverage.{atoms_of};
 ghost use Rattle.beas_core.specs.Groups.{has_column};
 ghost use Rattle.attribute_closure.specs.Uses.{as_use};
-ghost use Rattle.specialise.specs.Trials.{all_serve, lacks, mask_where, server_of, servers_on, serves_now, some_serves};
+ghost use Rattle.specialise.specs.Trials.{all_serve, lacks, server_of, servers_on, serves_now, some_serves};
 
 use crate::candidates::Candidate;
-use crate::rules::{positions_of, with_first};
+use crate::rules::{mask_where, positions_of};
 use attribute_closure::{UseAt, holds_needed};
 use beas_core::{ColumnId, List, NoMemory, Normal};
 use std::alloc::Global;
@@ -35,19 +35,6 @@ fn lacks(found: UseAt<'_>, candidate: &Candidate) -> bool
         && !stands_in(found.access.fetched.as_slice(), column)
 }
 
-fn losses_of(candidates: &[Candidate], found: UseAt<'_>) -> u32
-    requires { length candidates.now ≤ 16 }
-    ensures { result ≡ mask_where (lacks (as_use found.entry)) candidates.now }
-{
-    match candidates {
-        [] => 0,
-        [first, others @ ..] => {
-            let rest = losses_of(others, found);
-            with_first(lacks(found, first), rest)
-        }
-    }
-}
-
 fn server_of(block: &Normal, candidates: &[Candidate], found: UseAt<'_>) -> Server
     requires { length candidates.now ≤ 16 }
     ensures { result ≡ server_of block.now candidates.now (as_use found.entry) }
@@ -55,7 +42,7 @@ fn server_of(block: &Normal, candidates: &[Candidate], found: UseAt<'_>) -> Serv
     let columns = found.access.key.as_slice();
     Server {
         key: positions_of(block, found.atom, columns, candidates),
-        loses: losses_of(candidates, found),
+        loses: mask_where(candidates, &|candidate: &Candidate| lacks(found, candidate)),
     }
 }
 

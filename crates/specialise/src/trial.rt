@@ -1,14 +1,14 @@
 // Sets of candidates, tried one after another.
-ghost use Rattle.std.specs.Prelude.{◌≡◌, ◌≤◌, ◌^◌, IfOk, filter, length, map, option_map};
+ghost use Rattle.std.specs.Prelude.{◌≡◌, ◌≤◌, ◌<◌, ◌^◌, IfOk, length, map, option_map};
 ghost use Rattle.beas_core.specs.Classes.{normal_of};
-ghost use Rattle.beas_core.specs.Coverage.{has, own_cover, uses};
+ghost use Rattle.beas_core.specs.Coverage.{uses};
 ghost use Rattle.beas_core.specs.Shapes.{BlockIsWellFormed};
 ghost use Rattle.attribute_closure.specs.Uses.{as_use};
-ghost use Rattle.specialise.specs.Specialised.{candidates as candidate_classes, first_place, first_set, sets_of, sublists};
-ghost use Rattle.specialise.specs.Trials.{AreUntried, IsStart, IsTable, Walked, candidate_of, is_covered_from, rules_of, servers_of};
+ghost use Rattle.specialise.specs.Specialised.{candidates as candidate_classes, first_place, first_set, is_covered_with};
+ghost use Rattle.specialise.specs.Trials.{IsClosedTable, candidate_of, classes_in, first_from, rules_of, servers_of};
 
 use crate::candidates::Candidate;
-use crate::rules::{closed_under, held_positions, is_held, table_of};
+use crate::rules::table_of;
 use crate::servers::{Server, all_serve, servers_of};
 use attribute_closure::UseAt;
 use beas_core::{Access, Block, List, NoMemory, Normal, Place};
@@ -25,96 +25,82 @@ pub struct Trial<'a> {
     ghost candidates_are: { candidates ≡ map (candidate_of block.now) (candidate_classes accesses.now block.now) },
     ghost few: { length candidates ≤ 16 },
     ghost sets: { length table.items ≡ 2 ^ length candidates },
-    ghost table_is: { IsTable (rules_of accesses.now block.now) table.items },
+    ghost table_is: { IsClosedTable (rules_of accesses.now block.now) table.items },
     ghost servers_are: { servers ≡ servers_of accesses.now block.now },
 }
 
 impl Trial<'_> {
-    // Whether constants for the candidates that a set holds make the block covered.
-    fn covers(&self, start: &[bool]) -> bool
+    // Whether constants for the candidates in a set make the block covered.
+    fn covers(&self, held: u32) -> bool
         requires shape { BlockIsWellFormed self.now.block.now }
-        requires start { IsStart self.now.accesses.now self.now.block.now start.now }
-        ensures { result ≡ is_covered_from self.now.accesses.now self.now.block.now start.now }
+        requires held { held < 2 ^ length self.now.candidates }
+        ensures { result ≡ is_covered_with self.now.accesses.now self.now.block.now
+            (classes_in self.now.accesses.now self.now.block.now held) }
     {
-        let candidates = self.candidates.as_slice();
-        let held = held_positions(start, candidates);
-        let set = closed_under(&self.table, candidates.len(), held);
+        let set = self.table[held as usize];
         all_serve(held, set, self.servers.as_slice())
     }
 
-    // Looks for the first set of `size` candidates among `rest` that makes the block covered with those that the start holds,
-    // and adds it to the start. Where there is none, the start is left as it was.
-    fn try_sets(&self, size: usize, rest: &[Candidate], start: &mut [bool]) -> bool
+    // Looks for the first set that makes the block covered, of `size` candidates from a position on and those that are held.
+    // Where fewer are left there is none.
+    fn try_sets(&self, size: usize, position: usize, held: u32) -> Option<u32>
         requires shape { BlockIsWellFormed self.now.block.now }
-        requires start { IsStart self.now.accesses.now self.now.block.now start.old }
-        requires rest { AreUntried self.now.accesses.now self.now.block.now start.old (map (λ c. c.class) rest.now) }
-        ensures { Walked (is_covered_from self.now.accesses.now self.now.block.now)
-            (sublists size (map (λ c. c.class) rest.now)) start.old start.new result }
+        requires position { position ≤ length self.now.candidates }
+        requires held { held < 2 ^ position }
+        ensures { option_map (classes_in self.now.accesses.now self.now.block.now) result
+            ≡ first_from self.now.accesses.now self.now.block.now size position held }
     {
         if size == 0 {
-            return self.covers(start);
+            return self.covers(held).then_some(held);
         }
-        match rest {
-            [] => false,
-            [first, others @ ..] => {
-                let class = usize::from(first.class);
-                start[class] = true;
-                if self.try_sets(size - 1, others, start) {
-                    return true;
-                }
-                start[class] = false;
-                self.try_sets(size, others, start)
-            }
+        if self.candidates.len() - position < size {
+            return None;
         }
+        if let Some(set) = self.try_sets(size - 1, position + 1, held | (1 << position)) {
+            return Some(set);
+        }
+        self.try_sets(size, position + 1, held)
     }
 
-    // Looks for the first set of candidates that makes the block covered, and adds it to the start, which is the covered set.
-    fn find_set(&self, start: &mut [bool]) -> bool
-        requires shape { BlockIsWellFormed self.now.block.now }
-        requires start { start.old ≡ own_cover (normal_of self.now.block.now) self.now.accesses.now }
-        ensures { Walked (is_covered_from self.now.accesses.now self.now.block.now)
-            (sets_of (candidate_classes self.now.accesses.now self.now.block.now)) start.old start.new result }
+    // Looks for the first set of candidates that makes the block covered.
+    fn find_set(&self) -> Option<u32>
+        requires { BlockIsWellFormed self.now.block.now }
+        ensures { option_map (classes_in self.now.accesses.now self.now.block.now) result
+            ≡ first_set self.now.accesses.now self.now.block.now }
     {
-        let candidates = self.candidates.as_slice();
-        let count = candidates.len();
+        let count = self.candidates.len();
         for size in 0..count + 1 {
-            if self.try_sets(size, candidates, start) {
-                return true;
+            if let Some(set) = self.try_sets(size, 0, 0) {
+                return Some(set);
             }
         }
-        false
+        None
     }
 
-    // The first places of the candidates that a set holds.
-    fn places_in(&self, alloc: Global, set: &[bool]) -> Result<List<Place>, NoMemory>
+    // The first places of the candidates in a set.
+    fn places_in(&self, alloc: Global, set: u32) -> Result<List<Place>, NoMemory>
         ensures { IfOk result (λ places. places ≡ map (first_place self.now.block.now)
-            (filter (has set.now) (candidate_classes self.now.accesses.now self.now.block.now))) }
+            (classes_in self.now.accesses.now self.now.block.now set)) }
     {
         let mut places = List::new(alloc);
-        for candidate in self.candidates.as_slice() {
-            if is_held(set, candidate) {
+        for (position, candidate) in self.candidates.as_slice().iter().enumerate() {
+            if (set >> position) & 1 == 1 {
                 places.push(candidate.place)?;
             }
         }
         Ok(places)
     }
 
-    /// The first places of the first set of candidates that makes the block covered, where `cover` is its covered set.
-    pub(crate) fn search(
-        &self,
-        alloc: Global,
-        cover: &[bool],
-    ) -> Result<Option<List<Place>>, NoMemory>
-        requires shape { BlockIsWellFormed self.now.block.now }
-        requires cover { cover.now ≡ own_cover (normal_of self.now.block.now) self.now.accesses.now }
+    /// The first places of the first set of candidates that makes the block covered.
+    pub(crate) fn search(&self, alloc: Global) -> Result<Option<List<Place>>, NoMemory>
+        requires { BlockIsWellFormed self.now.block.now }
         ensures { IfOk result (λ found. found
             ≡ option_map (map (first_place self.now.block.now)) (first_set self.now.accesses.now self.now.block.now)) }
     {
-        let mut start = Vec::from_slice(alloc, cover)?;
-        if !self.find_set(&mut start) {
-            return Ok(None);
+        match self.find_set() {
+            None => Ok(None),
+            Some(set) => Ok(Some(self.places_in(alloc, set)?)),
         }
-        Ok(Some(self.places_in(alloc, &start)?))
     }
 }
 

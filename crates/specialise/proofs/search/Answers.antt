@@ -1,6 +1,5 @@
 use Rattle.std.proofs.Common.{◌≤◌, ◌∙◌, ap, map, subst, sym}
-use Rattle.beas_core.specs.Coverage.{uses, own_cover}
-use Rattle.beas_core.specs.Classes.{normal_of}
+use Rattle.beas_core.specs.Coverage.{uses}
 use Rattle.beas_core.specs.Shapes.{BlockIsWellFormed}
 use Rattle.attribute_closure.specs.Uses.{as_use}
 use Rattle.specialise.proofs.Outcomes.{few_found, refused_by, searched_by, answer_over}
@@ -25,14 +24,8 @@ trial_of-requires-clause-candidates c =
     c.in_ok-candidates.ensures c.args.accesses.now
     (ap (map as_use) c.as_slice-2.ensures ∙ c.in_ok-found.ensures ∙ ap (uses c.args.normal.now) c.as_slice.ensures) c.requires.cover
 
-pub search-requires-clause-shape : goal.search-requires-clause-shape
-search-requires-clause-shape c = subst BlockIsWellFormed (sym c.in_ok-trial.ensures.block) c.requires.shape
-
-pub search-requires-clause-cover : goal.search-requires-clause-cover
-search-requires-clause-cover c =
-    c.requires.cover ∙ ap (λ n. own_cover n c.args.accesses.now) c.requires.normal
-    ∙ ap (λ b. own_cover (normal_of b) c.args.accesses.now) (sym c.in_ok-trial.ensures.block)
-    ∙ ap (own_cover (normal_of c.in_ok-trial.trial.block.now)) (sym c.in_ok-trial.ensures.accesses)
+pub search-requires : goal.search-requires
+search-requires c = subst BlockIsWellFormed (sym c.in_ok-trial.ensures.block) c.requires.shape
 
 pub returns : goal.returns
 returns c =

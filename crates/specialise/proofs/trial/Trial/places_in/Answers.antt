@@ -1,16 +1,22 @@
-use Rattle.std.proofs.Common.{◌≤◌, ◌∙◌, ap, length, map, subst}
-use Rattle.std.specs.List.{filter}
-use Rattle.std.proofs.lemmas.List.{take_all}
-use Rattle.specialise.specs.declared.candidates.Candidate.{Candidate}
-use Rattle.specialise.specs.Trials.{is_held}
-use Rattle.specialise.proofs.Tried.{places_held}
+use Rattle.std.proofs.Common.{◌∙◌}
+use Rattle.specialise.proofs.Masks.{no_candidate}
+use Rattle.specialise.proofs.Tables.{bit_back, bit_from}
+use Rattle.specialise.proofs.Tried.{place_left, place_pushed}
 use Rattle.specialise.proofs.trial.Trial.places_in.Goals as goal
+use Rattle.specialise.proofs.trial.Trial.places_in.Goals.{then-set-position-eq1+in_ok-push, else-set-position-eq1}
 
-pub returns : goal.returns
-returns c =
+pub loop-position-preserved : goal.loop-position-preserved
+loop-position-preserved c =
     let t = c.args.self.now in
-    let n = c.loop-candidate.candidate-index in
-    let all = subst (λ k. k ≤ n) (ap length c.as_slice-candidate-items.ensures) c.loop-candidate-test.false in
-    c.loop-candidate.invariant
-    ∙ ap (λ cs. map (λ (x : Candidate). x.place) (filter (is_held c.args.set.now) cs)) (take_all n t.candidates all)
-    ∙ places_held t.accesses.now t.block.now c.args.set.now t.candidates t.candidates_are
+    let items = c.as_slice-candidate-items.result.now in
+    let is = c.as_slice-candidate-items.ensures ∙ t.candidates_are in
+    let set = c.args.set in
+    let n = c.loop-position.position in
+    elim c.if-set-position-eq1.branch [
+      | then-set-position-eq1+in_ok-push w ↦ w.places-is ∙ w.in_ok-push.ensures.ok
+          ∙ place_pushed t.accesses.now t.block.now items is set n _ c.loop-position-test.true c.loop-position.places c.loop-position.invariant
+          (bit_from set n w.if-set-position-eq1.true)
+      | else-set-position-eq1 w ↦ w.places-is
+          ∙ place_left t.accesses.now t.block.now items is set n no_candidate c.loop-position-test.true c.loop-position.places c.loop-position.invariant
+          (λ e. w.if-set-position-eq1.false (bit_back set n e))
+    ]

@@ -1,8 +1,8 @@
 use Rattle.std.proofs.Common.{◌≡◌, map, take}
-use Rattle.std.specs.List.{filter}
-use Rattle.specialise.specs.declared.candidates.Candidate.{Candidate}
-use Rattle.specialise.specs.Trials.{is_held}
+use Rattle.specialise.specs.Specialised.{candidates, first_place}
+use Rattle.specialise.specs.Trials.{classes_at}
 use Rattle.specialise.proofs.trial.Trial.places_in.Given as goal
 
-abbrev pub invariant-loop-candidate : goal.invariant-loop-candidate
-invariant-loop-candidate l = l.places ≡ map (λ (c : Candidate). c.place) (filter (is_held l.set) (take l.candidate-index l.self.candidates))
+abbrev pub invariant-loop-position : goal.invariant-loop-position
+invariant-loop-position l =
+    l.places ≡ map (first_place l.self.block.now) (classes_at l.set (take l.position (candidates l.self.accesses.now l.self.block.now)))
