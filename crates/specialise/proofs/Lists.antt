@@ -97,18 +97,6 @@ numbers_all xs = ap (λ n. take n (enumerate_from 0 xs)) (sym (length-enumerate_
 pub map_push : {A B : Type 0} (f : A → B) (xs : List A) (i : ℕ) (d : A) → i < length xs → map f (take (i + 1) xs) ≡ map f (take i xs) ++ f (get_or xs i d) ∷ []
 map_push f xs i d l = ap (map f) (take_push xs i d l) ∙ map-append f (take i xs) (get_or xs i d ∷ [])
 
-pub filter_push_yes : {A : Type 0} (p : A → Bool) (xs : List A) (i : ℕ) (d : A) → i < length xs → p (get_or xs i d) ≡ true
-    → filter p (take (i + 1) xs) ≡ filter p (take i xs) ++ get_or xs i d ∷ []
-filter_push_yes p xs i d l e =
-    ap (filter p) (take_push xs i d l) ∙ filter-append p (take i xs) (get_or xs i d ∷ [])
-    ∙ ap (λ b. filter p (take i xs) ++ cond b (get_or xs i d ∷ []) []) e
-
-pub filter_push_no : {A : Type 0} (p : A → Bool) (xs : List A) (i : ℕ) (d : A) → i < length xs → p (get_or xs i d) ≡ false
-    → filter p (take (i + 1) xs) ≡ filter p (take i xs)
-filter_push_no p xs i d l e =
-    ap (filter p) (take_push xs i d l) ∙ filter-append p (take i xs) (get_or xs i d ∷ [])
-    ∙ ap (λ b. filter p (take i xs) ++ cond b (get_or xs i d ∷ []) []) e ∙ append-nil (filter p (take i xs))
-
 pub get_or-enumerated : {A B : Type 0} (f : ℕ × A → B) (n k : ℕ) (xs : List A) (d : B) (e : A) → k < length xs
     → get_or (map f (enumerate_from n xs)) k d ≡ f (n + k, get_or xs k e)
 get_or-enumerated f n k [] d e l = absurd (omega (arith, l))
