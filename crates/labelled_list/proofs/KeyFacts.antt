@@ -1,4 +1,4 @@
--- Tuples by their words, and what callers see of them.
+-- Tuples by their codes, and what callers see of them.
 use Rattle.std.proofs.Common.{◌≡◌, ◌≢◌, ◌≤◌, ◌<◌, ◌+◌, ◌-◌, ◌^◌, ℕ, zero, suc, Bool, true, false, cond, true≢false, List, [], ◌∷◌, ◌++◌, length, get_or, set, take, drop, map, refl, ap, sym, ◌∙◌, subst, arith, inl, inr}
 use Rattle.std.specs.Prelude.{Option, Some, None, slice_get, IfSome, nat_eq, position}
 use Rattle.std.specs.List.{insert, remove, swap_remove, AllByRecursion, IsDistinct}
@@ -50,7 +50,7 @@ not_words a b out = by (pointwise nat_eq a b) refl
     by true e = absurd (out (sym ((bytes_decides a b).0 e)))
     by false e = e
 
--- words that the map doesn't have are no item's
+-- codes that the map doesn't have are no item's
 pub none_seen : (es : List Tuple) (slots : List Slot) (self : List Coded) (words : List ℕ) → ArePlaces (length es) slots → items_of es slots ≡ self
     → None ≡ position (pointwise nat_eq words) (keys_of es) → AllByRecursion (λ (item : Coded). item.codes ≢ words) self
 none_seen es slots self words p v e =
@@ -64,7 +64,7 @@ none_seen es slots self words p v e =
     λ same. other_words words (get_or (keys_of es) (get_or slots i s).entry []) out
     (key_at es (get_or slots i s).entry [] w ∙ sym (ap (λ (x : Coded). x.codes) (item_at es slots i d s h)) ∙ same)))
 
--- and words that it has are those of the slot that names their place
+-- and codes that it has are those of the slot that names their place
 pub one_seen : (es : List Tuple) (slots : List Slot) (self : List Coded) (words : List ℕ) (entry place : ℕ) → items_of es slots ≡ self
     → Some entry ≡ position (pointwise nat_eq words) (keys_of es) → place < length slots → ((d : Slot) → (get_or slots place d).entry ≡ entry)
     → (place < length self) × ((d : Coded) → (get_or self place d).codes ≡ words)
@@ -89,7 +89,7 @@ distinct_at (k ∷ ks) u i zero d h l = absurd (omega (arith, h))
 distinct_at (k ∷ ks) u zero (suc j) d h l = place_of_all (λ y. pointwise nat_eq k y ≡ false) ks u.0 j d (omega arith)
 distinct_at (k ∷ ks) u (suc i) (suc j) d h l = distinct_at ks u.1 i j d (omega arith) (omega arith)
 
--- no two items have the same words
+-- no two items have the same codes
 pub items_distinct : (es : List Tuple) (slots : List Slot) (self : List Coded) → ArePlaces (length es) slots → IsDistinct (pointwise nat_eq) (keys_of es)
     → items_of es slots ≡ self → AreDistinct self
 items_distinct es slots self p u v = subst AreDistinct v (λ i j d h l same.

@@ -1,4 +1,4 @@
--- Searches by words, over slots and over what callers see.
+-- Searches by codes, over slots and over what callers see.
 use Rattle.std.proofs.Common.{◌≡◌, ◌<◌, ℕ, suc, Bool, true, false, cond, List, [], ◌∷◌, length, get_or, refl, ap, sym, ◌∙◌, arith}
 use Rattle.std.specs.Option.{option_map_or}
 use Rattle.std.specs.List.{filter, AllByRecursion}

@@ -1,5 +1,5 @@
--- What the words of a tuple feed to a hash: what a slice of them does.
---     words_alike      words that are equal feed the same
+-- What the codes of a tuple feed to a hash: what a slice of them does.
+--     words_alike      codes that are equal feed the same
 use Rattle.std.proofs.Common.{◌≡◌, ap}
 use Rattle.std.specs.Prelude.{ℕ, List, IsTrue, nat_eq}
 use Rattle.std.specs.Cmp.Lexicographic.{pointwise, bytes_decides}

@@ -1,14 +1,14 @@
--- The words of a tuple, wherever they lie.
+-- The codes of a tuple, wherever they lie.
 --     kept_words kept      those of a kept tuple, short or long
---     IsKept kept          a short one has no more words than stand in place
+--     IsKept kept          a short one has no more codes than stand in place
 use Rattle.std.specs.Prelude.{⊤, ◌≡◌, ◌≤◌, ℕ, List, length, take}
-use Rattle.labelled_list.specs.declared.words.Kept.{Kept}
-use Rattle.labelled_list.specs.declared.words.Kept.TheVariants.{Short, Long}
+use Rattle.labelled_list.specs.declared.codes.Kept.{Kept}
+use Rattle.labelled_list.specs.declared.codes.Kept.TheVariants.{Short, Long}
 
 abbrev pub kept_words : Kept → List ℕ
-kept_words (Short len words) = take len words
-kept_words (Long words) = words.items
+kept_words (Short len codes) = take len codes
+kept_words (Long codes) = codes.items
 
 abbrev pub IsKept : Kept → Type 0
-IsKept (Short len words) = (len ≤ 4) × (length words ≡ 4)
-IsKept (Long words) = ⊤
+IsKept (Short len codes) = (len ≤ 4) × (length codes ≡ 4)
+IsKept (Long codes) = ⊤

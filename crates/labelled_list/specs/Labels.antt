@@ -1,12 +1,12 @@
--- Tuples of words in an order that only the writer knows. Each lies once in a map, from its words to its count and its
+-- Tuples of codes in an order that only the writer knows. Each lies once in a map, from its codes to its count and its
 -- label, and a list of slots gives the order: a slot names its tuple by its place in the map.
 --     no_tuple                      what stands for a tuple where there is none
 --     entry_at entries slot         the tuple that a slot names
---     passes test entries slot      the words of the tuple that a slot names pass a test; where it names none they don't
+--     passes test entries slot      the codes of the tuple that a slot names pass a test; where it names none they don't
 --     in_order entries slots        the tuples in the order of the slots
---     item_of tuple                 its words and its count: what callers see
+--     item_of tuple                 its codes and its count: what callers see
 --     items_of entries slots        the items in the order of the slots
---     AreDistinct items             no two items have the same words
+--     AreDistinct items             no two items have the same codes
 --     label_in tuples i              the label of the tuple at a place
 --     Rises tuples                  the labels rise, above 0 and below the greatest number
 --     ArePlaces n slots             each of the map's n places is named by one slot

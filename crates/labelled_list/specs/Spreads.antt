@@ -8,7 +8,7 @@
 --                                             maintaining order in a list, 1987; Bender and others, Two simplified
 --                                             algorithms for maintaining order in a list, 2002)
 --     IsSpread old new first end low step     from `first` to `end` the labels are low + step, low + 2 step and so on;
---                                             the words, the counts and all other labels stay
+--                                             the codes, the counts and all other labels stay
 use Rattle.std.specs.Prelude.{◌≡◌, ◌<◌, ◌≤◌, ◌+◌, ◌-◌, ◌*◌, ◌^◌, ℕ, List, length, map}
 use Rattle.labelled_list.specs.declared.slot.Standing.{Standing}
 use Rattle.labelled_list.specs.declared.stretch.Stretch.{Stretch}

@@ -1,7 +1,7 @@
 // A tuple of codes and how many rows have it.
 ghost use Rattle.std.specs.Prelude.{◌≡◌, IfOk};
 
-use crate::words::TupleCodes;
+use crate::codes::TupleCodes;
 use beas_core::{Duplicate, NoMemory};
 use blocked_list::Counted;
 use std::alloc::Global;
@@ -14,7 +14,7 @@ pub struct Coded {
 }
 
 impl Coded {
-    /// A tuple of these words that so many rows have.
+    /// A tuple of these codes that so many rows have.
     pub fn of(alloc: Global, words: &[u64], count: u32) -> Result<Coded, NoMemory>
         ensures { IfOk result (λ coded. coded ≡ record { codes = words.now; count = count }) }
     {

@@ -7,12 +7,12 @@ ghost use Rattle.labelled_list.specs.Labels.{AreDistinct, IsLabelled, SitsAt, in
 ghost use Rattle.labelled_list.specs.declared.slot.Standing.{Standing};
 
 use crate::coded::Coded;
+use crate::codes::TupleCodes;
 use crate::labels::make_label;
 use crate::places::{
     CodesPosition, Tuples, count_at, item_of_slot, label_at, position_of_entry, write,
 };
 use crate::slot::{Slot, Standing};
-use crate::words::TupleCodes;
 use beas_core::{Duplicate, NoMemory};
 use blocked_list::{Before, BlockedList, Walk};
 use indexmap::IndexMap;
@@ -95,7 +95,7 @@ fn copy_of(
 }
 
 impl LabelledList {
-    /// A list of no tuples, whose words will be hashed in this way. It takes no memory.
+    /// A list of no tuples, whose codes will be hashed in this way. It takes no memory.
     pub fn new(alloc: Global, hashing: SeededHashing) -> LabelledList
         ensures { result ≡ [] }
     {
@@ -105,7 +105,7 @@ impl LabelledList {
         }
     }
 
-    /// How many tuples there are, of which no two have the same words. It takes no memory.
+    /// How many tuples there are, of which no two have the same codes. It takes no memory.
     pub fn len(&self) -> usize
         ensures len { result ≡ length self.now }
         ensures few { result < 2 ^ 32 }
@@ -114,13 +114,13 @@ impl LabelledList {
         self.tuples.len()
     }
 
-    /// The words of the tuple at a place. It takes no memory.
+    /// The codes of the tuple at a place. It takes no memory.
     pub fn codes(&self, at: usize) -> &[u64]
         requires { at < length self.now }
         ensures { (d : Coded) → result.now ≡ (slice_index_or self.now at d).codes }
     {
         match self.tuples.get_index(self.slots.get(at).entry as usize) {
-            Some((words, _)) => words.as_slice(),
+            Some((codes, _)) => codes.as_slice(),
             None => unreachable!(),
         }
     }
@@ -133,7 +133,7 @@ impl LabelledList {
         count_at(&self.tuples, &self.slots, at)
     }
 
-    /// Where a tuple is by its words alone. It takes no memory.
+    /// Where a tuple is by its codes alone. It takes no memory.
     pub fn position_of(&self, words: &[u64]) -> Option<usize>
         ensures { MatchOption result
             (AllByRecursion (λ (item : Coded). item.codes ≢ words.now) self.now)
@@ -200,7 +200,7 @@ impl LabelledList {
         self.tuples.swap_remove_index(entry as usize);
     }
 
-    /// A list of these tuples, whose words are hashed in this way, in a time that grows with their number.
+    /// A list of these tuples, whose codes are hashed in this way, in a time that grows with their number.
     pub fn over(
         alloc: Global,
         hashing: SeededHashing,

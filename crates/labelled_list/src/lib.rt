@@ -1,14 +1,14 @@
-//! Distinct tuples of words in an order that only the writer knows, each found by its words alone.
+//! Distinct tuples of codes in an order that only the writer knows, each found by its codes alone.
 #![tactic(auto)]
 
 mod coded;
+mod codes;
 mod labelled;
 mod labels;
 mod places;
 mod slot;
 mod stretch;
-mod words;
 
 pub use coded::Coded;
+pub use codes::TupleCodes;
 pub use labelled::LabelledList;
-pub use words::TupleCodes;

@@ -5,15 +5,15 @@ ghost use Rattle.labelled_list.specs.Labels.{ArePlaces, IsLabelled, entry_at, in
 ghost use Rattle.labelled_list.specs.declared.slot.Slot.{Slot};
 
 use crate::coded::Coded;
+use crate::codes::TupleCodes;
 use crate::slot::{Slot, Standing};
-use crate::words::TupleCodes;
 use beas_core::NoMemory;
 use blocked_list::{Before, BlockedList};
 use indexmap::IndexMap;
 use seeded_hash::SeededHashing;
 use std::alloc::Global;
 
-/// Each tuple's count and label by its words.
+/// Each tuple's count and label by its codes.
 pub type Tuples = IndexMap<TupleCodes, Standing, SeededHashing>;
 
 /// The place of a label.
@@ -34,7 +34,7 @@ impl Before<Slot> for LabelPlace<'_> {
     }
 }
 
-/// The place of words by what a search tells of them.
+/// The place of a tuple by what a search tells of its codes.
 #[derive(Drop)]
 pub struct CodesPosition<'a, B> {
     pub tuples: &'a Tuples,
@@ -46,7 +46,7 @@ impl<B: Before<TupleCodes>> Before<Slot> for CodesPosition<'_, B> {
 
     fn is_before(&self, slot: &Slot) -> bool {
         match self.tuples.get_index(slot.entry as usize) {
-            Some((words, _)) => self.wanted.is_before(words),
+            Some((codes, _)) => self.wanted.is_before(codes),
             None => false,
         }
     }
@@ -81,13 +81,13 @@ pub fn count_at(tuples: &Tuples, slots: &BlockedList<Slot>, at: usize) -> u32
     tuples[slots.get(at).entry as usize].count
 }
 
-/// The words and the count of the tuple that a slot names.
+/// The codes and the count of the tuple that a slot names.
 pub fn item_of_slot(alloc: Global, tuples: &Tuples, slot: &Slot) -> Result<Coded, NoMemory>
     requires { slot.now.entry < length tuples.now.entries }
     ensures { IfOk result (λ item. item ≡ item_of (entry_at tuples.now.entries slot.now)) }
 {
     match tuples.get_index(slot.entry as usize) {
-        Some((words, standing)) => Coded::of(alloc, words.as_slice(), standing.count),
+        Some((codes, standing)) => Coded::of(alloc, codes.as_slice(), standing.count),
         None => unreachable!(),
     }
 }

@@ -1,4 +1,4 @@
-// The words of a tuple as a key of a map.
+// The codes of a tuple as a key of a map.
 ghost use Rattle.std.specs.Prelude.{◌≡◌, ◌≤◌, length, nat_eq, IfOk};
 ghost use Rattle.std.specs.Cmp.{partial_equiv_from_equiv};
 ghost use Rattle.std.specs.Cmp.Lexicographic.{pointwise, nat_list_eq_equiv};
@@ -12,33 +12,33 @@ use std::alloc::Global;
 use std::hash::{Hash, Hasher};
 use std::marker::Model;
 
-/// As many words stand in place at most: such tuples have a key of three columns and one that is fetched, say.
+/// As many codes stand in place at most: such tuples have a key of three columns and one that is fetched, say.
 const FEW: usize = 4;
 
-/// Where the words of a tuple lie. A few stand in place, so that they cost no block of memory and are read where the tuple
+/// Where the codes of a tuple lie. A few stand in place, so that they cost no block of memory and are read where the tuple
 /// is found, without a jump. Their number takes no room of its own, as it lies beside the tag.
 #[derive(Drop)]
 enum Kept {
-    Short { len: u8, words: [u64; FEW] },
+    Short { len: u8, codes: [u64; FEW] },
     Long(Vec<u64>),
 }
 
-/// A few words, in place.
-fn in_place(words: &[u64]) -> Kept
-    requires { length words.now ≤ 4 }
+/// A few codes, in place.
+fn in_place(codes: &[u64]) -> Kept
+    requires { length codes.now ≤ 4 }
     ensures kept { IsKept result }
-    ensures words { kept_words result ≡ words.now }
+    ensures codes { kept_words result ≡ codes.now }
 {
-    let len = words.len();
+    let len = codes.len();
     let mut short = [0; FEW];
-    short[..len].copy_from_slice(words);
+    short[..len].copy_from_slice(codes);
     Kept::Short {
         len: len as u8,
-        words: short,
+        codes: short,
     }
 }
 
-/// The words of a tuple, seen as their list. Up to four of them stand in place.
+/// The codes of a tuple, seen as their list. Up to four of them stand in place.
 #[derive(Drop)]
 pub struct TupleCodes {
     kept: Kept,
@@ -56,7 +56,7 @@ impl Model for TupleCodes {
 }
 
 impl TupleCodes {
-    /// These words. It takes no memory.
+    /// These codes. It takes no memory.
     pub fn from_vec(words: Vec<u64>) -> TupleCodes
         ensures { result ≡ words.items }
     {
@@ -68,7 +68,7 @@ impl TupleCodes {
         TupleCodes { kept }
     }
 
-    /// The same words. It takes no memory for up to four.
+    /// The same codes. It takes no memory for up to four.
     pub fn of(alloc: Global, words: &[u64]) -> Result<TupleCodes, NoMemory>
         ensures { IfOk result (λ key. key ≡ words.now) }
     {
@@ -80,13 +80,13 @@ impl TupleCodes {
         Ok(TupleCodes { kept })
     }
 
-    /// The words. It takes no memory.
+    /// The codes. It takes no memory.
     pub fn as_slice(&self) -> &[u64]
         ensures { result.now ≡ self.now }
     {
         match &self.kept {
-            Kept::Short { len, words } => &words[..*len as usize],
-            Kept::Long(words) => words.as_slice(),
+            Kept::Short { len, codes } => &codes[..*len as usize],
+            Kept::Long(codes) => codes.as_slice(),
         }
     }
 }
@@ -121,7 +121,7 @@ impl Hash for TupleCodes {
     }
 }
 
-/// A tuple is looked up by its words, which takes no memory.
+/// A tuple is looked up by its codes, which takes no memory.
 impl Equivalent<TupleCodes> for &[u64] {
     ghost equivalent = { λ q. pointwise nat_eq q.now };
 
