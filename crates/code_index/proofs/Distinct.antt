@@ -11,7 +11,7 @@ use Rattle.labelled_list.specs.Labels.{AreDistinct}
 use Rattle.code_index.specs.Reading.{read, read_group, read_tally}
 use Rattle.code_index.proofs.GroupFacts.{read_at, length_group, not_before_itself}
 
--- no two tuples of a group have the same words
+-- no two tuples of a group have the same codes
 pub group_distinct : (codes : List Value) (g : List Coded) → IsInOrder row_cmp (tuples_in (read_group codes g)) → AreDistinct g
 group_distinct codes g o i j d h l e =
     let t = read_tally codes d in

@@ -161,7 +161,7 @@ none_has codes words [] f = tt
 none_has codes words (c ∷ g) f =
     (λ e. f 0 (read_tally codes c) (omega arith) (ap (read codes) e), none_has codes words g (λ k d l e. f (suc k) d (omega (arith, l)) e))
 
--- where a tuple would go in, no tuple has its words
+-- where a tuple would go in, no tuple has its codes
 pub gap_lacks : (codes : List Value) (words : List ℕ) (g : List Coded) (at : ℕ) → IsGap (read_group codes g) (read codes words) at
     → AllByRecursion (λ (c : Coded). c.codes ≢ words) g
 gap_lacks codes words g at gap = none_has codes words g (not_in_gap (read codes words) (read_group codes g) at gap)

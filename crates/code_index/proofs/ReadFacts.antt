@@ -1,4 +1,4 @@
--- What is known of words by their values.
+-- What is known of codes by their values.
 use Rattle.std.proofs.Common.{◌≡◌, ℕ, suc, Bool, true, false, cond, List, [], ◌∷◌, length, refl, ap, sym, ◌∙◌, arith}
 use Rattle.std.specs.Prelude.{nat_eq, nat_lt, not, ◌+◌, pos, position, Option, Some, None}
 use Rattle.std.specs.Option.{option_map, option_map_or}
@@ -18,7 +18,7 @@ use Rattle.labelled_list.specs.declared.coded.Coded.{Coded}
 use Rattle.code_index.specs.Codes.{value_of, AreDistinct}
 use Rattle.code_index.specs.Reading.{read, read_group, read_entry, read_entries, AllKnown}
 
--- the values of words tell the words
+-- the values of codes tell the codes
 pub read_tells : (codes : List Value) → AreDistinct codes → (a b : List ℕ) → AllKnown codes a → AllKnown codes b → read codes a ≡ read codes b → a ≡ b
 read_tells codes d [] [] k l e = refl
 read_tells codes d [] (y ∷ ys) k l e = cc

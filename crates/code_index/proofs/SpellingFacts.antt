@@ -52,12 +52,12 @@ all_coded_at codes [] i d a l = absurd (omega (arith, l))
 all_coded_at codes (v ∷ values) zero d a l = a.0
 all_coded_at codes (v ∷ values) (suc i) d a l = all_coded_at codes values i d a.1 (omega arith)
 
--- the values of known words have codes
+-- the values of known codes have these codes
 pub read_coded : (codes : List Value) (words : List ℕ) → AllKnown codes words → AllHaveCodes codes (read codes words)
 read_coded codes [] k = tt
 read_coded codes (w ∷ words) k = (record { code = w; is = record { known = k.0; same = refl } }, read_coded codes words k.1)
 
--- words that are right in each column
+-- codes that are right in each column
 pub spelled : (codes : List Value) (words : List ℕ) (row : List Value) (columns : List ColumnId)
     → ((j : ℕ) (d : ColumnId) → j < length columns → IsCodeIn codes words row (get_or columns j d)) → Spells codes columns words row
 spelled codes words row [] h = record { known = tt; same = refl }
@@ -66,7 +66,7 @@ spelled codes words row (c ∷ columns) h =
     let rest = spelled codes words row columns (λ j d l. h (suc j) d (omega arith)) in
     record { known = (first.known, rest.known); same = λ i. first.same i ∷ rest.same i }
 
--- a word is written to its column
+-- a code is written to its column
 pub written : (codes : List Value) (words : List ℕ) (row : List Value) (column c : ColumnId) (code : ℕ) → column.0 < length words
     → IsCodeOf codes code (value_at row column) → (c.0 ≢ column.0 → IsCodeIn codes words row c) → IsCodeIn codes (set words column.0 code) row c
 written codes words row column c code l new old = by (cases_eq c.0 column.0)
@@ -110,7 +110,7 @@ kept_twice codes middle more k l = record {
   same = λ index o. l.same index (k.in_order index o) ∙ k.same index o;
 }
 
--- words that are right at each place
+-- codes that are right at each place
 pub coded : (codes values : List Value) (words : List ℕ) → length values ≤ length words
     → ((j : ℕ) → j < length values → IsCodeOf codes (get_or words j 0) (get_or values j (Int (pos 0)))) → AreCodesOf codes (take (length values) words) values
 coded codes [] words l h = record { known = tt; same = refl }

@@ -1,4 +1,4 @@
--- Words that are compared and copied one by one.
+-- Codes that are compared and copied one by one.
 use Rattle.std.proofs.Common.{Bool, true, false, true≢false, ◌⊎◌, inl, inr, ◌≡◌, ◌≤◌, ◌<◌, ◌+◌, ℕ, zero, suc, List, [], ◌∷◌, length, take, drop, get_or, refl, ap, sym, ◌∙◌, arith, add-one}
 use Rattle.std.specs.Prelude.{IsTrue, ◌↔◌, not}
 use Rattle.std.proofs.lemmas.Bool.{cases_lt}
@@ -56,7 +56,7 @@ write_at (x ∷ xs) (y ∷ ys) (suc i) w n l e h =
     let rest : take i xs ≡ take i ys = cc in
     let more = write_at xs ys i w (omega (arith, n)) (omega arith) e rest in λ j. first j ∷ more j
 
--- a word written after those that are right
+-- a code written after those that are right
 pub write_next : (xs ys : List ℕ) (i w : ℕ) → length ys ≤ length xs → i < length ys → w ≡ get_or ys i w → take i xs ≡ take i ys
     → take (i + 1) (set xs i w) ≡ take (i + 1) ys
 write_next xs ys i w n l e h =

@@ -1,4 +1,4 @@
--- A row whose group is asked for by its words in the columns of a key.
+-- A row whose group is asked for by its codes in the columns of a key.
 --     rows_alike        rows that are equal feed a hash the same
 use Rattle.std.proofs.Common.{◌≡◌, ap, sym, ◌∙◌, true≢false}
 use Rattle.std.specs.Prelude.{ℕ, List, [], ◌∷◌, ◌&&◌, IsTrue, true, nat_eq, slice_index_or}

@@ -1,22 +1,22 @@
 -- Indexes over codes, and the values that an interner gives these codes.
---     read codes words              the values of words, by the list of an interner's values
---     row_code words column          the word of a row in a column, 0 where it has none
---     pick columns words            the words of a row in some columns
---     AllKnown codes words          each word is a code that the interner gave
---     Spells codes columns words row      the row's values in these columns are those of the words
+--     read codes words              the values of some codes, by the list of an interner's values
+--     row_code words column         the code of a row in a column, 0 where it has none
+--     pick columns words            the codes of a row in some columns
+--     AllKnown codes words          each of the codes is one that the interner gave
+--     Spells codes columns words row      the row's values in these columns are those of the codes
 --     read_tally codes coded, read_group codes group, read_entry codes entry, read_entries codes entries
---                                   a tuple of words with its count, a group, a group under its key and a list of these, as values
---     AllWordsKnown codes group     the words of each tuple are codes that the interner gave
---     WordIndex                     what contracts see of an index of words
---     read_index codes index        the index of values that an index of words stands for
+--                                   a tuple of codes with its count, a group, a group under its key and a list of these, as values
+--     AllWordsKnown codes group     the codes of each tuple are ones that the interner gave
+--     WordIndex                     what contracts see of an index over codes
+--     read_index codes index        the index of values that an index over codes stands for
 --     is_keyed key_width key tuple  a tuple has a key
 --     IsGroup width key_width key tallies         what holds of the group of a key: in the order of values, none of them counted 0 times
 --     IsStored width key_width entries total      what holds of all groups: one for each key, and so many rows in all
---     IsInOrderFor codes index      the words of the index are the interner's, and each group stands in the order of their values
+--     IsInOrderFor codes index      the codes of the index are the interner's, and each group stands in the order of their values
 --     IsOrdered index               it is in order for some interner
 --     KeepsCodes codes more         what was coded by one interner means the same by another one
 --     words_in group, words_at index place        the tuples of a group, and of the group at a place
---     word_in columns tuple column  a column's word in a tuple over these columns
+--     word_in columns tuple column  a column's code in a tuple over these columns
 use Rattle.std.specs.Prelude.{◌≡◌, ◌<◌, if◌then◌else◌, ◌==◌, ℕ, Bool, List, [], ◌∷◌, length, map, take, sum_by, slice_index_or}
 use Rattle.std.specs.List.{AllByRecursion, IsDistinct}
 use Rattle.std.specs.Map.{keys_of, values_of}
@@ -63,7 +63,7 @@ read_entries codes entries = map (read_entry codes) entries
 abbrev pub AllWordsKnown : List Value → List Coded → Type 0
 AllWordsKnown codes group = AllByRecursion (λ c. AllKnown codes c.codes) group
 
--- what contracts see of an index of words
+-- what contracts see of an index over codes
 pub record WordIndex : Type 0 where
   -- its constraint
   pub access : Access
@@ -116,7 +116,7 @@ words_in group = map (λ c. c.codes) group
 abbrev pub words_at : WordIndex → ℕ → List (List ℕ)
 words_at index place = words_in (slice_index_or (values_of index.groups) place [])
 
--- a column's word in a tuple over these columns, the first where a column stands twice
+-- a column's code in a tuple over these columns, the first where a column stands twice
 abbrev pub word_in : List ColumnId → List ℕ → ColumnId → ℕ
 word_in [] tuple column = 0
 word_in (c ∷ columns) [] column = 0

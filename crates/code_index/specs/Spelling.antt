@@ -2,8 +2,8 @@
 --     IsCodeOf codes code value      the value was interned, with this code
 --     HasCode codes value            the value was interned
 --     AllHaveCodes codes values      each of them was
---     AreCodesOf codes words values  the words are the codes of these values
---     IsCodeIn codes words row column      a row's word in a column is the code of its value there
+--     AreCodesOf codes words values  these are the codes of the values
+--     IsCodeIn codes words row column      a row's code in a column is that of its value there
 use Rattle.std.specs.Prelude.{◌≡◌, ◌<◌, ℕ, List, length}
 use Rattle.std.specs.List.{AllByRecursion}
 use Rattle.beas_core.specs.declared.value.Value.{Value}
@@ -23,7 +23,7 @@ pub record HasCode (codes : List Value) (value : Value) : Type 0 where
 abbrev pub AllHaveCodes : List Value → List Value → Type 0
 AllHaveCodes codes values = AllByRecursion (HasCode codes) values
 
--- words are the codes of these values
+-- these are the codes of the values
 pub record AreCodesOf (codes : List Value) (words : List ℕ) (values : List Value) : Type 0 where
   pub known : AllKnown codes words
   pub same : read codes words ≡ values

@@ -6,8 +6,8 @@ ghost use Rattle.std.specs.Hash as fed;
 ghost use Rattle.code_index.specs.Reading.{pick};
 ghost use Rattle.code_index.specs.Asking.{rows_alike};
 
-use crate::own_words::{GroupKey, OwnCodes};
-use crate::words::row_code;
+use crate::codes::row_code;
+use crate::own_codes::{GroupKey, OwnCodes};
 use beas_core::ColumnId;
 use indexmap::Equivalent;
 use std::hash::{Hash, Hasher};
@@ -26,7 +26,7 @@ pub struct AskedRow<'a> {
 }
 
 /// Whether two keys have the same codes. Most have three at most; longer ones are compared by a call, which takes longer.
-fn same_words(left: &[u64], right: &[u64]) -> bool
+fn same_codes(left: &[u64], right: &[u64]) -> bool
     ensures { result ≡ pointwise nat_eq left.now right.now }
 {
     match (left, right) {
@@ -60,7 +60,7 @@ impl<W: OwnCodes> Equivalent<GroupKey<W>> for AskedCodes<'_> {
     ghost respects_eq = { λ asked. nat_list_eq_equiv.congr asked.codes.now };
 
     fn equivalent(&self, key: &GroupKey<W>) -> bool {
-        same_words(self.codes, key.as_slice())
+        same_codes(self.codes, key.as_slice())
     }
 }
 

@@ -11,10 +11,10 @@ ghost use Rattle.indexmap.specs.IndexMap.{insert_entry};
 ghost use Rattle.code_index.specs.Reading.{read, read_group, pick, AllKnown, AllWordsKnown};
 ghost use Rattle.code_index.specs.Taking.{HasRoom};
 
+use crate::codes::{compare_tuple, tuple_codes};
 use crate::interner::Interner;
 use crate::key::KeyCodes;
 use crate::tuples::Group;
-use crate::words::{compare_tuple, tuple_codes};
 use beas_core::{Access, NoMemory};
 use blocked_list::Before;
 use indexmap::IndexMap;

@@ -1,11 +1,11 @@
-// Words by which maps are asked.
+// Codes by which maps are asked.
 ghost use Rattle.std.specs.Prelude.{◌≡◌, ◌≤◌, length, take, IfSome, MatchOption};
 ghost use Rattle.beas_core.specs.Groups.{member_columns};
 ghost use Rattle.code_index.specs.Reading.{pick};
 ghost use Rattle.code_index.specs.Spelling.{AllHaveCodes, AreCodesOf};
 
+use crate::codes::{column_at, row_code};
 use crate::interner::Interner;
-use crate::words::{column_at, row_code};
 use beas_core::{Access, ColumnId, Value};
 use std::marker::Model;
 

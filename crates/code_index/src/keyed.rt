@@ -8,11 +8,11 @@ ghost use Rattle.code_index.specs.Reading.{read, read_index, pick, AllKnown, Spe
 ghost use Rattle.code_index.specs.Taking.{CountsWhere, HoldsWhere};
 
 use crate::asked::{AskedCodes, AskedRow};
+use crate::codes::tuple_code;
 use crate::group::{count_down, count_up, has_room, may_begin, may_come, of_one, put_copy};
 use crate::interner::Interner;
-use crate::own_words::{GroupKey, OwnCodes};
+use crate::own_codes::{GroupKey, OwnCodes};
 use crate::tuples::Group;
-use crate::words::tuple_code;
 use beas_core::{Access, ColumnId, Duplicate, List, NoMemory};
 use indexmap::IndexMap;
 use labelled_list::TupleCodes;

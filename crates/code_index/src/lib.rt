@@ -2,16 +2,16 @@
 #![tactic(auto)]
 
 mod asked;
+mod codes;
 mod form;
 mod group;
 mod hints;
 mod interner;
 mod key;
 mod keyed;
-mod own_words;
+mod own_codes;
 mod spelling;
 mod tuples;
-mod words;
 
 pub use interner::Interner;
 pub use key::known_codes;

@@ -7,8 +7,8 @@ ghost use Rattle.code_index.specs.Codes.{code_of};
 ghost use Rattle.code_index.specs.Reading.{KeepsCodes, Spells};
 ghost use Rattle.code_index.specs.Spelling.{AllHaveCodes};
 
+use crate::codes::column_at;
 use crate::interner::Interner;
-use crate::words::column_at;
 use beas_core::{Access, ColumnId, Duplicate, NoMemory, Value};
 use std::alloc::Global;
 

@@ -8,9 +8,9 @@ ghost use Rattle.labelled_list.specs.declared.coded.Coded.{Coded};
 ghost use Rattle.code_index.specs.Forms.{tuples_of};
 ghost use Rattle.code_index.specs.Reading.{pick};
 
+use crate::codes::is_tuple;
 use crate::form::Form;
 use crate::key::KeyCodes;
-use crate::words::is_tuple;
 use beas_core::{Access, Duplicate, NoMemory};
 use blocked_list::{Before, BlockedList};
 use labelled_list::{Coded, LabelledList, TupleCodes};

@@ -4,7 +4,7 @@ use Rattle.beas_core.specs.declared.schema.ColumnId.{ColumnId}
 use Rattle.beas_core.specs.Groups.{member_columns}
 use Rattle.access_index.proofs.Reading.{past}
 use Rattle.code_index.specs.Reading.{word_in}
-use Rattle.code_index.proofs.words.tuple_code.Goals as goal
+use Rattle.code_index.proofs.codes.tuple_code.Goals as goal
 
 pub loop-i-preserved : goal.loop-i-preserved
 loop-i-preserved c =

@@ -1,7 +1,7 @@
 use Rattle.std.proofs.Common.{◌<◌, length, sym, ◌∙◌, arith}
 use Rattle.beas_core.specs.Groups.{member_columns}
 use Rattle.code_index.proofs.WordFacts.{ended_after, ended_before, not_within}
-use Rattle.code_index.proofs.words.compare_tuple.Goals as goal
+use Rattle.code_index.proofs.codes.compare_tuple.Goals as goal
 
 pub returns-then-not-has_place : goal.returns-then-not-has_place
 returns-then-not-has_place c =

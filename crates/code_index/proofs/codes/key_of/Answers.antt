@@ -2,7 +2,7 @@ use Rattle.std.proofs.Common.{◌∙◌, sym, arith}
 use Rattle.std.proofs.lemmas.List.{length-map, length-set, get_or-map}
 use Rattle.code_index.specs.Reading.{pick, row_code}
 use Rattle.code_index.proofs.WordFacts.{write_next}
-use Rattle.code_index.proofs.words.key_of.Goals as goal
+use Rattle.code_index.proofs.codes.key_of.Goals as goal
 
 pub loop-i-preserved : goal.loop-i-preserved
 loop-i-preserved g c =

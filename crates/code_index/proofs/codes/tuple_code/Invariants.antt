@@ -1,7 +1,7 @@
 use Rattle.std.proofs.Common.{◌≡◌, drop, true}
 use Rattle.beas_core.specs.Groups.{has_column, member_columns}
 use Rattle.code_index.specs.Reading.{word_in}
-use Rattle.code_index.proofs.words.tuple_code.Given as goal
+use Rattle.code_index.proofs.codes.tuple_code.Given as goal
 
 abbrev pub invariant-loop-i : goal.invariant-loop-i
 invariant-loop-i l = record {

@@ -1,6 +1,6 @@
 use Rattle.std.proofs.Common.{◌≡◌, length, take}
 use Rattle.code_index.specs.Reading.{pick}
-use Rattle.code_index.proofs.words.key_of.Given as goal
+use Rattle.code_index.proofs.codes.key_of.Given as goal
 
 abbrev pub invariant-loop-i : goal.invariant-loop-i
 invariant-loop-i g l = record {

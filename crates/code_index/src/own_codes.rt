@@ -6,7 +6,7 @@ ghost use Rattle.std.specs.Hash as fed;
 ghost use Rattle.labelled_list.specs.Hashing.{words_alike};
 ghost use Rattle.code_index.specs.Reading.{pick};
 
-use crate::words::{key_of, push_codes};
+use crate::codes::{key_of, push_codes};
 use beas_core::{ColumnId, Duplicate, NoMemory};
 use labelled_list::TupleCodes;
 use std::alloc::Global;

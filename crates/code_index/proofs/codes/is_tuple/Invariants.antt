@@ -1,9 +1,9 @@
 use Rattle.std.proofs.Common.{◌≡◌, ◌≤◌, length, take}
 use Rattle.beas_core.specs.Groups.{member_columns}
 use Rattle.code_index.specs.Reading.{pick}
-use Rattle.code_index.proofs.words.is_tuple.Given as goal
+use Rattle.code_index.proofs.codes.is_tuple.Given as goal
 
--- the words so far are the row's
+-- the codes so far are the row's
 abbrev pub invariant-loop-i : goal.invariant-loop-i
 invariant-loop-i l = record {
   within : l.i ≤ length (member_columns l.access);

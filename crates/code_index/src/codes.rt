@@ -1,4 +1,4 @@
-// Words that are read where they stand.
+// Codes that are read where they stand.
 ghost use Rattle.std.specs.Prelude.{◌≡◌, ◌<◌, ◌≤◌, ℕ, List, length, IsTrue, ◌↔◌, ◌++◌, slice_index_or, IfOk, OnOk};
 ghost use Rattle.beas_core.specs.Order.{row_cmp, value_cmp};
 ghost use Rattle.beas_core.specs.Groups.{has_column, member_columns};
@@ -39,7 +39,7 @@ pub fn row_code(words: &[u64], column: ColumnId) -> u64
     ensures { result ≡ row_code words.now column }
 {
     match words.get(column.0 as usize) {
-        Some(word) => *word,
+        Some(code) => *code,
         None => 0,
     }
 }
@@ -87,11 +87,11 @@ pub fn compare_tuple(codes: &Interner, left: &[u64], access: &Access, words: &[u
 pub fn is_tuple(tuple: &[u64], access: &Access, words: &[u64]) -> bool
     ensures { IsTrue result ↔ (tuple.now ≡ pick (member_columns access.now) words.now) }
 {
-    for (i, word) in tuple.iter().enumerate() {
+    for (i, code) in tuple.iter().enumerate() {
         if !has_place(access, i) {
             return false;
         }
-        if *word != row_code(words, column_at(access, i)) {
+        if *code != row_code(words, column_at(access, i)) {
             return false;
         }
     }
@@ -137,9 +137,9 @@ pub fn tuple_code(access: &Access, tuple: &[u64], column: ColumnId) -> u64
     requires column { IsTrue (has_column (member_columns access.now) column) }
     ensures { result ≡ word_in (member_columns access.now) tuple.now column }
 {
-    for (i, word) in tuple.iter().enumerate() {
+    for (i, code) in tuple.iter().enumerate() {
         if column_at(access, i).0 == column.0 {
-            return *word;
+            return *code;
         }
     }
     unreachable!()

@@ -2,7 +2,7 @@ use Rattle.std.proofs.Common.{ap, sym, ◌∙◌}
 use Rattle.beas_core.specs.Order.{value_cmp}
 use Rattle.code_index.specs.Codes.{value_of}
 use Rattle.code_index.proofs.ReadFacts.{value_itself}
-use Rattle.code_index.proofs.words.compare_codes.Goals as goal
+use Rattle.code_index.proofs.codes.compare_codes.Goals as goal
 
 pub returns-then-left-right : goal.returns-then-left-right
 returns-then-left-right c =

@@ -4,7 +4,7 @@ use Rattle.std.proofs.lemmas.List.{length-map, get_or-map, take_more_same}
 use Rattle.beas_core.specs.Groups.{member_columns}
 use Rattle.code_index.specs.Reading.{pick, row_code}
 use Rattle.code_index.proofs.WordFacts.{not_within, ended_alike}
-use Rattle.code_index.proofs.words.is_tuple.Goals as goal
+use Rattle.code_index.proofs.codes.is_tuple.Goals as goal
 
 pub returns-then-not-has_place : goal.returns-then-not-has_place
 returns-then-not-has_place c =
@@ -15,15 +15,15 @@ returns-then-not-has_place c =
       λ e. absurd (omega (arith, past, c.loop-i-test.true, ap length e, length-map columns (row_code words))),
     )
 
-pub returns-then-word-row_code : goal.returns-then-word-row_code
-returns-then-word-row_code c =
+pub returns-then-code-row_code : goal.returns-then-code-row_code
+returns-then-code-row_code c =
     let columns = member_columns c.args.access.now in
     let words = c.args.words.now in
     let i = c.loop-i.i in
     let within : i < length columns = c.has_place.ensures.0 c.if-not-has_place.false in
     let w = c.row_code.ensures ∙ ap (row_code words) c.column_at.ensures ∙ sym (get_or-map (row_code words) columns i c.column_at.result 0 within) in (
       λ t. absurd (true≢false (sym t)),
-      λ e. absurd (c.if-word-row_code.true (ap (λ t. get_or t i 0) e ∙ sym w)),
+      λ e. absurd (c.if-code-row_code.true (ap (λ t. get_or t i 0) e ∙ sym w)),
     )
 
 pub loop-i-preserved : goal.loop-i-preserved
@@ -36,7 +36,7 @@ loop-i-preserved c =
     record {
       within = omega (arith, within);
       same = take_more_same c.args.tuple.now (pick columns words) i 0 c.loop-i-test.true (omega (arith, within, length-map columns (row_code words))) c.loop-i.invariant.same
-          (c.if-word-row_code.false ∙ w);
+          (c.if-code-row_code.false ∙ w);
     }
 
 pub returns : goal.returns

@@ -2,7 +2,7 @@ use Rattle.std.proofs.Common.{◌≡◌, ◌≤◌, length, drop}
 use Rattle.beas_core.specs.Order.{row_cmp}
 use Rattle.beas_core.specs.Groups.{member_columns}
 use Rattle.code_index.specs.Reading.{read, pick}
-use Rattle.code_index.proofs.words.compare_tuple.Given as goal
+use Rattle.code_index.proofs.codes.compare_tuple.Given as goal
 
 abbrev pub invariant-loop-i : goal.invariant-loop-i
 invariant-loop-i l = record {
