@@ -1,5 +1,6 @@
 pub mod Changing
 pub mod CodeFacts
+pub mod ColumnFacts
 pub mod CopyFacts
 pub mod Distinct
 pub mod Greatest

@@ -1,5 +1,5 @@
 // Codes that are read where they stand.
-ghost use Rattle.std.specs.Prelude.{◌≡◌, ◌<◌, ◌≤◌, ℕ, List, length, IsTrue, ◌↔◌, ◌++◌, slice_index_or, IfOk, OnOk};
+ghost use Rattle.std.specs.Prelude.{◌≡◌, ◌<◌, ◌≤◌, ◌==◌, ℕ, List, length, position, IsTrue, ◌↔◌, ◌++◌, slice_index_or, IfOk, OnOk};
 ghost use Rattle.beas_core.specs.Order.{row_cmp, value_cmp};
 ghost use Rattle.beas_core.specs.Groups.{has_column, member_columns};
 ghost use Rattle.code_index.specs.Codes.{value_of};
@@ -131,16 +131,27 @@ pub fn key_of<const K: usize>(columns: &[ColumnId], words: &[u64]) -> [u64; K]
     key
 }
 
-/// A column's code of a tuple.
-pub fn tuple_code(access: &Access, tuple: &[u64], column: ColumnId) -> u64
-    requires width { length tuple.now ≡ length (member_columns access.now) }
-    requires column { IsTrue (has_column (member_columns access.now) column) }
-    ensures { result ≡ word_in (member_columns access.now) tuple.now column }
+/// Where a column stands among some.
+fn position_among(columns: &[ColumnId], column: ColumnId) -> Option<usize>
+    ensures { result ≡ position (λ (other : ColumnId). other.0 == column.0) columns.now }
 {
-    for (i, code) in tuple.iter().enumerate() {
-        if column_at(access, i).0 == column.0 {
-            return *code;
-        }
+    columns.iter().position(|other| other.0 == column.0)
+}
+
+/// Where a column's code stands in a constraint's tuples. No tuple is read for it.
+pub fn column_position(access: &Access, column: ColumnId) -> usize
+    requires { IsTrue (has_column (member_columns access.now) column) }
+    ensures within { result < length (member_columns access.now) }
+    ensures code { (tuple : List ℕ) → length tuple ≡ length (member_columns access.now)
+        → word_in (member_columns access.now) tuple column ≡ slice_index_or tuple result 0 }
+{
+    let key = access.key.as_slice();
+    let fetched = access.fetched.as_slice();
+    if let Some(at) = position_among(key, column) {
+        return at;
     }
-    unreachable!()
+    match position_among(fetched, column) {
+        Some(at) => key.len() + at,
+        None => unreachable!(),
+    }
 }

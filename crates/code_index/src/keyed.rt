@@ -8,7 +8,7 @@ ghost use Rattle.code_index.specs.Reading.{read, read_index, pick, AllKnown, Spe
 ghost use Rattle.code_index.specs.Taking.{CountsWhere, HoldsWhere};
 
 use crate::asked::{AskedCodes, AskedRow};
-use crate::codes::tuple_code;
+use crate::codes::column_position;
 use crate::group::{count_down, count_up, has_room, may_begin, may_come, of_one, put_copy};
 use crate::interner::Interner;
 use crate::own_codes::{GroupKey, OwnCodes};
@@ -272,8 +272,8 @@ impl<W: OwnCodes> KeyedIndex<W> {
         requires column { IsTrue (has_column (member_columns self.now.access) column) }
         ensures { result ≡ word_in (member_columns self.now.access) (slice_index_or (words_at self.now place) i []) column }
     {
-        let group = &self.groups[place as usize];
-        tuple_code(&self.access, group.codes(i as usize), column)
+        let at = column_position(&self.access, column);
+        self.groups[place as usize].codes(i as usize)[at]
     }
 
     /// The size of the greatest group, 0 where there is none. It takes no memory.

@@ -85,6 +85,8 @@ impl Group {
     }
 
     /// The codes of the tuple at a place. It takes no memory.
+    // Each value that a plan reads of a tuple is found through this, and a call would cost as much as the reading.
+    #[inline(always)]
     pub fn codes(&self, at: usize) -> &[u64]
         requires { at < length self.now }
         ensures { (d : Coded) → result.now ≡ (slice_index_or self.now at d).codes }
