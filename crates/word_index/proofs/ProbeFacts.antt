@@ -68,7 +68,7 @@ member_known codes [] i d a l = absurd (omega (arith, l))
 member_known codes (c ∷ g) zero d a l = a.0
 member_known codes (c ∷ g) (suc i) d a l = member_known codes g i d a.1 (omega arith)
 
--- a column's word is a code, of the column's value
+-- a column's number in a tuple is a code, of the column's value
 pub record IsWordOf (codes : List Value) (columns : List ColumnId) (tuple : List ℕ) (column : ColumnId) : Type 0 where
   pub known : word_in columns tuple column < length codes
   pub same : value_of codes (word_in columns tuple column) ≡ value_in columns (read codes tuple) column

@@ -129,7 +129,7 @@ impl AnyIndex {
         of_any!(self, index => index.find(key))
     }
 
-    /// A column's word of a tuple that `find` found, while the index is as it was. It takes no memory.
+    /// A column's code of a tuple that `find` found, while the index is as it was. It takes no memory.
     pub fn word(&self, place: u64, i: u32, column: ColumnId) -> u64
         requires stands { place < length (index_in self.now).groups }
         requires member { i < length (words_at (index_in self.now) place) }

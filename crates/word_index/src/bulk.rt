@@ -1,4 +1,4 @@
-// Many rows of values that come into and go out of an index of words.
+// Many rows of values that come into and go out of an index over codes.
 ghost use Rattle.std.specs.Prelude.{◌≡◌, ◌≤◌, ◌<◌, ◌+◌, ◌^◌, ◌↔◌, ◌++◌, [], List, length, map, IsTrue, IfOk, OnOk, OnErr, if◌then◌else◌};
 ghost use Rattle.beas_core.specs.declared.value.Value.{Value};
 ghost use Rattle.beas_core.specs.Groups.{Holds};
