@@ -12,6 +12,32 @@ use beas_core::{NoMemory, Value};
 use code_index::{Interner, interned_row, known_codes, row_codes};
 use std::alloc::Global;
 
+/// A key has mostly as many columns at most.
+const FEW: usize = 4;
+
+/// The position and the length of the group of a key of up to `N` values, or none where it is empty. It takes no memory.
+fn find_among<const N: usize>(
+    codes: &Interner,
+    index: &AnyIndex,
+    key: &[Value],
+) -> Option<(u64, u32)>
+    requires in_order { IsInOrderFor codes.now (index_in index.now) }
+    requires width { length key.now ≡ length (index_in index.now).access.key }
+    requires few { length key.now ≤ N }
+    requires small { N ≤ 64 }
+    ensures len { IfSome result (λ found. found.1 ≡ length (words_at (index_in index.now) found.0)) }
+    ensures group { (rows : List (List Value)) → IsIndexOf (read_index codes.now (index_in index.now)) rows
+        → MatchOption result (group_of rows (index_in index.now).access key.now ≡ [])
+        (λ found. map (read codes.now) (words_at (index_in index.now) found.0)
+        ≡ group_of rows (index_in index.now).access key.now) }
+    ensures stands { IfSome result (λ found. found.0 < length (index_in index.now).groups) }
+{
+    match known_codes::<N>(codes, key) {
+        Some(words) => index.find(&words[..key.len()]),
+        None => None,
+    }
+}
+
 /// The place and the length of a key's group, or none where it is empty. It takes no memory.
 pub fn find_group(codes: &Interner, index: &AnyIndex, key: &[Value]) -> Option<(u64, u32)>
     requires in_order { IsInOrderFor codes.now (index_in index.now) }
@@ -24,10 +50,11 @@ pub fn find_group(codes: &Interner, index: &AnyIndex, key: &[Value]) -> Option<(
         ≡ group_of rows (index_in index.now).access key.now) }
     ensures stands { IfSome result (λ found. found.0 < length (index_in index.now).groups) }
 {
-    match known_codes::<64>(codes, key) {
-        Some(words) => index.find(&words[..key.len()]),
-        None => None,
+    // An array of 64 codes is cleared and copied by hundreds of instructions, as many as the probe of a small group takes.
+    if key.len() <= FEW {
+        return find_among::<FEW>(codes, index, key);
     }
+    find_among::<64>(codes, index, key)
 }
 
 /// Counts one row fewer, wherever among the rows it stood. It takes no memory.
