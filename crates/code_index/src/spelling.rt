@@ -1,5 +1,5 @@
 // The codes of a row's values.
-ghost use Rattle.std.specs.Prelude.{◌≡◌, ◌≤◌, ◌<◌, Some, List, length, IfOk, IfSome, MatchOption};
+ghost use Rattle.std.specs.Prelude.{◌≡◌, ◌≤◌, ◌<◌, Some, List, length, IfOk, OnOk, IfSome, MatchOption};
 ghost use Rattle.beas_core.specs.declared.value.Value.TheVariants.{Int};
 ghost use Rattle.beas_core.specs.Groups.{value_at, project, member_columns};
 ghost use Rattle.beas_core.specs.Shapes.{AccessIsWellFormed};
@@ -82,23 +82,23 @@ pub fn row_codes(codes: &Interner, access: &Access, row: &[Value]) -> Option<[u6
     Some(words)
 }
 
-/// The codes of a row's values in the columns of a constraint's tuples, each at the place of its column. Values that
-/// weren't interned yet are, and all others keep their codes.
+/// Writes the codes of a row's values in the columns of a constraint's tuples, each to the place of its column. Values that
+/// weren't interned yet are, and all others keep their codes. Other places play no part, so one array serves many rows.
 #[tactic(auto, using(crate::proofs::Members::members_long))]
 pub fn interned_row(
     alloc: Global,
     codes: &mut Interner,
     access: &Access,
     row: &[Value],
-) -> Result<[u64; 64], NoMemory>
+    words: &mut [u64; 64],
+) -> Result<(), NoMemory>
     requires { AccessIsWellFormed 64 access.now }
     ensures kept { KeepsCodes codes.old codes.new }
-    ensures spells { IfOk result (λ words. Spells codes.new (member_columns access.now) words row.now) }
+    ensures spells { OnOk result (Spells codes.new (member_columns access.now) words.new row.now) }
 {
-    let mut words = [0; 64];
     for i in 0..access.key.len() + access.fetched.len() {
         let column = column_at(access, i);
         words[column.0 as usize] = interned_in(alloc, codes, row, column)?;
     }
-    Ok(words)
+    Ok(())
 }

@@ -108,11 +108,13 @@ impl Indexes for CodeIndexes {
     }
 
     fn add_if_holds(&mut self, alloc: Global, place: usize, row: &Row) -> Result<bool, NoMemory> {
+        let mut words = [0; 64];
         add_if_holds(
             alloc,
             &mut self.codes,
             &mut self.indexes[place],
             row.as_slice(),
+            &mut words,
         )
     }
 

@@ -74,13 +74,14 @@ pub fn remove_row(codes: &Interner, index: &mut AnyIndex, row: &[Value])
     }
 }
 
-/// Counts one row more, wherever among the rows it stands. Its values are interned where they weren't yet. After an
-/// error the index is as it was.
+/// Counts one row more, wherever among the rows it stands. Its values are interned where they weren't yet, and their codes
+/// go to `words`. After an error the index is as it was.
 pub fn add_row(
     alloc: Global,
     codes: &mut Interner,
     index: &mut AnyIndex,
     row: &[Value],
+    words: &mut [u64; 64],
 ) -> Result<(), NoMemory>
     requires in_order { IsInOrderFor codes.old (index_in index.old) }
     requires form { AccessIsWellFormed 64 (index_in index.old).access }
@@ -94,18 +95,19 @@ pub fn add_row(
         → IsIndexOf (read_index codes.new (index_in index.new)) (front ++ row.now ∷ back)) }
     ensures err { OnErr result (index_in index.new ≡ index_in index.old) }
 {
-    let words = interned_row(alloc, codes, index.access(), row)?;
-    index.add(alloc, codes, &words)
+    interned_row(alloc, codes, index.access(), row, words)?;
+    index.add(alloc, codes, &words[..])
 }
 
 /// Counts one row more, wherever among the rows it stands, where the constraint, if it held, holds with this row too, and
 /// else it stays the index of its rows. Its values are interned where they weren't yet, so that each is looked up once, and
-/// its group too. After an error the index is as it was.
+/// its group too. Their codes go to `words`. After an error the index is as it was.
 pub fn add_if_holds(
     alloc: Global,
     codes: &mut Interner,
     index: &mut AnyIndex,
     row: &[Value],
+    words: &mut [u64; 64],
 ) -> Result<bool, NoMemory>
     requires in_order { IsInOrderFor codes.old (index_in index.old) }
     requires form { AccessIsWellFormed 64 (index_in index.old).access }
@@ -122,6 +124,6 @@ pub fn add_if_holds(
         → (IsTrue held ↔ Holds (rows ++ row.now ∷ []) (index_in index.old).access)) }
     ensures err { OnErr result (index_in index.new ≡ index_in index.old) }
 {
-    let words = interned_row(alloc, codes, index.access(), row)?;
-    index.add_if_holds(alloc, codes, &words)
+    interned_row(alloc, codes, index.access(), row, words)?;
+    index.add_if_holds(alloc, codes, &words[..])
 }

@@ -1,4 +1,4 @@
-use Rattle.std.proofs.Common.{◌∙◌, ◌<◌, length, refl, sym, subst, arith, get_or, length-set}
+use Rattle.std.proofs.Common.{◌∙◌, ◌<◌, rules, length, sym, subst, arith, get_or, length-set}
 use Rattle.beas_core.specs.declared.schema.ColumnId.{ColumnId}
 use Rattle.beas_core.specs.Groups.{value_at, member_columns}
 use Rattle.code_index.specs.Reading.{row_code}
@@ -15,7 +15,7 @@ overflow_add-i-end c =
     omega (arith, keys, fetched, c.len.ensures, c.len-2.ensures)
 
 pub loop-i-init : goal.loop-i-init
-loop-i-init c = record { len = refl; kept = kept_codes c.args.codes.now; right = λ j d l. absurd (omega (arith, l)) }
+loop-i-init c = record { len = search rules; kept = kept_codes c.args.codes.now; right = λ j d l. absurd (omega (arith, l)) }
 
 pub returns-in_err-words-clause-kept : goal.returns-in_err-words-clause-kept
 returns-in_err-words-clause-kept c =
