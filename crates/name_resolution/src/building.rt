@@ -24,7 +24,7 @@ pub fn place_of(column: BoundColumn) -> Place
 }
 
 /// The sign of a comparison with its sides exchanged.
-pub fn mirrored_sign(sign: Sign) -> Sign
+fn mirrored_sign(sign: Sign) -> Sign
     ensures { result ≡ mirrored_sign sign }
 {
     match sign {
@@ -38,7 +38,7 @@ pub fn mirrored_sign(sign: Sign) -> Sign
 }
 
 /// What a comparison of two columns adds.
-pub fn with_column(left: BoundColumn, sign: Sign, right: BoundColumn) -> Part
+fn with_column(left: BoundColumn, sign: Sign, right: BoundColumn) -> Part
     requires left_atom { left.atom < 65536 }
     requires left_column { left.column < 65536 }
     requires right_atom { right.atom < 65536 }
@@ -58,7 +58,7 @@ pub fn with_column(left: BoundColumn, sign: Sign, right: BoundColumn) -> Part
 }
 
 /// What a comparison of a column with a value adds.
-pub fn with_value(left: BoundColumn, sign: Sign, value: Value) -> Part
+fn with_value(left: BoundColumn, sign: Sign, value: Value) -> Part
     requires atom { left.atom < 65536 }
     requires column { left.column < 65536 }
     ensures { result ≡ with_value left sign value }
@@ -98,7 +98,7 @@ fn part_of(
 }
 
 /// Adds a part to a block.
-pub fn add_part(block: &mut Block, part: Part) -> Result<(), NoMemory>
+fn add_part(block: &mut Block, part: Part) -> Result<(), NoMemory>
     ensures { OnOk result (Adds block.old block.new (part ∷ [])) }
 {
     match part {
@@ -126,7 +126,12 @@ fn add_comparison(
     }
 }
 
-fn add_condition(alloc: Global, block: &mut Block, condition: &Condition) -> Result<(), NoMemory>
+/// Adds what a condition adds.
+pub fn add_condition(
+    alloc: Global,
+    block: &mut Block,
+    condition: &Condition,
+) -> Result<(), NoMemory>
     requires { ConditionIsSmall condition.now }
     ensures { OnOk result (Adds block.old block.new (parts condition.now)) }
 {

@@ -20,10 +20,10 @@ mod refusing;
 mod scope;
 
 pub use binding::{bound_by_kinds, recall_soundness};
-pub use building::{add_part, all_places, mirrored_sign, place_of, with_column, with_value};
+pub use building::{add_condition, all_places, place_of};
 pub use deleting::bind_delete;
-pub use found::{AtomColumns, Found, NamedAtom};
-pub use literals::{literal_value, signed_number};
+pub use found::NamedAtom;
+pub use literals::literal_value;
 pub use meaning::{BoundColumn, Condition, LookedUp, Meaning, Part};
-pub use names::{FEW, atoms_in_order, find_among};
-pub use refusing::{refuse_text, same_kind};
+pub use names::{FEW, Names, atoms_in_order};
+pub use refusing::{condition_has_flaw, is_mixed, refuse_text};

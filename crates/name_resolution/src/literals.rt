@@ -51,7 +51,7 @@ fn number(negative: bool, digits: &str) -> Option<Value>
 
 /// A number with its sign, where an i64 has it.
 #[tactic(auto, unfolding(crate::specs::Literals::signed_number))]
-pub fn signed_number(negative: bool, digits: &str) -> Option<i64>
+fn signed_number(negative: bool, digits: &str) -> Option<i64>
     ensures { result ≡ signed_number negative digits.now }
 {
     if digits.is_empty() || !all_digits(digits.as_bytes()) {

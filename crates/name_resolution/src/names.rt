@@ -20,7 +20,7 @@ use std::alloc::Global;
 /// So many atoms, and no more, are walked, and so many has a block at most that is bound at once.
 pub const FEW: usize = 4;
 
-/// The names of a block.
+/// The names of a block: its atoms, where they are few, or else maps of them.
 #[derive(Drop)]
 pub enum Names<'a> {
     Few(Vec<NamedAtom<'a>>),
@@ -125,7 +125,7 @@ fn find_in_any(atoms: &[NamedAtom], name: &str) -> Option<Found>
 }
 
 /// The columns of these atoms that a ref may stand for.
-pub fn find_among(atoms: &[NamedAtom], reference: &ColumnRef) -> Option<Found>
+fn find_among(atoms: &[NamedAtom], reference: &ColumnRef) -> Option<Found>
     ensures { result ≡ found_in (named_by (map source_of atoms.now) reference.now) }
 {
     let name = reference.column.as_str();

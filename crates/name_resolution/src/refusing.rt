@@ -137,7 +137,8 @@ fn has_flaw(limit: u32, meaning: &Meaning) -> bool
     }
 }
 
-fn condition_has_flaw(limit: u32, condition: &Condition) -> bool
+/// Whether a side of a condition has a flaw of any kind.
+pub fn condition_has_flaw(limit: u32, condition: &Condition) -> bool
     ensures { result ≡ condition_has_flaw limit condition.now }
 {
     match condition {
@@ -202,7 +203,7 @@ fn kind_of(meaning: &Meaning) -> Option<ColType>
 }
 
 /// Whether two types are the same.
-pub fn same_kind(left: ColType, right: ColType) -> bool
+fn same_kind(left: ColType, right: ColType) -> bool
     ensures { result ≡ same_kind left right }
 {
     match (left, right) {
@@ -223,7 +224,8 @@ fn kinds_differ(left: &Meaning, right: &Meaning) -> bool
     }
 }
 
-fn is_mixed(condition: &Condition) -> bool
+/// Whether sides of a condition that are compared differ in type.
+pub fn is_mixed(condition: &Condition) -> bool
     ensures { result ≡ is_mixed condition.now }
 {
     match condition {
