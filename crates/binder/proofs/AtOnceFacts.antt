@@ -12,8 +12,6 @@ use Rattle.beas_core.specs.declared.limits.Limits.{Limits}
 use Rattle.beas_core.specs.declared.query.Atom.{Atom}
 use Rattle.beas_core.specs.declared.query.Block.{Block}
 use Rattle.beas_core.specs.declared.query.Place.{Place}
-use Rattle.beas_core.specs.declared.query.Sign.{Sign}
-use Rattle.beas_core.specs.declared.query.Sign.TheVariants.{AtMost, AtLeast}
 use Rattle.beas_core.specs.declared.refusal.Counted.TheVariants as counted
 use Rattle.beas_core.specs.declared.refusal.Refusal.{Refusal}
 use Rattle.beas_core.specs.declared.refusal.Refusal.TheVariants.{MixedTypes, ShapeMismatch, TooMany}
@@ -23,12 +21,12 @@ use Rattle.beas_core.specs.declared.schema.TableId.{TableId}
 use Rattle.beas_core.specs.declared.value.Value.{Value}
 use Rattle.beas_core.specs.Results.{refused_if}
 use Rattle.beas_core.specs.Shapes.{QueryIsWellFormed}
-use Rattle.beas_core.specs.Trees as query
 use Rattle.catalogue.specs.Queries.{QueryIsOver}
 use Rattle.catalogue.specs.Schema.{Schema, SchemaIsSound, table_named, columns_at}
 use Rattle.sql_text.specs.declared.tree.BlockTree.{BlockTree}
 use Rattle.sql_text.specs.declared.tree.ColumnRef.{ColumnRef}
 use Rattle.sql_text.specs.declared.tree.Cond.{Cond}
+use Rattle.sql_text.specs.declared.tree.Cond.TheVariants as written
 use Rattle.sql_text.specs.declared.tree.FromItem.{FromItem}
 use Rattle.sql_text.specs.declared.tree.Literal.{Literal}
 use Rattle.sql_text.specs.declared.tree.Literal.TheVariants.{Number, Words}
@@ -39,59 +37,24 @@ use Rattle.name_resolution.specs.declared.kinds.Kind.{Kind}
 use Rattle.name_resolution.specs.declared.kinds.Kind.TheVariants.{Types, Shapes, Blocks, Atoms, Outputs}
 use Rattle.name_resolution.specs.declared.meaning.BoundColumn.{BoundColumn}
 use Rattle.name_resolution.specs.declared.meaning.Condition.{Condition}
-use Rattle.name_resolution.specs.declared.meaning.Condition.TheVariants.{Compare, Between}
 use Rattle.name_resolution.specs.declared.meaning.LookedUp.{LookedUp}
 use Rattle.name_resolution.specs.declared.meaning.Meaning.{Meaning}
 use Rattle.name_resolution.specs.declared.meaning.Meaning.TheVariants.{At}
 use Rattle.binder.specs.AtOnce.{AddsSound, ArePlacesOf, IsSoundOutput, IsSoundOver, found_over}
 use Rattle.name_resolution.specs.Binding.{blocks_of, places_in_all, shape_of, looked_refusals, refusals, bound_query}
 use Rattle.name_resolution.specs.Literals.{number_value}
-use Rattle.name_resolution.specs.LookedUp.{Adds, IsSmall, all_places, atom_of, column_of, looked_up, bound_block, outputs, part_of, parts, place_of}
+use Rattle.name_resolution.specs.LookedUp.{Adds, ConditionIsSmall, IsSmall, all_places, atom_of, column_of, looked_up, bound_block, outputs, parts, place_of}
 use Rattle.name_resolution.specs.Meanings.{sources, columns_named, meaning, condition, side_meaning, literal_meaning, or_out_of_range}
-use Rattle.name_resolution.specs.Refusing.{first, refusals_if, table_refusals, unknown_tables, repeated_among, repeated_aliases, has_flaw, condition_has_flaw, block_has_flaw, kind_of, kinds_differ, is_mixed, same_kinds, places}
+use Rattle.name_resolution.specs.Refusing.{first, refusals_if, table_refusals, unknown_tables, repeated_among, repeated_aliases, has_flaw, condition_has_flaw, block_has_flaw, is_mixed, same_kinds, places}
 use Rattle.name_resolution.proofs.BindFacts.{small, none_left, none_right}
 use Rattle.name_resolution.proofs.FirstFacts.{first_none}
 use Rattle.name_resolution.proofs.FlawFacts.{not_left, not_right, joined, other_refusals}
-use Rattle.name_resolution.proofs.PartFacts.{adds_none, adds_both, bound_is}
+use Rattle.name_resolution.proofs.PartFacts.{adds_both, bound_is}
 use Rattle.name_resolution.proofs.Ranges.{ref_fits, widths_few}
 use Rattle.name_resolution.proofs.WellFormed.{query_fits}
 use Rattle.name_resolution.proofs.OverTables.{query_over}
 
 -- ---- conditions
-
-pub none_sound : (limit : ℕ) (block : Block) → AddsSound limit block block []
-none_sound limit block = (refl, refl, adds_none block)
-
-pub pair_sound : (limit : ℕ) (before after : Block) (left : Meaning) (sign : Sign) (right : Meaning) → has_flaw limit left ≡ false
-    → has_flaw limit right ≡ false → kinds_differ (kind_of left) (kind_of right) ≡ false
-    → Adds before after (option_to_list (part_of left sign right)) → AddsSound limit before after (Compare left sign right ∷ [])
-pair_sound limit before after left sign right fine fine_too same adds = (
-  ap (λ b. (b || has_flaw limit right) || false) fine ∙ ap (λ b. b || false) fine_too,
-  ap (λ b. b || false) same,
-  subst (Adds before after) (sym (append-nil (option_to_list (part_of left sign right)))) adds,
-)
-
-pub between_sound : (limit : ℕ) (before middle after : Block) (value low high : Meaning)
-    → AddsSound limit before middle (Compare value AtLeast low ∷ []) → AddsSound limit middle after (Compare value AtMost high ∷ [])
-    → AddsSound limit before after (Between value low high ∷ [])
-between_sound limit before middle after value low high one two =
-    let below = has_flaw limit low in
-    let above = has_flaw limit high in
-    let first_part = option_to_list (part_of value AtLeast low) in
-    let second_part = option_to_list (part_of value AtMost high) in
-    let fine = not_left (has_flaw limit value || below) false one.0 in
-    let fine_too = not_left (has_flaw limit value || above) false two.0 in (
-      ap (λ b. (b || (below || above)) || false) (not_left (has_flaw limit value) below fine)
-          ∙ ap (λ b. (b || above) || false) (not_right (has_flaw limit value) below fine)
-          ∙ ap (λ b. b || false) (not_right (has_flaw limit value) above fine_too),
-      ap (λ b. cond b true (kinds_differ (kind_of value) (kind_of high)) || false)
-          (not_left (kinds_differ (kind_of value) (kind_of low)) false one.1)
-          ∙ two.1,
-      subst (Adds before after)
-          (ap (λ ps. ps ++ (second_part ++ [])) (append-nil first_part) ∙ ap (λ ps. first_part ++ ps) (append-nil second_part)
-          ∙ sym (append-nil (first_part ++ second_part)))
-          (adds_both before middle after (first_part ++ []) (second_part ++ []) one.2 two.2),
-    )
 
 none_more : {X : Type 0} (test : X → Bool) (xs : List X) (y : X) → list_any test xs ≡ false → test y ≡ false → list_any test (xs ++ y ∷ []) ≡ false
 none_more test [] y none here = ap (λ b. b || false) here
@@ -154,9 +117,13 @@ literal_small : (literal : Literal) → IsSmall (literal_meaning literal)
 literal_small (Number negative digits) = number_small negative digits (number_value negative digits)
 literal_small (Words text) = tt
 
-pub side_small : (names : ColumnRef → Meaning) → ((ref : ColumnRef) → IsSmall (names ref)) → (s : Side) → IsSmall (side_meaning names s)
+side_small : (names : ColumnRef → Meaning) → ((ref : ColumnRef) → IsSmall (names ref)) → (s : Side) → IsSmall (side_meaning names s)
 side_small names all (side.Column ref) = all ref
 side_small names all (side.Fixed literal) = literal_small literal
+
+pub condition_small : (names : ColumnRef → Meaning) → ((ref : ColumnRef) → IsSmall (names ref)) → (c : Cond) → ConditionIsSmall (condition names c)
+condition_small names all (written.Compare left sign right) = (side_small names all left, side_small names all right)
+condition_small names all (written.Between value low high) = (all value, side_small names all low, side_small names all high)
 
 pub ref_small : (schema : Schema) (items : List FromItem) → SchemaIsSound schema → length items ≤ 16 → (ref : ColumnRef)
     → IsSmall (meaning (sources schema items) ref)
@@ -265,10 +232,6 @@ none_refused limits schema t names atoms block same atoms_are sound once wide fe
     (omega (arith, count, few)) few_items)
 
 -- ---- a query of one block
-
-pub query_made : (schema : Schema) (t : tree.Tree) (b : BlockTree) (made : Block) (q : query.QueryTree) → t ≡ tree.Block b
-    → made ≡ bound_block (looked_up schema b) → Some (query.Single made) ≡ Some q → q ≡ bound_query schema t
-query_made schema t b made q is so same = sym (the_same (query.Single made) q same) ∙ ap (λ m. query.Single m) so ∙ ap (bound_query schema) (sym is)
 
 pub sound_over : (limits : Limits) (names : ColumnRef → Meaning) (atoms : List Atom) (t : BlockTree) (empty made block : Block)
     → list_any (has_flaw limits.text) (map names t.items) ≡ false → length (map names t.items) ≤ limits.outputs

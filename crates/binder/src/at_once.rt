@@ -3,203 +3,74 @@
 ghost use Rattle.std.specs.Prelude.{◌≡◌, ◌<◌, ◌==◌, ◌∷◌, true, false, Some, None, [], IfOk, MatchOption, map, length};
 ghost use Rattle.std.specs.List.{list_any};
 ghost use Rattle.beas_core.specs.declared.query.Block.{Block as MadeBlock};
-ghost use Rattle.beas_core.specs.declared.value.Value.TheVariants.{Int, Str};
 ghost use Rattle.beas_core.specs.Trees.{QueryTree};
 ghost use Rattle.sql_text.specs.Trees as written;
 ghost use Rattle.catalogue.specs.Schema.{SchemaIsSound};
-ghost use Rattle.binder.specs.AtOnce.{AddsSound, ArePlacesOf, IsSoundOutput, IsSoundOver, PairAdds, meaning_of, told_among};
+ghost use Rattle.binder.specs.AtOnce.{AddsSound, ArePlacesOf, IsSoundOutput, IsSoundOver};
 ghost use Rattle.name_resolution.specs.Binding.{refusals, bound_query};
-ghost use Rattle.name_resolution.specs.declared.meaning.Condition.TheVariants.{Between, Compare};
-ghost use Rattle.name_resolution.specs.declared.meaning.Meaning.TheVariants.{At, Fixed};
-ghost use Rattle.name_resolution.specs.LookedUp.{looked_up, bound_block, IsSmall};
-ghost use Rattle.name_resolution.specs.Meanings.{condition, side_meaning};
+ghost use Rattle.name_resolution.specs.LookedUp.{looked_up, bound_block, ConditionIsSmall, IsSmall};
+ghost use Rattle.name_resolution.specs.Meanings.{condition};
 ghost use Rattle.name_resolution.specs.Refusing.{first};
+ghost use Rattle.name_resolution.specs.Scopes.{told_by};
 
-use crate::sound::{Sound, column_among, sound_side};
-use beas_core::{
-    Atom, Block, ColType, Fail, Limits, List, NoMemory, Place, Query, QueryNode, Sign, Text, Value,
-};
+use beas_core::{Atom, Block, Fail, Limits, List, NoMemory, Place, Query, QueryNode};
 use catalogue::Catalogue;
 use name_resolution::{
-    BoundColumn, FEW, NamedAtom, add_part, all_places, atoms_in_order, mirrored_sign, place_of,
-    same_kind, with_column, with_value,
+    Condition, FEW, Meaning, NamedAtom, Names, add_condition, all_places, atoms_in_order,
+    condition_has_flaw, is_mixed, place_of,
 };
-use sql_text::{BlockTree, ColumnRef, Cond, SelectNode, SelectTree, Side};
+use sql_text::{BlockTree, ColumnRef, Cond, SelectNode, SelectTree};
 use std::alloc::Global;
-
-/// Adds what a comparison of two columns adds, where they agree in type. Whether they do.
-fn add_columns(
-    block: &mut Block,
-    left: BoundColumn,
-    sign: Sign,
-    right: BoundColumn,
-) -> Result<bool, NoMemory>
-    requires left { IsSmall (At left) }
-    requires right { IsSmall (At right) }
-    ensures { IfOk result (λ sound. sound ≡ true → PairAdds block.old block.new (At left) sign (At right)) }
-{
-    if !same_kind(left.kind, right.kind) {
-        return Ok(false);
-    }
-    add_part(block, with_column(left, sign, right))?;
-    Ok(true)
-}
-
-/// Adds what a comparison of a column with a number adds, where they agree in type. Whether they do.
-fn add_number(
-    block: &mut Block,
-    left: BoundColumn,
-    sign: Sign,
-    number: i64,
-) -> Result<bool, NoMemory>
-    requires { IsSmall (At left) }
-    ensures { IfOk result (λ sound. sound ≡ true → PairAdds block.old block.new (At left) sign (Fixed (Int number))) }
-{
-    if !same_kind(left.kind, ColType::Integer) {
-        return Ok(false);
-    }
-    add_part(block, with_value(left, sign, Value::Int(number)))?;
-    Ok(true)
-}
-
-/// Adds what a comparison of a column with a text adds, where they agree in type. Whether they do.
-fn add_words(
-    alloc: Global,
-    block: &mut Block,
-    left: BoundColumn,
-    sign: Sign,
-    words: &str,
-) -> Result<bool, NoMemory>
-    requires { IsSmall (At left) }
-    ensures { IfOk result (λ sound. sound ≡ true → PairAdds block.old block.new (At left) sign (Fixed (Str words.now))) }
-{
-    if !same_kind(left.kind, ColType::Words) {
-        return Ok(false);
-    }
-    let text = Text::from_str(alloc, words)?;
-    add_part(block, with_value(left, sign, Value::Str(text)))?;
-    Ok(true)
-}
-
-/// Adds what a comparison adds, where a side is a column and both agree in type. Whether it is so.
-fn add_pair_if_sound(
-    alloc: Global,
-    block: &mut Block,
-    left: &Sound,
-    sign: Sign,
-    right: &Sound,
-) -> Result<bool, NoMemory>
-    requires left { IsSmall (meaning_of left.now) }
-    requires right { IsSmall (meaning_of right.now) }
-    ensures { IfOk result (λ sound. sound ≡ true
-        → PairAdds block.old block.new (meaning_of left.now) sign (meaning_of right.now)) }
-{
-    match (left, right) {
-        (Sound::At(left), Sound::At(right)) => add_columns(block, *left, sign, *right),
-        (Sound::At(left), Sound::Number(number)) => add_number(block, *left, sign, *number),
-        (Sound::At(left), Sound::Text(words)) => add_words(alloc, block, *left, sign, words),
-        (Sound::Number(number), Sound::At(right)) => {
-            add_number(block, *right, mirrored_sign(sign), *number)
-        }
-        (Sound::Text(words), Sound::At(right)) => {
-            add_words(alloc, block, *right, mirrored_sign(sign), words)
-        }
-        _ => Ok(false),
-    }
-}
-
-/// Adds what a comparison of two sides adds, where they have no flaw and agree in type. Whether it is so.
-fn add_sides_if_sound(
-    alloc: Global,
-    atoms: &[NamedAtom],
-    limit: u32,
-    block: &mut Block,
-    left: &Side,
-    sign: Sign,
-    right: &Side,
-) -> Result<bool, NoMemory>
-    requires { (ref : ColumnRef) → IsSmall (told_among atoms.now ref) }
-    ensures { IfOk result (λ sound. sound ≡ true
-        → AddsSound limit block.old block.new (Compare (side_meaning (told_among atoms.now) left.now) sign
-        (side_meaning (told_among atoms.now) right.now) ∷ [])) }
-{
-    let Some(left) = sound_side(atoms, limit, left) else {
-        return Ok(false);
-    };
-    let Some(right) = sound_side(atoms, limit, right) else {
-        return Ok(false);
-    };
-    add_pair_if_sound(alloc, block, &left, sign, &right)
-}
-
-/// Adds what BETWEEN adds, where its sides have no flaw and agree in type. Whether it is so.
-#[inline(never)]
-fn add_range_if_sound(
-    alloc: Global,
-    atoms: &[NamedAtom],
-    limit: u32,
-    block: &mut Block,
-    value: &ColumnRef,
-    low: &Side,
-    high: &Side,
-) -> Result<bool, NoMemory>
-    requires { (ref : ColumnRef) → IsSmall (told_among atoms.now ref) }
-    ensures { IfOk result (λ sound. sound ≡ true
-        → AddsSound limit block.old block.new (Between (told_among atoms.now value.now)
-        (side_meaning (told_among atoms.now) low.now) (side_meaning (told_among atoms.now) high.now) ∷ [])) }
-{
-    let Some(column) = column_among(atoms, value) else {
-        return Ok(false);
-    };
-    let Some(low) = sound_side(atoms, limit, low) else {
-        return Ok(false);
-    };
-    let Some(high) = sound_side(atoms, limit, high) else {
-        return Ok(false);
-    };
-    let value = Sound::At(column);
-    if !add_pair_if_sound(alloc, block, &value, Sign::AtLeast, &low)? {
-        return Ok(false);
-    }
-    add_pair_if_sound(alloc, block, &value, Sign::AtMost, &high)
-}
 
 /// Adds what a condition adds, where its sides have no flaw and agree in type. Whether it is so.
 fn add_if_sound(
     alloc: Global,
-    atoms: &[NamedAtom],
+    limit: u32,
+    block: &mut Block,
+    condition: &Condition,
+) -> Result<bool, NoMemory>
+    requires { ConditionIsSmall condition.now }
+    ensures { IfOk result (λ sound. sound ≡ true → AddsSound limit block.old block.new (condition.now ∷ [])) }
+{
+    if condition_has_flaw(limit, condition) || is_mixed(condition) {
+        return Ok(false);
+    }
+    add_condition(alloc, block, condition)?;
+    Ok(true)
+}
+
+/// Looks up what the sides of a condition stand for, and adds what it adds, where they have no flaw and agree in type.
+/// Whether it is so.
+fn look_up_and_add(
+    alloc: Global,
+    names: &Names,
     limit: u32,
     block: &mut Block,
     cond: &Cond,
 ) -> Result<bool, NoMemory>
-    requires { (ref : ColumnRef) → IsSmall (told_among atoms.now ref) }
+    requires { (ref : ColumnRef) → IsSmall (told_by names.now ref) }
     ensures { IfOk result (λ sound. sound ≡ true
-        → AddsSound limit block.old block.new (condition (told_among atoms.now) cond.now ∷ [])) }
+        → AddsSound limit block.old block.new (condition (told_by names.now) cond.now ∷ [])) }
 {
-    match cond {
-        Cond::Compare { left, sign, right } => {
-            add_sides_if_sound(alloc, atoms, limit, block, left, *sign, right)
-        }
-        Cond::Between { value, low, high } => {
-            add_range_if_sound(alloc, atoms, limit, block, value, low, high)
-        }
-    }
+    // The condition is dropped at one exit alone: a proof of several takes minutes.
+    let condition = names.condition(alloc, cond)?;
+    add_if_sound(alloc, limit, block, &condition)
 }
 
 /// Adds what conditions add, where the sides of each have no flaw and agree in type. Whether it is so.
 fn add_all_if_sound(
     alloc: Global,
-    atoms: &[NamedAtom],
+    names: &Names,
     limit: u32,
     block: &mut Block,
     conditions: &[Cond],
 ) -> Result<bool, NoMemory>
-    requires { (ref : ColumnRef) → IsSmall (told_among atoms.now ref) }
+    requires { (ref : ColumnRef) → IsSmall (told_by names.now ref) }
     ensures { IfOk result (λ sound. sound ≡ true
-        → AddsSound limit block.old block.new (map (condition (told_among atoms.now)) conditions.now)) }
+        → AddsSound limit block.old block.new (map (condition (told_by names.now)) conditions.now)) }
 {
     for cond in conditions {
-        if !add_if_sound(alloc, atoms, limit, block, cond)? {
+        if !look_up_and_add(alloc, names, limit, block, cond)? {
             return Ok(false);
         }
     }
@@ -232,16 +103,16 @@ fn any_is_empty(atoms: &[Atom]) -> bool
 /// The places of the columns that refs stand for, where each stands for one.
 fn places_if_sound(
     alloc: Global,
-    atoms: &[NamedAtom],
+    names: &Names,
     references: &[ColumnRef],
 ) -> Result<Option<List<Place>>, NoMemory>
-    requires { (ref : ColumnRef) → IsSmall (told_among atoms.now ref) }
+    requires { (ref : ColumnRef) → IsSmall (told_by names.now ref) }
     ensures { IfOk result (λ made. MatchOption made (Unit {0})
-        (λ places. ArePlacesOf places (map (told_among atoms.now) references.now))) }
+        (λ places. ArePlacesOf places (map (told_by names.now) references.now))) }
 {
     let mut places = List::from_vec(Vec::with_capacity(alloc, references.len())?);
     for reference in references {
-        let Some(column) = column_among(atoms, reference) else {
+        let Meaning::At(column) = names.meaning(alloc, reference)? else {
             return Ok(None);
         };
         places.push(place_of(column))?;
@@ -253,21 +124,21 @@ fn places_if_sound(
 fn output_if_sound(
     alloc: Global,
     limits: &Limits,
-    named: &[NamedAtom],
+    names: &Names,
     atoms: &[Atom],
     tree: &BlockTree,
 ) -> Result<Option<List<Place>>, NoMemory>
     requires few { length atoms.now < 65536 }
-    requires small { (ref : ColumnRef) → IsSmall (told_among named.now ref) }
+    requires small { (ref : ColumnRef) → IsSmall (told_by names.now ref) }
     ensures { IfOk result (λ made. MatchOption made (Unit {0})
-        (λ places. IsSoundOutput limits.now (told_among named.now) atoms.now tree.now places)) }
+        (λ places. IsSoundOutput limits.now (told_by names.now) atoms.now tree.now places)) }
 {
     let references = tree.items.as_slice();
     if references.len() > usize::from(limits.outputs) {
         return Ok(None);
     }
     if !tree.star {
-        return places_if_sound(alloc, named, references);
+        return places_if_sound(alloc, names, references);
     }
     // A star stands alone.
     if !references.is_empty() {
@@ -280,16 +151,16 @@ fn output_if_sound(
 fn bound_over(
     alloc: Global,
     limits: &Limits,
-    named: &[NamedAtom],
+    names: &Names,
     atoms: List<Atom>,
     tree: &BlockTree,
 ) -> Result<Option<Block>, NoMemory>
     requires few { length atoms < 65536 }
-    requires small { (ref : ColumnRef) → IsSmall (told_among named.now ref) }
+    requires small { (ref : ColumnRef) → IsSmall (told_by names.now ref) }
     ensures { IfOk result (λ bound. (block : MadeBlock) → bound ≡ Some block
-        → IsSoundOver limits.now (told_among named.now) atoms tree.now block) }
+        → IsSoundOver limits.now (told_by names.now) atoms tree.now block) }
 {
-    let Some(output) = output_if_sound(alloc, limits, named, atoms.as_slice(), tree)? else {
+    let Some(output) = output_if_sound(alloc, limits, names, atoms.as_slice(), tree)? else {
         return Ok(None);
     };
     let mut block = Block {
@@ -300,7 +171,7 @@ fn bound_over(
         output,
     };
     let conditions = tree.conditions.as_slice();
-    if add_all_if_sound(alloc, named, limits.text, &mut block, conditions)? {
+    if add_all_if_sound(alloc, names, limits.text, &mut block, conditions)? {
         return Ok(Some(block));
     }
     Ok(None)
@@ -332,7 +203,7 @@ fn block_at_once(
     if any_is_empty(atoms.as_slice()) {
         return Ok(None);
     }
-    bound_over(alloc, limits, &named, atoms, block)
+    bound_over(alloc, limits, &Names::Few(named), atoms, block)
 }
 
 /// The bound query, where it is one block of few atoms, and nothing in it is to be refused.

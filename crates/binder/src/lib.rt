@@ -12,7 +12,6 @@
 mod at_once;
 mod binding;
 mod rows;
-mod sound;
 
 pub use binding::bind;
 pub use name_resolution::bind_delete;

@@ -2,15 +2,16 @@ use Rattle.std.proofs.Common.{◌∙◌, map, ap, subst, refl}
 use Rattle.beas_core.specs.declared.query.Block.{Block}
 use Rattle.sql_text.specs.declared.tree.ColumnRef.{ColumnRef}
 use Rattle.name_resolution.specs.declared.meaning.Meaning.{Meaning}
-use Rattle.binder.specs.AtOnce.{AddsSound, IsSoundOutput, found_over, told_among}
+use Rattle.binder.specs.AtOnce.{AddsSound, IsSoundOutput, found_over}
 use Rattle.name_resolution.specs.LookedUp.{outputs}
 use Rattle.name_resolution.specs.Meanings.{condition}
+use Rattle.name_resolution.specs.Scopes.{told_by}
 use Rattle.binder.proofs.AtOnceFacts.{of_some, sound_over}
 use Rattle.binder.proofs.at_once.bound_over.Goals as goal
 
 pub returns-then-branch : goal.returns-then-branch
 returns-then-branch c = λ block same.
-    let told : ColumnRef → Meaning = told_among c.args.named.now in
+    let told : ColumnRef → Meaning = told_by c.args.names.now in
     let limits = c.args.limits.now in
     let out : IsSoundOutput limits told c.as_slice.result.now c.args.tree.now c.in-Some.output =
     of_some (IsSoundOutput limits told c.as_slice.result.now c.args.tree.now) _ c.in-Some.output c.in-Some.is c.in_ok-output.ensures in
