@@ -234,6 +234,32 @@ fn next_stage<P: AccessPort>(
     stage_of(alloc, block, step.atom, access, classes)
 }
 
+// Begins the next step. It stands by itself, so that visits of steps that were begun make no room for a stage.
+#[inline(never)]
+fn begin_next<P: AccessPort>(
+    alloc: Global,
+    port: &P,
+    block: &Normal,
+    step: &DStep,
+    first: &List<u16>,
+    stages: &mut Vec<Stage>,
+) -> Result<(), NoMemory>
+    requires live { IsTrue (is_live (P.accesses port.now) step.now.access) }
+    requires ranges { ClassesInRange block.now }
+    requires classes { let classes = classes_at first.now stages.old.items (length stages.old.items) in
+        classes ≡ classes_in (set_of block.now classes) }
+    requires key { IsTrue (holds_classes (set_of block.now (classes_at first.now stages.old.items (length stages.old.items)))
+        (key_classes block.now (record { atom = step.now.atom; access = access_in (P.accesses port.now) step.now.access }))) }
+    ensures there { OnOk result (length stages.old.items < length stages.new.items) }
+    ensures begins { OnOk result (Begins (IsMadeFor block.now step.now.atom (access_in (P.accesses port.now) step.now.access)
+        (classes_at first.now stages.old.items (length stages.old.items)))
+        (length stages.old.items) stages.old.items stages.new.items) }
+{
+    let stage = next_stage(alloc, port, block, step, first, stages.as_slice())?;
+    stages.push(stage)?;
+    Ok(())
+}
+
 // Begins the step with this number, unless it was begun. A step that wasn't is the next one.
 #[inline(always)]
 fn begin_step<P: AccessPort>(
@@ -259,8 +285,7 @@ fn begin_step<P: AccessPort>(
     if number < stages.len() {
         return Ok(());
     }
-    let stage = next_stage(alloc, port, block, step, first, stages.as_slice())?;
-    stages.push(stage)?;
+    begin_next(alloc, port, block, step, first, stages)?;
     Ok(())
 }
 
