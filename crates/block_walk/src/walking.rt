@@ -211,29 +211,6 @@ fn classes_so_far<'a>(first: &'a List<u16>, stages: &'a [Stage]) -> &'a List<u16
     }
 }
 
-// What is worked out for the next step, which isn't begun.
-fn next_stage<P: AccessPort>(
-    alloc: Global,
-    port: &P,
-    block: &Normal,
-    step: &DStep,
-    first: &List<u16>,
-    stages: &[Stage],
-) -> Result<Stage, NoMemory>
-    requires live { IsTrue (is_live (P.accesses port.now) step.now.access) }
-    requires ranges { ClassesInRange block.now }
-    requires classes { let classes = classes_at first.now stages.now (length stages.now) in
-        classes ≡ classes_in (set_of block.now classes) }
-    requires key { IsTrue (holds_classes (set_of block.now (classes_at first.now stages.now (length stages.now)))
-        (key_classes block.now (record { atom = step.now.atom; access = access_in (P.accesses port.now) step.now.access }))) }
-    ensures { IfOk result (IsMadeFor block.now step.now.atom (access_in (P.accesses port.now) step.now.access)
-        (classes_at first.now stages.now (length stages.now))) }
-{
-    let classes = classes_so_far(first, stages);
-    let access = port.access(step.access);
-    stage_of(alloc, block, step.atom, access, classes)
-}
-
 // Begins the next step. It stands by itself, so that visits of steps that were begun make no room for a stage.
 #[inline(never)]
 fn begin_next<P: AccessPort>(
@@ -255,7 +232,9 @@ fn begin_next<P: AccessPort>(
         (classes_at first.now stages.old.items (length stages.old.items)))
         (length stages.old.items) stages.old.items stages.new.items) }
 {
-    let stage = next_stage(alloc, port, block, step, first, stages.as_slice())?;
+    let classes = classes_so_far(first, stages.as_slice());
+    let access = port.access(step.access);
+    let stage = stage_of(alloc, block, step.atom, access, classes)?;
     stages.push(stage)?;
     Ok(())
 }
