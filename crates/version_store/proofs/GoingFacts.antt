@@ -1,8 +1,8 @@
 -- What a turn of one of its open queries makes of a desk.
-use Rattle.std.proofs.Common.{◌≡◌, ◌≤◌, ◌==◌, ◌+◌, ◌∙◌, ℕ, Bool, true, false, List, length, get_or, set, remove, nat_lt, position, Option, Some, None, inl, inr, refl, ap, sym, subst, arith}
+use Rattle.std.proofs.Common.{◌≡◌, ◌<◌, ◌≤◌, ◌==◌, ◌+◌, ◌∙◌, ℕ, Bool, true, false, List, length, get_or, set, remove, nat_lt, position, is_some, Option, Some, None, inl, inr, refl, ap, sym, subst, arith}
 use Rattle.std.specs.Prelude.{if◌then◌else◌, Contains}
 use Rattle.std.proofs.lemmas.Bool.{lt-ltb, le-ltb}
-use Rattle.std.proofs.lemmas.List.{get_or-set_same}
+use Rattle.std.proofs.lemmas.List.{get_or-set_same, length-set}
 use Rattle.std.proofs.lemmas.List.Elements.{All-set}
 use Rattle.beas_core.specs.declared.plan.Prepared.{Prepared}
 use Rattle.beas_core.specs.Queries.{BlockProbe}
@@ -135,18 +135,27 @@ module _ (session : Session) (queries : List Open) (k i : ℕ) (old new : Open) 
           steps = h.steps;
         }
 
+  -- ---- it stands there after its turn
+  in_range : i < length queries
+  in_range = (seen.place see share probes (settings_of session) db queries k i old found was).within
+
+  pub in_range_still : i < length (set queries i new)
+  in_range_still = (let l = in_range in let same = length-set queries i new in omega (arith, l, same))
+
+  pub stands_there : new ≡ get_or (set queries i new) i new
+  stands_there = sym (get_or-set_same queries i new new in_range)
+
+  stands_alone : (query : Open) → query ≡ get_or (set queries i new) i query → query ≡ new
+  stands_alone query is = is ∙ get_or-set_same queries i new query in_range
+
   -- what is reported of it where its answer is there
   reported : new.cursor.prepared ≡ q.prepared → new.plan ≡ q.plan → new.cursor.answer ≡ Some (answer_of q) → new.cursor.reads ≡ reads_of q
-      → (gone : Open) (given : Report) → gone ≡ get_or (set queries i new) i gone → new.header ≡ new.cursor.prepared.header
-      → ((rows : List Row) → gone.cursor.answer ≡ Some rows
-      → given ≡ report.Answered gone.cursor.prepared.bound gone.plan gone.header rows gone.cursor.reads)
+      → (given : Report) → new.header ≡ new.cursor.prepared.header
+      → ((rows : List Row) → new.cursor.answer ≡ Some rows
+      → given ≡ report.Answered new.cursor.prepared.bound new.plan new.header rows new.cursor.reads)
       → given ≡ (answered_effect before.state k q).report
-  reported prepared plan answer reads gone given is header gives =
-      let place = seen.place see share probes (settings_of session) db queries k i old found was in
-      let it : gone ≡ new = is ∙ get_or-set_same queries i new gone place.within in
-      let made : Open → List Row → Report = λ o rows. report.Answered o.cursor.prepared.bound o.plan o.header rows o.cursor.reads in
-      gives (answer_of q) (ap (λ (o : Open). o.cursor.answer) it ∙ answer)
-      ∙ ap (λ o. made o (answer_of q)) it
+  reported prepared plan answer reads given header gives =
+      gives (answer_of q) answer
       ∙ ap (λ hs. report.Answered new.cursor.prepared.bound new.plan hs (answer_of q) new.cursor.reads) header
       ∙ ap (λ (p : Prepared). report.Answered p.bound new.plan p.header (answer_of q) new.cursor.reads) prepared
       ∙ ap (λ lines. report.Answered q.prepared.bound lines q.prepared.header (answer_of q) new.cursor.reads) plan
@@ -184,11 +193,14 @@ module _ (session : Session) (queries : List Open) (k i : ℕ) (old new : Open) 
     }
 
     -- what is reported of it
-    pub answered_report : (gone : Open) (given : Report) → gone ≡ get_or (set queries i new) i gone → new.header ≡ new.cursor.prepared.header
-        → ((rows : List Row) → gone.cursor.answer ≡ Some rows
-        → given ≡ report.Answered gone.cursor.prepared.bound gone.plan gone.header rows gone.cursor.reads)
+    pub answered_report : (given : Report) → new.header ≡ new.cursor.prepared.header
+        → ((rows : List Row) → new.cursor.answer ≡ Some rows
+        → given ≡ report.Answered new.cursor.prepared.bound new.plan new.header rows new.cursor.reads)
         → given ≡ (answered_effect before.state k q).report
     answered_report = reported (ap (λ (r : OpenQuery). r.prepared) h.is) (ap (λ (r : OpenQuery). r.plan) h.is) h.answer h.reads
+
+    pub has_answer : (query : Open) → query ≡ get_or (set queries i new) i query → is_some query.cursor.answer ≡ true
+    has_answer query is = ap (λ (o : Open). is_some o.cursor.answer) (stands_alone query is) ∙ ap is_some h.answer
 
   -- ---- out of memory
   module _ (h : see new ≡ record q { made = None }) where

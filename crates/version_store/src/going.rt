@@ -1,5 +1,5 @@
 // How an open query goes on: by one probe, or by its answer.
-ghost use Rattle.std.specs.Prelude.{◌≡◌, ◌≤◌, ◌==◌, true, IfOk, IsErr, IsTrue, List, None, OnErr, Some, is_some, position};
+ghost use Rattle.std.specs.Prelude.{◌≡◌, ◌<◌, ◌≤◌, ◌==◌, true, IfOk, IsErr, IsTrue, List, None, OnErr, Some, is_some, length, position, remove, slice_index_or};
 ghost use Rattle.beas_core.specs.Types.{Row as Values};
 ghost use Rattle.cursor_executor.specs.Turns.{QuerySpent, TurnIs};
 ghost use Rattle.desk_model.specs.Desks.{query_of, stepped_effect};
@@ -10,7 +10,7 @@ ghost use Rattle.session.specs.Applying.{database_of};
 ghost use Rattle.session.specs.Turns.{IsWithin};
 ghost use Rattle.version_store.specs.Desks.{GoesOn, MayTake, desk_wanting, without_query_of};
 ghost use Rattle.version_store.specs.Events.{HappensSome};
-ghost use Rattle.version_store.specs.Stored.{AreKept, IsOpenAt, held_at, seen_in, state_in, world_at};
+ghost use Rattle.version_store.specs.Stored.{AreKept, IsOpenAt, Open, held_at, seen_in, state_in, world_at};
 
 use crate::open::OpenQuery;
 use crate::store::{CurrentStore, KeptTable};
@@ -57,12 +57,19 @@ fn turn_over<L: Ledger>(
     turn(alloc, &store, query, steps)
 }
 
-// The answer of a query whose probes have all been made.
-fn answer(query: OpenQuery<KeptTable>) -> Report
-    requires { IsTrue (is_some query.cursor.answer) }
-    ensures { (rows : List Values) → query.cursor.answer ≡ Some rows
+// Closes the query at a place, whose probes have all been made, with its answer. It stands by itself, so that a step that makes
+// a probe makes no room for a query.
+#[inline(never)]
+fn close(queries: &mut Vec<OpenQuery<KeptTable>>, place: usize) -> Report
+    requires there { place < length queries.old.items }
+    requires answered { (query : Open) → query ≡ slice_index_or queries.old.items place query
+        → IsTrue (is_some query.cursor.answer) }
+    ensures left { queries.new.items ≡ remove queries.old.items place }
+    ensures report { (query : Open) → query ≡ slice_index_or queries.old.items place query
+        → (rows : List Values) → query.cursor.answer ≡ Some rows
         → result ≡ Answered query.cursor.prepared.bound query.plan query.header rows query.cursor.reads }
 {
+    let query = queries.remove(place);
     let bound = query.cursor.prepared().bound;
     let plan = query.plan;
     let header = query.header;
@@ -107,7 +114,7 @@ pub fn step<L: Ledger>(
     };
     match turn_over(alloc, session, &mut queries[place], steps)? {
         Turn::Probed => Ok(Report::Probed { session: number }),
-        Turn::Done => Ok(answer(queries.remove(place))),
+        Turn::Done => Ok(close(queries, place)),
     }
 }
 

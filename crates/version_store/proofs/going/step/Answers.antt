@@ -94,12 +94,32 @@ returns-in-Probed-clause-goes_on g c =
     (fact.made_there c.in_ok-turn_over.field-0 (held_at db old) (held_at db new) old.cursor new.cursor c.args.steps.now c.turn_over.new.steps c.in-Probed.is
     c.in_ok-turn_over.ensures.went)
 
+pub close-requires-clause-there : goal.close-requires-clause-there
+close-requires-clause-there g c =
+    let found = fact.where_found c.args.queries.now.items c.as_slice.result.now c.args.number c.position_of.result _ c.as_slice.ensures.value c.position_of.ensures
+    c.in-Some.is in
+    fact.in_range_still c.args.session.now c.args.queries.now.items c.args.number c.in-Some.place c.index_mut.result.now c.turn_over.new.query found
+    c.index_mut.ensures.value
+
+pub close-requires-clause-answered : goal.close-requires-clause-answered
+close-requires-clause-answered g c query is =
+    let found = fact.where_found c.args.queries.now.items c.as_slice.result.now c.args.number c.position_of.result _ c.as_slice.ensures.value c.position_of.ensures
+    c.in-Some.is in
+    let s = c.args.session.now in
+    let db = database_of s in
+    let old = c.index_mut.result.now in
+    let new = c.turn_over.new.query in
+    let h = fact.answered_there c.in_ok-turn_over.field-0 (held_at db old) (held_at db new) old.cursor new.cursor c.args.steps.now c.turn_over.new.steps
+    c.in-Done.is c.in_ok-turn_over.ensures.went in
+    fact.has_answer s c.args.queries.now.items c.args.number c.in-Some.place old new found c.index_mut.ensures.value c.args.steps.now c.turn_over.new.steps h
+    query is
+
 pub returns-in-Done-clause-kept : goal.returns-in-Done-clause-kept
 returns-in-Done-clause-kept g c =
     let found = fact.where_found c.args.queries.now.items c.as_slice.result.now c.args.number c.position_of.result _ c.as_slice.ensures.value c.position_of.ensures
     c.in-Some.is in
     fact.kept_answered c.args.session.now c.args.queries.now.items c.args.number c.in-Some.place c.index_mut.result.now c.turn_over.new.query found
-    c.index_mut.ensures.value c.requires.kept c.remove.new.self.items c.remove.ensures.items
+    c.index_mut.ensures.value c.requires.kept c.close.new.queries.items c.close.ensures.left
 
 pub returns-in-Done-clause-did : goal.returns-in-Done-clause-did
 returns-in-Done-clause-did g c =
@@ -114,11 +134,29 @@ returns-in-Done-clause-did g c =
     let h = fact.answered_there c.in_ok-turn_over.field-0 (held_at db old) (held_at db new) old.cursor new.cursor c.args.steps.now c.turn_over.new.steps
     c.in-Done.is c.in_ok-turn_over.ensures.went in
     let given = fact.answered_report s queries k c.in-Some.place old new found c.index_mut.ensures.value c.args.steps.now c.turn_over.new.steps h
-    c.remove.result c.answer.result c.remove.ensures.value c.turn_over.ensures.kept.header c.answer.ensures in
-    subst (λ seen. HappensSome (stepped_effect (state_in s queries) k (query_of k (state_in s queries))) c.answer.result (seen_in s queries) seen
+    c.close.result c.turn_over.ensures.kept.header
+    (c.close.ensures.report new (fact.stands_there s queries k c.in-Some.place old new found c.index_mut.ensures.value)) in
+    subst (λ seen. HappensSome (stepped_effect (state_in s queries) k (query_of k (state_in s queries))) c.close.result (seen_in s queries) seen
     c.args.steps.now c.turn_over.new.steps)
-    (sym (fact.left_is s queries k c.in-Some.place old new found c.index_mut.ensures.value c.remove.new.self.items c.remove.ensures.items))
-    (fact.answered_happens s queries k c.in-Some.place old new found c.index_mut.ensures.value c.args.steps.now c.turn_over.new.steps h c.answer.result given)
+    (sym (fact.left_is s queries k c.in-Some.place old new found c.index_mut.ensures.value c.close.new.queries.items c.close.ensures.left))
+    (fact.answered_happens s queries k c.in-Some.place old new found c.index_mut.ensures.value c.args.steps.now c.turn_over.new.steps h c.close.result given)
+
+pub returns-in-Done-clause-within : goal.returns-in-Done-clause-within
+returns-in-Done-clause-within g c =
+    let found = fact.where_found c.args.queries.now.items c.as_slice.result.now c.args.number c.position_of.result _ c.as_slice.ensures.value c.position_of.ensures
+    c.in-Some.is in
+    let s = c.args.session.now in
+    let db = database_of s in
+    let queries = c.args.queries.now.items in
+    let k = c.args.number in
+    let old = c.index_mut.result.now in
+    let new = c.turn_over.new.query in
+    let h = fact.answered_there c.in_ok-turn_over.field-0 (held_at db old) (held_at db new) old.cursor new.cursor c.args.steps.now c.turn_over.new.steps
+    c.in-Done.is c.in_ok-turn_over.ensures.went in
+    let given = fact.answered_report s queries k c.in-Some.place old new found c.index_mut.ensures.value c.args.steps.now c.turn_over.new.steps h
+    c.close.result c.turn_over.ensures.kept.header
+    (c.close.ensures.report new (fact.stands_there s queries k c.in-Some.place old new found c.index_mut.ensures.value)) in
+    fact.answer_within s queries k c.in-Some.place old new found c.index_mut.ensures.value c.requires.kept c.close.result given
 
 pub returns-in-Done-clause-goes_on : goal.returns-in-Done-clause-goes_on
 returns-in-Done-clause-goes_on g c =
@@ -133,10 +171,11 @@ returns-in-Done-clause-goes_on g c =
     let h = fact.answered_there c.in_ok-turn_over.field-0 (held_at db old) (held_at db new) old.cursor new.cursor c.args.steps.now c.turn_over.new.steps
     c.in-Done.is c.in_ok-turn_over.ensures.went in
     let given = fact.answered_report s queries k c.in-Some.place old new found c.index_mut.ensures.value c.args.steps.now c.turn_over.new.steps h
-    c.remove.result c.answer.result c.remove.ensures.value c.turn_over.ensures.kept.header c.answer.ensures in
-    subst (λ report. GoesOn (Stepped k) report (seen_in s queries) (seen_in s c.remove.new.self.items) c.args.steps.now c.turn_over.new.steps) (sym given)
+    c.close.result c.turn_over.ensures.kept.header
+    (c.close.ensures.report new (fact.stands_there s queries k c.in-Some.place old new found c.index_mut.ensures.value)) in
+    subst (λ report. GoesOn (Stepped k) report (seen_in s queries) (seen_in s c.close.new.queries.items) c.args.steps.now c.turn_over.new.steps) (sym given)
     (subst (λ seen. Finishes k (seen_in s queries) seen c.args.steps.now c.turn_over.new.steps)
-    (sym (fact.left_is s queries k c.in-Some.place old new found c.index_mut.ensures.value c.remove.new.self.items c.remove.ensures.items))
+    (sym (fact.left_is s queries k c.in-Some.place old new found c.index_mut.ensures.value c.close.new.queries.items c.close.ensures.left))
     (fact.answered_finishes s queries k c.in-Some.place old new found c.index_mut.ensures.value c.args.steps.now c.turn_over.new.steps h
     (fact.open_there s queries k c.in-Some.place old new found c.index_mut.ensures.value c.requires.kept)
     (subst (λ turn. TurnIs (world_at db old) turn old.cursor new.cursor c.args.steps.now c.turn_over.new.steps) c.in-Done.is
