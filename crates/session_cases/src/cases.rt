@@ -3,7 +3,7 @@ use drawn_scenes::names_in;
 use std::alloc::Global;
 use std::{fs, io};
 
-/// The name of a case's script, which is the word that it is run with where it names no other.
+/// The name of a case's script, which is the argument that it is run with where it names no other.
 const SCRIPT: &str = "script.beas";
 
 /// The name of the script that is run before, over the same session.
@@ -25,11 +25,11 @@ pub struct Case {
     pub output: Vec<u8>,
     pub error: Vec<u8>,
     pub status: u8,
-    /// Whether the words ask for a demonstration, which writes no reports.
+    /// Whether the arguments ask for a demonstration, which writes no reports.
     pub is_demonstration: bool,
     /// The number of the load that fails, from 0 on, if one is to fail.
     pub failing_read: Option<u32>,
-    /// The words of the run that comes before, over the same session, where there is one.
+    /// The arguments of the run that comes before, over the same session, where there is one.
     pub arguments_before: Vec<String>,
 }
 
@@ -59,7 +59,7 @@ fn text_of(alloc: Global, files: &[CaseFile], name: &str) -> io::Result<String> 
     ))
 }
 
-/// The words that a case is run with.
+/// The arguments that a case is run with.
 fn words_of(alloc: Global, files: &[CaseFile]) -> io::Result<Vec<String>> {
     let mut words = Vec::new(alloc);
     if !files.iter().any(|file| file.name.as_str() == "words") {
