@@ -32,8 +32,8 @@ none_loaded (Some (Demo seed budget explain)) status files five = refl
 
 pub no_memory_left : (asked : Option Args) (files : Seen) → HasNoScript asked NoMemory files files
 no_memory_left asked files = record {
-  words = λ _. inr refl;
-  words_alone = λ e. absurd (let bad : NoMemory ≡ Arguments = e in cc);
+  arguments = λ _. inr refl;
+  arguments_alone = λ e. absurd (let bad : NoMemory ≡ Arguments = e in cc);
   unread = λ e. absurd (let bad : NoMemory ≡ Unread = e in cc);
   too_long = λ e. absurd (let bad : NoMemory ≡ TooLong = e in cc);
   not_text = λ e. absurd (let bad : NoMemory ≡ NotText = e in cc);
@@ -44,8 +44,8 @@ no_memory_left asked files = record {
 
 pub words_refused : (asked : Option Args) (files : Seen) → asked ≡ None → HasNoScript asked Arguments files files
 words_refused asked files none = record {
-  words = λ _. inl refl;
-  words_alone = λ _. none;
+  arguments = λ _. inl refl;
+  arguments_alone = λ _. none;
   unread = λ e. absurd (let bad : Arguments ≡ Unread = e in cc);
   too_long = λ e. absurd (let bad : Arguments ≡ TooLong = e in cc);
   not_text = λ e. absurd (let bad : Arguments ≡ NotText = e in cc);
@@ -59,8 +59,8 @@ pub file_unread : (path : List ℕ) (budget : Option ℕ) (explain : Bool) (why 
     → (why ≡ NotText → IsNoText before path) → after.loads ≡ raised 1 before.loads → IsLater before after
     → HasNoScript (Some (Script path budget explain)) why before after
 file_unread path budget explain why before after named unread too_long not_text loaded later = record {
-  words = λ none. absurd (some≢none (Script path budget explain) none);
-  words_alone = λ e. absurd (named e);
+  arguments = λ none. absurd (some≢none (Script path budget explain) none);
+  arguments_alone = λ e. absurd (named e);
   unread = unread;
   too_long = too_long;
   not_text = not_text;

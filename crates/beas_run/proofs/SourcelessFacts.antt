@@ -107,7 +107,7 @@ ended_whole : (words : List (List ℕ)) (why : NoScript) (status : ℕ) (before 
     → IsSaidWhole why status before.said said → HasNoScript (args_of words) why before.moment.files files
     → Ended words status [] files before (left before files said)
 ended_whole words Arguments status before files said whole none =
-    inr (inl (whole.status_is, record { refused = none.words_alone refl; had = none_done _ before files said whole.says }))
+    inr (inl (whole.status_is, record { refused = none.arguments_alone refl; had = none_done _ before files said whole.says }))
 ended_whole words Unread status before files said whole none =
     inr (inr (inl (whole.status_is, record { fault = none.unread refl; had = none_done _ before files said whole.says })))
 ended_whole words TooLong status before files said whole none =

@@ -36,8 +36,8 @@ IsMade (Script path budget explain) text = Unit {0}
 IsMade (Demo seed budget explain) text = text ≡ demo_text seed
 
 pub record HasNoScript (asked : Option Args) (why : NoScript) (before after : Seen) : Type 0 where
-  pub words : asked ≡ None → (why ≡ Arguments) ⊎ (why ≡ NoMemory)
-  pub words_alone : why ≡ Arguments → asked ≡ None
+  pub arguments : asked ≡ None → (why ≡ Arguments) ⊎ (why ≡ NoMemory)
+  pub arguments_alone : why ≡ Arguments → asked ≡ None
   pub unread : why ≡ Unread → IsSomeAnd (option_and_then path_of asked)
       (λ name. Rose (before.faults name) (after.faults name))
   pub too_long : why ≡ TooLong → IsSomeAnd (option_and_then path_of asked) (IsTooLong before after)

@@ -8,7 +8,7 @@ use outside::{Sink, SinkError};
 /// Why a run has no script.
 #[derive(Clone, Copy, Debug, PartialEq, Eq)]
 pub enum NoScript {
-    /// The words are refused.
+    /// The arguments are refused.
     Arguments,
     /// The script can't be read.
     Unread,
