@@ -85,7 +85,7 @@ impl Group {
     }
 
     /// The codes of the tuple at a place. It takes no memory.
-    // Each value that a plan reads of a tuple is found through this, and a call would cost as much as the reading.
+    // Each value that a plan reads of a tuple is found through this, and a call is a quarter of that.
     #[inline(always)]
     pub fn codes(&self, at: usize) -> &[u64]
         requires { at < length self.now }

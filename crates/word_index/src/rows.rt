@@ -50,7 +50,7 @@ pub fn find_group(codes: &Interner, index: &AnyIndex, key: &[Value]) -> Option<(
         ≡ group_of rows (index_in index.now).access key.now) }
     ensures stands { IfSome result (λ found. found.0 < length (index_in index.now).groups) }
 {
-    // An array of 64 codes is cleared and copied by hundreds of instructions, as many as the probe of a small group takes.
+    // To clear an array of 64 codes takes a quarter of the instructions of a look-up.
     if key.len() <= FEW {
         return find_among::<FEW>(codes, index, key);
     }
