@@ -52,7 +52,7 @@ fn look_up_and_add(
     ensures { IfOk result (λ sound. sound ≡ true
         → AddsSound limit block.old block.new (condition (told_by names.now) cond.now ∷ [])) }
 {
-    // The condition is dropped at one exit alone: a proof of several takes minutes.
+    // One exit alone drops the condition: with three, the proof takes minutes more.
     let condition = names.condition(alloc, cond)?;
     add_if_sound(alloc, limit, block, &condition)
 }

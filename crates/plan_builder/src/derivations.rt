@@ -258,7 +258,7 @@ fn greedy_among(
 }
 
 // The steps of a derivation from a start set of classes: those that add classes, and then those that serve atoms.
-// Nothing where the constraints don't cover the block from there. The start may grow, so that it needs no copy.
+// Nothing where the constraints don't cover the block from there. With few uses the start itself grows; a queue copies it.
 fn greedy(
     alloc: Global,
     accesses: &List<Access>,
@@ -306,7 +306,7 @@ pub fn steps_if_covered(
     }
 }
 
-/// Why the constraints don't cover a block, guided or not, where it has no derivation so. It makes the start anew.
+/// Why the constraints don't cover a block that has no derivation, guided or not. The start is made anew, as it has grown.
 pub fn why_none(
     alloc: Global,
     accesses: &List<Access>,

@@ -140,7 +140,7 @@ fn reached(table: &[u32], set: usize) -> u32
     }
 }
 
-// Adds to the entry of each set the set itself and all that the rules give from both, the larger ones first.
+// Makes the entry of each set the least closed set that holds it: the larger sets first, since theirs are looked up.
 fn close(table: &mut [u32])
     requires few { length table.old ≤ 65536 }
     requires sets { (count : ℕ) × (length table.old ≡ 2 ^ count) }

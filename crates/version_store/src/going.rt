@@ -57,8 +57,8 @@ fn turn_over<L: Ledger>(
     turn(alloc, &store, query, steps)
 }
 
-// Closes the query at a place, whose probes have all been made, with its answer. It stands by itself, so that a step that makes
-// a probe makes no room for a query.
+// Takes a query whose probes have all been made off the list, and gives its answer. It is a call of its own, so that a step
+// that makes a probe clears no room for a query.
 #[inline(never)]
 fn close(queries: &mut Vec<OpenQuery<KeptTable>>, place: usize) -> Report
     requires there { place < length queries.old.items }

@@ -12,7 +12,7 @@ use beas_core::{NoMemory, Value};
 use code_index::{Interner, interned_row, known_codes, row_codes};
 use std::alloc::Global;
 
-/// A key has mostly as many columns at most.
+/// Most keys have no more columns than this.
 const FEW: usize = 4;
 
 /// The position and the length of the group of a key of up to `N` values, or none where it is empty. It takes no memory.
@@ -38,7 +38,7 @@ fn find_among<const N: usize>(
     }
 }
 
-/// The place and the length of a key's group, or none where it is empty. It takes no memory.
+/// The position and the length of a key's group, or none where it is empty. It takes no memory.
 pub fn find_group(codes: &Interner, index: &AnyIndex, key: &[Value]) -> Option<(u64, u32)>
     requires in_order { IsInOrderFor codes.now (index_in index.now) }
     requires width { length key.now ≡ length (index_in index.now).access.key }
