@@ -50,10 +50,7 @@ static RESERVED: [&[&str]; 26] = [
 fn goes_on(byte: u8) -> bool
     ensures { result ≡ goes_on_folded byte }
 {
-    if byte.is_ascii_lowercase() {
-        return true;
-    }
-    byte == b'_' || byte.is_ascii_digit()
+    matches!(byte, b'a'..=b'z' | b'_' | b'0'..=b'9')
 }
 
 // Whether all the bytes of a text go on with a word.

@@ -1,4 +1,4 @@
-// Whether two texts are the same. Lengths and first bytes tell most of them apart.
+// Whether two texts are the same. Their lengths tell most of them apart.
 ghost use Rattle.std.specs.Prelude.{◌≡◌, bytes_eq, length, slice_index};
 
 /// The first byte of a text, and 0 where it has none.
@@ -26,9 +26,7 @@ fn same_bytes(text: &[u8], found: &[u8]) -> bool
 fn is_so(found: &[u8], text: &[u8]) -> bool
     ensures { result ≡ bytes_eq text.now found.now }
 {
-    found.len() == text.len()
-        && first_byte(found) == first_byte(text)
-        && (text.len() < 2 || same_bytes(text, found))
+    found.len() == text.len() && same_bytes(text, found)
 }
 
 /// Whether what was found is this text. It takes no memory.
