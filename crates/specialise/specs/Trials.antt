@@ -1,10 +1,10 @@
 -- What sets of candidates are tried by.
 --     mask_where test found           the positions of the candidates that pass a test
---     Tells gives test                a call gives of each candidate whether it passes a test
+--     Tells gives test                what a call gives of a candidate is whether it passes a test
 --     Rule                            a use of a constraint: where a set holds its key, it holds what it gives
 --     IsLeastUnder rules start mask   the least set that holds the start and what each rule gives whose key it holds
---     IsFilled rules table            the entry of each set holds what the rules give whose key it is, and no more
---     IsTable rules table             the entry of each set holds what all rules give whose key it holds, and no more
+--     IsFilled rules table            the entry of each set holds what the rules give whose key it is, and nothing that a closed set above it lacks
+--     IsTable rules table             the entry of each set holds what all rules give whose key it holds, and nothing that a closed set above it lacks
 --     IsClosedTable rules table       the entry of each set is the least set that holds it and what the rules give
 --     reached table mask              a set with its entry, and where that is a larger set the entry of the larger one
 --     United table mask count all     the least that holds the entry of a set, and those of the sets that lack one of its first positions
