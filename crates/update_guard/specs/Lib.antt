@@ -1,3 +1,4 @@
+pub mod Filtering
 pub mod Guarding
 pub mod Indexing
 pub mod Inserting

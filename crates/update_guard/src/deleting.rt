@@ -3,16 +3,16 @@ ghost use Rattle.std.specs.Prelude.{◌≡◌, ◌+◌, ◌<◌, List, [], lengt
 ghost use Rattle.beas_core.specs.Types.{Row};
 ghost use Rattle.catalogue.specs.Database.{kept_rows, schema_of, rows_at, block_table, with_rows_kept};
 ghost use Rattle.catalogue.specs.Stored.{database_of};
-ghost use Rattle.row_checks.specs.Filtering.{BlockFits};
+ghost use Rattle.update_guard.specs.Filtering.{BlockFits};
 ghost use Rattle.update_guard.specs.Guarding.{IndexesOf, IsGuarded};
 ghost use Rattle.beas_core.specs.Shapes.{BlockIsWellFormed, width_of};
 ghost use Rattle.catalogue.specs.Schema.{columns_at};
 
+use crate::filtering::{meets, table_of};
 use crate::indexes::Indexes;
 use crate::indexing::remove_row;
 use beas_core::{Block, List, Steps, TableId};
 use catalogue::Catalogue;
-use row_checks::{meets, table_of};
 use row_store::Rows;
 use std::mem;
 use std::sync::ledger::Ledger;

@@ -11,11 +11,12 @@ ghost use Rattle.update_guard.specs.Indexing.{SomeRows, AreOwn};
 ghost use Rattle.update_guard.specs.Inserting.{IsRefusedOver, TakeRows, StayIndexed, HoldWith};
 ghost use Rattle.std.specs.Option.{option_or};
 
+use crate::breaking::broken_by;
+use crate::checking::{refuse_too_many, refuse_types, refuse_widths};
 use crate::indexes::Indexes;
 use crate::indexing::{add_all, add_row, remove_rows};
 use beas_core::{Counted, Fail, Limits, List, Refusal, Row, TableId};
 use catalogue::Catalogue;
-use row_checks::{broken_by, refuse_too_many, refuse_types, refuse_widths};
 use row_store::Rows;
 use std::alloc::Global;
 use std::mem;

@@ -1,7 +1,10 @@
 //! The store: tables with their rows, each constraint with its index, and updates that keep every constraint.
 #![tactic(auto)]
 
+mod breaking;
+mod checking;
 pub mod deleting;
+mod filtering;
 mod guarded;
 mod indexes;
 mod indexing;

@@ -7,7 +7,7 @@ use Rattle.catalogue.specs.Schema.{columns_at}
 use Rattle.catalogue.specs.Database.{RowFits, kept_rows}
 use Rattle.update_guard.specs.Guarding.{IndexesOf, IsGuarded}
 use Rattle.update_guard.proofs.UpdateFacts.{after_filter}
-use Rattle.row_checks.proofs.FilterFacts.{block_fits}
+use Rattle.update_guard.proofs.FilterFacts.{block_fits}
 use Rattle.update_guard.proofs.deleting.delete_from.Goals as goal
 
 pub index_mut-store-requires : goal.index_mut-store-requires

@@ -4,7 +4,7 @@ use Rattle.std.proofs.lemmas.List.{get_or_default}
 use Rattle.std.proofs.lemmas.List.Filters.{FiltersInPlace-more_no, FiltersInPlace-more_swap}
 use Rattle.beas_core.specs.Types.{Row}
 use Rattle.beas_core.specs.Full.{meets}
-use Rattle.row_checks.specs.Filtering.{BlockFits}
+use Rattle.update_guard.specs.Filtering.{BlockFits}
 use Rattle.update_guard.specs.Guarding.{IndexesOf}
 use Rattle.update_guard.proofs.SweepFacts.{still, before_gone, after_gone, after_kept}
 use Rattle.update_guard.proofs.deleting.sweep.Goals as goal

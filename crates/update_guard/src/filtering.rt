@@ -3,7 +3,7 @@ ghost use Rattle.std.specs.Prelude.{◌≡◌, ◌<◌, ◌∷◌, [], length, A
 ghost use Rattle.std.specs.List.{list_all};
 ghost use Rattle.beas_core.specs.Full.{same_value, choice_value, comparison_holds, operand_value, sign_holds, meets};
 ghost use Rattle.catalogue.specs.Database.{block_table};
-ghost use Rattle.row_checks.specs.Filtering.{PlaceFits, OperandFits, BlockFits};
+ghost use Rattle.update_guard.specs.Filtering.{PlaceFits, OperandFits, BlockFits};
 
 use beas_core::{Block, Comparison, Operand, Place, Row, Sign, TableId, Value, compare};
 use std::cmp::Ordering;

@@ -3,8 +3,8 @@ use Rattle.std.specs.Prelude.{find, option_map, zip}
 use Rattle.beas_core.specs.declared.schema.Column.{Column}
 use Rattle.beas_core.specs.declared.value.Value.{Value}
 use Rattle.catalogue.specs.Database.{has_kind}
-use Rattle.row_checks.proofs.ScanFacts.{drop-zip, drop-zip_end}
-use Rattle.row_checks.proofs.checking.misfit.Goals as goal
+use Rattle.update_guard.proofs.ScanFacts.{drop-zip, drop-zip_end}
+use Rattle.update_guard.proofs.checking.misfit.Goals as goal
 
 abbrev fails : Column × Value → Bool
 fails p = not (has_kind p.0.kind p.1)

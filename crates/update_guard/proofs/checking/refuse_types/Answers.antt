@@ -7,8 +7,8 @@ use Rattle.beas_core.specs.Types.{Row}
 use Rattle.catalogue.specs.Database.{RowFits, has_kind}
 use Rattle.catalogue.specs.Refusing.{misfit}
 use Rattle.catalogue.proofs.ListFacts.{none_from_map}
-use Rattle.row_checks.proofs.ScanFacts.{scan_found, scan_next, scan_end, all_more, all_taken, list_all-from_find}
-use Rattle.row_checks.proofs.checking.refuse_types.Goals as goal
+use Rattle.update_guard.proofs.ScanFacts.{scan_found, scan_next, scan_end, all_more, all_taken, list_all-from_find}
+use Rattle.update_guard.proofs.checking.refuse_types.Goals as goal
 
 abbrev misfits : List Column → ℕ × Row → Bool
 misfits columns r = is_some (misfit columns r.1)

@@ -4,8 +4,8 @@ use Rattle.std.proofs.lemmas.Bool.{eq-eqb, ne_eqb}
 use Rattle.beas_core.specs.declared.refusal.Refusal.{Refusal}
 use Rattle.beas_core.specs.declared.refusal.Refusal.TheVariants.{WrongWidth}
 use Rattle.beas_core.specs.Types.{Row}
-use Rattle.row_checks.proofs.ScanFacts.{scan_found, scan_next, scan_end, all_more, all_taken}
-use Rattle.row_checks.proofs.checking.refuse_widths.Goals as goal
+use Rattle.update_guard.proofs.ScanFacts.{scan_found, scan_next, scan_end, all_more, all_taken}
+use Rattle.update_guard.proofs.checking.refuse_widths.Goals as goal
 
 abbrev other_width : ℕ → ℕ × Row → Bool
 other_width width r = not (length r.1 == width)

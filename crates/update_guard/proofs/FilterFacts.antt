@@ -7,7 +7,7 @@ use Rattle.beas_core.specs.declared.query.Operand.TheVariants.{At, Fixed}
 use Rattle.beas_core.specs.declared.query.Place.{Place}
 use Rattle.beas_core.specs.Shapes.{BlockIsWellFormed, IsPlace, OperandIsPlace, width_of}
 use Rattle.beas_core.specs.Types.{Row}
-use Rattle.row_checks.specs.Filtering.{PlaceFits, OperandFits, BlockFits}
+use Rattle.update_guard.specs.Filtering.{PlaceFits, OperandFits, BlockFits}
 
 place_fits : (atoms : List Atom) (row : Row) (p : Place) → length atoms ≡ 1 → width_of atoms 0 ≡ length row → IsPlace atoms p → PlaceFits row p
 place_fits atoms row p one wide is =

@@ -1,8 +1,8 @@
 use Rattle.std.proofs.Common.{◌≡◌, ◌==◌, take, length, not}
 use Rattle.std.specs.Prelude.{find, All}
 use Rattle.std.specs.List.{enumerate_from}
-use Rattle.row_checks.proofs.ScanFacts.{scan_from}
-use Rattle.row_checks.proofs.checking.refuse_widths.Given as goal
+use Rattle.update_guard.proofs.ScanFacts.{scan_from}
+use Rattle.update_guard.proofs.checking.refuse_widths.Given as goal
 
 abbrev pub invariant-loop-i : goal.invariant-loop-i
 invariant-loop-i l = record {

@@ -1,2 +1,0 @@
-pub mod FilterFacts
-mod ScanFacts
