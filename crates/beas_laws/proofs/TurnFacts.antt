@@ -17,7 +17,7 @@ use Rattle.session.specs.declared.loading.LoadOutcome.TheVariants.{Failed}
 use Rattle.session.specs.Announced.{announcement}
 use Rattle.session.specs.Effects.{Action, Does, Loads, Settings, action_of}
 use Rattle.session.specs.Turns.{turn_of}
-use Rattle.kept_facts.specs.OpenQueries.{OpenQuery, probes_of}
+use Rattle.desk_model.specs.OpenQueries.{OpenQuery, probes_of}
 use Rattle.piece_reader.specs.declared.event.Event.{Event}
 use Rattle.piece_reader.specs.declared.event.Event.TheVariants.{Said, Stepped}
 use Rattle.desk_model.specs.Desks.{AtOnce, ByLoad, DeskAction, DeskEffect, State, action_of_event, answered_effect, at_desk, opened_effect, probed_effect, query_effect, query_of, said_action, statement_action, stepped_effect}

@@ -5,7 +5,7 @@ use Rattle.std.specs.Option.{option_map_or}
 use Rattle.std.proofs.lemmas.Bool.{lt-ltb, le-ltb, ltb-true}
 use Rattle.beas_core.specs.declared.errors.NoMemory.{NoMemory as Out}
 use Rattle.outside.specs.Seen.{Seen}
-use Rattle.kept_facts.specs.OpenQueries.{OpenQuery, answer_of, probes_of, reads_of}
+use Rattle.desk_model.specs.OpenQueries.{OpenQuery, answer_of, probes_of, reads_of}
 use Rattle.report.specs.declared.reports.Report.{Report}
 use Rattle.report.specs.declared.reports.Report.TheVariants.{Answered}
 use Rattle.session.specs.Effects.{Settings}

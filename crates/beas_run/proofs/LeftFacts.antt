@@ -6,7 +6,7 @@ use Rattle.beas_core.specs.declared.errors.NoMemory.{NoMemory as Out}
 use Rattle.beas_core.specs.declared.refusal.Refusal.{Refusal}
 use Rattle.outside.specs.Counts.{raised}
 use Rattle.outside.specs.Seen.{Seen}
-use Rattle.kept_facts.specs.OpenQueries.{OpenQuery, reads_of}
+use Rattle.desk_model.specs.OpenQueries.{OpenQuery, reads_of}
 use Rattle.report.specs.declared.reports.Report.{Report}
 use Rattle.session.specs.declared.loading.LoadOutcome.TheVariants.{Failed}
 use Rattle.session.specs.Effects.{Settings}

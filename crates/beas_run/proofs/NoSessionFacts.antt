@@ -18,8 +18,8 @@ use Rattle.session.specs.declared.loading.LoadOutcome.{LoadOutcome}
 use Rattle.session.specs.Effects.{Settings}
 use Rattle.session.specs.Statements.{StatementIsWellFormed}
 use Rattle.session.specs.Turns.{Turn, cost_of, database_after}
-use Rattle.parsed_facts.proofs.WellFormedFacts.{parsed_well}
-use Rattle.kept_facts.specs.OpenQueries.{OpenQuery}
+use Rattle.desk_model.proofs.WellFormedFacts.{parsed_well}
+use Rattle.desk_model.specs.OpenQueries.{OpenQuery}
 use Rattle.piece_reader.specs.Sayings.{BeginsWithAt, IsReadAs, Reading, as_plain, plain}
 use Rattle.piece_reader.proofs.SayingFacts.{one_saying}
 use Rattle.desk_model.specs.Desks.{State, query_of}

@@ -8,7 +8,7 @@ use Rattle.session.specs.declared.loading.LoadOutcome.{LoadOutcome}
 use Rattle.session.specs.declared.loading.LoadOutcome.TheVariants.{Failed}
 use Rattle.session.specs.Effects.{Settings}
 use Rattle.session.specs.Turns.{Turn}
-use Rattle.kept_facts.specs.OpenQueries.{OpenQuery, probes_of, reads_of}
+use Rattle.desk_model.specs.OpenQueries.{OpenQuery, probes_of, reads_of}
 use Rattle.desk_model.specs.Answers.{effect_by}
 use Rattle.desk_model.specs.Desks.{DeskAction, AtOnce, ByLoad, DeskEffect, State, answered_effect, is_of, new_query, probed_effect, query_effect, query_of, refused, said_action, stepped_effect, with_query}
 use Rattle.desk_model.specs.Pieces.{DeskTurn, Next, after_cost, and_step, and_steps, answered_if_opened, next, opens, piece_action, probes_due, seen_turn, seen_turns, turns, with_answer}

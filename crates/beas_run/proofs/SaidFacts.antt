@@ -18,7 +18,7 @@ use Rattle.session.specs.Grouping.{first_block, grouping_refusal}
 use Rattle.specialise.specs.Specialised.{specialised}
 use Rattle.sql_text.specs.declared.tree.Statement.{Statement}
 use Rattle.sql_text.specs.declared.tree.Statement.TheVariants.{CreateTable, CreateAccess, DropAccess, Load, Insert, Delete, DiscoverGroup, DiscoverPairs, Select, Explain, ScanOk, Grouped, Specialise}
-use Rattle.kept_facts.specs.OpenQueries.{OpenQuery}
+use Rattle.desk_model.specs.OpenQueries.{OpenQuery}
 use Rattle.desk_model.specs.Answers.{effect_by}
 use Rattle.desk_model.specs.Desks.{DeskAction, AtOnce, ByLoad, State, at_desk, opened_effect, query_of, said_action, statement_action}
 use Rattle.beas_run.specs.Pieces.{is_opened}

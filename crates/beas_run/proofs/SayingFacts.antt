@@ -10,7 +10,7 @@ use Rattle.beas_core.specs.declared.refusal.Refusal.{Refusal}
 use Rattle.beas_core.specs.declared.refusal.Refusal.TheVariants.{BadSession}
 use Rattle.sql_tokens.specs.declared.token.Token.{Token}
 use Rattle.sql_text.specs.Symbols.{Symbol, symbols}
-use Rattle.parsed_facts.proofs.WellFormedFacts.{said_well}
+use Rattle.desk_model.proofs.WellFormedFacts.{said_well}
 use Rattle.piece_reader.specs.declared.event.Event.{Event}
 use Rattle.piece_reader.specs.declared.event.Event.TheVariants.{Said, Stepped}
 use Rattle.piece_reader.specs.Sayings.{IsReadAs, Reading, Says, of_session, plain, said, session_of, step, unnumbered}

@@ -1,7 +1,7 @@
 -- The shares of the queries that are open at a desk.
 use Rattle.std.proofs.Common.{◌≡◌, ◌≤◌, ◌+◌, inl, inr, ap, subst, sym, refl, ℕ, List, [], ◌∷◌, Option, None, Some, arith, get_or, length}
 use Rattle.std.specs.Prelude.{remove, sum, unwrap_or}
-use Rattle.kept_facts.specs.OpenQueries.{OpenQuery, reads_of, share_of}
+use Rattle.desk_model.specs.OpenQueries.{OpenQuery, reads_of, share_of}
 use Rattle.piece_reader.specs.declared.event.Event.TheVariants.{Stepped}
 use Rattle.desk_model.specs.Desks.{State, is_of, query_of}
 use Rattle.version_store.specs.Desks.{IsDesk, MayTake, Seen as DeskSeen, place_in, share_at, without_query_of}

@@ -3,7 +3,7 @@ use Rattle.std.proofs.Common.{◌≡◌, ◌⊎◌, ◌+◌, ◌++◌, ◌∙◌
 use Rattle.std.specs.Prelude.{slice_set}
 use Rattle.std.proofs.lemmas.List.{length-append}
 use Rattle.beas_core.specs.Queries.{BlockProbe}
-use Rattle.kept_facts.specs.OpenQueries.{OpenQuery, share_of}
+use Rattle.desk_model.specs.OpenQueries.{OpenQuery, share_of}
 use Rattle.report.specs.declared.reports.Report.{Report}
 use Rattle.report.specs.declared.reports.Report.TheVariants.{Opened}
 use Rattle.session.specs.Effects.{Settings}

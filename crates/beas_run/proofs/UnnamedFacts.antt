@@ -5,7 +5,7 @@ use Rattle.beas_core.specs.declared.errors.NoMemory.{NoMemory as Out}
 use Rattle.outside.specs.Counts.{raised}
 use Rattle.outside.specs.Seen.{Seen}
 use Rattle.outside.proofs.Counts.{raised_none}
-use Rattle.kept_facts.specs.OpenQueries.{OpenQuery, reads_of}
+use Rattle.desk_model.specs.OpenQueries.{OpenQuery, reads_of}
 use Rattle.report.specs.declared.reports.Report.{Report}
 use Rattle.report.specs.declared.reports.Report.TheVariants.{Opened}
 use Rattle.session.specs.declared.loading.LoadOutcome.{LoadOutcome}

@@ -7,7 +7,7 @@
 --     greatest_cost state turns    the cost of these turns, and the reads of the queries that are open after them
 use Rattle.std.specs.Prelude.{◌≤◌, ◌+◌, ℕ, List, sum_by, unwrap_or}
 use Rattle.std.specs.List.{AllZip}
-use Rattle.kept_facts.specs.OpenQueries.{OpenQuery, reads_of}
+use Rattle.desk_model.specs.OpenQueries.{OpenQuery, reads_of}
 use Rattle.session.specs.Turns.{cost_of}
 use Rattle.desk_model.specs.Pieces.{DeskTurn, seen_turns}
 use Rattle.beas_run.specs.States.{State, state_after}

@@ -1,7 +1,7 @@
 // One piece of a script, at a desk.
 ghost use Rattle.std.specs.Prelude.{◌≡◌, ◌<◌, ◌≤◌, ◌+◌, ◌-◌, ◌^◌, length, sum, IfOk, OnErr, IsSomeAnd, Some, Ok};
 ghost use Rattle.outside.specs.Seen.{IsLater};
-ghost use Rattle.kept_facts.specs.OpenQueries.{reads_of};
+ghost use Rattle.desk_model.specs.OpenQueries.{reads_of};
 ghost use Rattle.desk_model.specs.Desks.{DeskEffect, query_of};
 ghost use Rattle.piece_reader.specs.Sayings.{reading_of};
 ghost use Rattle.session.specs.Statements.{StatementIsWellFormed};

@@ -9,7 +9,7 @@ ghost use Rattle.beas_run.specs.Prices.{price_of, statement_price};
 
 use crate::pricing::Unpriced;
 use beas_core::{Fail, NoMemory, Prepared, Refusal, Text};
-use parsed_facts::law_said_well;
+use desk_model::law_said_well;
 use piece_reader::{Event, read_piece};
 use plan_data::plan_json;
 use sql_text::{SelectTree, Statement};

@@ -5,7 +5,7 @@ ghost use Rattle.session.specs.Statements.{StatementIsWellFormed};
 ghost use Rattle.beas_run.specs.Prices.{price_of, statement_price};
 
 use beas_core::{Fail, NoMemory};
-use parsed_facts::law_said_well;
+use desk_model::law_said_well;
 use piece_reader::{Event, read_piece};
 use report::Report;
 use sql_text::Statement;

@@ -19,7 +19,7 @@ use Rattle.session.specs.Effects.{Action, Does, Loads, Settings, action_of, answ
 use Rattle.piece_reader.specs.declared.event.Event.{Event}
 use Rattle.piece_reader.specs.declared.event.Event.TheVariants.{Said, Stepped}
 use Rattle.desk_model.specs.Answers.{Happening, answer_to, as_answer, effect_by, first_answer}
-use Rattle.kept_facts.specs.OpenQueries.{OpenQuery, answer_of, probes_of, reads_of}
+use Rattle.desk_model.specs.OpenQueries.{OpenQuery, answer_of, probes_of, reads_of}
 use Rattle.desk_model.specs.Desks.{AtOnce, DeskEffect, State, action_of_event, answered_effect, at_desk, is_of, new_query, opened_effect, place_of, probed_effect, query_effect, query_of, said_action, statement_action, stepped_effect, with_query, without_query}
 use Rattle.desk_model.proofs.Places.{find_passes, find-last, find-remove-other, find-set-other}
 use Rattle.desk_model.proofs.PlainFacts.{answer_is}

@@ -33,8 +33,8 @@ use Rattle.session.specs.Announced.{announcement, binding, scan_announcement, un
 use Rattle.session.specs.Grouping.{first_block, grouping_refusal}
 use Rattle.session.specs.Effects.{Effect, Settings, action_of, add_rows_effect, adding_rows, build_access_effect, delete_binding, delete_rows_effect, answer_effect, file_rows, greatest_effect, groups_effect, limit_or_refusal, load_action, load_effect, load_refusal, load_rows_effect, pairs_effect, resolution, scan_answer_effect, sizes_in, table_or_refusal, tuples_binding, unless, with_answer}
 use Rattle.session.specs.Turns.{turn_of}
-use Rattle.kept_facts.specs.Frames.{IsUntouched, NewAccess, ReplacedRows, NewTable, DroppedAccess, SameOn, Update, updated}
-use Rattle.kept_facts.proofs.UpdateFacts.{untouched_stays}
+use Rattle.desk_model.specs.Frames.{IsUntouched, NewAccess, ReplacedRows, NewTable, DroppedAccess, SameOn, Update, updated}
+use Rattle.desk_model.proofs.UpdateFacts.{untouched_stays}
 use Rattle.desk_model.specs.Changes.{changes, is_named}
 
 module _ (db : Database) (t : TableId) (once : EachIdOnce db.accesses) where

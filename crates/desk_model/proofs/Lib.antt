@@ -1,7 +1,14 @@
-pub mod Places
 pub mod AnnouncedFits
-pub mod SoundFacts
-pub mod PlainFacts
 pub mod AnswerFacts
 pub mod ChangeFacts
+pub mod KeepingFacts
+pub mod KeptFacts
 pub mod OneEachFacts
+pub mod PartFacts
+pub mod Places
+pub mod PlainFacts
+pub mod ProbeFacts
+pub mod QueryFacts
+pub mod SoundFacts
+pub mod UpdateFacts
+pub mod WellFormedFacts

@@ -16,7 +16,7 @@ use Rattle.sql_text.specs.declared.tree.Statement.TheVariants.{CreateTable, Crea
 use Rattle.session.specs.declared.loading.LoadOutcome.{LoadOutcome}
 use Rattle.session.specs.Announced.{announcement}
 use Rattle.session.specs.Effects.{Action, Does, Loads, Settings, action_of}
-use Rattle.kept_facts.specs.OpenQueries.{OpenQuery, probes_of}
+use Rattle.desk_model.specs.OpenQueries.{OpenQuery, probes_of}
 use Rattle.piece_reader.specs.declared.event.Event.{Event}
 use Rattle.piece_reader.specs.declared.event.Event.TheVariants.{Said, Stepped}
 use Rattle.desk_model.specs.Answers.{effect_by}

@@ -23,10 +23,10 @@ use Rattle.session.specs.Effects.{Action, Does, Loads, Settings, action_of, answ
 use Rattle.session.specs.Statements.{StatementIsWellFormed, TreeIsWellFormed}
 use Rattle.session.specs.Turns.{Turn, turn_of}
 use Rattle.evaluation_facts.proofs.KeptFacts.{reads_stay}
-use Rattle.kept_facts.specs.Keeping.{kept_accesses, kept_tables, rows_in}
-use Rattle.kept_facts.proofs.KeepingFacts.{keeps_its_constraints, keeps_its_rows}
-use Rattle.kept_facts.proofs.QueryFacts.{full_stays}
-use Rattle.kept_facts.specs.OpenQueries.{OpenQuery, answer_of, probes_of, reads_of}
+use Rattle.desk_model.specs.Keeping.{kept_accesses, kept_tables, rows_in}
+use Rattle.desk_model.proofs.KeepingFacts.{keeps_its_constraints, keeps_its_rows}
+use Rattle.desk_model.proofs.QueryFacts.{full_stays}
+use Rattle.desk_model.specs.OpenQueries.{OpenQuery, answer_of, probes_of, reads_of}
 use Rattle.desk_model.specs.Desks.{AtOnce, DeskAction, DeskEffect, State, answered_effect, at_desk, is_of, new_query, opened_effect, probed_effect, query_effect, query_of, refused, said_action, statement_action, stepped_effect, with_effect, with_query, without_query}
 use Rattle.piece_reader.specs.declared.event.Event.TheVariants.{Said}
 use Rattle.piece_reader.specs.Sayings.{as_plain}

@@ -30,8 +30,8 @@ use Rattle.report.specs.declared.reports.Report.TheVariants.{Answered, Opened, P
 use Rattle.session.specs.declared.loading.LoadOutcome.{LoadOutcome}
 use Rattle.session.specs.Announced.{announcement}
 use Rattle.session.specs.Effects.{Action, Does, Loads, Effect, Settings, action_of, plan_shown}
-use Rattle.kept_facts.specs.Keeping.{kept_accesses, kept_tables}
-use Rattle.kept_facts.specs.OpenQueries.{OpenQuery, answer_of, probes_of, reads_of}
+use Rattle.desk_model.specs.Keeping.{kept_accesses, kept_tables}
+use Rattle.desk_model.specs.OpenQueries.{OpenQuery, answer_of, probes_of, reads_of}
 use Rattle.piece_reader.specs.declared.event.Event.{Event}
 use Rattle.piece_reader.specs.declared.event.Event.TheVariants.{Said, Stepped}
 

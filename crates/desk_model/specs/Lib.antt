@@ -1,5 +1,9 @@
-pub mod Desks
-pub mod Pieces
 pub mod Answers
-pub mod PlainScripts
 pub mod Changes
+pub mod Desks
+pub mod Frames
+pub mod Keeping
+pub mod Kept
+pub mod OpenQueries
+pub mod Pieces
+pub mod PlainScripts

@@ -19,7 +19,7 @@ use Rattle.session.specs.declared.loading.LoadOutcome.{LoadOutcome}
 use Rattle.session.specs.Effects.{Settings}
 use Rattle.session.specs.Turns.{FileLoad, Turn}
 use Rattle.piece_reader.specs.declared.event.Event.TheVariants.{Said, Stepped}
-use Rattle.kept_facts.specs.OpenQueries.{probes_of}
+use Rattle.desk_model.specs.OpenQueries.{probes_of}
 use Rattle.desk_model.specs.Desks.{DeskAction, AtOnce, ByLoad, DeskEffect, State, action_of_event, query_of, refused, stepped_effect}
 
 -- ---- a statement that names no session

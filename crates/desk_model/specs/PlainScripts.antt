@@ -11,7 +11,7 @@ use Rattle.sql_text.specs.declared.tree.Statement.{Statement}
 use Rattle.session.specs.declared.loading.LoadOutcome.{LoadOutcome}
 use Rattle.session.specs.Effects.{Action, Does, Loads, Settings, action_of, refusal_effect}
 use Rattle.session.specs.Turns.{Turn, turn_of}
-use Rattle.kept_facts.specs.OpenQueries.{OpenQuery}
+use Rattle.desk_model.specs.OpenQueries.{OpenQuery}
 use Rattle.desk_model.specs.Pieces.{DeskTurn}
 
 abbrev pub reading_action : Settings → Database → Result Statement Refusal → Action

@@ -19,7 +19,7 @@ ghost use Rattle.session.specs.Turns.{turn_of};
 ghost use Rattle.sql_text.specs.declared.tree.Statement.{Statement};
 ghost use Rattle.sql_text.specs.Trees.{Tree};
 ghost use Rattle.desk_model.specs.Answers.{Happening, effect_by, first_answer};
-ghost use Rattle.kept_facts.specs.Frames.{SameOn};
+ghost use Rattle.desk_model.specs.Frames.{SameOn};
 ghost use Rattle.desk_model.specs.Changes.{changes};
 ghost use Rattle.desk_model.specs.Desks.{DeskAction, OneEach, State, action_of_event, at_desk, opened_effect, query_of, wanting};
 ghost use Rattle.piece_reader.specs.declared.event.Event.{Event};

@@ -19,7 +19,7 @@ use std::sync::ledger::Ledger;
 const LONGEST: usize = 16_777_216;
 
 /// The statement that some tokens spell.
-#[tactic(auto, using(parsed_facts::proofs::WellFormedFacts::parsed_well))]
+#[tactic(auto, using(desk_model::proofs::WellFormedFacts::parsed_well))]
 fn parse_well(alloc: Global, tokens: &[Token]) -> Result<Statement, Fail>
     requires { length tokens.now < 2 ^ 32 - 1 }
     ensures { IfOk result StatementIsWellFormed }

@@ -11,7 +11,7 @@ use Rattle.block_walk.proofs.SumFacts.{same_sums}
 use Rattle.cursor_executor.specs.declared.cursors.Turn.TheVariants.{Probed}
 use Rattle.cursor_executor.specs.Fetching.{BlockFetched, Seen as CursorSeen, probe_of, probed, reads_fetched}
 use Rattle.cursor_executor.specs.Turns.{TurnIs}
-use Rattle.kept_facts.specs.OpenQueries.{OpenQuery, reads_of, share_of}
+use Rattle.desk_model.specs.OpenQueries.{OpenQuery, reads_of, share_of}
 use Rattle.version_store.specs.Held.{IsKept, held, made_by}
 use Rattle.version_store.proofs.WorldFacts.{reads_are, share_is}
 use Rattle.version_store.specs.Stored.{AreCounted, probes_in, share_in}

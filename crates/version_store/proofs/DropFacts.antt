@@ -7,7 +7,7 @@ use Rattle.std.proofs.lemmas.List.{drop_all, length-map, take_all}
 use Rattle.beas_core.specs.Queries.{BlockProbe}
 use Rattle.session.specs.declared.session.Session.{Session}
 use Rattle.session.specs.Applying.{database_of, settings_of}
-use Rattle.kept_facts.specs.OpenQueries.{OpenQuery}
+use Rattle.desk_model.specs.OpenQueries.{OpenQuery}
 use Rattle.desk_model.specs.Desks.{OneEach, State, is_of, place_of, query_of, without_query}
 use Rattle.version_store.specs.Desks.{Seen, place_in, without_query_of}
 use Rattle.version_store.specs.Stored.{AreKept, Open, held_at, probes_in, seen_in, share_in}

@@ -22,7 +22,7 @@ use Rattle.session.proofs.TieFacts.{tied_none}
 use Rattle.sql_text.specs.declared.tree.Statement.{Statement}
 use Rattle.sql_text.specs.declared.tree.Statement.TheVariants.{CreateTable, CreateAccess, DropAccess, Load, Insert, Delete, DiscoverGroup, DiscoverPairs, Select, Explain, ScanOk, Grouped, Specialise}
 use Rattle.sql_text.specs.Trees.{Tree}
-use Rattle.kept_facts.specs.OpenQueries.{OpenQuery, probes_of, share_of}
+use Rattle.desk_model.specs.OpenQueries.{OpenQuery, probes_of, share_of}
 use Rattle.version_store.specs.Held.{cursor_of}
 use Rattle.version_store.proofs.WorldFacts.{probes_are}
 use Rattle.piece_reader.specs.declared.event.Event.TheVariants.{Said}

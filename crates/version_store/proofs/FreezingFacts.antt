@@ -9,9 +9,9 @@ use Rattle.beas_core.specs.Shapes.{EachIdOnce}
 use Rattle.beas_core.specs.Types.{TableRows}
 use Rattle.block_walk.specs.Worlds.{World}
 use Rattle.cursor_executor.specs.Fetching.{Seen}
-use Rattle.kept_facts.specs.Kept.{AreApart}
-use Rattle.kept_facts.specs.Frames.{KeepsTable, SameForQuery}
-use Rattle.kept_facts.proofs.PartFacts.{part_keeps}
+use Rattle.desk_model.specs.Kept.{AreApart}
+use Rattle.desk_model.specs.Frames.{KeepsTable, SameForQuery}
+use Rattle.desk_model.proofs.PartFacts.{part_keeps}
 use Rattle.version_store.specs.Held.{IsKept, has_part, held, world_of}
 use Rattle.version_store.proofs.WorldFacts.{held_still, kept_still}
 

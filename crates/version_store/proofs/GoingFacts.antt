@@ -19,7 +19,7 @@ use Rattle.report.specs.declared.reports.Report.TheVariants as report
 use Rattle.session.specs.declared.session.Session.{Session}
 use Rattle.session.specs.Applying.{database_of, settings_of}
 use Rattle.session.specs.Turns.{IsWithin}
-use Rattle.kept_facts.specs.OpenQueries.{OpenQuery, answer_of, probes_of, reads_of, share_of}
+use Rattle.desk_model.specs.OpenQueries.{OpenQuery, answer_of, probes_of, reads_of, share_of}
 use Rattle.version_store.specs.Turns.{Goes, IsAnswered, MakesProbe}
 use Rattle.version_store.proofs.WorldFacts.{probes_are as own_probes, reads_are as own_reads, share_is as own_share}
 use Rattle.piece_reader.specs.declared.event.Event.TheVariants.{Stepped}

@@ -24,9 +24,9 @@ use Rattle.session.specs.Carrying.{reported}
 use Rattle.session.specs.Effects.{plan_shown, reads_in}
 use Rattle.session.specs.Turns.{IsWithin}
 use Rattle.sql_text.specs.declared.tree.Statement.TheVariants.{Select}
-use Rattle.kept_facts.specs.Keeping.{kept_accesses, kept_tables}
-use Rattle.kept_facts.specs.OpenQueries.{OpenQuery, reads_of}
-use Rattle.kept_facts.specs.Kept.{AreApart}
+use Rattle.desk_model.specs.Keeping.{kept_accesses, kept_tables}
+use Rattle.desk_model.specs.OpenQueries.{OpenQuery, reads_of}
+use Rattle.desk_model.specs.Kept.{AreApart}
 use Rattle.version_store.specs.Held.{IsKept, held, world_of}
 use Rattle.piece_reader.specs.declared.event.Event.TheVariants.{Said}
 use Rattle.desk_model.specs.Desks.{OneEach, State, new_query, opened_effect, query_of}

@@ -17,8 +17,8 @@ use Rattle.beas_core.specs.Trees.{blocks_of}
 use Rattle.block_walk.specs.Worlds.{World}
 use Rattle.catalogue.specs.Database.{Database, rows_at, schema_of}
 use Rattle.catalogue.specs.Schema.{SchemaIsSound}
-use Rattle.kept_facts.specs.Frames.{SameForQuery, SameOn}
-use Rattle.kept_facts.proofs.PartFacts.{parts_keep}
+use Rattle.desk_model.specs.Frames.{SameForQuery, SameOn}
+use Rattle.desk_model.proofs.PartFacts.{parts_keep}
 use Rattle.version_store.specs.Held.{HasPart, cursor_of, has_atom, has_part, names}
 use Rattle.version_store.proofs.WorldFacts.{held_still, kept_still}
 use Rattle.outside.specs.Seen.{Seen as Files}

@@ -6,7 +6,7 @@ use Rattle.std.proofs.lemmas.List.Sums.{sum_by-remove, sum_by-set, sum_by_push}
 use Rattle.beas_core.specs.Queries.{BlockProbe}
 use Rattle.catalogue.specs.Database.{Database}
 use Rattle.session.specs.Effects.{Settings}
-use Rattle.kept_facts.specs.OpenQueries.{OpenQuery}
+use Rattle.desk_model.specs.OpenQueries.{OpenQuery}
 use Rattle.desk_model.specs.Desks.{State, is_of, place_of, query_of, with_query, without_query}
 use Rattle.version_store.specs.Desks.{Seen, probes_at, share_at}
 use Rattle.version_store.proofs.Places.{IsPlace, find_there, place-map, place_none, place_some, position-map, remove-map}

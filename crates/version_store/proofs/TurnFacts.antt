@@ -13,7 +13,7 @@ use Rattle.cursor_executor.specs.declared.cursors.Turn.{Turn}
 use Rattle.cursor_executor.specs.declared.cursors.Turn.TheVariants.{Probed, Done}
 use Rattle.cursor_executor.specs.Fetching.{AllAgree, BlockFetched, Seen, probe_of, probes_due, reads_due}
 use Rattle.cursor_executor.specs.Turns.{TurnIs}
-use Rattle.kept_facts.specs.OpenQueries.{OpenQuery}
+use Rattle.desk_model.specs.OpenQueries.{OpenQuery}
 use Rattle.version_store.specs.Held.{IsKept, held}
 use Rattle.version_store.specs.Turns.{Goes}
 use Rattle.version_store.proofs.WorldFacts.{answer_is, probes_are, reads_are, share_is}

@@ -24,12 +24,12 @@ use Rattle.evaluation_facts.proofs.KeptFacts.{probes_stay, stays_fit}
 use Rattle.evaluation_facts.proofs.MemberTests.{Has-from_flat_map}
 use Rattle.block_walk.specs.Worlds.{World, Agrees}
 use Rattle.cursor_executor.specs.Fetching.{BlockFetched, Seen, probe_of, probes_due, reads_due, share_of as share_in, steps_of}
-use Rattle.kept_facts.specs.Frames.{QueryStays, SameForQuery}
-use Rattle.kept_facts.specs.Keeping.{KeptTable, ids_of, kept_accesses, kept_tables, rows_in, tables_of}
-use Rattle.kept_facts.specs.OpenQueries.{OpenQuery, answer_of, probes_of, reads_of, share_of}
-use Rattle.kept_facts.proofs.KeepingFacts.{keeps_its_constraints, keeps_its_rows}
-use Rattle.kept_facts.proofs.ProbeFacts.{probe_within}
-use Rattle.kept_facts.proofs.QueryFacts.{keeps_constraints, keeps_rows, query_stays, share_stays, steps_stay}
+use Rattle.desk_model.specs.Frames.{QueryStays, SameForQuery}
+use Rattle.desk_model.specs.Keeping.{KeptTable, ids_of, kept_accesses, kept_tables, rows_in, tables_of}
+use Rattle.desk_model.specs.OpenQueries.{OpenQuery, answer_of, probes_of, reads_of, share_of}
+use Rattle.desk_model.proofs.KeepingFacts.{keeps_its_constraints, keeps_its_rows}
+use Rattle.desk_model.proofs.ProbeFacts.{probe_within}
+use Rattle.desk_model.proofs.QueryFacts.{keeps_constraints, keeps_rows, query_stays, share_stays, steps_stay}
 use Rattle.version_store.specs.Held.{IsKept, held}
 
 map_same : {A B : Type 0} (f g : A → B) (xs : List A) → ((x : A) → Has xs x → f x ≡ g x) → map f xs ≡ map g xs

@@ -17,8 +17,8 @@ use Rattle.beas_core.specs.Queries.{BlockProbe}
 use Rattle.beas_core.specs.Types.{Row}
 use Rattle.catalogue.specs.Database.{Database, Table}
 use Rattle.session.specs.Effects.{Settings}
-use Rattle.kept_facts.specs.Keeping.{KeptTable}
-use Rattle.kept_facts.specs.OpenQueries.{OpenQuery}
+use Rattle.desk_model.specs.Keeping.{KeptTable}
+use Rattle.desk_model.specs.OpenQueries.{OpenQuery}
 use Rattle.desk_model.specs.Desks.{State}
 use Rattle.version_store.specs.Desks.{Seen}
 

@@ -33,7 +33,7 @@ use Rattle.session.specs.Effects.{Settings}
 use Rattle.session.specs.Statements.{StatementIsWellFormed}
 use Rattle.session.specs.Ties.{AreTied}
 use Rattle.session.specs.Turns.{FileLoad}
-use Rattle.kept_facts.specs.OpenQueries.{OpenQuery, probes_of, reads_of, share_of}
+use Rattle.desk_model.specs.OpenQueries.{OpenQuery, probes_of, reads_of, share_of}
 use Rattle.piece_reader.specs.declared.event.Event.{Event}
 use Rattle.piece_reader.specs.declared.event.Event.TheVariants.{Said, Stepped}
 use Rattle.desk_model.specs.Answers.{effect_by}

@@ -20,9 +20,9 @@ use Rattle.beas_core.specs.Fits.{Fits}
 use Rattle.beas_core.specs.Types.{TableRows}
 use Rattle.block_walk.specs.Worlds.{World, world}
 use Rattle.cursor_executor.specs.Fetching.{AllAgree, BlockFetched, Seen, probe_of, probes_due}
-use Rattle.kept_facts.specs.Kept.{AreApart, accesses_with, rows_with}
-use Rattle.kept_facts.specs.Keeping.{kept_accesses, kept_tables}
-use Rattle.kept_facts.specs.OpenQueries.{OpenQuery}
+use Rattle.desk_model.specs.Kept.{AreApart, accesses_with, rows_with}
+use Rattle.desk_model.specs.Keeping.{kept_accesses, kept_tables}
+use Rattle.desk_model.specs.OpenQueries.{OpenQuery}
 use Rattle.version_store.specs.declared.open.OpenQuery.{OpenQuery as Stored}
 
 abbrev pub world_of : {P : Type 0} → (P → TableId) → (P → TableRows) → (P → List Access) → TableRows → List Access → List P → World

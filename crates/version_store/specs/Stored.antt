@@ -19,7 +19,7 @@ use Rattle.beas_core.specs.Types.{TableRows}
 use Rattle.catalogue.specs.Database.{Database, rows_at, schema_of}
 use Rattle.catalogue.specs.Schema.{SchemaIsSound}
 use Rattle.cursor_executor.specs.Fetching.{Seen as CursorSeen, probed, reads_fetched}
-use Rattle.kept_facts.specs.OpenQueries.{OpenQuery, reads_of}
+use Rattle.desk_model.specs.OpenQueries.{OpenQuery, reads_of}
 use Rattle.version_store.specs.declared.open.OpenQuery.{OpenQuery as Stored}
 use Rattle.block_walk.specs.Worlds.{World}
 use Rattle.version_store.specs.Held.{IsOpen, held_of, world_of}

@@ -9,7 +9,7 @@ use Rattle.block_walk.specs.Turns.{Fetches}
 use Rattle.cursor_executor.specs.declared.cursors.Turn.{Turn}
 use Rattle.cursor_executor.specs.declared.cursors.Turn.TheVariants.{Probed, Done}
 use Rattle.cursor_executor.specs.Fetching.{Seen, probed}
-use Rattle.kept_facts.specs.OpenQueries.{OpenQuery, answer_of, probes_of, reads_of, share_of}
+use Rattle.desk_model.specs.OpenQueries.{OpenQuery, answer_of, probes_of, reads_of, share_of}
 
 pub record MakesProbe (query : OpenQuery) (old new : Seen) (next : OpenQuery) (before after : ℕ) : Type 0 where
   pub made : ℕ

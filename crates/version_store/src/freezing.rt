@@ -4,7 +4,7 @@ ghost use Rattle.version_store.specs.Held.{HasPart, IsOpen, cursor_of, has_atom,
 
 use crate::open::{Freezes, OpenQuery};
 use beas_core::{NoMemory, Normal, Prepared, TableId};
-use kept_facts::Part;
+use desk_model::Part;
 use std::alloc::Global;
 
 // Whether a block has an atom of a table.

@@ -2,11 +2,11 @@
 ghost use Rattle.std.specs.Prelude.{◌≡◌, IfOk};
 ghost use Rattle.beas_core.specs.declared.schema.TableId.{TableId as Number};
 ghost use Rattle.beas_core.specs.Shapes.{EachIdOnce};
-ghost use Rattle.kept_facts.specs.Frames.{KeepsTable};
+ghost use Rattle.desk_model.specs.Frames.{KeepsTable};
 
 use beas_core::{AccessPort, List, Name, NoMemory, TableId, Text};
 use cursor_executor::Cursor;
-use kept_facts::Part;
+use desk_model::Part;
 use std::alloc::Global;
 
 /// A query that a session has opened, between two of its probes.

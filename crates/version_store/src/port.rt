@@ -1,10 +1,10 @@
 // A port of parts and of a store.
 ghost use Rattle.std.specs.Prelude.{◌≡◌, position};
 ghost use Rattle.beas_core.specs.Shapes.{EachIdOnce};
-ghost use Rattle.kept_facts.specs.Kept.{AreApart, has_id};
+ghost use Rattle.desk_model.specs.Kept.{AreApart, has_id};
 
 use beas_core::{Access, AccessId, AccessPort, ColumnId, Hits, Steps, Value};
-use kept_facts::Part;
+use desk_model::Part;
 use std::sync::ledger::Ledger;
 
 // The place of the first part with a constraint of this id, if there is one.
@@ -26,7 +26,7 @@ pub struct KeptPort<'a, G: AccessPort, P: Part> {
 }
 
 impl<G: AccessPort, P: Part> AccessPort for KeptPort<'_, G, P> {
-    ghost use Rattle.kept_facts.specs.Kept.{StandsWith, accesses_with, chosen, rows_with};
+    ghost use Rattle.desk_model.specs.Kept.{StandsWith, accesses_with, chosen, rows_with};
 
     ghost rows = { λ s. rows_with P.table_of P.rows s.parts.now (G.rows s.guard.now) };
 

@@ -3,7 +3,7 @@ ghost use Rattle.catalogue.specs.Schema.{SchemaIsSound};
 
 use crate::open::Freezes;
 use beas_core::{Access, AccessId, AccessPort, ColumnId, Hits, NoMemory, Steps, TableId, Value};
-use kept_facts::Part;
+use desk_model::Part;
 use std::alloc::Global;
 use std::sync::ledger::Ledger;
 use word_index::{Frozen, WordGuarded};

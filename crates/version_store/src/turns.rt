@@ -8,7 +8,7 @@ use crate::open::{Freezes, OpenQuery};
 use crate::port::KeptPort;
 use beas_core::{NoMemory, Steps};
 use cursor_executor::Turn;
-use kept_facts::Part;
+use desk_model::Part;
 use std::alloc::Global;
 use std::sync::ledger::Ledger;
 

@@ -1,5 +1,5 @@
 use Rattle.std.proofs.Common.{◌∙◌, sym}
-use Rattle.kept_facts.proofs.KeptFacts.{at_part, at_store, holds_at, holds_in_store}
+use Rattle.desk_model.proofs.KeptFacts.{at_part, at_store, holds_at, holds_in_store}
 use Rattle.version_store.proofs.port.KeptPortAccessPort.access.Goals as goal
 
 pub access-requires : goal.access-requires

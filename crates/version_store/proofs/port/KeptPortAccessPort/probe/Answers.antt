@@ -1,7 +1,7 @@
 use Rattle.std.proofs.Common.{◌≤◌, ◌∙◌, ap, sym, subst, length}
 use Rattle.beas_core.specs.declared.schema.Access.{Access}
-use Rattle.kept_facts.specs.Kept.{chosen, has_id, StandsWith}
-use Rattle.kept_facts.proofs.KeptFacts.{at_part, at_store, group_at, group_in_store, chosen_at, chosen_none, stands_from, stands_in_store, place_some, place_none}
+use Rattle.desk_model.specs.Kept.{chosen, has_id, StandsWith}
+use Rattle.desk_model.proofs.KeptFacts.{at_part, at_store, group_at, group_in_store, chosen_at, chosen_none, stands_from, stands_in_store, place_some, place_none}
 use Rattle.version_store.proofs.port.KeptPortAccessPort.probe.Goals as goal
 
 pub probe-requires-clause-live : goal.probe-requires-clause-live

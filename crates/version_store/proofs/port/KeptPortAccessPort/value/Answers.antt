@@ -1,8 +1,8 @@
 use Rattle.std.proofs.Common.{◌≡◌, ◌∙◌, sym, subst, position, Some, None, true}
 use Rattle.beas_core.specs.declared.schema.Access.{Access}
 use Rattle.beas_core.specs.Groups.{has_column, member_columns}
-use Rattle.kept_facts.specs.Kept.{has_id}
-use Rattle.kept_facts.proofs.KeptFacts.{at_part, at_store, chosen_at, chosen_none, stands_to, stands_of_store, place_some, place_none, value-at, value-in_store}
+use Rattle.desk_model.specs.Kept.{has_id}
+use Rattle.desk_model.proofs.KeptFacts.{at_part, at_store, chosen_at, chosen_none, stands_to, stands_of_store, place_some, place_none, value-at, value-in_store}
 use Rattle.version_store.proofs.port.KeptPortAccessPort.value.Goals as goal
 
 pub value-requires-clause-live : goal.value-requires-clause-live

@@ -1,5 +1,5 @@
-use Rattle.kept_facts.proofs.QueryFacts.{keeps_constraints, keeps_rows, query_stays}
-use Rattle.kept_facts.proofs.queries.law_same_query.Goals as goal
+use Rattle.desk_model.proofs.QueryFacts.{keeps_constraints, keeps_rows, query_stays}
+use Rattle.desk_model.proofs.queries.law_same_query.Goals as goal
 
 pub returns : goal.returns
 returns c = λ before after old new prepared fits same.

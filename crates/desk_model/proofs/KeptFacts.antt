@@ -17,7 +17,7 @@ use Rattle.beas_core.proofs.Accesses.{access_in-rest, access_in-member, access_i
 use Rattle.beas_core.proofs.Sets.{Has, Contains-from_has, Has-from_filter}
 use Rattle.evaluation_facts.proofs.MoreAccesses.{live_id}
 use Rattle.evaluation_facts.proofs.UseFacts.{found_by_id}
-use Rattle.kept_facts.specs.Kept.{rows_with, is_frozen, accesses_with, has_id, chosen, Where, StandsWith, AreApart}
+use Rattle.desk_model.specs.Kept.{rows_with, is_frozen, accesses_with, has_id, chosen, Where, StandsWith, AreApart}
 
 -- an id that the front doesn't have is that of the back
 pub access_in-skip : (xs ys : List Access) (id : AccessId) → is_live xs id ≡ false → access_in (xs ++ ys) id ≡ access_in ys id

@@ -6,8 +6,8 @@ ghost use Rattle.beas_core.specs.Fits.{KeepsConstraints, KeepsRows, PlanFits};
 ghost use Rattle.beas_core.specs.Full.{full_of};
 ghost use Rattle.beas_core.specs.Trees.{QueryTree};
 ghost use Rattle.beas_core.specs.Types.{TableRows};
-ghost use Rattle.kept_facts.specs.Frames.{QueryStays, SameForQuery};
-ghost use Rattle.kept_facts.specs.Keeping.{kept_accesses, kept_tables, rows_in};
+ghost use Rattle.desk_model.specs.Frames.{QueryStays, SameForQuery};
+ghost use Rattle.desk_model.specs.Keeping.{kept_accesses, kept_tables, rows_in};
 
 /// Where each table that a query names stays as it was, so do the constraints of its derivations and the rows of its
 /// tables. So it goes on fitting, with the same probes, reads and full answer.

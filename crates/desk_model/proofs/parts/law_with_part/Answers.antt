@@ -1,5 +1,5 @@
-use Rattle.kept_facts.proofs.PartFacts.{part_keeps}
-use Rattle.kept_facts.proofs.parts.law_with_part.Goals as goal
+use Rattle.desk_model.proofs.PartFacts.{part_keeps}
+use Rattle.desk_model.proofs.parts.law_with_part.Goals as goal
 
 pub returns : goal.returns
 returns g c = λ own other once is t.

@@ -6,8 +6,8 @@ ghost use Rattle.beas_core.specs.declared.schema.TableId.{TableId};
 ghost use Rattle.beas_core.specs.Shapes.{EachIdOnce};
 ghost use Rattle.beas_core.specs.Types.{TableRows};
 ghost use Rattle.catalogue.specs.Database.{Database, rows_at};
-ghost use Rattle.kept_facts.specs.Kept.{accesses_with, rows_with};
-ghost use Rattle.kept_facts.specs.Frames.{KeepsTable, IsUntouched, SameOn, Update, updated};
+ghost use Rattle.desk_model.specs.Kept.{accesses_with, rows_with};
+ghost use Rattle.desk_model.specs.Frames.{KeepsTable, IsUntouched, SameOn, Update, updated};
 
 use crate::part::Part;
 

@@ -1,5 +1,5 @@
-use Rattle.kept_facts.proofs.PartFacts.{parts_keep}
-use Rattle.kept_facts.proofs.parts.law_parts.Goals as goal
+use Rattle.desk_model.proofs.PartFacts.{parts_keep}
+use Rattle.desk_model.proofs.parts.law_parts.Goals as goal
 
 pub returns : goal.returns
 returns g c = λ before after old new t once_few once_many kept.

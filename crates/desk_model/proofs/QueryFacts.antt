@@ -29,7 +29,7 @@ use Rattle.evaluation_facts.proofs.MemberTests.{and_left, and_right, all_has}
 use Rattle.evaluation_facts.proofs.QueryBounds.{prepared_length}
 use Rattle.evaluation_facts.proofs.SoundParts.{sound_parts}
 use Rattle.evaluation_facts.proofs.TaskFacts.{plan_at}
-use Rattle.kept_facts.specs.Frames.{QueryStays, SameOn, SameForQuery}
+use Rattle.desk_model.specs.Frames.{QueryStays, SameOn, SameForQuery}
 
 module _ (few many : List Access) (old new : TableRows) where
   abbrev Same : TableId → Type 0

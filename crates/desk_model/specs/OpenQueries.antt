@@ -10,7 +10,7 @@ use Rattle.beas_core.specs.declared.schema.Access.{Access}
 use Rattle.beas_core.specs.Full.{full_of}
 use Rattle.beas_core.specs.Queries.{BlockProbe, query_probes, query_reads, reads_at}
 use Rattle.beas_core.specs.Types.{Row}
-use Rattle.kept_facts.specs.Keeping.{KeptTable, rows_in}
+use Rattle.desk_model.specs.Keeping.{KeptTable, rows_in}
 
 pub record OpenQuery : Type 0 where
   pub session : ℕ

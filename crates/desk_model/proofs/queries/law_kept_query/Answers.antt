@@ -1,7 +1,7 @@
-use Rattle.kept_facts.specs.Keeping.{kept_accesses, kept_tables, rows_in}
-use Rattle.kept_facts.proofs.KeepingFacts.{keeps_its_constraints, keeps_its_rows}
-use Rattle.kept_facts.proofs.QueryFacts.{query_stays}
-use Rattle.kept_facts.proofs.queries.law_kept_query.Goals as goal
+use Rattle.desk_model.specs.Keeping.{kept_accesses, kept_tables, rows_in}
+use Rattle.desk_model.proofs.KeepingFacts.{keeps_its_constraints, keeps_its_rows}
+use Rattle.desk_model.proofs.QueryFacts.{query_stays}
+use Rattle.desk_model.proofs.queries.law_kept_query.Goals as goal
 
 pub returns-clause-kept : goal.returns-clause-kept
 returns-clause-kept c = λ accesses rows prepared. (keeps_its_constraints accesses prepared.derivations, keeps_its_rows rows prepared.query)

@@ -1,8 +1,5 @@
-//! What is true of the statements that tokens spell: lemmas that the crates above cite, and the law that they give.
-//!
-//! The lemmas are in proofs/: such a statement has no more parts than there are tokens, and none that it needs is missing.
-#![tactic(auto)]
-
+// Each statement that tokens spell has what a session asks of a statement: no more parts than there are tokens, and none
+// missing that it needs.
 ghost use Rattle.std.specs.Prelude.{◌≡◌, ◌-◌, ◌<◌, ◌^◌, length, Ok, Some};
 ghost use Rattle.piece_reader.specs.Sayings.{IsReadAs, statement_in};
 ghost use Rattle.session.specs.Statements.{StatementIsWellFormed};

@@ -13,7 +13,7 @@ use Rattle.catalogue.specs.Database.{Database, Table, empty_table, rows_at}
 use Rattle.catalogue.specs.Schema.{access_has_name}
 use Rattle.evaluation_facts.proofs.MoreAccesses.{live_id}
 use Rattle.evaluation_facts.proofs.UseFacts.{found_by_id}
-use Rattle.kept_facts.specs.Frames.{SameOn, Update, NewTable, ReplacedRows, NewAccess, DroppedAccess, updated, IsUntouched}
+use Rattle.desk_model.specs.Frames.{SameOn, Update, NewTable, ReplacedRows, NewAccess, DroppedAccess, updated, IsUntouched}
 
 -- a live constraint that passes a filter is live there, and the same
 pub passed : (q : Access → Bool) (own : List Access) (id : AccessId) → EachIdOnce own → is_live own id ≡ true → q (access_in own id) ≡ true

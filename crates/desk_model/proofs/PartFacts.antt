@@ -10,10 +10,10 @@ use Rattle.beas_core.specs.Types.{TableRows}
 use Rattle.beas_core.specs.Derivations.{access_in, is_live}
 use Rattle.beas_core.specs.Shapes.{EachIdOnce}
 use Rattle.beas_core.proofs.Accesses.{access_in-append, is_live-append}
-use Rattle.kept_facts.specs.Kept.{rows_with, is_frozen, accesses_with}
-use Rattle.kept_facts.proofs.KeptFacts.{access_in-skip, is_live-skip, kept_of_store}
-use Rattle.kept_facts.specs.Frames.{SameOn, KeepsTable}
-use Rattle.kept_facts.proofs.UpdateFacts.{passed}
+use Rattle.desk_model.specs.Kept.{rows_with, is_frozen, accesses_with}
+use Rattle.desk_model.proofs.KeptFacts.{access_in-skip, is_live-skip, kept_of_store}
+use Rattle.desk_model.specs.Frames.{SameOn, KeepsTable}
+use Rattle.desk_model.proofs.UpdateFacts.{passed}
 
 not_true : (b : Bool) → not b ≡ true → b ≡ false
 not_true true h = cc

@@ -1,5 +1,0 @@
-use Rattle.kept_facts.proofs.QueryFacts.{full_stays}
-use Rattle.kept_facts.proofs.queries.law_same_answer.Goals as goal
-
-pub returns : goal.returns
-returns c = λ old new query kept. full_stays old new query kept

@@ -1,4 +1,0 @@
-pub mod Frames
-pub mod Keeping
-pub mod OpenQueries
-pub mod Kept
