@@ -9,9 +9,9 @@ use Rattle.beas_core.specs.declared.plan.Normal.{Normal}
 use Rattle.beas_core.specs.Types.{ClassSet, Use}
 use Rattle.beas_core.specs.Coverage.{has, with_classes, key_classes, fetched_classes, holds_classes, class_at, uses, covered_set, Within, IsClosed, ClassesInRange}
 use Rattle.beas_core.proofs.Sets.{Has, Has-from_map, Has-from_contains, Contains-from_has}
-use Rattle.evaluation_facts.proofs.MemberTests.{all_has, all_by}
-use Rattle.evaluation_facts.proofs.ClassSetFacts.{has-with_kept, has-with_new, has-with_cases, holds-within}
-use Rattle.evaluation_facts.proofs.CoveredSetFacts.{covered_set_least, length-covered}
+use Rattle.beas_core.proofs.MemberTests.{all_has, all_by}
+use Rattle.beas_core.proofs.ClassSetFacts.{has-with_kept, has-with_new, has-with_cases, holds-within}
+use Rattle.beas_core.proofs.CoveredSetFacts.{covered_set_least, length-covered}
 use Rattle.attribute_closure.specs.Uses.{use_at}
 use Rattle.attribute_closure.specs.Keys.{bit, number_at, among, lacking, AreCounted, GoesOn, Closing}
 

@@ -7,7 +7,7 @@ use Rattle.beas_core.specs.Order.{value_cmp_total, row_cmp_total}
 use Rattle.beas_core.specs.Types.{Row}
 use Rattle.beas_core.proofs.Sets.{Has, Has-from_contains, Contains-from_has, Has-map, Has-from_map, Has-filter, Has-from_filter, SameMembers, distinct_same}
 use Rattle.beas_core.proofs.ValueOrder.{row_cmp_tells, value_cmp_tells}
-use Rattle.evaluation_facts.proofs.BindingFacts.{map_same}
+use Rattle.beas_core.proofs.BindingFacts.{map_same}
 use Rattle.aggregate.specs.declared.cell.Fold.{Fold}
 use Rattle.aggregate.specs.Grouping.{cell_of, cells_of, column_of, group_at, grouped_rows, keys_of, values_in}
 

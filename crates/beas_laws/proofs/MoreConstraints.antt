@@ -6,9 +6,9 @@ use Rattle.beas_core.specs.declared.plan.Prepared.{Prepared}
 use Rattle.beas_core.specs.Types.{TableRows}
 use Rattle.beas_core.specs.Shapes.{EachIdOnce}
 use Rattle.beas_core.specs.Fits.{Fits}
-use Rattle.evaluation_facts.proofs.MoreAccesses.{keeps_more}
-use Rattle.evaluation_facts.proofs.QueryBounds.{prepared_is_live}
-use Rattle.evaluation_facts.proofs.KeptFacts.{rows_kept, stays_fit}
+use Rattle.beas_core.proofs.MoreAccesses.{keeps_more}
+use Rattle.beas_core.proofs.QueryBounds.{prepared_is_live}
+use Rattle.beas_core.proofs.KeptFacts.{rows_kept, stays_fit}
 
 pub still_fits : (few many : List Access) → EachIdOnce many → ((access : Access) → Contains few access → Contains many access)
     → (rows : TableRows) (prepared : Prepared) → Fits few rows prepared → Fits many rows prepared

@@ -8,8 +8,8 @@ ghost use Rattle.beas_core.specs.Coverage.{ClassesInRange, ConstantsInRange, sta
 ghost use Rattle.beas_core.specs.Derivations.{IsSound, access_in, steps_are_sound};
 ghost use Rattle.beas_core.specs.Valuations.{answers_of};
 ghost use Rattle.beas_core.specs.Queries.{answers, inside, query_answers};
-ghost use Rattle.evaluation_facts.specs.Fronts.{FrontsExtend};
-ghost use Rattle.evaluation_facts.specs.Guides.{GuideFits};
+ghost use Rattle.beas_core.specs.Fronts.{FrontsExtend};
+ghost use Rattle.beas_core.specs.Guides.{GuideFits};
 
 use beas_core::{AccessPort, Block, DStep, List, Normal, Prepared};
 

@@ -4,8 +4,8 @@ ghost use Rattle.beas_core.specs.Coverage.{ClassesInRange, ConstantsInRange, sta
 ghost use Rattle.beas_core.specs.Derivations.{steps_are_sound};
 ghost use Rattle.beas_core.specs.Fits.{Fits, StepsHold};
 ghost use Rattle.beas_core.specs.Queries.{announced_in, query_answers, query_reads, query_size};
-ghost use Rattle.evaluation_facts.specs.Fronts.{FrontsAreBounded};
-ghost use Rattle.evaluation_facts.specs.Guides.{BlockStart, StartFits};
+ghost use Rattle.beas_core.specs.Fronts.{FrontsAreBounded};
+ghost use Rattle.beas_core.specs.Guides.{BlockStart, StartFits};
 
 use beas_core::{Access, AccessPort, DStep, Derivation, List, Normal, Prepared, Query};
 use plan_ops::ask_for_all;

@@ -4,7 +4,7 @@ ghost use Rattle.beas_core.specs.declared.query.Place.{Place};
 ghost use Rattle.beas_core.specs.Shapes.{BlockIsWellFormed, IsPlace};
 ghost use Rattle.beas_core.specs.Classes.{Linked, is_joined, class_of, normal_of};
 ghost use Rattle.beas_core.specs.Coverage.{ClassesInRange, ConstantsInRange};
-ghost use Rattle.evaluation_facts.specs.Numbering.{FirstPlace};
+ghost use Rattle.beas_core.specs.Numbering.{FirstPlace};
 
 use beas_core::Block;
 

@@ -11,7 +11,7 @@ ghost use Rattle.beas_core.specs.Derivations.{IsSound, greedy_steps};
 ghost use Rattle.beas_core.specs.Pruning.{capped_number, derivation, pruned};
 ghost use Rattle.beas_core.specs.Guiding.{block_tasks, first_uncovered, is_guided_task};
 ghost use Rattle.beas_core.specs.Fits.{Fits, GuidedOnlyWithGuide, KeepsConstraints, KeepsRows};
-ghost use Rattle.evaluation_facts.specs.Covered.{IsCovered, task_is_covered};
+ghost use Rattle.beas_core.specs.Covered.{IsCovered, task_is_covered};
 ghost use Rattle.beas_laws.specs.Kept.{IsUnchanged};
 
 use beas_core::{Access, List, Normal, Query};

@@ -12,9 +12,9 @@ use Rattle.beas_core.specs.Valuations.{valuations}
 use Rattle.beas_core.specs.Reads.{Probe, key_for, keys_after, probes_after}
 use Rattle.beas_core.proofs.Sets.{Has, Has-map, Has-from_map, Has-filter, Has-from_filter, Has-append_left, Has-append_right, Has-append_cases, Has-distinct, Has-from_distinct}
 use Rattle.beas_core.proofs.ValueOrder.{row_cmp_tells}
-use Rattle.evaluation_facts.specs.Extensions.{extensions, extensions_of, keep_met, meets_bound}
-use Rattle.evaluation_facts.specs.Fronts.{FrontsExtend, classes_after}
-use Rattle.evaluation_facts.proofs.MemberTests.{Has-flat_map, Has-from_flat_map}
+use Rattle.beas_core.specs.Extensions.{extensions, extensions_of, keep_met, meets_bound}
+use Rattle.beas_core.specs.Fronts.{FrontsExtend, classes_after}
+use Rattle.beas_core.proofs.MemberTests.{Has-flat_map, Has-from_flat_map}
 use Rattle.block_walk.specs.Descents.{kept_from, reached, wanted}
 
 module _ (rows : TableRows) (normal : Normal) (accesses : List Access) where

@@ -6,7 +6,7 @@ use Rattle.beas_core.specs.declared.plan.Normal.{Normal}
 use Rattle.beas_core.specs.Types.{Row}
 use Rattle.beas_core.specs.Valuations.{output_row}
 use Rattle.beas_core.proofs.Sets.{Has, Has-append_left, Has-append_right, Has-append_cases, Has-filter, Has-from_filter, Has-from_map, Has-get_or, Has-map, SameMembers}
-use Rattle.evaluation_facts.proofs.MemberTests.{which}
+use Rattle.beas_core.proofs.MemberTests.{which}
 use Rattle.plan_ops.specs.declared.sieving.Sieve.{Sieve}
 use Rattle.plan_ops.specs.declared.stages.Stage.{Stage}
 use Rattle.plan_ops.specs.Sieves.{passes, sieved}

@@ -12,10 +12,10 @@ use Rattle.beas_core.specs.Derivations.{bound_after}
 use Rattle.beas_core.specs.Valuations.{answers_of, output_row, starts, valuations, valued_rows}
 use Rattle.beas_core.proofs.Sets.{Has, Has-map, Has-from_map, Has-distinct, Has-from_distinct}
 use Rattle.beas_core.proofs.ValueOrder.{row_cmp_tells}
-use Rattle.evaluation_facts.specs.Guides.{GuideFits}
-use Rattle.evaluation_facts.specs.Fronts.{FrontsExtend}
-use Rattle.evaluation_facts.proofs.FrontBounds.{fronts_extend}
-use Rattle.evaluation_facts.proofs.MemberTests.{Has-flat_map, Has-from_flat_map}
+use Rattle.beas_core.specs.Guides.{GuideFits}
+use Rattle.beas_core.specs.Fronts.{FrontsExtend}
+use Rattle.beas_core.proofs.FrontBounds.{fronts_extend}
+use Rattle.beas_core.proofs.MemberTests.{Has-flat_map, Has-from_flat_map}
 use Rattle.plan_ops.specs.declared.valuations.Valuations.{Valuations}
 use Rattle.plan_ops.specs.Over.{IsOver}
 use Rattle.plan_ops.proofs.MeetFacts.{wide_member}

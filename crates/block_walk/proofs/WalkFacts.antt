@@ -5,7 +5,7 @@ use Rattle.std.proofs.lemmas.List.Sums.{sum_by-cons, sum_by-append}
 use Rattle.beas_core.specs.Types.{Row}
 use Rattle.beas_core.specs.Reads.{Probe}
 use Rattle.beas_core.proofs.Sets.{Has, SameMembers, Has-append_left, Has-append_right, Has-append_cases}
-use Rattle.evaluation_facts.proofs.MemberTests.{Has-flat_map, Has-from_flat_map}
+use Rattle.beas_core.proofs.MemberTests.{Has-flat_map, Has-from_flat_map}
 use Rattle.beas_core.specs.Valuations.{output_row}
 use Rattle.block_walk.specs.Worlds.{World, Fetched}
 use Rattle.block_walk.specs.Routes.{Route}

@@ -15,11 +15,11 @@ use Rattle.beas_core.specs.Derivations.{access_in, bound_by, bound_after, key_is
 use Rattle.beas_core.specs.Valuations.{value_of, agrees, classes_in, as_bindings, output_row}
 use Rattle.beas_core.specs.Reads.{access_of_step}
 use Rattle.beas_core.proofs.Sets.{Contains-from_has}
-use Rattle.evaluation_facts.specs.Extensions.{meets_bound}
-use Rattle.evaluation_facts.proofs.FrontBounds.{next_step}
-use Rattle.evaluation_facts.proofs.SoundDerivations.{bound-append}
-use Rattle.evaluation_facts.proofs.SoundParts.{sound_parts, steps_from}
-use Rattle.evaluation_facts.proofs.StartFacts.{start_counted}
+use Rattle.beas_core.specs.Extensions.{meets_bound}
+use Rattle.beas_core.proofs.FrontBounds.{next_step}
+use Rattle.beas_core.proofs.SoundDerivations.{bound-append}
+use Rattle.beas_core.proofs.SoundParts.{sound_parts, steps_from}
+use Rattle.beas_core.proofs.StartFacts.{start_counted}
 use Rattle.plan_ops.specs.declared.stages.Stage.{Stage}
 use Rattle.plan_ops.specs.Over.{set_of}
 use Rattle.plan_ops.specs.Stages.{bound_with, joined_row, next_by, set_before, use_at}

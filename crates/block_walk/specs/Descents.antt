@@ -10,7 +10,7 @@ use Rattle.beas_core.specs.declared.plan.Normal.{Normal}
 use Rattle.beas_core.specs.Types.{Row, TableRows, ClassSet}
 use Rattle.beas_core.specs.Derivations.{bound_by}
 use Rattle.beas_core.specs.Reads.{Probe, key_for}
-use Rattle.evaluation_facts.specs.Extensions.{extensions_of, meets_bound}
+use Rattle.beas_core.specs.Extensions.{extensions_of, meets_bound}
 
 abbrev pub kept_from : TableRows → Normal → List Access → DStep → ClassSet → Row → List Row
 kept_from rows normal accesses s set v = filter (meets_bound normal (bound_by normal accesses set s)) (extensions_of rows normal accesses s set v)

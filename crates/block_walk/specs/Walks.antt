@@ -29,7 +29,7 @@ use Rattle.beas_core.specs.Valuations.{answers_of, classes_in, output_row}
 use Rattle.beas_core.specs.Reads.{Probe, key_for}
 use Rattle.beas_core.specs.Sets.{IsInOrder}
 use Rattle.beas_core.proofs.Sets.{Has}
-use Rattle.evaluation_facts.specs.Extensions.{group_for}
+use Rattle.beas_core.specs.Extensions.{group_for}
 use Rattle.plan_ops.specs.declared.stages.Stage.{Stage}
 use Rattle.plan_ops.specs.Stages.{IsStage}
 use Rattle.block_walk.specs.Worlds.{World, Fetched, made, AgreesWith, in_order, probe_cmp}

@@ -5,7 +5,7 @@ ghost use Rattle.beas_core.specs.Coverage.{ClassesInRange, ConstantsInRange, sta
 ghost use Rattle.beas_core.specs.Derivations.{steps_are_sound};
 ghost use Rattle.beas_core.specs.Valuations.{valuations};
 ghost use Rattle.beas_core.specs.Reads.{Probe, probes};
-ghost use Rattle.evaluation_facts.specs.Guides.{GuideFits};
+ghost use Rattle.beas_core.specs.Guides.{GuideFits};
 ghost use Rattle.block_walk.specs.Descents.{reached, wanted};
 
 use beas_core::{AccessPort, DStep, List, Normal};

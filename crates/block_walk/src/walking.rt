@@ -5,7 +5,7 @@ ghost use Rattle.beas_core.specs.Coverage.{ClassesInRange, ConstantsInRange, hol
 ghost use Rattle.beas_core.specs.Derivations.{access_in, is_live, IsSound};
 ghost use Rattle.beas_core.specs.Valuations.{answers_of, classes_in, output_row};
 ghost use Rattle.beas_core.proofs.Sets.{SameMembers};
-ghost use Rattle.evaluation_facts.specs.Guides.{GuideFits};
+ghost use Rattle.beas_core.specs.Guides.{GuideFits};
 ghost use Rattle.plan_ops.specs.Over.{set_of};
 ghost use Rattle.plan_ops.specs.Sieves.{sieved};
 ghost use Rattle.plan_ops.specs.Stages.{IsPair, IsStage, bound_with, joined_row, key_by, next_by, set_before, use_at};

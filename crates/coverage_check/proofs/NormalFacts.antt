@@ -7,7 +7,7 @@ use Rattle.beas_core.specs.declared.plan.Normal.{Normal}
 use Rattle.beas_core.specs.Shapes.{BlockIsWellFormed}
 use Rattle.beas_core.specs.Classes.{needed_columns, normal_of}
 use Rattle.beas_core.specs.Coverage.{ClassesInRange}
-use Rattle.evaluation_facts.proofs.ClassFacts.{classes_in_range}
+use Rattle.beas_core.proofs.ClassFacts.{classes_in_range}
 
 pub in_range : (normal : Normal) (block : Block) → BlockIsWellFormed block → normal ≡ normal_of block → ClassesInRange normal
 in_range normal block shape e = subst ClassesInRange (sym e) (classes_in_range block shape)

@@ -11,7 +11,7 @@ use Rattle.beas_core.specs.Full.{set_union, set_difference}
 use Rattle.beas_core.specs.Reads.{Probe, probe_reads}
 use Rattle.beas_core.specs.Queries.{BlockProbe, query_answers}
 use Rattle.beas_core.proofs.Sets.{Has, Has-map, Has-from_map, Has-append_left, Has-append_right, Has-append_cases, Has-from_contains, Contains-from_has}
-use Rattle.evaluation_facts.proofs.ReadFacts.{sum_mapped}
+use Rattle.beas_core.proofs.ReadFacts.{sum_mapped}
 use Rattle.block_walk.specs.declared.walking.Walk.{Walk}
 use Rattle.block_walk.specs.Worlds.{World, Fetched, made, Agrees, AgreesWith}
 use Rattle.block_walk.specs.Routes.{Route, IsSoundIn, all_probes}

@@ -6,8 +6,8 @@ use Rattle.beas_core.specs.declared.plan.Prepared.{Prepared}
 use Rattle.beas_core.specs.Types.{Row, TableRows}
 use Rattle.beas_core.specs.Fits.{Fits}
 use Rattle.beas_core.specs.Full.{full_of}
-use Rattle.evaluation_facts.proofs.GuidedLaw.{guided_answers_are_full}
-use Rattle.evaluation_facts.proofs.QueryBounds.{few, shaped_query}
+use Rattle.beas_core.proofs.GuidedLaw.{guided_answers_are_full}
+use Rattle.beas_core.proofs.QueryBounds.{few, shaped_query}
 use Rattle.plan_ops.specs.Held.{PlanHolds}
 use Rattle.plan_ops.proofs.TreeFacts.{all_hold}
 use Rattle.block_walk.specs.Worlds.{World, world}

@@ -13,7 +13,7 @@ use Rattle.beas_core.specs.Reads.{probes}
 use Rattle.beas_core.specs.Fits.{StepsHold}
 use Rattle.beas_core.specs.Guiding.{after}
 use Rattle.beas_core.specs.Queries.{BlockProbe, is_guided, plan_of, guide_of, answers, probes_in, reads_in}
-use Rattle.evaluation_facts.proofs.GuidedLaw.{answers_in_order}
+use Rattle.beas_core.proofs.GuidedLaw.{answers_in_order}
 use Rattle.plan_ops.specs.Asked.{TreeFits}
 use Rattle.plan_ops.proofs.TreeFacts.{BlockIs, block_is, block_stands, block_plan, block_normal, union_left, union_right, except_left, except_right, whole_fits}
 use Rattle.block_walk.specs.Worlds.{World}

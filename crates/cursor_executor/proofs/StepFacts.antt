@@ -10,7 +10,7 @@ use Rattle.beas_core.specs.declared.plan.Prepared.{Prepared}
 use Rattle.beas_core.specs.Types.{Row, Guide}
 use Rattle.beas_core.specs.Coverage.{ClassesInRange, ConstantsInRange}
 use Rattle.beas_core.specs.Valuations.{answers_of}
-use Rattle.evaluation_facts.specs.Guides.{GuideFits}
+use Rattle.beas_core.specs.Guides.{GuideFits}
 use Rattle.block_walk.specs.declared.walking.Walk.{Walk}
 use Rattle.block_walk.specs.Worlds.{World, Fetched, AgreesWith}
 use Rattle.block_walk.specs.Routes.{Route, route, IsSoundIn}

@@ -17,7 +17,7 @@ use Rattle.beas_core.specs.Coverage.{ClassesInRange, ConstantsInRange}
 use Rattle.beas_core.specs.Guiding.{after}
 use Rattle.beas_core.specs.Queries.{BlockProbe, is_guided}
 use Rattle.beas_core.specs.Valuations.{answers_of}
-use Rattle.evaluation_facts.specs.Guides.{GuideFits}
+use Rattle.beas_core.specs.Guides.{GuideFits}
 use Rattle.block_walk.specs.Worlds.{World}
 use Rattle.block_walk.specs.Routes.{Route, route, IsSoundIn, all_probes}
 use Rattle.cursor_executor.specs.declared.operations.Operation.{Operation}

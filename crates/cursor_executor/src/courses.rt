@@ -5,7 +5,7 @@ ghost use Rattle.beas_core.specs.Coverage.{ClassesInRange, ConstantsInRange, sta
 ghost use Rattle.beas_core.specs.Derivations.{IsSound};
 ghost use Rattle.beas_core.specs.Fits.{PreparedIsWellFormed};
 ghost use Rattle.beas_core.specs.Full.{set_union, set_difference};
-ghost use Rattle.evaluation_facts.specs.Guides.{GuideFits};
+ghost use Rattle.beas_core.specs.Guides.{GuideFits};
 ghost use Rattle.block_walk.specs.Turns.{SpentOnce};
 ghost use Rattle.block_walk.specs.Routes.{route};
 ghost use Rattle.block_walk.specs.Worlds.{AgreesWith, world};

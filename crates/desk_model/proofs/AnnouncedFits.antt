@@ -18,13 +18,13 @@ use Rattle.beas_core.specs.Guiding.{BlockTask, Uncovered, after, block_tasks, fi
 use Rattle.beas_core.specs.Shapes.{BlockIsWellFormed, EachIdOnce, QueryIsWellFormed}
 use Rattle.beas_core.specs.Trees.{QueryTree, Single, Either, Minus, blocks_of}
 use Rattle.beas_core.proofs.Sets.{Has, Has-map, Has-from_map, Contains-from_has}
-use Rattle.evaluation_facts.specs.Covered.{task_is_covered}
-use Rattle.evaluation_facts.proofs.ClassFacts.{classes_in_range}
-use Rattle.evaluation_facts.proofs.DerivationsExist.{derivation_exists}
-use Rattle.evaluation_facts.proofs.MemberTests.{and_left, and_right}
-use Rattle.evaluation_facts.proofs.ReasonFacts.{no_first-covered}
-use Rattle.evaluation_facts.proofs.StartFacts.{start_counted}
-use Rattle.evaluation_facts.proofs.TaskFacts.{task_normals}
+use Rattle.beas_core.specs.Covered.{task_is_covered}
+use Rattle.beas_core.proofs.ClassFacts.{classes_in_range}
+use Rattle.beas_core.proofs.DerivationsExist.{derivation_exists}
+use Rattle.beas_core.proofs.MemberTests.{and_left, and_right}
+use Rattle.beas_core.proofs.ReasonFacts.{no_first-covered}
+use Rattle.beas_core.proofs.StartFacts.{start_counted}
+use Rattle.beas_core.proofs.TaskFacts.{task_normals}
 use Rattle.catalogue.specs.Queries.{QueryIsOver}
 use Rattle.catalogue.specs.Schema.{Schema, SchemaIsSound}
 use Rattle.sql_text.specs.Trees.{Tree}

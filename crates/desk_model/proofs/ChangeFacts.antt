@@ -15,7 +15,7 @@ use Rattle.beas_core.specs.Results.{refused_if}
 use Rattle.beas_core.specs.Shapes.{EachIdOnce}
 use Rattle.beas_core.specs.Types.{Row}
 use Rattle.beas_core.proofs.Sets.{Has-from_contains}
-use Rattle.evaluation_facts.proofs.MemberTests.{and_both, any_by}
+use Rattle.beas_core.proofs.MemberTests.{and_both, any_by}
 use Rattle.catalogue.specs.Database.{Database, block_table, kept_rows, rows_at, schema_of}
 use Rattle.catalogue.specs.Refusing.{add_table_refusal, admit_refusal, already_broken, drop_access_refusal, insert_refusal, new_access}
 use Rattle.catalogue.specs.Schema.{access_has_name, columns_at, table_named}

@@ -17,7 +17,7 @@ use Rattle.beas_core.specs.Trees.{QueryTree, blocks_of}
 use Rattle.beas_core.specs.Types.{TableRows}
 use Rattle.beas_core.proofs.Accesses.{access_in-first, access_in-rest}
 use Rattle.beas_core.proofs.Sets.{Has, Has-map, all_from}
-use Rattle.evaluation_facts.proofs.MemberTests.{Has-flat_map}
+use Rattle.beas_core.proofs.MemberTests.{Has-flat_map}
 use Rattle.desk_model.specs.Keeping.{KeptTable, ids_of, kept_accesses, kept_tables, rows_in, tables_of}
 
 -- ---- rows

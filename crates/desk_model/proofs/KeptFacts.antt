@@ -15,8 +15,8 @@ use Rattle.beas_core.specs.Derivations.{access_in, is_live}
 use Rattle.beas_core.specs.Shapes.{EachIdOnce}
 use Rattle.beas_core.proofs.Accesses.{access_in-rest, access_in-member, access_in-append, is_live-member}
 use Rattle.beas_core.proofs.Sets.{Has, Contains-from_has, Has-from_filter}
-use Rattle.evaluation_facts.proofs.MoreAccesses.{live_id}
-use Rattle.evaluation_facts.proofs.UseFacts.{found_by_id}
+use Rattle.beas_core.proofs.MoreAccesses.{live_id}
+use Rattle.beas_core.proofs.UseFacts.{found_by_id}
 use Rattle.desk_model.specs.Kept.{rows_with, is_frozen, accesses_with, has_id, chosen, Where, StandsWith, AreApart}
 
 -- an id that the front doesn't have is that of the back

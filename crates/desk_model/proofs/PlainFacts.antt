@@ -22,7 +22,7 @@ use Rattle.session.specs.Announced.{announcement}
 use Rattle.session.specs.Effects.{Action, Does, Loads, Settings, action_of, answer_effect, reads_in, with_answer as answer_or_refusal}
 use Rattle.session.specs.Statements.{StatementIsWellFormed, TreeIsWellFormed}
 use Rattle.session.specs.Turns.{Turn, turn_of}
-use Rattle.evaluation_facts.proofs.KeptFacts.{reads_stay}
+use Rattle.beas_core.proofs.KeptFacts.{reads_stay}
 use Rattle.desk_model.specs.Keeping.{kept_accesses, kept_tables, rows_in}
 use Rattle.desk_model.proofs.KeepingFacts.{keeps_its_constraints, keeps_its_rows}
 use Rattle.desk_model.proofs.QueryFacts.{full_stays}

@@ -23,12 +23,12 @@ use Rattle.beas_core.specs.Queries.{BlockProbe, plan_of, reads_at}
 use Rattle.beas_core.specs.Reads.{access_of_step, probe_reads}
 use Rattle.beas_core.specs.Trees.{QueryTree, Single, Either, Minus, blocks_of}
 use Rattle.beas_core.proofs.Sets.{Has, Has-append_left, Has-append_right, all_from, Contains-from_has}
-use Rattle.evaluation_facts.proofs.AgreementFacts.{block-agrees}
-use Rattle.evaluation_facts.proofs.KeptFacts.{probes_stay, reads_stay, rows_kept, stays_fit}
-use Rattle.evaluation_facts.proofs.MemberTests.{and_left, and_right, all_has}
-use Rattle.evaluation_facts.proofs.QueryBounds.{prepared_length}
-use Rattle.evaluation_facts.proofs.SoundParts.{sound_parts}
-use Rattle.evaluation_facts.proofs.TaskFacts.{plan_at}
+use Rattle.beas_core.proofs.AgreementFacts.{block-agrees}
+use Rattle.beas_core.proofs.KeptFacts.{probes_stay, reads_stay, rows_kept, stays_fit}
+use Rattle.beas_core.proofs.MemberTests.{and_left, and_right, all_has}
+use Rattle.beas_core.proofs.QueryBounds.{prepared_length}
+use Rattle.beas_core.proofs.SoundParts.{sound_parts}
+use Rattle.beas_core.proofs.TaskFacts.{plan_at}
 use Rattle.desk_model.specs.Frames.{QueryStays, SameOn, SameForQuery}
 
 module _ (few many : List Access) (old new : TableRows) where

@@ -11,8 +11,8 @@ use Rattle.beas_core.proofs.Accesses.{access_in-append, access_in-member, is_liv
 use Rattle.beas_core.proofs.Sets.{Has-filter, Has-from_filter, Contains-from_has}
 use Rattle.catalogue.specs.Database.{Database, Table, empty_table, rows_at}
 use Rattle.catalogue.specs.Schema.{access_has_name}
-use Rattle.evaluation_facts.proofs.MoreAccesses.{live_id}
-use Rattle.evaluation_facts.proofs.UseFacts.{found_by_id}
+use Rattle.beas_core.proofs.MoreAccesses.{live_id}
+use Rattle.beas_core.proofs.UseFacts.{found_by_id}
 use Rattle.desk_model.specs.Frames.{SameOn, Update, NewTable, ReplacedRows, NewAccess, DroppedAccess, updated, IsUntouched}
 
 -- a live constraint that passes a filter is live there, and the same

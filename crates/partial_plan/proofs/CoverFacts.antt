@@ -19,11 +19,11 @@ use Rattle.beas_core.specs.Coverage.{has, class_at, uses, key_classes, fetched_c
 use Rattle.beas_core.specs.Derivations.{table_of}
 use Rattle.beas_core.specs.Guiding.{BlockTask, Uncovered, after, tasks_from, task_reason, first_uncovered_from}
 use Rattle.beas_core.proofs.Sets.{Has, Has-map, Has-from_map, Has-filter, Has-append_right, Contains-from_has}
-use Rattle.evaluation_facts.proofs.MemberTests.{Has-flat_map, Has-from_flat_map, and_both, all_has, all_by, any_by}
-use Rattle.evaluation_facts.proofs.BindingFacts.{from_range}
-use Rattle.evaluation_facts.proofs.TaskFacts.{length-tasks}
-use Rattle.evaluation_facts.proofs.UseFacts.{enumerated}
-use Rattle.evaluation_facts.proofs.CoveredSetFacts.{covered_set_least}
+use Rattle.beas_core.proofs.MemberTests.{Has-flat_map, Has-from_flat_map, and_both, all_has, all_by, any_by}
+use Rattle.beas_core.proofs.BindingFacts.{from_range}
+use Rattle.beas_core.proofs.TaskFacts.{length-tasks}
+use Rattle.beas_core.proofs.UseFacts.{enumerated}
+use Rattle.beas_core.proofs.CoveredSetFacts.{covered_set_least}
 use Rattle.partial_plan.specs.ScanPlans.{named_atom}
 
 -- ---- what a reason tells

@@ -22,11 +22,11 @@ use Rattle.beas_core.specs.Shapes.{BlockIsWellFormed, EachIdOnce, EachOnce, Quer
 use Rattle.beas_core.proofs.Sets.{Has, Has-append_cases, Has-append_left, Has-append_right, Has-from_filter, Has-from_map, Contains-from_has, all_from}
 use Rattle.catalogue.specs.Schema.{Schema, SchemaIsSound, AccessIsSound, columns_at}
 use Rattle.catalogue.specs.Queries.{BlockIsOver, QueryIsOver}
-use Rattle.evaluation_facts.proofs.BindingFacts.{from_range}
-use Rattle.evaluation_facts.proofs.ClassFacts.{classes_in_range}
-use Rattle.evaluation_facts.proofs.MemberTests.{Has-flat_map, any_has, first_of_pairs, rest_of_pairs}
-use Rattle.evaluation_facts.proofs.StartFacts.{start_counted}
-use Rattle.evaluation_facts.proofs.TaskFacts.{length-tasks, task_normals}
+use Rattle.beas_core.proofs.BindingFacts.{from_range}
+use Rattle.beas_core.proofs.ClassFacts.{classes_in_range}
+use Rattle.beas_core.proofs.MemberTests.{Has-flat_map, any_has, first_of_pairs, rest_of_pairs}
+use Rattle.beas_core.proofs.StartFacts.{start_counted}
+use Rattle.beas_core.proofs.TaskFacts.{length-tasks, task_normals}
 use Rattle.plan_builder.specs.Preparation.{IsWellFormedIn, atom_table, constraints_with, no_block, with_lists}
 use Rattle.plan_builder.proofs.PreparationFacts.{as_many_needed, atoms_are, ids_once, mapped_numbered}
 use Rattle.partial_plan.specs.Scans.{TableSizes}

@@ -18,11 +18,11 @@ use Rattle.beas_core.specs.Shapes.{EachIdOnce}
 use Rattle.beas_core.proofs.Accesses.{access_in-member, is_live-member}
 use Rattle.beas_core.proofs.Sets.{Has, Has-append_cases, Has-append_left, Has-append_right, Has-map, Has-filter, Has-from_filter, Contains-from_has, all_from}
 use Rattle.catalogue.specs.Schema.{Schema, SchemaIsSound}
-use Rattle.evaluation_facts.proofs.KeptFacts.{rows_kept, stays_fit}
-use Rattle.evaluation_facts.proofs.MemberTests.{any_by, none_by}
-use Rattle.evaluation_facts.proofs.MoreAccesses.{live_id}
-use Rattle.evaluation_facts.proofs.QueryBounds.{prepared_is_live}
-use Rattle.evaluation_facts.proofs.UseFacts.{found_by_id}
+use Rattle.beas_core.proofs.KeptFacts.{rows_kept, stays_fit}
+use Rattle.beas_core.proofs.MemberTests.{any_by, none_by}
+use Rattle.beas_core.proofs.MoreAccesses.{live_id}
+use Rattle.beas_core.proofs.QueryBounds.{prepared_is_live}
+use Rattle.beas_core.proofs.UseFacts.{found_by_id}
 use Rattle.plan_builder.specs.Preparation.{with_lists}
 use Rattle.plan_builder.proofs.Extras.{pairs_right, part_once}
 use Rattle.access_index.specs.Index.{Index, IsIndexOf}

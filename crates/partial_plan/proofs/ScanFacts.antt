@@ -15,7 +15,7 @@ use Rattle.beas_core.specs.Telling.{row_cmp_tells}
 use Rattle.beas_core.specs.Derivations.{access_in, is_live}
 use Rattle.beas_core.proofs.Accesses.{access_in-append, access_in-first, access_in-rest}
 use Rattle.beas_core.proofs.Sets.{Has, Contains-from_has, length-distinct-le}
-use Rattle.evaluation_facts.proofs.SetSizes.{length-filter_le}
+use Rattle.beas_core.proofs.SetSizes.{length-filter_le}
 use Rattle.access_index.specs.Index.{Index, IsIndexOf}
 use Rattle.partial_plan.specs.Scans.{AreBuilt, IndexesStand, IsScanIndex, TableSizes, accesses_with, index_with, rows_of_tables, scanned_rows}
 

@@ -20,11 +20,11 @@ use Rattle.beas_core.specs.Groups.{member_columns}
 use Rattle.beas_core.specs.Coverage.{ClassesInRange, Within, atoms_of, class_at, fetched_classes, has, holds_classes, holds_needed, is_covered, is_open, is_served, key_classes, needed_places, serves, uses, with_classes}
 use Rattle.beas_core.specs.Derivations.{adds_class, least_bound, member_classes, with_use}
 use Rattle.beas_core.proofs.Sets.{Has, Has-append_left, Has-append_right, Has-filter, Has-from_filter, Has-from_map, Has-map, Has-get_or, Has-from_contains, Contains-from_has, all_at, all_from}
-use Rattle.evaluation_facts.proofs.MemberTests.{all_by, all_has, and_left, and_right, and_both, any_by, any_has}
-use Rattle.evaluation_facts.proofs.ClassSetFacts.{has-with_cases, has-with_kept, has-with_new, holds-within, length-with}
-use Rattle.evaluation_facts.proofs.BindingFacts.{Has-range, from_range}
-use Rattle.evaluation_facts.proofs.SoundDerivations.{serves_within}
-use Rattle.evaluation_facts.proofs.UseFacts.{same_number, use_facts}
+use Rattle.beas_core.proofs.MemberTests.{all_by, all_has, and_left, and_right, and_both, any_by, any_has}
+use Rattle.beas_core.proofs.ClassSetFacts.{has-with_cases, has-with_kept, has-with_new, holds-within, length-with}
+use Rattle.beas_core.proofs.BindingFacts.{Has-range, from_range}
+use Rattle.beas_core.proofs.SoundDerivations.{serves_within}
+use Rattle.beas_core.proofs.UseFacts.{same_number, use_facts}
 use Rattle.attribute_closure.specs.Keys.{number_at, AreCounted, GoesOn}
 use Rattle.attribute_closure.specs.declared.uses.UseAt.{UseAt}
 use Rattle.attribute_closure.specs.Uses.{no_use, as_use, use_at}

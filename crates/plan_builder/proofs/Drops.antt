@@ -13,8 +13,8 @@ use Rattle.beas_core.specs.Derivations.{access_in, adds_class, adds_rightly, bou
 use Rattle.beas_core.specs.Numbers.{announced_from, cap}
 use Rattle.beas_core.specs.Pruning.{capped_number, may_go, pruned, pruned_at, pruned_below, shorter, with_adds, without}
 use Rattle.beas_core.proofs.Accesses.{access_in-first, access_in-rest}
-use Rattle.evaluation_facts.proofs.MemberTests.{and_both, and_left, and_right}
-use Rattle.evaluation_facts.proofs.SoundParts.{sound_parts}
+use Rattle.beas_core.proofs.MemberTests.{and_both, and_left, and_right}
+use Rattle.beas_core.proofs.SoundParts.{sound_parts}
 use Rattle.plan_builder.specs.Plans.{served_among}
 use Rattle.plan_builder.specs.Trials.{all_are_served, are_sound, binds_needed, capped_uses, keys_are_bound, more_size, number_from, set_after, steps_from, use_may_go, uses_pruned, uses_pruned_at, uses_pruned_below, uses_without}
 use Rattle.plan_builder.proofs.Turns.{served_same}

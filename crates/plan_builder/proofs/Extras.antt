@@ -20,8 +20,8 @@ use Rattle.beas_core.specs.Fits.{PlanIsSound, PlansAreSound}
 use Rattle.beas_core.specs.Shapes.{EachIdOnce}
 use Rattle.beas_core.specs.Results.{Gives}
 use Rattle.beas_core.proofs.Sets.{Has, Has-append_cases, Has-append_left, Has-append_right, Has-from_contains, Contains-from_has, all_from}
-use Rattle.evaluation_facts.proofs.MemberTests.{Has-from_flat_map, first_of_pairs, rest_of_pairs}
-use Rattle.evaluation_facts.proofs.TaskFacts.{length-tasks, task_normals}
+use Rattle.beas_core.proofs.MemberTests.{Has-from_flat_map, first_of_pairs, rest_of_pairs}
+use Rattle.beas_core.proofs.TaskFacts.{length-tasks, task_normals}
 use Rattle.catalogue.specs.Schema.{Schema, SchemaIsSound, AccessIsSound}
 use Rattle.plan_builder.specs.Preparation.{IsWellFormedIn, constraints_with, preparation, preparation_of, preparation_over, with_lists}
 

@@ -14,8 +14,8 @@ use Rattle.beas_core.specs.Derivations.{adding_steps, adds_class, bound_after, e
 use Rattle.beas_core.specs.Guiding.{is_guided_task, task_reason, task_start, task_steps}
 use Rattle.beas_core.specs.Pruning.{derivation, pruned}
 use Rattle.beas_core.proofs.Sets.{Has, Has-append_left, Contains-from_has}
-use Rattle.evaluation_facts.proofs.MoreAccesses.{bound_agrees, same_access}
-use Rattle.evaluation_facts.proofs.SoundDerivations.{greedy_sound}
+use Rattle.beas_core.proofs.MoreAccesses.{bound_agrees, same_access}
+use Rattle.beas_core.proofs.SoundDerivations.{greedy_sound}
 use Rattle.plan_builder.specs.Parts.{normal_task}
 use Rattle.plan_builder.specs.Trials.{steps_from, uses_pruned}
 use Rattle.plan_builder.proofs.Drops.{left_by_uses}

@@ -18,8 +18,8 @@ use Rattle.beas_core.specs.Shapes.{EachIdOnce}
 use Rattle.beas_core.specs.Types.{Use}
 use Rattle.beas_core.proofs.Accesses.{is_live-member}
 use Rattle.beas_core.proofs.Sets.{Has, Has-append_cases, Has-from_filter, Has-from_contains, Has-get_or, Contains-from_has, all_from}
-use Rattle.evaluation_facts.proofs.MemberTests.{any_has, none_has, first_of_pairs, rest_of_pairs, which}
-use Rattle.evaluation_facts.proofs.UseFacts.{found_by_id}
+use Rattle.beas_core.proofs.MemberTests.{any_has, none_has, first_of_pairs, rest_of_pairs, which}
+use Rattle.beas_core.proofs.UseFacts.{found_by_id}
 use Rattle.catalogue.specs.Kept.{ids_on}
 use Rattle.catalogue.specs.Schema.{access_with_id, accesses_on}
 use Rattle.plan_builder.specs.Own.{own_accesses, with_table}

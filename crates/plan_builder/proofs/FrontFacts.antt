@@ -12,8 +12,8 @@ use Rattle.beas_core.specs.Types.{ClassSet, Use}
 use Rattle.beas_core.specs.Coverage.{atoms_of, holds_classes, holds_needed, key_classes}
 use Rattle.beas_core.specs.Derivations.{adds_class, with_use}
 use Rattle.beas_core.proofs.Sets.{Has, Has-append_cases, Has-append_left, Has-append_right}
-use Rattle.evaluation_facts.proofs.MemberTests.{all_by, all_has, and_left, and_right, any_by, any_has, which}
-use Rattle.evaluation_facts.proofs.BindingFacts.{Has-range, from_range}
+use Rattle.beas_core.proofs.MemberTests.{all_by, all_has, and_left, and_right, any_by, any_has, which}
+use Rattle.beas_core.proofs.BindingFacts.{Has-range, from_range}
 use Rattle.attribute_closure.specs.declared.uses.UseAt.{UseAt}
 use Rattle.attribute_closure.specs.Uses.{as_use}
 use Rattle.plan_builder.specs.declared.fronts.Front.{Front}

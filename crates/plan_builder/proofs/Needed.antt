@@ -10,9 +10,9 @@ use Rattle.beas_core.specs.Coverage.{atoms_of, holds_needed}
 use Rattle.beas_core.specs.Derivations.{use_of, IsSound}
 use Rattle.beas_core.specs.Pruning.{pruned}
 use Rattle.beas_core.proofs.Sets.{Has, Has-map}
-use Rattle.evaluation_facts.proofs.BindingFacts.{Has-range}
-use Rattle.evaluation_facts.proofs.MemberTests.{all_has, and_left, and_right, any_has, which}
-use Rattle.evaluation_facts.proofs.SoundParts.{sound_parts}
+use Rattle.beas_core.proofs.BindingFacts.{Has-range}
+use Rattle.beas_core.proofs.MemberTests.{all_has, and_left, and_right, any_has, which}
+use Rattle.beas_core.proofs.SoundParts.{sound_parts}
 use Rattle.plan_builder.specs.Plans.{served_among}
 use Rattle.plan_builder.specs.Trials.{all_are_served, are_sound, binds_needed, keys_are_bound, set_after, steps_from, uses_pruned_at, uses_pruned_below, uses_without}
 use Rattle.plan_builder.proofs.Drops.{left_by_uses, nothing_new, with_adds_steps}

@@ -39,16 +39,16 @@ use Rattle.beas_core.specs.Results.{Gives, IsRefusedAs}
 use Rattle.beas_core.specs.Fits.{GuidedOnlyWithGuide, PlanFits, PlansAreSound}
 use Rattle.beas_core.proofs.Sets.{Has, Contains-from_has, all_from, Has-from_map, Has-from_filter, Has-get_or, Has-map}
 use Rattle.beas_core.proofs.Accesses.{access_in-member}
-use Rattle.evaluation_facts.proofs.MemberTests.{and_left, and_right, all_has, Has-from_flat_map}
-use Rattle.evaluation_facts.proofs.BindingFacts.{Has-range, from_range}
-use Rattle.evaluation_facts.proofs.ClassFacts.{width_at}
-use Rattle.evaluation_facts.proofs.DerivationsExist.{derivation_only_if}
-use Rattle.evaluation_facts.proofs.ReasonFacts.{covered-reason, reason-covered}
-use Rattle.evaluation_facts.proofs.SoundDerivations.{derivation_sound}
-use Rattle.evaluation_facts.proofs.SoundParts.{sound_parts}
-use Rattle.evaluation_facts.proofs.StartFacts.{start_counted}
-use Rattle.evaluation_facts.proofs.MoreAccesses.{stays_sound}
-use Rattle.evaluation_facts.proofs.TaskFacts.{guided_only_with_guide, length-tasks}
+use Rattle.beas_core.proofs.MemberTests.{and_left, and_right, all_has, Has-from_flat_map}
+use Rattle.beas_core.proofs.BindingFacts.{Has-range, from_range}
+use Rattle.beas_core.proofs.ClassFacts.{width_at}
+use Rattle.beas_core.proofs.DerivationsExist.{derivation_only_if}
+use Rattle.beas_core.proofs.ReasonFacts.{covered-reason, reason-covered}
+use Rattle.beas_core.proofs.SoundDerivations.{derivation_sound}
+use Rattle.beas_core.proofs.SoundParts.{sound_parts}
+use Rattle.beas_core.proofs.StartFacts.{start_counted}
+use Rattle.beas_core.proofs.MoreAccesses.{stays_sound}
+use Rattle.beas_core.proofs.TaskFacts.{guided_only_with_guide, length-tasks}
 use Rattle.catalogue.specs.Queries.{AtomIsOver, BlockIsOver, QueryIsOver}
 use Rattle.catalogue.specs.Schema.{Schema, SchemaIsSound, columns_at}
 use Rattle.plan_builder.specs.declared.blocks.BlockAt.{BlockAt}

@@ -15,11 +15,11 @@ use Rattle.beas_core.specs.Coverage.{serves, uses, is_covered, reason, atoms_of,
 use Rattle.beas_core.specs.Derivations.{least_bound, is_live, is_served_by, then_step, enabled_uses, adding_steps, serving_steps, greedy_steps, step_of, with_use, use_of, bound_after, bound_by}
 use Rattle.beas_core.specs.Pruning.{derivation, pruned}
 use Rattle.beas_core.proofs.Sets.{Has, Has-from_filter}
-use Rattle.evaluation_facts.proofs.MemberTests.{any_by}
-use Rattle.evaluation_facts.proofs.UseFacts.{use_facts, least_has}
-use Rattle.evaluation_facts.proofs.SoundDerivations.{bound_step, bound-append}
-use Rattle.evaluation_facts.proofs.DerivationsExist.{derivation_exists}
-use Rattle.evaluation_facts.proofs.ReasonFacts.{reason-covered, covered-reason}
+use Rattle.beas_core.proofs.MemberTests.{any_by}
+use Rattle.beas_core.proofs.UseFacts.{use_facts, least_has}
+use Rattle.beas_core.proofs.SoundDerivations.{bound_step, bound-append}
+use Rattle.beas_core.proofs.DerivationsExist.{derivation_exists}
+use Rattle.beas_core.proofs.ReasonFacts.{reason-covered, covered-reason}
 use Rattle.std.specs.Bool.{MatchBool}
 use Rattle.std.proofs.lemmas.Bool.{eq-eqb}
 use Rattle.attribute_closure.specs.declared.uses.UseAt.{UseAt}

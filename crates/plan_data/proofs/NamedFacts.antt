@@ -22,9 +22,9 @@ use Rattle.beas_core.specs.Queries.{plan_of}
 use Rattle.beas_core.specs.Fits.{PlanIsSound, PlansAreSound, PlanFits}
 use Rattle.beas_core.proofs.Sets.{Contains-from_has}
 use Rattle.beas_core.proofs.Accesses.{access_in-member}
-use Rattle.evaluation_facts.proofs.BindingFacts.{Has-range}
-use Rattle.evaluation_facts.proofs.MemberTests.{all_has, and_left, and_right, any_has}
-use Rattle.evaluation_facts.proofs.SoundParts.{sound_parts}
+use Rattle.beas_core.proofs.BindingFacts.{Has-range}
+use Rattle.beas_core.proofs.MemberTests.{all_has, and_left, and_right, any_has}
+use Rattle.beas_core.proofs.SoundParts.{sound_parts}
 use Rattle.catalogue.specs.Schema.{Schema, SchemaIsSound, AccessIsSound}
 use Rattle.plan_data.specs.Named.{BlockIsNamed}
 

@@ -17,7 +17,7 @@ use Rattle.beas_core.specs.Reads.{reads_of}
 use Rattle.beas_core.specs.Fits.{StepsHold}
 use Rattle.beas_core.specs.Guiding.{after}
 use Rattle.beas_core.specs.Queries.{plan_of, guide_of, answers, reads_in}
-use Rattle.evaluation_facts.specs.Guides.{GuideFits}
+use Rattle.beas_core.specs.Guides.{GuideFits}
 use Rattle.plan_ops.specs.Asked.{TreeFits}
 use Rattle.plan_ops.proofs.TreeFacts.{block_is, union_left, union_right, except_left, except_right}
 

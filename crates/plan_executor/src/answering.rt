@@ -7,8 +7,8 @@ ghost use Rattle.beas_core.specs.Numbers.{announced_from};
 ghost use Rattle.beas_core.specs.Reads.{reads_of, step_reads};
 ghost use Rattle.beas_core.specs.Valuations.{answers_of, starts};
 ghost use Rattle.std.specs.Option.{option_copied};
-ghost use Rattle.evaluation_facts.specs.Guides.{GuideFits};
-ghost use Rattle.evaluation_facts.specs.Extensions.{extensions, keep_met};
+ghost use Rattle.beas_core.specs.Guides.{GuideFits};
+ghost use Rattle.beas_core.specs.Extensions.{extensions, keep_met};
 ghost use Rattle.plan_ops.specs.Over.{Counts, IsOver, bound_set};
 
 use beas_core::{AccessPort, DStep, List, NoMemory, Normal, Row, Steps};

@@ -11,10 +11,10 @@ use Rattle.beas_core.specs.Types.{ClassSet}
 use Rattle.beas_core.specs.Coverage.{has}
 use Rattle.beas_core.specs.Valuations.{classes_in}
 use Rattle.beas_core.proofs.Sets.{Has}
-use Rattle.evaluation_facts.proofs.BindingFacts.{Has-classes_in, from_classes_in}
-use Rattle.evaluation_facts.proofs.ClassSetFacts.{length-with, has_below, has-with_new, has-with_cases}
-use Rattle.evaluation_facts.proofs.MemberTests.{which}
-use Rattle.evaluation_facts.proofs.SetSizes.{length-filter_le}
+use Rattle.beas_core.proofs.BindingFacts.{Has-classes_in, from_classes_in}
+use Rattle.beas_core.proofs.ClassSetFacts.{length-with, has_below, has-with_new, has-with_cases}
+use Rattle.beas_core.proofs.MemberTests.{which}
+use Rattle.beas_core.proofs.SetSizes.{length-filter_le}
 use Rattle.plan_ops.specs.declared.valuations.Valuations.{Valuations}
 use Rattle.plan_ops.specs.Over.{set_of, bound_set, IsOver}
 use Rattle.plan_ops.specs.Places.{place_of}

@@ -13,11 +13,11 @@ use Rattle.beas_core.specs.Sets.{distinct}
 use Rattle.beas_core.specs.Full.{same_value}
 use Rattle.beas_core.specs.Valuations.{value_of, agrees, comparison_is_met, classes_in, valued_rows, as_bindings}
 use Rattle.beas_core.proofs.Sets.{Has-get_or, Has-map}
-use Rattle.evaluation_facts.specs.Extensions.{meets_bound, keep_met}
-use Rattle.evaluation_facts.proofs.BindingFacts.{value_in_valuation, from_classes_in}
-use Rattle.evaluation_facts.proofs.ClassSetFacts.{has_below}
-use Rattle.evaluation_facts.proofs.ConsistencyFacts.{met_alike}
-use Rattle.evaluation_facts.proofs.MemberTests.{all_has, all_by, which}
+use Rattle.beas_core.specs.Extensions.{meets_bound, keep_met}
+use Rattle.beas_core.proofs.BindingFacts.{value_in_valuation, from_classes_in}
+use Rattle.beas_core.proofs.ClassSetFacts.{has_below}
+use Rattle.beas_core.proofs.ConsistencyFacts.{met_alike}
+use Rattle.beas_core.proofs.MemberTests.{all_has, all_by, which}
 use Rattle.plan_ops.specs.Over.{set_of}
 use Rattle.plan_ops.specs.Places.{place_of, places_in}
 use Rattle.plan_ops.proofs.BoundSets.{held_from}

@@ -26,9 +26,9 @@ use Rattle.beas_core.specs.Valuations.{value_of, agrees, classes_in, as_bindings
 use Rattle.beas_core.proofs.Groups.{length-project}
 use Rattle.beas_core.proofs.Sets.{Has, Has-get_or, Has-map, Has-distinct, Has-from_distinct, Has-from_map, Has-from_filter, IsInOrder-distinct, Contains-from_has, length-distinct-le}
 use Rattle.beas_core.proofs.ValueOrder.{row_cmp_tells}
-use Rattle.evaluation_facts.specs.Extensions.{bindings_with, fits, extended_row, extensions_of, extensions}
-use Rattle.evaluation_facts.proofs.BindingFacts.{map_same, same_value_to, Has-classes_in, from_range}
-use Rattle.evaluation_facts.proofs.MemberTests.{all_has, Has-from_flat_map, all_by}
+use Rattle.beas_core.specs.Extensions.{bindings_with, fits, extended_row, extensions_of, extensions}
+use Rattle.beas_core.proofs.BindingFacts.{map_same, same_value_to, Has-classes_in, from_range}
+use Rattle.beas_core.proofs.MemberTests.{all_has, Has-from_flat_map, all_by}
 use Rattle.plan_ops.specs.declared.joining.Join.{Join}
 use Rattle.plan_ops.specs.Joins.{at_place, joined_by, fits_by, joins, checks_of, joined_classes, IsJoin, IsTuple}
 use Rattle.plan_ops.specs.Over.{set_of}

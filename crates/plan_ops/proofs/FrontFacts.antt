@@ -2,7 +2,7 @@
 --     Front done from      the valuations are those after these steps
 use Rattle.std.proofs.Common.{◌≡◌, ◌≤◌, ◌<◌, ◌+◌, ◌*◌, ℕ, suc, true, List, [], ◌∷◌, ◌++◌, length, map, Result, Ok, Err, IfOk, ap, sym, ◌∙◌, subst, arith, append_assoc, add-one, take, drop, get_or}
 use Rattle.std.specs.Option.{is_some}
-use Rattle.evaluation_facts.specs.Guides.{GuideFits}
+use Rattle.beas_core.specs.Guides.{GuideFits}
 use Rattle.std.proofs.Math.Seq.{split_at, take-suc}
 use Rattle.std.proofs.lemmas.List.{append-nil}
 use Rattle.beas_core.specs.declared.schema.Access.{Access}
@@ -18,12 +18,12 @@ use Rattle.beas_core.specs.Reads.{reads_of, step_reads}
 use Rattle.beas_core.specs.Numbers.{announced_from}
 use Rattle.beas_core.specs.Fits.{StepsHold}
 use Rattle.beas_core.proofs.Sets.{Has, Has-append_left, Has-from_contains, Contains-from_has}
-use Rattle.evaluation_facts.specs.Extensions.{extensions, keep_met}
-use Rattle.evaluation_facts.specs.StepReads.{reads_at}
-use Rattle.evaluation_facts.proofs.SoundDerivations.{bound-append}
-use Rattle.evaluation_facts.proofs.SoundParts.{sound_parts, steps_from}
-use Rattle.evaluation_facts.proofs.FrontBounds.{front_sound, front_counted, next_step, next_valuations, reads_room, announced-append}
-use Rattle.evaluation_facts.proofs.ReadFacts.{reads-append, reads-snoc}
+use Rattle.beas_core.specs.Extensions.{extensions, keep_met}
+use Rattle.beas_core.specs.StepReads.{reads_at}
+use Rattle.beas_core.proofs.SoundDerivations.{bound-append}
+use Rattle.beas_core.proofs.SoundParts.{sound_parts, steps_from}
+use Rattle.beas_core.proofs.FrontBounds.{front_sound, front_counted, next_step, next_valuations, reads_room, announced-append}
+use Rattle.beas_core.proofs.ReadFacts.{reads-append, reads-snoc}
 use Rattle.plan_ops.specs.declared.valuations.Valuations.{Valuations}
 use Rattle.plan_ops.specs.Over.{IsOver, Counts, bound_set}
 use Rattle.plan_ops.proofs.BoundSets.{bound_set_is}

@@ -17,8 +17,8 @@ use Rattle.beas_core.specs.Coverage.{place_class, output_classes, start_classes,
 use Rattle.beas_core.specs.Valuations.{starts, value_of, agrees, is_consistent, classes_in, comparison_is_met}
 use Rattle.beas_core.proofs.Sets.{Has, Has-append_cases, Has-from_map, Has-from_distinct, Contains-from_has, all_from}
 use Rattle.beas_core.proofs.ValueOrder.{row_cmp_tells}
-use Rattle.evaluation_facts.specs.Extensions.{meets_bound, keep_met}
-use Rattle.evaluation_facts.proofs.MemberTests.{Has-from_flat_map}
+use Rattle.beas_core.specs.Extensions.{meets_bound, keep_met}
+use Rattle.beas_core.proofs.MemberTests.{Has-from_flat_map}
 use Rattle.plan_ops.specs.Over.{set_of}
 use Rattle.plan_ops.specs.Places.{place_of}
 use Rattle.plan_ops.specs.Started.{one_row}

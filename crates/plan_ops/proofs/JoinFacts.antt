@@ -11,10 +11,10 @@ use Rattle.beas_core.specs.Derivations.{member_classes}
 use Rattle.beas_core.specs.Groups.{member_columns}
 use Rattle.beas_core.specs.Valuations.{classes_in}
 use Rattle.beas_core.proofs.Sets.{Has, Has-get_or, Has-from_filter, Has-from_map, Has-append_cases}
-use Rattle.evaluation_facts.proofs.BindingFacts.{from_classes_in, from_range, range_least}
-use Rattle.evaluation_facts.proofs.ClassSetFacts.{has_below}
-use Rattle.evaluation_facts.proofs.MemberTests.{which}
-use Rattle.evaluation_facts.proofs.UseFacts.{same_number}
+use Rattle.beas_core.proofs.BindingFacts.{from_classes_in, from_range, range_least}
+use Rattle.beas_core.proofs.ClassSetFacts.{has_below}
+use Rattle.beas_core.proofs.MemberTests.{which}
+use Rattle.beas_core.proofs.UseFacts.{same_number}
 use Rattle.plan_ops.specs.declared.joining.Join.{Join}
 use Rattle.plan_ops.specs.Joins.{checks_of, joined_classes, IsWithin}
 use Rattle.plan_ops.specs.Over.{set_of}

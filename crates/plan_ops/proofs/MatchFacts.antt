@@ -9,7 +9,7 @@ use Rattle.beas_core.specs.declared.value.Value.TheVariants.{Int}
 use Rattle.beas_core.specs.Found.{Found}
 use Rattle.beas_core.specs.Full.{same_value}
 use Rattle.beas_core.specs.Types.{Row}
-use Rattle.evaluation_facts.proofs.BindingFacts.{same_from}
+use Rattle.beas_core.proofs.BindingFacts.{same_from}
 use Rattle.plan_ops.specs.declared.joining.Join.{Join}
 use Rattle.plan_ops.specs.declared.joining.Shared.{Shared}
 use Rattle.place_chains.specs.TupleOrder.{values_at}

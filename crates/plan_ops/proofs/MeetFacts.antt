@@ -15,8 +15,8 @@ use Rattle.beas_core.specs.Groups.{project}
 use Rattle.beas_core.specs.Coverage.{has, place_class}
 use Rattle.beas_core.specs.Valuations.{value_of, operand_is_bound, comparison_is_bound, comparison_is_met, classes_in, as_bindings}
 use Rattle.beas_core.proofs.Sets.{Has, Contains-from_has, Has-from_filter, Has-get_or}
-use Rattle.evaluation_facts.proofs.BindingFacts.{map_same}
-use Rattle.evaluation_facts.proofs.MemberTests.{and_both}
+use Rattle.beas_core.proofs.BindingFacts.{map_same}
+use Rattle.beas_core.proofs.MemberTests.{and_both}
 use Rattle.plan_ops.specs.Places.{place_of, column_of}
 use Rattle.plan_ops.proofs.PlaceFacts.{value_by_place, bound_place, open_place}
 

@@ -16,9 +16,9 @@ use Rattle.beas_core.specs.Sets.{IsInOrder}
 use Rattle.beas_core.specs.Coverage.{has}
 use Rattle.beas_core.specs.Valuations.{value_of, classes_in}
 use Rattle.beas_core.proofs.Sets.{Has, IsInOrder-filter, IsInOrder-at, all_from}
-use Rattle.evaluation_facts.proofs.BindingFacts.{Has-classes_in, from_classes_in, range_least}
-use Rattle.evaluation_facts.proofs.MemberTests.{which}
-use Rattle.evaluation_facts.proofs.UseFacts.{same_number}
+use Rattle.beas_core.proofs.BindingFacts.{Has-classes_in, from_classes_in, range_least}
+use Rattle.beas_core.proofs.MemberTests.{which}
+use Rattle.beas_core.proofs.UseFacts.{same_number}
 use Rattle.plan_ops.specs.Places.{place_of}
 
 -- the value that bindings give a class stands at the class's place

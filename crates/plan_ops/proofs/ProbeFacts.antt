@@ -19,7 +19,7 @@ use Rattle.beas_core.specs.Groups.{value_at, value_in, project, same_row, group_
 use Rattle.beas_core.proofs.Groups.{length-project, project-append, same_row_true}
 use Rattle.beas_core.proofs.Sets.{Has-get_or, Has-from_distinct, Has-from_map, Has-from_filter, Has}
 use Rattle.beas_core.proofs.ValueOrder.{row_cmp_tells}
-use Rattle.evaluation_facts.proofs.UseFacts.{same_number}
+use Rattle.beas_core.proofs.UseFacts.{same_number}
 use Rattle.plan_ops.specs.Joins.{IsTuple, IsGroup}
 use Rattle.plan_ops.specs.Over.{Counts}
 

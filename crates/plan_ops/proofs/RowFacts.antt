@@ -20,11 +20,11 @@ use Rattle.beas_core.specs.Coverage.{class_at, has, place_class, holds_classes, 
 use Rattle.beas_core.specs.Derivations.{access_in, member_classes}
 use Rattle.beas_core.specs.Valuations.{agrees, as_bindings, classes_in, comparison_is_met, output_row, value_of}
 use Rattle.beas_core.proofs.Sets.{Has, Has-map, Contains-from_has}
-use Rattle.evaluation_facts.specs.Extensions.{meets_bound}
-use Rattle.evaluation_facts.proofs.BindingFacts.{Has-classes_in, map_same, value-append_in, value_in_valuation}
-use Rattle.evaluation_facts.proofs.ClassSetFacts.{has-with_kept, length-with}
-use Rattle.evaluation_facts.proofs.MemberTests.{all_has, and_left}
-use Rattle.evaluation_facts.proofs.UseFacts.{same_number}
+use Rattle.beas_core.specs.Extensions.{meets_bound}
+use Rattle.beas_core.proofs.BindingFacts.{Has-classes_in, map_same, value-append_in, value_in_valuation}
+use Rattle.beas_core.proofs.ClassSetFacts.{has-with_kept, length-with}
+use Rattle.beas_core.proofs.MemberTests.{all_has, and_left}
+use Rattle.beas_core.proofs.UseFacts.{same_number}
 use Rattle.plan_ops.specs.declared.joining.Join.{Join}
 use Rattle.plan_ops.specs.declared.stages.Stage.{Stage}
 use Rattle.plan_ops.specs.Joins.{IsJoin, IsTuple, IsWithin, at_place, fits_by, joined_by, joined_classes}

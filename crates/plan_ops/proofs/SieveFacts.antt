@@ -20,11 +20,11 @@ use Rattle.beas_core.specs.Coverage.{class_at, has, place_class}
 use Rattle.beas_core.specs.Derivations.{member_classes}
 use Rattle.beas_core.specs.Valuations.{agrees, as_bindings, classes_in, comparison_is_bound, comparison_is_met, operand_is_bound, value_of}
 use Rattle.beas_core.proofs.Sets.{Has, Has-append_right, Has-get_or, Has-map, Contains-from_has}
-use Rattle.evaluation_facts.specs.Extensions.{meets_bound}
-use Rattle.evaluation_facts.proofs.BindingFacts.{Has-classes_in, agreed, value-append_in, value_in_valuation}
-use Rattle.evaluation_facts.proofs.ClassSetFacts.{has-with_kept, has-with_new}
-use Rattle.evaluation_facts.proofs.ConsistencyFacts.{compared_alike}
-use Rattle.evaluation_facts.proofs.MemberTests.{all_by, all_has, and_both, and_left, and_right}
+use Rattle.beas_core.specs.Extensions.{meets_bound}
+use Rattle.beas_core.proofs.BindingFacts.{Has-classes_in, agreed, value-append_in, value_in_valuation}
+use Rattle.beas_core.proofs.ClassSetFacts.{has-with_kept, has-with_new}
+use Rattle.beas_core.proofs.ConsistencyFacts.{compared_alike}
+use Rattle.beas_core.proofs.MemberTests.{all_by, all_has, and_both, and_left, and_right}
 use Rattle.plan_ops.specs.declared.sieving.Own.{Own}
 use Rattle.plan_ops.specs.declared.stages.Stage.{Stage}
 use Rattle.plan_ops.specs.Joins.{fits_by}

@@ -10,9 +10,9 @@ use Rattle.beas_core.specs.declared.plan.Normal.{Normal}
 use Rattle.beas_core.specs.Coverage.{has}
 use Rattle.beas_core.specs.Valuations.{classes_in}
 use Rattle.beas_core.proofs.Sets.{Has}
-use Rattle.evaluation_facts.proofs.BindingFacts.{from_range}
-use Rattle.evaluation_facts.proofs.MemberTests.{which}
-use Rattle.evaluation_facts.proofs.UseFacts.{same_number}
+use Rattle.beas_core.proofs.BindingFacts.{from_range}
+use Rattle.beas_core.proofs.MemberTests.{which}
+use Rattle.beas_core.proofs.UseFacts.{same_number}
 use Rattle.plan_ops.specs.Over.{set_of}
 use Rattle.plan_ops.specs.Places.{place_of, places_in}
 use Rattle.plan_ops.proofs.BoundSets.{counted, held_by_place}

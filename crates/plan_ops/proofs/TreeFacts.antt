@@ -25,11 +25,11 @@ use Rattle.beas_core.specs.Fits.{StepsHold, Fits, GuidedOnlyWithGuide, PlansAreS
 use Rattle.beas_core.specs.Guiding.{after}
 use Rattle.beas_core.specs.Queries.{plan_of, guide_of, answers, start_size, size_of, announced_in, probes_in, reads_at, reads_in}
 use Rattle.beas_core.proofs.Sets.{Has-append_left, Has-append_right, Has-from_contains}
-use Rattle.evaluation_facts.specs.Guides.{GuideFits}
-use Rattle.evaluation_facts.proofs.ClassFacts.{classes_in_range, constants_in_range}
-use Rattle.evaluation_facts.proofs.QueryBounds.{Shaped, Guides, fits, started, block_answers, block_reads_are, wide_answers, few, shaped_query}
-use Rattle.evaluation_facts.proofs.SizeFacts.{announced_from_more}
-use Rattle.evaluation_facts.proofs.TaskFacts.{plan_at}
+use Rattle.beas_core.specs.Guides.{GuideFits}
+use Rattle.beas_core.proofs.ClassFacts.{classes_in_range, constants_in_range}
+use Rattle.beas_core.proofs.QueryBounds.{Shaped, Guides, fits, started, block_answers, block_reads_are, wide_answers, few, shaped_query}
+use Rattle.beas_core.proofs.SizeFacts.{announced_from_more}
+use Rattle.beas_core.proofs.TaskFacts.{plan_at}
 use Rattle.plan_ops.specs.Asked.{TreeFits}
 use Rattle.plan_ops.specs.Held.{StepHolds, PlanHolds}
 

@@ -10,7 +10,7 @@ use Rattle.beas_core.specs.Trees.{QueryTree, blocks_of}
 use Rattle.beas_core.specs.Classes.{normal_of}
 use Rattle.beas_core.specs.Fits.{PlansAreSound, GuidedOnlyWithGuide}
 use Rattle.beas_core.specs.Queries.{announced_in}
-use Rattle.evaluation_facts.proofs.QueryBounds.{Shaped, Guides}
+use Rattle.beas_core.proofs.QueryBounds.{Shaped, Guides}
 
 pub record TreeFits (accesses : List Access) (prepared : Prepared) (n : ℕ) (guide : Guide) (t : QueryTree) (reads : ℕ) : Type 0 where
   pub before : List Normal

@@ -14,7 +14,7 @@ use Rattle.beas_core.specs.Groups.{member_columns}
 use Rattle.beas_core.specs.Coverage.{class_at, place_class, with_classes, holds_classes, key_classes, output_classes}
 use Rattle.beas_core.specs.Derivations.{member_classes}
 use Rattle.beas_core.specs.Valuations.{value_of, agrees, classes_in, as_bindings}
-use Rattle.evaluation_facts.specs.Extensions.{meets_bound}
+use Rattle.beas_core.specs.Extensions.{meets_bound}
 use Rattle.plan_ops.specs.declared.stages.Stage.{Stage}
 use Rattle.plan_ops.specs.Comparing.{sides_at}
 use Rattle.plan_ops.specs.Joins.{IsJoin}

@@ -6,7 +6,7 @@ ghost use Rattle.beas_core.specs.Groups.{group_of, member_columns, project};
 ghost use Rattle.beas_core.specs.Order.{row_cmp};
 ghost use Rattle.beas_core.specs.Reads.{probe_reads, step_reads};
 ghost use Rattle.beas_core.specs.Sets.{distinct};
-ghost use Rattle.evaluation_facts.specs.Extensions.{extensions};
+ghost use Rattle.beas_core.specs.Extensions.{extensions};
 ghost use Rattle.plan_ops.specs.Joins.{IsJoin, IsSharing, IsWithin, joins};
 ghost use Rattle.plan_ops.specs.Over.{Counts, IsOver, bound_set};
 ghost use Rattle.plan_ops.specs.Places.{column_of};

@@ -5,7 +5,7 @@ ghost use Rattle.beas_core.specs.Order.{value_cmp};
 ghost use Rattle.beas_core.specs.Full.{sign_holds as holds_of};
 ghost use Rattle.beas_core.specs.Coverage.{place_class};
 ghost use Rattle.beas_core.specs.Valuations.{as_bindings, classes_in, comparison_is_met};
-ghost use Rattle.evaluation_facts.specs.Extensions.{keep_met};
+ghost use Rattle.beas_core.specs.Extensions.{keep_met};
 ghost use Rattle.plan_ops.specs.Over.{IsOver, bound_set, set_of};
 ghost use Rattle.plan_ops.specs.Places.{place_of};
 

@@ -4,7 +4,7 @@ ghost use Rattle.beas_core.specs.declared.value.Value.TheVariants.{Int};
 ghost use Rattle.beas_core.specs.Coverage.{ClassesInRange, holds_classes, key_classes};
 ghost use Rattle.beas_core.specs.Groups.{project, value_at};
 ghost use Rattle.beas_core.specs.Valuations.{as_bindings, classes_in, comparison_is_met, output_row};
-ghost use Rattle.evaluation_facts.specs.Extensions.{meets_bound};
+ghost use Rattle.beas_core.specs.Extensions.{meets_bound};
 ghost use Rattle.plan_ops.specs.Comparing.{sides_at};
 ghost use Rattle.plan_ops.specs.Joins.{IsWithin, joined_by};
 ghost use Rattle.plan_ops.specs.Over.{set_of};

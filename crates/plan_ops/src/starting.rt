@@ -3,7 +3,7 @@ ghost use Rattle.std.specs.Prelude.{◌≡◌, ◌<◌, ◌∷◌, ◌++◌, [],
 ghost use Rattle.std.specs.Option.{option_copied};
 ghost use Rattle.beas_core.specs.Coverage.{ClassesInRange, ConstantsInRange, constant_classes, output_classes, start_classes};
 ghost use Rattle.beas_core.specs.Valuations.{agrees, classes_in, starts, value_of, valued_rows};
-ghost use Rattle.evaluation_facts.specs.Guides.{GuideFits};
+ghost use Rattle.beas_core.specs.Guides.{GuideFits};
 ghost use Rattle.plan_ops.specs.Over.{IsOver};
 ghost use Rattle.plan_ops.specs.Started.{one_row};
 ghost use Rattle.plan_ops.specs.Places.{place_of, places_in};

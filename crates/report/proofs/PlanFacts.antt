@@ -27,8 +27,8 @@ use Rattle.beas_core.specs.Queries.{plan_of, start_size, size_of, announced_in, 
 use Rattle.beas_core.specs.Fits.{PreparedIsWellFormed, PlanFits, PlansAreSound}
 use Rattle.beas_core.proofs.Sets.{Has, Has-append_left, Has-append_right, Contains-from_has}
 use Rattle.beas_core.proofs.Accesses.{access_in-append, access_in-member}
-use Rattle.evaluation_facts.proofs.MemberTests.{all_has}
-use Rattle.evaluation_facts.proofs.SoundParts.{sound_parts}
+use Rattle.beas_core.proofs.MemberTests.{all_has}
+use Rattle.beas_core.proofs.SoundParts.{sound_parts}
 use Rattle.catalogue.specs.Schema.{Schema, SchemaIsSound, AccessIsSound}
 use Rattle.catalogue.proofs.ListFacts.{is_some-find}
 use Rattle.report.specs.Plans.{AllStepsTold, BlocksAreTold, TablesAreThere, answer_text, blocks_text, plan_lines, plan_text, plan_text_over, step_line, step_text, steps_text, use_text}

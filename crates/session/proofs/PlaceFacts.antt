@@ -14,7 +14,7 @@ use Rattle.beas_core.specs.Classes.{class_of, places_of}
 use Rattle.beas_core.specs.Results.{Gives}
 use Rattle.beas_core.specs.Shapes.{AtomIsWellFormed, BlockIsWellFormed, IsPlace}
 use Rattle.beas_core.proofs.Sets.{Has, Has-from_map, all_from}
-use Rattle.evaluation_facts.proofs.ClassNumbers.{place_of_list}
+use Rattle.beas_core.proofs.ClassNumbers.{place_of_list}
 use Rattle.specialise.specs.Specialised.{candidates, first_place, first_set, has_too_many, specialised}
 
 find_has : {X : Type 0} (p : X → Bool) (xs : List X) (y : X) → find p xs ≡ Some y → Has xs y

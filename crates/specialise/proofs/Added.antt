@@ -15,11 +15,11 @@ use Rattle.beas_core.specs.Shapes.{IsPlace, width_of}
 use Rattle.beas_core.specs.Classes.{same_place, places_of, leaders, class_of, operand_places, used_places, needed_columns, normal_of}
 use Rattle.beas_core.specs.Coverage.{with_classes, constant_classes, grow, grow_times, covered_set, needed_of, holds_needed, uses, key_classes, fetched_classes}
 use Rattle.beas_core.proofs.Sets.{Has, Has-map, Has-from_map, Has-filter, Has-from_filter, Has-append_left, Has-append_right, Has-append_cases}
-use Rattle.evaluation_facts.proofs.MemberTests.{and_both, all_has, all_by, any_has, any_by}
-use Rattle.evaluation_facts.proofs.UseFacts.{same_number}
-use Rattle.evaluation_facts.proofs.BindingFacts.{Has-range, from_range}
-use Rattle.evaluation_facts.proofs.ClassFacts.{has_place, width_at, place_from_test}
-use Rattle.evaluation_facts.proofs.ClassNumbers.{first_place as first_of_class, place_of_list}
+use Rattle.beas_core.proofs.MemberTests.{and_both, all_has, all_by, any_has, any_by}
+use Rattle.beas_core.proofs.UseFacts.{same_number}
+use Rattle.beas_core.proofs.BindingFacts.{Has-range, from_range}
+use Rattle.beas_core.proofs.ClassFacts.{has_place, width_at, place_from_test}
+use Rattle.beas_core.proofs.ClassNumbers.{first_place as first_of_class, place_of_list}
 use Rattle.specialise.specs.Specialised.{first_place, with_constants}
 use Rattle.specialise.proofs.Lists.{found, get_or-enumerated}
 use Rattle.specialise.proofs.Marks.{with_append}

@@ -10,10 +10,10 @@ use Rattle.beas_core.specs.Types.{ClassSet, Use}
 use Rattle.beas_core.specs.Classes.{normal_of}
 use Rattle.beas_core.specs.Coverage.{has, with_classes, place_class, needed_places, key_classes, uses, own_cover}
 use Rattle.beas_core.proofs.Sets.{Has}
-use Rattle.evaluation_facts.proofs.MemberTests.{any_has, any_by}
-use Rattle.evaluation_facts.proofs.UseFacts.{same_number}
-use Rattle.evaluation_facts.proofs.BindingFacts.{from_range}
-use Rattle.evaluation_facts.proofs.ClassSetFacts.{has-with_new, has-with_cases}
+use Rattle.beas_core.proofs.MemberTests.{any_has, any_by}
+use Rattle.beas_core.proofs.UseFacts.{same_number}
+use Rattle.beas_core.proofs.BindingFacts.{from_range}
+use Rattle.beas_core.proofs.ClassSetFacts.{has-with_new, has-with_cases}
 use Rattle.specialise.specs.declared.candidates.Candidate.{Candidate}
 use Rattle.specialise.specs.Specialised.{asked_classes, open_classes, candidates}
 use Rattle.specialise.specs.Trials.{candidate_of, is_marked}

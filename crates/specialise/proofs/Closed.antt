@@ -14,13 +14,13 @@ use Rattle.beas_core.specs.Shapes.{BlockIsWellFormed}
 use Rattle.beas_core.specs.Classes.{normal_of}
 use Rattle.beas_core.specs.Coverage.{has, with_classes, holds_classes, class_at, place_class, needed_places, uses, key_classes, fetched_classes, constant_classes, covered_set, own_cover, Within, IsClosed, IsLeastClosed}
 use Rattle.beas_core.proofs.Sets.{Has, Has-append_right, Has-map, Has-from_map, Has-filter, Has-from_filter, Has-from_contains, Contains-from_has}
-use Rattle.evaluation_facts.proofs.MemberTests.{and_both, and_left, or_cases, or_left, or_right, to_not, from_not, which, all_has, all_by, any_has, any_by, Has-flat_map}
-use Rattle.evaluation_facts.proofs.UseFacts.{same_number}
-use Rattle.evaluation_facts.proofs.BindingFacts.{Has-range, from_range, range_least}
-use Rattle.evaluation_facts.proofs.ClassSetFacts.{has_below, length-with, has-with_kept, has-with_new, has-with_cases}
-use Rattle.evaluation_facts.proofs.ClassFacts.{classes_in_range}
-use Rattle.evaluation_facts.proofs.StartFacts.{start_counted}
-use Rattle.evaluation_facts.proofs.CoveredSetFacts.{covered_set_least}
+use Rattle.beas_core.proofs.MemberTests.{and_both, and_left, or_cases, or_left, or_right, to_not, from_not, which, all_has, all_by, any_has, any_by, Has-flat_map}
+use Rattle.beas_core.proofs.UseFacts.{same_number}
+use Rattle.beas_core.proofs.BindingFacts.{Has-range, from_range, range_least}
+use Rattle.beas_core.proofs.ClassSetFacts.{has_below, length-with, has-with_kept, has-with_new, has-with_cases}
+use Rattle.beas_core.proofs.ClassFacts.{classes_in_range}
+use Rattle.beas_core.proofs.StartFacts.{start_counted}
+use Rattle.beas_core.proofs.CoveredSetFacts.{covered_set_least}
 use Rattle.specialise.specs.declared.candidates.Candidate.{Candidate}
 use Rattle.specialise.specs.declared.rules.Rule.{Rule}
 use Rattle.specialise.specs.Specialised.{candidates, asked_classes}

@@ -9,7 +9,7 @@ use Rattle.std.proofs.lemmas.List.Elements.{filter-append}
 use Rattle.std.proofs.lemmas.List.Folds.{find-append}
 use Rattle.std.proofs.lemmas.List.FromFn.{length-enumerate_from, get_or-enumerate_from}
 use Rattle.beas_core.proofs.Sets.{Has}
-use Rattle.evaluation_facts.proofs.MemberTests.{which}
+use Rattle.beas_core.proofs.MemberTests.{which}
 
 -- a member that passes is found, or one before it
 pub found : {A : Type 0} (p : A → Bool) (xs : List A) (y : A) → Has xs y → p y ≡ true → (x : A) × (find p xs ≡ Some x) × (Has xs x) × (p x ≡ true)

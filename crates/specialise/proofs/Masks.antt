@@ -6,8 +6,8 @@ use Rattle.std.proofs.lemmas.Bool.{eqb-true, ltb-true, ltb-false}
 use Rattle.std.proofs.lemmas.Nat.{and_le_r, and_mask, or_comm, or_shifted, pow_below, pow_pos}
 use Rattle.std.proofs.lemmas.Nat.Bits.{bit_at_lowest, bit_at-suc, bit_at_and, bit_at_or, bit_at_xor, bit_at-pow_same, bit_at-pow_other, bit_at-lt, bit_at_above, same_from_bits, same_from_bits_below}
 use Rattle.beas_core.proofs.Sets.{Has}
-use Rattle.evaluation_facts.proofs.MemberTests.{which}
-use Rattle.evaluation_facts.proofs.UseFacts.{same_number}
+use Rattle.beas_core.proofs.MemberTests.{which}
+use Rattle.beas_core.proofs.UseFacts.{same_number}
 use Rattle.specialise.specs.declared.candidates.Candidate.{Candidate}
 use Rattle.specialise.specs.Trials.{within, apart, with_first, mask_where, classes_at}
 

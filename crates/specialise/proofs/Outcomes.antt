@@ -15,9 +15,9 @@ use Rattle.beas_core.specs.declared.refusal.Refusal.TheVariants.{TooManyCandidat
 use Rattle.beas_core.specs.Types.{ClassSet}
 use Rattle.beas_core.specs.Classes.{normal_of}
 use Rattle.beas_core.specs.Coverage.{has, is_covered, own_cover, own_is_covered, reason}
-use Rattle.evaluation_facts.proofs.MemberTests.{which}
-use Rattle.evaluation_facts.proofs.ReasonFacts.{reason-covered, covered-reason}
-use Rattle.evaluation_facts.proofs.SetSizes.{length-filter_le}
+use Rattle.beas_core.proofs.MemberTests.{which}
+use Rattle.beas_core.proofs.ReasonFacts.{reason-covered, covered-reason}
+use Rattle.beas_core.proofs.SetSizes.{length-filter_le}
 use Rattle.specialise.specs.declared.candidates.Candidate.{Candidate}
 use Rattle.specialise.specs.Trials.{candidate_of}
 use Rattle.specialise.specs.Specialised.{asked_classes, candidates, first_place, first_set, is_covered_with, sets_of, specialised, sublists}

@@ -10,7 +10,7 @@ use Rattle.beas_core.specs.declared.query.Block.{Block}
 use Rattle.beas_core.specs.declared.plan.Normal.{Normal}
 use Rattle.beas_core.specs.Classes.{class_of, normal_of}
 use Rattle.beas_core.specs.Coverage.{class_at}
-use Rattle.evaluation_facts.proofs.BindingFacts.{from_range}
+use Rattle.beas_core.proofs.BindingFacts.{from_range}
 use Rattle.specialise.specs.Specialised.{first_place}
 use Rattle.specialise.proofs.Lists.{find_same, find_map, find_on, find_here, numbers_push, numbers_all, flat_push, flat_append, get_or-enumerated}
 

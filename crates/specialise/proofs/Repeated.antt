@@ -20,8 +20,8 @@ use Rattle.beas_core.specs.Coverage.{atoms_of, class_at, constant_classes, cover
 use Rattle.beas_core.specs.Groups.{has_column}
 use Rattle.beas_core.specs.Types.{ClassSet, Use}
 use Rattle.beas_core.proofs.Sets.{Has, Has-append_left, Has-append_right, Has-append_cases, Has-filter, Has-from_filter, Has-map, Has-from_map, Has-from_contains, Contains-from_has}
-use Rattle.evaluation_facts.proofs.MemberTests.{Has-flat_map, Has-from_flat_map, any_by, any_has}
-use Rattle.evaluation_facts.proofs.UseFacts.{same_number}
+use Rattle.beas_core.proofs.MemberTests.{Has-flat_map, Has-from_flat_map, any_by, any_has}
+use Rattle.beas_core.proofs.UseFacts.{same_number}
 use Rattle.specialise.specs.Alike.{AreAlike, IsStoodFor, StandFor}
 use Rattle.specialise.specs.Specialised.{candidates, first_place, first_set, is_covered_with, open_classes, sets_of, specialised, with_constants}
 

@@ -17,12 +17,12 @@ use Rattle.beas_core.specs.Shapes.{BlockIsWellFormed}
 use Rattle.beas_core.specs.Classes.{leaders, class_of, needed_columns, normal_of}
 use Rattle.beas_core.specs.Coverage.{has, with_classes, holds_classes, class_at, place_class, uses, key_classes, fetched_classes, constant_classes, covered_set, own_cover, own_is_covered, needed_of, needed_places, holds_needed, atoms_of, Within}
 use Rattle.beas_core.proofs.Sets.{Has, Has-map, Has-from_map, Has-filter, Has-from_filter, Has-append_cases, Has-from_contains, Contains-from_has}
-use Rattle.evaluation_facts.specs.Covered.{Server as ServingUse, IsCovered}
-use Rattle.evaluation_facts.proofs.MemberTests.{and_left, and_right, and_both, from_not, which, all_has, all_by, any_has, any_by, Has-from_flat_map}
-use Rattle.evaluation_facts.proofs.UseFacts.{same_number, enumerated}
-use Rattle.evaluation_facts.proofs.BindingFacts.{Has-range, from_range}
-use Rattle.evaluation_facts.proofs.ClassSetFacts.{holds-within}
-use Rattle.evaluation_facts.proofs.ReasonFacts.{covered_in_words, covered_from_words}
+use Rattle.beas_core.specs.Covered.{Server as ServingUse, IsCovered}
+use Rattle.beas_core.proofs.MemberTests.{and_left, and_right, and_both, from_not, which, all_has, all_by, any_has, any_by, Has-from_flat_map}
+use Rattle.beas_core.proofs.UseFacts.{same_number, enumerated}
+use Rattle.beas_core.proofs.BindingFacts.{Has-range, from_range}
+use Rattle.beas_core.proofs.ClassSetFacts.{holds-within}
+use Rattle.beas_core.proofs.ReasonFacts.{covered_in_words, covered_from_words}
 use Rattle.specialise.specs.declared.candidates.Candidate.{Candidate}
 use Rattle.specialise.specs.declared.servers.Server.{Server}
 use Rattle.specialise.specs.Specialised.{candidates, first_place, is_covered_with, with_constants}

@@ -7,8 +7,8 @@ use Rattle.std.proofs.lemmas.Nat.{le_or_l, or_lt, pow_below}
 use Rattle.std.proofs.lemmas.Nat.Bits.{shr_and_one}
 use Rattle.std.proofs.lemmas.List.Elements.{All-from_recursion}
 use Rattle.beas_core.proofs.Sets.{Has, Has-from_contains, Contains-from_has, all_from}
-use Rattle.evaluation_facts.proofs.MemberTests.{which}
-use Rattle.evaluation_facts.proofs.UseFacts.{same_number}
+use Rattle.beas_core.proofs.MemberTests.{which}
+use Rattle.beas_core.proofs.UseFacts.{same_number}
 use Rattle.specialise.specs.declared.rules.Rule.{Rule}
 use Rattle.specialise.specs.Trials.{within, entry_at, reached, with_rule, HoldsNoMore, IsClosedTable, IsClosedUnder, IsFilled, IsLeastUnder, IsTable, United}
 use Rattle.specialise.proofs.Masks.{at_has, below_full, full_below, missing, none_within, or_within, pow_few, still_within, within_chain, within_itself, within_left, within_right, without, without_less, without_within}

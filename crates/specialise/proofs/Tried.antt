@@ -9,7 +9,7 @@ use Rattle.std.proofs.lemmas.Nat.{pow_below}
 use Rattle.beas_core.specs.declared.schema.Access.{Access}
 use Rattle.beas_core.specs.declared.query.Place.{Place}
 use Rattle.beas_core.specs.declared.query.Block.{Block}
-use Rattle.evaluation_facts.proofs.UseFacts.{same_number}
+use Rattle.beas_core.proofs.UseFacts.{same_number}
 use Rattle.specialise.specs.Specialised.{candidates, first_place, first_set, is_covered_with, sublists}
 use Rattle.specialise.specs.declared.candidates.Candidate.{Candidate}
 use Rattle.specialise.specs.Trials.{candidate_of, classes_at, classes_in, first_from}

@@ -18,8 +18,8 @@ use Rattle.beas_core.proofs.Sets.{Contains-from_has, Has, Has-get_or}
 use Rattle.catalogue.specs.Kept.{id_of_access_named}
 use Rattle.catalogue.specs.Schema.{AccessIsSound, Schema, SchemaIsSound, access_has_name, access_with_id}
 use Rattle.catalogue.proofs.ListFacts.{find_some}
-use Rattle.evaluation_facts.proofs.MemberTests.{first_of_pairs, rest_of_pairs}
-use Rattle.evaluation_facts.proofs.UseFacts.{found_by_id}
+use Rattle.beas_core.proofs.MemberTests.{first_of_pairs, rest_of_pairs}
+use Rattle.beas_core.proofs.UseFacts.{found_by_id}
 use Rattle.sql_text.specs.declared.tree.Statement.{Statement}
 use Rattle.sql_text.specs.declared.tree.Statement.TheVariants.{CreateTable, CreateAccess, DropAccess, Load, Insert, Delete, DiscoverGroup, DiscoverPairs, Select, Explain, ScanOk, Grouped, Specialise}
 use Rattle.desk_model.specs.Changes.{changes}

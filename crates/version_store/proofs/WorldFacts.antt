@@ -20,8 +20,8 @@ use Rattle.beas_core.specs.Queries.{BlockProbe}
 use Rattle.beas_core.specs.Trees.{QueryTree, blocks_of}
 use Rattle.beas_core.specs.Types.{TableRows}
 use Rattle.beas_core.proofs.Sets.{Has, Has-from_contains, Has-from_map, Contains-from_has}
-use Rattle.evaluation_facts.proofs.KeptFacts.{probes_stay, stays_fit}
-use Rattle.evaluation_facts.proofs.MemberTests.{Has-from_flat_map}
+use Rattle.beas_core.proofs.KeptFacts.{probes_stay, stays_fit}
+use Rattle.beas_core.proofs.MemberTests.{Has-from_flat_map}
 use Rattle.block_walk.specs.Worlds.{World, Agrees}
 use Rattle.cursor_executor.specs.Fetching.{BlockFetched, Seen, probe_of, probes_due, reads_due, share_of as share_in, steps_of}
 use Rattle.desk_model.specs.Frames.{QueryStays, SameForQuery}

@@ -1,5 +1,5 @@
 use Rattle.std.proofs.Common.{false, ◌∙◌, ap, length}
-use Rattle.evaluation_facts.proofs.StartFacts.{start_counted}
+use Rattle.beas_core.proofs.StartFacts.{start_counted}
 use Rattle.attribute_closure.proofs.closure.close.Goals as goal
 
 pub close_from-requires-clause-classes : goal.close_from-requires-clause-classes

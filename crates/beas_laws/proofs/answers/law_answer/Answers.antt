@@ -2,7 +2,7 @@ use Rattle.std.proofs.lemmas.List.Elements.{All-contains}
 use Rattle.beas_core.specs.Derivations.{access_in}
 use Rattle.beas_core.specs.Shapes.{AccessIsWellFormed, width_of}
 use Rattle.beas_core.proofs.Sets.{Contains-from_has}
-use Rattle.evaluation_facts.proofs.AnswerFacts.{answers_are_inside}
+use Rattle.beas_core.proofs.AnswerFacts.{answers_are_inside}
 use Rattle.beas_laws.proofs.answers.law_answer.Goals as goal
 
 pub returns : goal.returns

@@ -2,7 +2,7 @@ use Rattle.std.proofs.Common.{Some}
 use Rattle.beas_core.specs.Full.{full_of}
 use Rattle.beas_core.specs.Queries.{answers}
 use Rattle.beas_core.proofs.Sets.{Contains-from_has, Has-from_contains}
-use Rattle.evaluation_facts.proofs.GuidedLaw.{alike, guided_answers_are_full}
+use Rattle.beas_core.proofs.GuidedLaw.{alike, guided_answers_are_full}
 use Rattle.beas_laws.proofs.answers.law_guided.Goals as goal
 
 pub returns : goal.returns

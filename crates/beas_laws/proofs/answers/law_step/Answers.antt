@@ -1,4 +1,4 @@
-use Rattle.evaluation_facts.proofs.FrontBounds.{fronts_extend}
+use Rattle.beas_core.proofs.FrontBounds.{fronts_extend}
 use Rattle.beas_laws.proofs.answers.law_step.Goals as goal
 
 pub returns : goal.returns

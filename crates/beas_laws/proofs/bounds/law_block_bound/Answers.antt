@@ -1,4 +1,4 @@
-use Rattle.evaluation_facts.proofs.FrontBounds.{fronts_bounded}
+use Rattle.beas_core.proofs.FrontBounds.{fronts_bounded}
 use Rattle.beas_laws.proofs.bounds.law_block_bound.Goals as goal
 
 pub returns : goal.returns

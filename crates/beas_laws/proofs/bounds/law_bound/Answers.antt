@@ -1,7 +1,7 @@
 use Rattle.std.proofs.Common.{◌≡◌, true, All, sym, subst}
 use Rattle.beas_core.specs.declared.plan.Derivation.{Derivation}
 use Rattle.beas_core.specs.Derivations.{is_live}
-use Rattle.evaluation_facts.proofs.QueryBounds.{prepared_is_live, prepared_few}
+use Rattle.beas_core.proofs.QueryBounds.{prepared_is_live, prepared_few}
 use Rattle.plan_ops.specs.Held.{PlanHolds}
 use Rattle.plan_ops.proofs.HeldFacts.{plans_hold}
 use Rattle.beas_laws.proofs.bounds.law_bound.Goals as goal

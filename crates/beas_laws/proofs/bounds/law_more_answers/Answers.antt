@@ -1,4 +1,4 @@
-use Rattle.evaluation_facts.proofs.SizeFacts.{announced_more}
+use Rattle.beas_core.proofs.SizeFacts.{announced_more}
 use Rattle.beas_laws.proofs.bounds.law_more_answers.Goals as goal
 
 pub returns : goal.returns

@@ -1,6 +1,6 @@
 use Rattle.beas_core.specs.Classes.{normal_of}
-use Rattle.evaluation_facts.proofs.ClassFacts.{is_joined_from_linked, linked_from_is_joined, class_from_linked, linked_from_class, has_place, classes_in_range, constants_in_range}
-use Rattle.evaluation_facts.proofs.ClassNumbers.{first_place}
+use Rattle.beas_core.proofs.ClassFacts.{is_joined_from_linked, linked_from_is_joined, class_from_linked, linked_from_class, has_place, classes_in_range, constants_in_range}
+use Rattle.beas_core.proofs.ClassNumbers.{first_place}
 use Rattle.beas_laws.proofs.classes.law_classes.Goals as goal
 
 pub returns : goal.returns

@@ -1,4 +1,4 @@
-use Rattle.evaluation_facts.proofs.CoveredSetFacts.{covered_set_least}
+use Rattle.beas_core.proofs.CoveredSetFacts.{covered_set_least}
 use Rattle.beas_laws.proofs.coverage.law_covered_set.Goals as goal
 
 pub returns : goal.returns

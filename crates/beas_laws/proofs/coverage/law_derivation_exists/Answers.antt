@@ -1,4 +1,4 @@
-use Rattle.evaluation_facts.proofs.DerivationsExist.{derivation_exists, derivation_only_if, reason_if_lacking, lacking_if_reason}
+use Rattle.beas_core.proofs.DerivationsExist.{derivation_exists, derivation_only_if, reason_if_lacking, lacking_if_reason}
 use Rattle.beas_laws.proofs.coverage.law_derivation_exists.Goals as goal
 
 pub returns : goal.returns

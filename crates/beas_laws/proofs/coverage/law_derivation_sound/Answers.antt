@@ -1,4 +1,4 @@
-use Rattle.evaluation_facts.proofs.SoundDerivations.{derivation_sound}
+use Rattle.beas_core.proofs.SoundDerivations.{derivation_sound}
 use Rattle.beas_laws.proofs.coverage.law_derivation_sound.Goals as goal
 
 pub returns : goal.returns

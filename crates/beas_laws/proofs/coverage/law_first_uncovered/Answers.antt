@@ -1,6 +1,6 @@
 use Rattle.beas_core.specs.Guiding.{block_tasks}
-use Rattle.evaluation_facts.proofs.ReasonFacts.{covered-no_first, no_first-covered}
-use Rattle.evaluation_facts.proofs.TaskFacts.{guided_only_with_guide}
+use Rattle.beas_core.proofs.ReasonFacts.{covered-no_first, no_first-covered}
+use Rattle.beas_core.proofs.TaskFacts.{guided_only_with_guide}
 use Rattle.beas_laws.proofs.coverage.law_first_uncovered.Goals as goal
 
 pub returns : goal.returns

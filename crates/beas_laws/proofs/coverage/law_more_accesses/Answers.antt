@@ -1,4 +1,4 @@
-use Rattle.evaluation_facts.proofs.MoreAccesses.{stays_sound}
+use Rattle.beas_core.proofs.MoreAccesses.{stays_sound}
 use Rattle.beas_laws.proofs.coverage.law_more_accesses.Goals as goal
 
 pub returns : goal.returns

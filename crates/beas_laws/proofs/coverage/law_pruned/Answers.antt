@@ -1,8 +1,8 @@
 use Rattle.std.proofs.Common.{ap}
 use Rattle.std.specs.Option.{option_map}
 use Rattle.beas_core.specs.Pruning.{derivation, pruned}
-use Rattle.evaluation_facts.proofs.SoundDerivations.{greedy_sound}
-use Rattle.evaluation_facts.proofs.PruningFacts.{pruned_sound, pruned_no_greater}
+use Rattle.beas_core.proofs.SoundDerivations.{greedy_sound}
+use Rattle.beas_core.proofs.PruningFacts.{pruned_sound, pruned_no_greater}
 use Rattle.beas_laws.proofs.coverage.law_pruned.Goals as goal
 
 pub returns : goal.returns

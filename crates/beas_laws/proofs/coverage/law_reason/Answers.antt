@@ -1,4 +1,4 @@
-use Rattle.evaluation_facts.proofs.ReasonFacts.{reason-covered, covered-reason, covered_in_words, covered_from_words}
+use Rattle.beas_core.proofs.ReasonFacts.{reason-covered, covered-reason, covered_in_words, covered_from_words}
 use Rattle.beas_laws.proofs.coverage.law_reason.Goals as goal
 
 pub returns : goal.returns

@@ -1,5 +1,5 @@
 use Rattle.std.proofs.Common.{None}
-use Rattle.evaluation_facts.proofs.KeptFacts.{answers_stay, probes_stay, reads_stay, stays_fit}
+use Rattle.beas_core.proofs.KeptFacts.{answers_stay, probes_stay, reads_stay, stays_fit}
 use Rattle.beas_laws.proofs.coverage.law_still_fits.Goals as goal
 
 pub returns : goal.returns

@@ -5,7 +5,7 @@ use Rattle.beas_core.specs.Coverage.{start_classes}
 use Rattle.beas_core.specs.Valuations.{valuations}
 use Rattle.beas_core.specs.Reads.{probes}
 use Rattle.beas_core.proofs.Sets.{Has-from_contains, Contains-from_has}
-use Rattle.evaluation_facts.proofs.FrontBounds.{fronts_extend}
+use Rattle.beas_core.proofs.FrontBounds.{fronts_extend}
 use Rattle.block_walk.specs.Descents.{reached, wanted}
 use Rattle.block_walk.proofs.DescentFacts.{reached_there, reached_back, wanted_there, wanted_back}
 use Rattle.block_walk.proofs.laws.law_walk.Goals as goal

@@ -2,7 +2,7 @@ use Rattle.std.proofs.Common.{◌≡◌, ◌&&◌, ◌==◌, ◌+◌, ◌++◌, 
 use Rattle.beas_core.specs.Types.{Row}
 use Rattle.beas_core.specs.Valuations.{output_row}
 use Rattle.beas_core.proofs.Sets.{SameMembers}
-use Rattle.evaluation_facts.proofs.MemberTests.{and_right}
+use Rattle.beas_core.proofs.MemberTests.{and_right}
 use Rattle.plan_ops.specs.Stages.{IsPair, bound_with, next_by, set_before, use_at}
 use Rattle.block_walk.specs.Entries.{entry_of, kept_of}
 use Rattle.block_walk.specs.Stacks.{pending_in, pending_of, row_of}

@@ -1,5 +1,5 @@
 use Rattle.std.proofs.Common.{◌∙◌, sym}
-use Rattle.evaluation_facts.proofs.ReasonFacts.{reason-covered}
+use Rattle.beas_core.proofs.ReasonFacts.{reason-covered}
 use Rattle.plan_builder.proofs.Turns.{not_covered}
 use Rattle.plan_builder.proofs.derivations.covers.Goals as goal
 

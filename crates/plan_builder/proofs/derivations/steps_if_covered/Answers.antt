@@ -2,8 +2,8 @@ use Rattle.std.proofs.Common.{◌≡◌, ◌∙◌, None, Some, ap, length, sym,
 use Rattle.beas_core.specs.Coverage.{start_classes}
 use Rattle.beas_core.specs.Derivations.{IsSound, greedy_steps}
 use Rattle.beas_core.specs.Pruning.{pruned}
-use Rattle.evaluation_facts.proofs.SoundDerivations.{greedy_sound}
-use Rattle.evaluation_facts.proofs.StartFacts.{start_counted}
+use Rattle.beas_core.proofs.SoundDerivations.{greedy_sound}
+use Rattle.beas_core.proofs.StartFacts.{start_counted}
 use Rattle.plan_builder.proofs.Turns.{derivation_none, derivation_some}
 use Rattle.plan_builder.proofs.derivations.steps_if_covered.Goals as goal
 

@@ -1,6 +1,6 @@
 use Rattle.std.proofs.Common.{◌∙◌, ap, length, sym}
 use Rattle.beas_core.specs.Coverage.{covered_set, reason, start_classes}
-use Rattle.evaluation_facts.proofs.StartFacts.{start_counted}
+use Rattle.beas_core.proofs.StartFacts.{start_counted}
 use Rattle.plan_builder.proofs.Turns.{always_why}
 use Rattle.plan_builder.proofs.derivations.why_none.Goals as goal
 

@@ -1,7 +1,7 @@
 use Rattle.std.proofs.Common.{◌≡◌, ◌∙◌, Some, false, sym, true}
 use Rattle.beas_core.specs.Coverage.{constant_classes, start_classes}
 use Rattle.beas_core.specs.Pruning.{derivation}
-use Rattle.evaluation_facts.proofs.StartFacts.{start_counted}
+use Rattle.beas_core.proofs.StartFacts.{start_counted}
 use Rattle.plan_builder.proofs.PreparationFacts.{planned_alone, planned_guided, reason_guided}
 use Rattle.plan_builder.proofs.Turns.{not_some, why_there}
 use Rattle.plan_builder.proofs.preparation.plan_normal.Goals as goal

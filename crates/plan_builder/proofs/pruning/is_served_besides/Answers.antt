@@ -1,6 +1,6 @@
 use Rattle.std.proofs.Common.{ℕ, ◌+◌, ◌<◌, ◌||◌, ◌∙◌, List, ap, arith, drop, get_or, length, map, sym, take}
 use Rattle.std.proofs.lemmas.List.{length-map, take-map}
-use Rattle.evaluation_facts.proofs.MemberTests.{or_left}
+use Rattle.beas_core.proofs.MemberTests.{or_left}
 use Rattle.attribute_closure.specs.declared.uses.UseAt.{UseAt}
 use Rattle.attribute_closure.specs.Uses.{as_use}
 use Rattle.plan_builder.specs.Plans.{served_among}

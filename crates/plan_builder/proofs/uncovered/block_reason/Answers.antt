@@ -1,6 +1,6 @@
 use Rattle.std.proofs.Common.{◌≡◌, ◌∙◌, None, Some, ap, length, sym, true}
 use Rattle.beas_core.specs.Coverage.{covered_set, own_reason, reason, start_classes}
-use Rattle.evaluation_facts.proofs.StartFacts.{start_counted}
+use Rattle.beas_core.proofs.StartFacts.{start_counted}
 use Rattle.plan_builder.proofs.PreparationFacts.{none_alone, reason_from}
 use Rattle.plan_builder.proofs.uncovered.block_reason.Goals as goal
 

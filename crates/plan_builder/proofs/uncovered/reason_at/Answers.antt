@@ -1,7 +1,7 @@
 use Rattle.std.proofs.Common.{◌<◌, ◌≤◌, length, ap, sym, subst, arith}
 use Rattle.beas_core.specs.declared.plan.Normal.{Normal}
 use Rattle.beas_core.specs.Coverage.{ClassesInRange}
-use Rattle.evaluation_facts.proofs.ClassFacts.{classes_in_range}
+use Rattle.beas_core.proofs.ClassFacts.{classes_in_range}
 use Rattle.plan_builder.proofs.PreparationFacts.{as_many_needed, atoms_are}
 use Rattle.plan_builder.proofs.uncovered.reason_at.Goals as goal
 

@@ -2,8 +2,8 @@ use Rattle.std.proofs.Common.{ap, sym, subst, ◌∙◌, false}
 use Rattle.std.specs.Prelude.{replicate}
 use Rattle.std.proofs.lemmas.List.{length-replicate}
 use Rattle.beas_core.specs.Derivations.{bound_by, member_classes, use_of}
-use Rattle.evaluation_facts.specs.Extensions.{keep_met}
-use Rattle.evaluation_facts.proofs.ClassSetFacts.{length-with}
+use Rattle.beas_core.specs.Extensions.{keep_met}
+use Rattle.beas_core.proofs.ClassSetFacts.{length-with}
 use Rattle.plan_ops.specs.Over.{IsOver, bound_set}
 use Rattle.plan_ops.proofs.BoundSets.{bound_set_is}
 use Rattle.plan_executor.proofs.answering.take_step.Goals as goal

@@ -1,8 +1,8 @@
 use Rattle.std.proofs.Common.{rules, ◌≡◌, ◌<◌, ◌^◌, ◌∙◌, true, All, sym, subst, arith}
 use Rattle.beas_core.specs.declared.plan.Derivation.{Derivation}
 use Rattle.beas_core.specs.Derivations.{is_live}
-use Rattle.evaluation_facts.proofs.GuidedLaw.{guided_answers_are_full}
-use Rattle.evaluation_facts.proofs.QueryBounds.{prepared_is_live, prepared_few}
+use Rattle.beas_core.proofs.GuidedLaw.{guided_answers_are_full}
+use Rattle.beas_core.proofs.QueryBounds.{prepared_is_live, prepared_few}
 use Rattle.plan_ops.specs.Held.{PlanHolds}
 use Rattle.plan_ops.proofs.HeldFacts.{plans_hold}
 use Rattle.plan_ops.proofs.TreeFacts.{all_hold, whole_fits}

@@ -5,7 +5,7 @@ use Rattle.beas_core.specs.Order.{row_cmp}
 use Rattle.beas_core.specs.Sets.{IsInOrder}
 use Rattle.beas_core.specs.Nodes.{query_tree}
 use Rattle.beas_core.specs.Queries.{reads_in}
-use Rattle.evaluation_facts.proofs.GuidedLaw.{answers_in_order}
+use Rattle.beas_core.proofs.GuidedLaw.{answers_in_order}
 use Rattle.plan_ops.proofs.FrontFacts.{at_error}
 use Rattle.plan_executor.proofs.BlockFacts.{asked_block, asked_union_left, asked_union_right, asked_except_left, asked_except_right}
 use Rattle.plan_executor.proofs.trees.+answer_tree.Goals as goal

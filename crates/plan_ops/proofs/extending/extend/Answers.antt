@@ -10,7 +10,7 @@ use Rattle.beas_core.specs.Reads.{probe_reads, step_reads}
 use Rattle.beas_core.specs.Sets.{distinct}
 use Rattle.beas_core.specs.Coverage.{class_at}
 use Rattle.beas_core.specs.Derivations.{access_in, use_of}
-use Rattle.evaluation_facts.specs.Extensions.{extensions}
+use Rattle.beas_core.specs.Extensions.{extensions}
 use Rattle.plan_ops.specs.Joins.{IsJoin, IsSharing, joins}
 use Rattle.plan_ops.specs.Over.{bound_set}
 use Rattle.plan_ops.specs.Places.{column_of}

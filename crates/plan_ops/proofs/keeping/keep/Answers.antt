@@ -1,7 +1,7 @@
 use Rattle.std.proofs.Common.{◌≡◌, ◌∙◌, ap, sym, subst, length, All}
 use Rattle.plan_ops.specs.Over.{bound_set, set_of}
 use Rattle.plan_ops.proofs.MeetFacts.{kept_wide}
-use Rattle.evaluation_facts.specs.Extensions.{keep_met, meets_bound}
+use Rattle.beas_core.specs.Extensions.{keep_met, meets_bound}
 use Rattle.plan_ops.proofs.keeping.keep.Goals as goal
 
 pub returns-clause-over : goal.returns-clause-over

@@ -7,7 +7,7 @@ use Rattle.beas_core.specs.declared.query.Place.{Place}
 use Rattle.beas_core.specs.Coverage.{has, holds_classes, place_class}
 use Rattle.beas_core.specs.Sets.{IsInOrder}
 use Rattle.beas_core.proofs.Sets.{Has-get_or, Has-map}
-use Rattle.evaluation_facts.proofs.MemberTests.{all_has, and_both, which}
+use Rattle.beas_core.proofs.MemberTests.{all_has, and_both, which}
 use Rattle.plan_ops.specs.Over.{set_of}
 use Rattle.plan_ops.specs.Places.{place_of}
 use Rattle.plan_ops.proofs.BoundSets.{held_by_place, is_above, is_below}

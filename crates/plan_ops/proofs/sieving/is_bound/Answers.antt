@@ -2,7 +2,7 @@ use Rattle.std.proofs.Common.{◌∙◌, ap, arith, length, sym, subst}
 use Rattle.std.proofs.lemmas.Bool.{ltb-true}
 use Rattle.beas_core.specs.Coverage.{has, place_class}
 use Rattle.beas_core.specs.Valuations.{operand_is_bound}
-use Rattle.evaluation_facts.proofs.MemberTests.{and_both}
+use Rattle.beas_core.proofs.MemberTests.{and_both}
 use Rattle.plan_ops.specs.Over.{set_of}
 use Rattle.plan_ops.proofs.PlaceFacts.{place-le}
 use Rattle.plan_ops.proofs.SieveFacts.{bound_there}

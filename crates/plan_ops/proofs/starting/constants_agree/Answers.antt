@@ -2,7 +2,7 @@ use Rattle.std.proofs.Common.{◌<◌, ◌∙◌, ap, sym, subst, arith, length,
 use Rattle.beas_core.specs.Full.{same_value}
 use Rattle.beas_core.specs.Types.{Binding}
 use Rattle.beas_core.specs.Valuations.{value_of}
-use Rattle.evaluation_facts.proofs.MemberTests.{from_not}
+use Rattle.beas_core.proofs.MemberTests.{from_not}
 use Rattle.plan_ops.specs.Places.{place_of}
 use Rattle.plan_ops.proofs.ConstantFacts.{all_broken, all_more, constant_there, agrees_is, from_not_false}
 use Rattle.plan_ops.proofs.TableFacts.{length-places, place_read}

@@ -1,7 +1,7 @@
 use Rattle.std.proofs.Common.{◌≡◌, ◌<◌, ◌∷◌, ◌++◌, [], ◌∙◌, ℕ, List, ap, sym, subst, length, map, All, if◌then◌else◌}
 use Rattle.beas_core.specs.Types.{Binding, Row}
 use Rattle.beas_core.specs.Valuations.{value_of, agrees, classes_in}
-use Rattle.evaluation_facts.specs.Extensions.{keep_met}
+use Rattle.beas_core.specs.Extensions.{keep_met}
 use Rattle.plan_ops.specs.Over.{set_of}
 use Rattle.plan_ops.specs.Places.{place_of}
 use Rattle.plan_ops.proofs.BoundSets.{counted, set_again}

@@ -4,7 +4,7 @@ use Rattle.beas_core.specs.Order.{row_cmp}
 use Rattle.beas_core.specs.Sets.{distinct}
 use Rattle.beas_core.specs.Coverage.{start_classes}
 use Rattle.beas_core.specs.Valuations.{classes_in, starts}
-use Rattle.evaluation_facts.specs.Extensions.{keep_met}
+use Rattle.beas_core.specs.Extensions.{keep_met}
 use Rattle.plan_ops.specs.Over.{set_of}
 use Rattle.plan_ops.proofs.BoundSets.{counted, set_again}
 use Rattle.plan_ops.proofs.GuidedStarts.{keys, keys_small, start_set, kept_starts, starts_wide, distinct_wide}

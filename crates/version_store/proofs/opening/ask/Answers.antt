@@ -5,7 +5,7 @@ use Rattle.beas_core.specs.declared.plan.Derivation.{Derivation}
 use Rattle.beas_core.specs.Derivations.{is_live}
 use Rattle.beas_core.proofs.Sets.{Contains-from_has}
 use Rattle.catalogue.specs.Database.{rows_at}
-use Rattle.evaluation_facts.proofs.QueryBounds.{prepared_few, prepared_is_live}
+use Rattle.beas_core.proofs.QueryBounds.{prepared_few, prepared_is_live}
 use Rattle.plan_ops.specs.Held.{PlanHolds, StepHolds}
 use Rattle.session.specs.Applying.{database_of}
 use Rattle.version_store.proofs.opening.ask.Goals as goal

@@ -2,7 +2,7 @@ use Rattle.std.proofs.Common.{◌≡◌, ◌≤◌, All, false, true, arith, ref
 use Rattle.beas_core.specs.declared.plan.Derivation.{Derivation}
 use Rattle.beas_core.specs.Derivations.{is_live}
 use Rattle.beas_core.specs.Fits.{Fits}
-use Rattle.evaluation_facts.proofs.QueryBounds.{prepared_is_live}
+use Rattle.beas_core.proofs.QueryBounds.{prepared_is_live}
 use Rattle.plan_ops.specs.Held.{PlanHolds}
 use Rattle.block_walk.specs.Worlds.{world}
 use Rattle.cursor_executor.specs.declared.cursors.Turn.TheVariants.{Done}

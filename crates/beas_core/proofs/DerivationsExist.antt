@@ -12,12 +12,12 @@ use Rattle.beas_core.specs.Pruning.{derivation, pruned}
 use Rattle.beas_core.specs.Groups.{member_columns}
 use Rattle.beas_core.specs.Shapes.{EachIdOnce}
 use Rattle.beas_core.proofs.Sets.{Has, Has-filter, Has-from_filter, Has-from_map, Has-map, Has-append_right, Has-append_cases, Has-from_contains, Contains-from_has}
-use Rattle.evaluation_facts.proofs.ReasonFacts.{reason-covered, covered-reason}
-use Rattle.evaluation_facts.proofs.MemberTests.{and_left, and_right, and_both, from_not, to_not, which, all_has, not_all_has}
-use Rattle.evaluation_facts.proofs.ClassSetFacts.{has_below, has-with_kept, has-with_new, has-with_cases, length-with, holds-within, trues, all_true, trues_more}
-use Rattle.evaluation_facts.proofs.CoveredSetFacts.{covered_set_least, length-covered}
-use Rattle.evaluation_facts.proofs.UseFacts.{least_has, least_none}
-use Rattle.evaluation_facts.proofs.SoundDerivations.{covered_within, bound_step, added}
+use Rattle.beas_core.proofs.ReasonFacts.{reason-covered, covered-reason}
+use Rattle.beas_core.proofs.MemberTests.{and_left, and_right, and_both, from_not, to_not, which, all_has, not_all_has}
+use Rattle.beas_core.proofs.ClassSetFacts.{has_below, has-with_kept, has-with_new, has-with_cases, length-with, holds-within, trues, all_true, trues_more}
+use Rattle.beas_core.proofs.CoveredSetFacts.{covered_set_least, length-covered}
+use Rattle.beas_core.proofs.UseFacts.{least_has, least_none}
+use Rattle.beas_core.proofs.SoundDerivations.{covered_within, bound_step, added}
 
 module _ (normal : Normal) (accesses : List Access) where
   -- a use whose key a closed set holds adds nothing to it

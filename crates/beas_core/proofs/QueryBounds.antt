@@ -25,18 +25,18 @@ use Rattle.beas_core.specs.Reads.{probes, reads_of}
 use Rattle.beas_core.specs.Fits.{PlanIsSound, PlansAreSound, GuidedOnlyWithGuide, PreparedIsWellFormed, PlanFits, StepsHold}
 use Rattle.beas_core.proofs.Sets.{Has, Has-from_map, Has-from_filter, Has-append_left, Has-append_right, Has-append_cases, Has-from_distinct, Contains-from_has, Has-from_contains, all_from, length-distinct-le}
 use Rattle.beas_core.proofs.ValueOrder.{row_cmp_tells}
-use Rattle.evaluation_facts.specs.Guides.{GuideFits}
-use Rattle.evaluation_facts.proofs.MemberTests.{first_of_pairs}
-use Rattle.evaluation_facts.proofs.SetSizes.{length-filter_le}
-use Rattle.evaluation_facts.proofs.ClassFacts.{classes_in_range, constants_in_range}
-use Rattle.evaluation_facts.proofs.ReadFacts.{sum_mapped}
-use Rattle.evaluation_facts.proofs.TaskFacts.{plan_at, plans_are_live}
-use Rattle.evaluation_facts.proofs.SoundParts.{sound_parts, steps_from}
-use Rattle.evaluation_facts.proofs.FrontBounds.{valuations_few, reads_few}
+use Rattle.beas_core.specs.Guides.{GuideFits}
+use Rattle.beas_core.proofs.MemberTests.{first_of_pairs}
+use Rattle.beas_core.proofs.SetSizes.{length-filter_le}
+use Rattle.beas_core.proofs.ClassFacts.{classes_in_range, constants_in_range}
+use Rattle.beas_core.proofs.ReadFacts.{sum_mapped}
+use Rattle.beas_core.proofs.TaskFacts.{plan_at, plans_are_live}
+use Rattle.beas_core.proofs.SoundParts.{sound_parts, steps_from}
+use Rattle.beas_core.proofs.FrontBounds.{valuations_few, reads_few}
 use Rattle.std.proofs.lemmas.List.{append-nil}
 use Rattle.beas_core.specs.Guiding.{after}
 use Rattle.beas_core.specs.Queries.{is_guided, plan_of, guide_of, inside, answers, start_size, size_of, announced_in, probes_in, reads_at, reads_in, query_answers, query_size, query_reads}
-use Rattle.evaluation_facts.proofs.AnswerFacts.{answers_are_inside}
+use Rattle.beas_core.proofs.AnswerFacts.{answers_are_inside}
 
 -- each row has this many values
 abbrev pub Wide : ℕ → List Row → Type 0

@@ -24,13 +24,13 @@ use Rattle.beas_core.specs.Guiding.{after}
 use Rattle.beas_core.specs.Queries.{is_guided, plan_of, guide_of, inside, answers, start_size, size_of, announced_in, probes_in, reads_at, reads_in}
 use Rattle.beas_core.specs.Fits.{RowsHaveWidth, PlanIsSound, PlansAreSound, Fits, KeepsConstraints, KeepsRows}
 use Rattle.beas_core.proofs.Sets.{Has, Has-append_left, Has-append_right, all_from, Contains-from_has}
-use Rattle.evaluation_facts.specs.Agreement.{SameStep, SameSteps}
-use Rattle.evaluation_facts.proofs.MemberTests.{and_left, and_right, all_has}
-use Rattle.evaluation_facts.proofs.SoundParts.{sound_parts}
-use Rattle.evaluation_facts.proofs.MoreAccesses.{Agree, agreeing_sound}
-use Rattle.evaluation_facts.proofs.AgreementFacts.{probes-agree, reads-agree, block-agrees}
-use Rattle.evaluation_facts.proofs.TaskFacts.{plan_at}
-use Rattle.evaluation_facts.proofs.QueryBounds.{block_reads_are}
+use Rattle.beas_core.specs.Agreement.{SameStep, SameSteps}
+use Rattle.beas_core.proofs.MemberTests.{and_left, and_right, all_has}
+use Rattle.beas_core.proofs.SoundParts.{sound_parts}
+use Rattle.beas_core.proofs.MoreAccesses.{Agree, agreeing_sound}
+use Rattle.beas_core.proofs.AgreementFacts.{probes-agree, reads-agree, block-agrees}
+use Rattle.beas_core.proofs.TaskFacts.{plan_at}
+use Rattle.beas_core.proofs.QueryBounds.{block_reads_are}
 
 -- the atoms' tables have the same rows
 abbrev IsKept : TableRows → TableRows → Block → Type 0

@@ -15,7 +15,7 @@ use Rattle.beas_core.specs.Guiding.{BlockTask, after, has_guides, tasks_from, bl
 use Rattle.beas_core.specs.Queries.{is_guided, plan_of}
 use Rattle.beas_core.specs.Fits.{PlanIsSound, PlansAreSound, GuidedOnlyWithGuide}
 use Rattle.beas_core.proofs.Sets.{Has, Has-append_cases}
-use Rattle.evaluation_facts.proofs.MemberTests.{and_left}
+use Rattle.beas_core.proofs.MemberTests.{and_left}
 
 map-both : {A C : Type 0} (f : A → C) (xs ys : List A) (us vs : List C) → map f xs ≡ us → map f ys ≡ vs → map f (xs ++ ys) ≡ us ++ vs
 map-both f xs ys us vs e g = map-append f xs ys ∙ ap (λ s. s ++ map f ys) e ∙ ap (λ s. us ++ s) g

@@ -11,10 +11,10 @@ use Rattle.beas_core.specs.Types.{ClassSet}
 use Rattle.beas_core.specs.Coverage.{has, place_class, uses, needed_places, serves, is_served, is_open, atoms_of, is_covered, covered_set, reason}
 use Rattle.beas_core.specs.Guiding.{BlockTask, task_start, task_reason, first_uncovered_from, first_uncovered}
 use Rattle.beas_core.proofs.Sets.{Has-from_contains, Contains-from_has}
-use Rattle.evaluation_facts.specs.Covered.{Server, IsCovered, task_is_covered}
-use Rattle.evaluation_facts.proofs.MemberTests.{and_left, and_right, and_both, from_not, to_not, any_has, any_by, all_has, all_by, none_has, none_by}
-use Rattle.evaluation_facts.proofs.UseFacts.{same_number}
-use Rattle.evaluation_facts.proofs.BindingFacts.{Has-range, from_range}
+use Rattle.beas_core.specs.Covered.{Server, IsCovered, task_is_covered}
+use Rattle.beas_core.proofs.MemberTests.{and_left, and_right, and_both, from_not, to_not, any_has, any_by, all_has, all_by, none_has, none_by}
+use Rattle.beas_core.proofs.UseFacts.{same_number}
+use Rattle.beas_core.proofs.BindingFacts.{Has-range, from_range}
 
 -- nothing passes a test exactly where none is found
 find_none : {A : Type 0} (p : A → Bool) (xs : List A) → list_any p xs ≡ false → find p xs ≡ None

@@ -8,11 +8,11 @@ use Rattle.beas_core.specs.declared.query.Block.{Block}
 use Rattle.beas_core.specs.Shapes.{IsPlace, width_of}
 use Rattle.beas_core.specs.Classes.{is_joined, places_of, firsts, leaders, class_of}
 use Rattle.beas_core.proofs.Sets.{Has, Has-from_map, Has-from_filter, Has-append_cases, Has-get_or, all_at, all_from}
-use Rattle.evaluation_facts.specs.Numbering.{StandsBefore, FirstPlace}
-use Rattle.evaluation_facts.proofs.MemberTests.{from_not, which, Has-from_flat_map}
-use Rattle.evaluation_facts.proofs.ClassFacts.{is_joined_itself, is_joined_turned, has_place, class_below, width_at}
-use Rattle.evaluation_facts.proofs.BindingFacts.{from_range, range_least}
-use Rattle.evaluation_facts.proofs.UseFacts.{enumerated}
+use Rattle.beas_core.specs.Numbering.{StandsBefore, FirstPlace}
+use Rattle.beas_core.proofs.MemberTests.{from_not, which, Has-from_flat_map}
+use Rattle.beas_core.proofs.ClassFacts.{is_joined_itself, is_joined_turned, has_place, class_below, width_at}
+use Rattle.beas_core.proofs.BindingFacts.{from_range, range_least}
+use Rattle.beas_core.proofs.UseFacts.{enumerated}
 
 -- a list of places, each before all later ones
 abbrev InOrder : List Place → Type 0

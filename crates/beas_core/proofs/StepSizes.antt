@@ -19,12 +19,12 @@ use Rattle.beas_core.specs.Valuations.{value_of, bindings_of, with_row_for, is_c
 use Rattle.beas_core.specs.Reads.{key_for, keys_for, probe_reads, step_reads}
 use Rattle.beas_core.proofs.Sets.{Has, Has-map, Has-from_map, Has-append_cases, IsInOrder-distinct, length-distinct-le}
 use Rattle.beas_core.proofs.ValueOrder.{row_cmp_tells}
-use Rattle.evaluation_facts.specs.Extensions.{extended_row, fits, group_for, extensions_of, extensions, meets_bound}
-use Rattle.evaluation_facts.proofs.MemberTests.{from_not, all_has}
-use Rattle.evaluation_facts.proofs.ClassSetFacts.{has-with_kept, has-with_cases, length-with}
-use Rattle.evaluation_facts.proofs.SetSizes.{length_within, length-flat_map-le, length-filter_le}
-use Rattle.evaluation_facts.proofs.BindingFacts.{Binds, value-append_in, map_same, from_classes_in}
-use Rattle.evaluation_facts.proofs.StepExtends.{some_valued, way_from, split, Has-before, step_is}
+use Rattle.beas_core.specs.Extensions.{extended_row, fits, group_for, extensions_of, extensions, meets_bound}
+use Rattle.beas_core.proofs.MemberTests.{from_not, all_has}
+use Rattle.beas_core.proofs.ClassSetFacts.{has-with_kept, has-with_cases, length-with}
+use Rattle.beas_core.proofs.SetSizes.{length_within, length-flat_map-le, length-filter_le}
+use Rattle.beas_core.proofs.BindingFacts.{Binds, value-append_in, map_same, from_classes_in}
+use Rattle.beas_core.proofs.StepExtends.{some_valued, way_from, split, Has-before, step_is}
 
 -- any set of valuations has at most so many extensions
 module _ (rows : TableRows) (normal : Normal) (accesses : List Access) (s : DStep) (set : ClassSet)

@@ -14,11 +14,11 @@ use Rattle.beas_core.specs.Derivations.{access_in, is_live, table_of, member_cla
 use Rattle.beas_core.specs.Pruning.{derivation, pruned}
 use Rattle.beas_core.specs.Shapes.{EachIdOnce}
 use Rattle.beas_core.proofs.Sets.{Has, Has-filter, Has-from_filter, all_from}
-use Rattle.evaluation_facts.proofs.MemberTests.{and_left, and_right, and_both, or_left, or_right, to_not, from_not, which, any_has, any_by, all_has, all_by, none_has, none_by}
-use Rattle.evaluation_facts.proofs.SoundParts.{sound_from}
-use Rattle.evaluation_facts.proofs.PruningFacts.{pruned_sound}
-use Rattle.evaluation_facts.proofs.ClassSetFacts.{has-with_kept, holds-within}
-use Rattle.evaluation_facts.proofs.UseFacts.{use_facts, found_by_id, least_has, least_none, same_number}
+use Rattle.beas_core.proofs.MemberTests.{and_left, and_right, and_both, or_left, or_right, to_not, from_not, which, any_has, any_by, all_has, all_by, none_has, none_by}
+use Rattle.beas_core.proofs.SoundParts.{sound_from}
+use Rattle.beas_core.proofs.PruningFacts.{pruned_sound}
+use Rattle.beas_core.proofs.ClassSetFacts.{has-with_kept, holds-within}
+use Rattle.beas_core.proofs.UseFacts.{use_facts, found_by_id, least_has, least_none, same_number}
 
 module _ (normal : Normal) (accesses : List Access) where
   -- more steps bind more classes

@@ -13,11 +13,11 @@ use Rattle.beas_core.specs.Coverage.{has, with_classes, place_class, constant_cl
 use Rattle.beas_core.specs.Valuations.{value_of, is_consistent, classes_in, valued_rows, starts}
 use Rattle.beas_core.proofs.Sets.{Has, Has-from_map, Contains-from_has, length-distinct-le}
 use Rattle.beas_core.proofs.ValueOrder.{row_cmp_tells}
-use Rattle.evaluation_facts.specs.Guides.{GuideFits}
-use Rattle.evaluation_facts.proofs.ClassSetFacts.{length-with, has-with_cases, has-with_new}
-use Rattle.evaluation_facts.proofs.BindingFacts.{keys, Binds, Binds-with}
-use Rattle.evaluation_facts.proofs.SetSizes.{length-filter_le}
-use Rattle.evaluation_facts.proofs.StepExtends.{some_valued}
+use Rattle.beas_core.specs.Guides.{GuideFits}
+use Rattle.beas_core.proofs.ClassSetFacts.{length-with, has-with_cases, has-with_new}
+use Rattle.beas_core.proofs.BindingFacts.{keys, Binds, Binds-with}
+use Rattle.beas_core.proofs.SetSizes.{length-filter_le}
+use Rattle.beas_core.proofs.StepExtends.{some_valued}
 
 none_held : (n c : ℕ) → has (replicate n false) c ≡ true → ⊥
 none_held zero c h = let e : false ≡ true = h in cc

@@ -11,8 +11,8 @@ use Rattle.beas_core.specs.Derivations.{access_in, bound_by, bound_after}
 use Rattle.beas_core.specs.Numbers.{announced_from, last_size}
 use Rattle.beas_core.specs.Valuations.{valuations}
 use Rattle.beas_core.specs.Reads.{reads_of}
-use Rattle.evaluation_facts.specs.Extensions.{extensions, keep_met}
-use Rattle.evaluation_facts.specs.Guides.{BlockStart}
+use Rattle.beas_core.specs.Extensions.{extensions, keep_met}
+use Rattle.beas_core.specs.Guides.{BlockStart}
 
 pub record FrontsAreBounded (rows : TableRows) (normal : Normal) (accesses : List Access) (start : BlockStart) (steps : List DStep) : Type 0 where
   pub valuations_are : (done later : List DStep) → steps ≡ done ++ later

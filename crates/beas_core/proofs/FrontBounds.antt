@@ -21,19 +21,19 @@ use Rattle.beas_core.specs.Reads.{reads_of}
 use Rattle.beas_core.specs.Numbers.{size_after, announced_from, last_size}
 use Rattle.beas_core.specs.Valuations.{with_row_for, ways, starts, valued_rows, valuations}
 use Rattle.beas_core.proofs.Sets.{Has, Has-append_left, Has-append_right, Has-from_contains, Contains-from_has}
-use Rattle.evaluation_facts.specs.Extensions.{extensions, keep_met}
-use Rattle.evaluation_facts.specs.Fronts.{FrontsAreBounded, FrontsExtend}
-use Rattle.evaluation_facts.specs.StepReads.{reads_at, reads_from}
-use Rattle.evaluation_facts.specs.Guides.{GuideFits, BlockStart, StartFits}
-use Rattle.evaluation_facts.proofs.MemberTests.{and_left, and_right, and_both, all_has, all_by}
-use Rattle.evaluation_facts.proofs.ClassSetFacts.{length-with}
-use Rattle.evaluation_facts.proofs.BindingFacts.{Binds}
-use Rattle.evaluation_facts.proofs.SoundDerivations.{bound-append}
-use Rattle.evaluation_facts.proofs.SoundParts.{step_parts, steps_from}
-use Rattle.evaluation_facts.proofs.StartFacts.{start_counted, start_binds, start_few}
-use Rattle.evaluation_facts.proofs.StepExtends.{binds_more, step_is}
-use Rattle.evaluation_facts.proofs.StepSizes.{step_count, step_reads_count}
-use Rattle.evaluation_facts.proofs.ReadFacts.{reads_by_step}
+use Rattle.beas_core.specs.Extensions.{extensions, keep_met}
+use Rattle.beas_core.specs.Fronts.{FrontsAreBounded, FrontsExtend}
+use Rattle.beas_core.specs.StepReads.{reads_at, reads_from}
+use Rattle.beas_core.specs.Guides.{GuideFits, BlockStart, StartFits}
+use Rattle.beas_core.proofs.MemberTests.{and_left, and_right, and_both, all_has, all_by}
+use Rattle.beas_core.proofs.ClassSetFacts.{length-with}
+use Rattle.beas_core.proofs.BindingFacts.{Binds}
+use Rattle.beas_core.proofs.SoundDerivations.{bound-append}
+use Rattle.beas_core.proofs.SoundParts.{step_parts, steps_from}
+use Rattle.beas_core.proofs.StartFacts.{start_counted, start_binds, start_few}
+use Rattle.beas_core.proofs.StepExtends.{binds_more, step_is}
+use Rattle.beas_core.proofs.StepSizes.{step_count, step_reads_count}
+use Rattle.beas_core.proofs.ReadFacts.{reads_by_step}
 
 pub table_from_test : (normal : Normal) (accesses : List Access) (s : DStep) → is_on_table normal accesses s ≡ true
     → table_of normal s.atom ≡ (access_in accesses s.access).table

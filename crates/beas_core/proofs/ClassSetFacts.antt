@@ -5,7 +5,7 @@ use Rattle.std.specs.List.{slice_set}
 use Rattle.beas_core.specs.Types.{ClassSet}
 use Rattle.beas_core.specs.Coverage.{has, with_classes, holds_classes, Within}
 use Rattle.beas_core.proofs.Sets.{Has}
-use Rattle.evaluation_facts.proofs.MemberTests.{all_has, all_by}
+use Rattle.beas_core.proofs.MemberTests.{all_has, all_by}
 
 pub has_below : (set : ClassSet) (c : ℕ) → has set c ≡ true → c < length set
 has_below [] c h = cc

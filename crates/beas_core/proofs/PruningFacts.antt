@@ -9,7 +9,7 @@ use Rattle.beas_core.specs.declared.plan.Normal.{Normal}
 use Rattle.beas_core.specs.Types.{ClassSet}
 use Rattle.beas_core.specs.Derivations.{bound_by, is_live, is_sound, IsSound}
 use Rattle.beas_core.proofs.Sets.{Has, Has-append_cases, all_from, Contains-from_has}
-use Rattle.evaluation_facts.proofs.MemberTests.{and_left, and_right, from_not}
+use Rattle.beas_core.proofs.MemberTests.{and_left, and_right, from_not}
 use Rattle.beas_core.specs.Pruning.{with_adds, without, shorter, capped_number, may_go, pruned_at, pruned_below, pruned}
 
 Has-take : {K : Type 0} (n : ℕ) (xs : List K) (y : K) → Has (take n xs) y → Has xs y

@@ -11,7 +11,7 @@ use Rattle.beas_core.specs.declared.plan.DStep.{DStep}
 use Rattle.beas_core.specs.declared.plan.Normal.{Normal}
 use Rattle.beas_core.specs.Types.{TableRows, Guide}
 use Rattle.beas_core.specs.Derivations.{access_in}
-use Rattle.evaluation_facts.specs.StepReads.{reads_at, reads_from}
+use Rattle.beas_core.specs.StepReads.{reads_at, reads_from}
 use Rattle.beas_core.specs.Reads.{Probe, keys_after, probes_after, probes, probe_reads, access_of_step, reads_of}
 
 pub sum_mapped : {A B : Type 0} (f : B → ℕ) (g : A → B) (xs : List A) → sum_by f (map g xs) ≡ sum_by (λ x. f (g x)) xs

@@ -18,11 +18,11 @@ use Rattle.beas_core.specs.Valuations.{value_of, agrees, bindings_of, with_row_f
 use Rattle.beas_core.specs.Reads.{key_for}
 use Rattle.beas_core.proofs.Sets.{Has, Has-map, Has-from_map, Has-filter, Has-from_filter, Has-append_left, Has-append_right, Has-append_cases, Has-distinct, Has-from_distinct, distinct_same, distinct-filter}
 use Rattle.beas_core.proofs.ValueOrder.{row_cmp_tells}
-use Rattle.evaluation_facts.specs.Extensions.{bindings_with, fits, extended_row, group_for, extensions_of, extensions, meets_bound, keep_met}
-use Rattle.evaluation_facts.proofs.MemberTests.{and_left, and_right, and_both, which, all_has, all_by, Has-flat_map, Has-from_flat_map}
-use Rattle.evaluation_facts.proofs.ClassSetFacts.{has-with_kept}
-use Rattle.evaluation_facts.proofs.BindingFacts.{Binds, value-append_in, value-append_out, keys-zip, zip-maps, zip_of, map_same, same_row_to, same_value_to, agreed, Has-classes_in, from_classes_in, value_in_valuation, Binds-with, keys-map}
-use Rattle.evaluation_facts.proofs.ConsistencyFacts.{consistent_before, met_alike}
+use Rattle.beas_core.specs.Extensions.{bindings_with, fits, extended_row, group_for, extensions_of, extensions, meets_bound, keep_met}
+use Rattle.beas_core.proofs.MemberTests.{and_left, and_right, and_both, which, all_has, all_by, Has-flat_map, Has-from_flat_map}
+use Rattle.beas_core.proofs.ClassSetFacts.{has-with_kept}
+use Rattle.beas_core.proofs.BindingFacts.{Binds, value-append_in, value-append_out, keys-zip, zip-maps, zip_of, map_same, same_row_to, same_value_to, agreed, Has-classes_in, from_classes_in, value_in_valuation, Binds-with, keys-map}
+use Rattle.beas_core.proofs.ConsistencyFacts.{consistent_before, met_alike}
 
 -- the valuations of a set of classes that some ways give, before they are put in order
 abbrev pub some_valued : Normal → ClassSet → List Bindings → List Row

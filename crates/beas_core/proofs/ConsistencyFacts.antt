@@ -13,8 +13,8 @@ use Rattle.beas_core.specs.Full.{same_value, comparison_holds, sign_holds, opera
 use Rattle.beas_core.specs.Coverage.{has, place_class, Within}
 use Rattle.beas_core.specs.Valuations.{value_of, agrees, comparison_is_bound, operand_is_bound, comparison_is_met, is_consistent}
 use Rattle.beas_core.proofs.Sets.{Has, Has-map, Has-append_left}
-use Rattle.evaluation_facts.proofs.MemberTests.{and_left, and_right, and_both, or_cases, or_left, or_right, from_not, which, all_has, all_by}
-use Rattle.evaluation_facts.proofs.BindingFacts.{keys, value-append_in}
+use Rattle.beas_core.proofs.MemberTests.{and_left, and_right, and_both, or_cases, or_left, or_right, from_not, which, all_has, all_by}
+use Rattle.beas_core.proofs.BindingFacts.{keys, value-append_in}
 
 -- a comparison of bound classes holds of two lists of bindings alike that give the classes the same values
 pub compared_alike : (f g : Place → Value) (c : Comparison) → f c.left ≡ g c.left → operand_value f c.right ≡ operand_value g c.right

@@ -10,8 +10,8 @@ use Rattle.beas_core.specs.Coverage.{with_classes, constant_classes, output_clas
 use Rattle.beas_core.specs.Valuations.{starts, is_consistent, value_of, classes_in, valued_rows}
 use Rattle.beas_core.proofs.Sets.{Has, Has-map, Has-from_map, Has-filter, Has-from_filter, Has-distinct, Has-from_distinct, distinct_same}
 use Rattle.beas_core.proofs.ValueOrder.{row_cmp_tells}
-use Rattle.evaluation_facts.specs.Starts.{with_row, rows_of_start}
-use Rattle.evaluation_facts.proofs.MemberTests.{Has-flat_map, Has-from_flat_map}
+use Rattle.beas_core.specs.Starts.{with_row, rows_of_start}
+use Rattle.beas_core.proofs.MemberTests.{Has-flat_map, Has-from_flat_map}
 
 with-append : (xs ys : List ℕ) (set : ClassSet) → with_classes set (xs ++ ys) ≡ with_classes (with_classes set xs) ys
 with-append [] ys set = refl

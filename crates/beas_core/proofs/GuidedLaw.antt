@@ -12,8 +12,8 @@ use Rattle.beas_core.specs.Full.{meets, choices, choice_value, full_of, full_of_
 use Rattle.beas_core.specs.Trees.{QueryTree, Single, Either, Minus}
 use Rattle.beas_core.proofs.Sets.{Has, Has-append_left, Has-append_right, Has-append_cases, Has-filter, Has-from_filter, Has-distinct, Has-from_distinct, IsInOrder-distinct, IsInOrder-filter, same_sets}
 use Rattle.beas_core.proofs.ValueOrder.{row_cmp_tells}
-use Rattle.evaluation_facts.proofs.MemberTests.{any_has, any_by, none_by, from_not, to_not, which}
-use Rattle.evaluation_facts.proofs.BindingFacts.{same_row_to}
+use Rattle.beas_core.proofs.MemberTests.{any_has, any_by, none_by, from_not, to_not, which}
+use Rattle.beas_core.proofs.BindingFacts.{same_row_to}
 use Rattle.beas_core.specs.Guiding.{after}
 use Rattle.beas_core.specs.Queries.{guide_of, is_guided, inside, answers, query_answers}
 

@@ -18,9 +18,9 @@ use Rattle.beas_core.specs.Coverage.{has, with_classes}
 use Rattle.beas_core.specs.Valuations.{value_of, agrees, classes_in, as_bindings}
 use Rattle.beas_core.proofs.Sets.{Has, Has-filter, Has-from_filter, Has-append_left, Has-append_right, Has-append_cases}
 use Rattle.beas_core.proofs.ValueOrder.{value_cmp_tells}
-use Rattle.evaluation_facts.proofs.MemberTests.{all_has, which}
-use Rattle.evaluation_facts.proofs.ClassSetFacts.{has_below, has-with_kept, has-with_new, has-with_cases}
-use Rattle.evaluation_facts.proofs.UseFacts.{same_number}
+use Rattle.beas_core.proofs.MemberTests.{all_has, which}
+use Rattle.beas_core.proofs.ClassSetFacts.{has_below, has-with_kept, has-with_new, has-with_cases}
+use Rattle.beas_core.proofs.UseFacts.{same_number}
 
 abbrev pub keys : Bindings → List ℕ
 keys w = map (λ b. b.0) w

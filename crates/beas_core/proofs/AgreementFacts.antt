@@ -17,10 +17,10 @@ use Rattle.beas_core.specs.Full.{choices, choice_value, meets, full_of_block}
 use Rattle.beas_core.specs.Reads.{Probe, keys_for, keys_after, probes_after, probes, probe_reads, step_reads, reads_of}
 use Rattle.beas_core.specs.Valuations.{bindings_of, with_row_for, ways, starts, value_of, as_bindings, valued_rows, valuations}
 use Rattle.beas_core.proofs.Sets.{Contains-from_has}
-use Rattle.evaluation_facts.specs.StepReads.{reads_at, reads_from}
-use Rattle.evaluation_facts.proofs.ReadFacts.{reads_by_step}
-use Rattle.evaluation_facts.proofs.MoreAccesses.{bound_agrees}
-use Rattle.evaluation_facts.specs.Agreement.{SameStep, SameSteps}
+use Rattle.beas_core.specs.StepReads.{reads_at, reads_from}
+use Rattle.beas_core.proofs.ReadFacts.{reads_by_step}
+use Rattle.beas_core.proofs.MoreAccesses.{bound_agrees}
+use Rattle.beas_core.specs.Agreement.{SameStep, SameSteps}
 
 module _ (normal : Normal) (few many : List Access) (old new : TableRows) where
   abbrev Same : DStep → Type 0

@@ -8,8 +8,8 @@ use Rattle.beas_core.specs.declared.plan.Normal.{Normal}
 use Rattle.beas_core.specs.Types.{ClassSet, Use}
 use Rattle.beas_core.specs.Coverage.{has, holds_classes, key_classes, fetched_classes, class_at, uses, grow, grow_times, covered_set, Within, IsClosed, IsLeastClosed, ClassesInRange}
 use Rattle.beas_core.proofs.Sets.{Has-from_map, Has-from_contains, Contains-from_has}
-use Rattle.evaluation_facts.proofs.MemberTests.{and_left, and_right, and_both, or_cases, or_left, or_right, any_has, any_by, all_has, all_by}
-use Rattle.evaluation_facts.proofs.ClassSetFacts.{has_below, holds-within, trues, all_true, trues_more, compared}
+use Rattle.beas_core.proofs.MemberTests.{and_left, and_right, and_both, or_cases, or_left, or_right, any_has, any_by, all_has, all_by}
+use Rattle.beas_core.proofs.ClassSetFacts.{has_below, holds-within, trues, all_true, trues_more, compared}
 
 module _ (normal : Normal) (accesses : List Access) where
   -- whether one use of a constraint adds a class to a set

@@ -10,7 +10,7 @@ use Rattle.beas_core.specs.Coverage.{uses}
 use Rattle.beas_core.specs.Derivations.{access_in, table_of, least_bound}
 use Rattle.beas_core.proofs.Accesses.{access_in-first, access_in-rest}
 use Rattle.beas_core.proofs.Sets.{Has, Has-from_map, Has-from_filter}
-use Rattle.evaluation_facts.proofs.MemberTests.{Has-from_flat_map, first_of_pairs, rest_of_pairs}
+use Rattle.beas_core.proofs.MemberTests.{Has-from_flat_map, first_of_pairs, rest_of_pairs}
 
 pub same_number : (a b : ℕ) → a ≡ b → (a == b) ≡ true
 same_number a b e = eq-eqb a b e

@@ -7,7 +7,7 @@ use Rattle.beas_core.specs.declared.plan.Normal.{Normal}
 use Rattle.beas_core.specs.Types.{ClassSet}
 use Rattle.beas_core.specs.Coverage.{needed_places, is_open, atoms_of}
 use Rattle.beas_core.specs.Derivations.{bound_after, each_step, is_on_table, key_is_bound, adds_rightly, is_served_by, steps_are_sound, is_sound}
-use Rattle.evaluation_facts.proofs.MemberTests.{and_left, and_right, and_both}
+use Rattle.beas_core.proofs.MemberTests.{and_left, and_right, and_both}
 
 module _ (normal : Normal) (accesses : List Access) (start : ClassSet) (steps : List DStep) where
   -- what fronts of the steps have too

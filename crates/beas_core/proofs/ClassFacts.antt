@@ -11,9 +11,9 @@ use Rattle.beas_core.specs.Shapes.{IsPlace, BlockIsWellFormed, width_of}
 use Rattle.beas_core.specs.Classes.{Linked, itself, equated, turned, chained, same_place, is_joined, places_of, firsts, leaders, class_of, normal_of}
 use Rattle.beas_core.specs.Coverage.{ClassesInRange, ConstantsInRange}
 use Rattle.beas_core.proofs.Sets.{Has, Has-map, Has-from_map, Has-filter, Has-from_contains, Contains-from_has, all_from}
-use Rattle.evaluation_facts.proofs.MemberTests.{and_left, and_right, and_both, or_cases, or_left, or_right, to_not, which, any_by, Has-flat_map}
-use Rattle.evaluation_facts.proofs.UseFacts.{same_number}
-use Rattle.evaluation_facts.proofs.BindingFacts.{Has-range}
+use Rattle.beas_core.proofs.MemberTests.{and_left, and_right, and_both, or_cases, or_left, or_right, to_not, which, any_by, Has-flat_map}
+use Rattle.beas_core.proofs.UseFacts.{same_number}
+use Rattle.beas_core.proofs.BindingFacts.{Has-range}
 
 abbrev made : ℕ → ℕ → Place
 made a c = record { atom = a; column = record { 0 = c } }

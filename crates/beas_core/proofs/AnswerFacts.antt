@@ -29,16 +29,16 @@ use Rattle.beas_core.specs.Derivations.{access_in, table_of, use_of, bound_after
 use Rattle.beas_core.specs.Valuations.{value_of, agrees, bindings_of, with_row_for, ways, comparison_is_bound, operand_is_bound, comparison_is_met, is_consistent, classes_in, as_bindings, output_row, valued_rows, valuations, answers_of, starts}
 use Rattle.beas_core.proofs.Sets.{Has, Has-map, Has-from_map, Has-filter, Has-from_filter, Has-append_left, Has-append_right, Has-append_cases, Has-distinct, Has-from_distinct, Has-from_contains, Contains-from_has, IsInOrder-distinct, same_sets}
 use Rattle.beas_core.proofs.ValueOrder.{row_cmp_tells}
-use Rattle.evaluation_facts.proofs.MemberTests.{and_left, and_right, and_both, or_cases, or_left, or_right, from_not, which, all_has, all_by, any_has, any_by, none_has, Has-flat_map, Has-from_flat_map}
-use Rattle.evaluation_facts.proofs.SoundParts.{SoundParts, sound_parts, steps_from}
-use Rattle.evaluation_facts.proofs.UseFacts.{same_number}
-use Rattle.evaluation_facts.specs.Guides.{GuideFits}
-use Rattle.evaluation_facts.proofs.BindingFacts.{zip-maps, keys, Binds, map_same, same_value_to, same_from, agreed, Has-range, value_in_valuation}
-use Rattle.evaluation_facts.proofs.ConsistencyFacts.{compared_alike}
-use Rattle.evaluation_facts.proofs.FrontBounds.{front_binds}
-use Rattle.evaluation_facts.proofs.ClassFacts.{has_enumerated, width_at, class_from_linked, linked_from_class, has_place, classes_in_range, constants_in_range}
+use Rattle.beas_core.proofs.MemberTests.{and_left, and_right, and_both, or_cases, or_left, or_right, from_not, which, all_has, all_by, any_has, any_by, none_has, Has-flat_map, Has-from_flat_map}
+use Rattle.beas_core.proofs.SoundParts.{SoundParts, sound_parts, steps_from}
+use Rattle.beas_core.proofs.UseFacts.{same_number}
+use Rattle.beas_core.specs.Guides.{GuideFits}
+use Rattle.beas_core.proofs.BindingFacts.{zip-maps, keys, Binds, map_same, same_value_to, same_from, agreed, Has-range, value_in_valuation}
+use Rattle.beas_core.proofs.ConsistencyFacts.{compared_alike}
+use Rattle.beas_core.proofs.FrontBounds.{front_binds}
+use Rattle.beas_core.proofs.ClassFacts.{has_enumerated, width_at, class_from_linked, linked_from_class, has_place, classes_in_range, constants_in_range}
 use Rattle.beas_core.specs.Queries.{inside}
-use Rattle.evaluation_facts.proofs.GuidedLaw.{InGuide, Has-inside, Has-from_inside, in_order-inside}
+use Rattle.beas_core.proofs.GuidedLaw.{InGuide, Has-inside, Has-from_inside, in_order-inside}
 
 abbrev none : Atom
 none = record { table = record { 0 = 0 }; width = 0 }

@@ -15,9 +15,9 @@ use Rattle.beas_core.specs.Derivations.{access_in, is_live, table_of, member_cla
 use Rattle.beas_core.specs.Fits.{KeepsConstraints}
 use Rattle.beas_core.proofs.Accesses.{access_in-first, access_in-rest, access_in-member}
 use Rattle.beas_core.proofs.Sets.{Has, Has-from_contains, Contains-from_has, all_from}
-use Rattle.evaluation_facts.proofs.MemberTests.{and_left, and_right, and_both, any_has, any_by, all_has, all_by}
-use Rattle.evaluation_facts.proofs.SoundParts.{sound_parts, sound_from}
-use Rattle.evaluation_facts.proofs.UseFacts.{same_number, found_by_id}
+use Rattle.beas_core.proofs.MemberTests.{and_left, and_right, and_both, any_has, any_by, all_has, all_by}
+use Rattle.beas_core.proofs.SoundParts.{sound_parts, sound_from}
+use Rattle.beas_core.proofs.UseFacts.{same_number, found_by_id}
 
 -- a live id finds a constraint with this id
 pub live_id : (accesses : List Access) (id : AccessId) → is_live accesses id ≡ true → (access_in accesses id).id ≡ id
