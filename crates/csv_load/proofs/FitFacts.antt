@@ -1,7 +1,7 @@
 -- The rows of a file without a fault fit its table's columns.
 use Rattle.std.proofs.Common.{◌≡◌, ◌∙◌, ◌+◌, ℕ, ℤ, zero, suc, Bool, true, false, cond, not, ◌&&◌, ◌==◌, List, [], ◌∷◌, length, map, Option, Some, None, Ok, Err, Result, refl, ap, sym, arith, slice_get, inl, inr}
 use Rattle.std.specs.Prelude.{All, IfOk, filter}
-use Rattle.std.specs.List.{cons_option, enumerate_from, filter_map, find, list_all, zip}
+use Rattle.std.specs.List.{cons_option, enumerate_from, find, list_all, zip}
 use Rattle.std.specs.Option.{is_some, option_and_then, option_map, option_map_or}
 use Rattle.std.proofs.lemmas.Bool.{eqb-true}
 use Rattle.std.proofs.lemmas.List.Elements.{All-cons, All-nil}
@@ -17,7 +17,7 @@ use Rattle.beas_core.specs.Results.{IsRefusedAs}
 use Rattle.beas_core.proofs.Sets.{Has, Has-filter}
 use Rattle.catalogue.specs.Database.{RowFits, has_kind}
 use Rattle.csv_load.specs.Fields.{cell, integer_in, names, short_text_in}
-use Rattle.csv_load.specs.CsvRows.{Record, bad_column, column_of, fault_in, fault_of, fault_under, first_fault, first_some, in_file_order, is_bad, is_header, place_of, records_of, row_in, rows_in, rows_under, the_only, value_in}
+use Rattle.csv_load.specs.CsvRows.{Record, bad_column, column_of, fault_in, fault_of, fault_under, first_fault, first_some, in_file_order, is_bad, place_of, records_of, row_in, rows_in, rows_under, the_only, value_in}
 
 -- a field's value has the column's kind
 cell_kind : (longest : ℕ) (kind : ColType) (field : List ℕ) (v : Value) → cell longest kind field ≡ Some v → has_kind kind v ≡ true
@@ -32,7 +32,7 @@ cell_kind longest Words field v e = by (short_text_in longest field) e
     by None h = cc
     by (Some t) h = let same : v ≡ Str t = cc in ap (has_kind Words) same
 
-only_has : {X : Type 0} (xs : List X) (d x : X) → the_only xs ≡ Some d → Has xs x → x ≡ d
+pub only_has : {X : Type 0} (xs : List X) (d x : X) → the_only xs ≡ Some d → Has xs x → x ≡ d
 only_has [] d x e h = absurd h
 only_has (y ∷ []) d x e (inl s) = let same : y ≡ d = cc in s ∙ same
 only_has (y ∷ []) d x e (inr h) = absurd h
@@ -46,7 +46,7 @@ record IsNamed (column : Column) (fields : Record) (first place : ℕ) : Type 0 
   pub there : slice_get fields at ≡ Some field
   pub names_it : names field column ≡ true
 
-abbrev places : Column → ℕ → Record → List ℕ
+abbrev pub places : Column → ℕ → Record → List ℕ
 places column first fields = map (λ p. p.0) (filter (λ p. names p.1 column) (enumerate_from first fields))
 
 named : (column : Column) (fields : Record) (first place : ℕ) → the_only (places column first fields) ≡ Some place → IsNamed column fields first place
@@ -116,12 +116,12 @@ module _ (longest : ℕ) (columns : List Column) where
           next column field fields (is_bad longest column field) is refl known (omega (arith, width)) good place e others
 
   module _ (header : Record) (known : all_known header ≡ true) where
-    record HasValue (fields : Record) (column : Column) : Type 0 where
+    pub record HasValue (fields : Record) (column : Column) : Type 0 where
       pub value : Value
       pub is : value_in longest header fields column ≡ Some value
       pub kind : has_kind column.kind value ≡ true
 
-    value_is : (fields : Record) → length fields ≡ length (in_file_order columns header)
+    pub value_is : (fields : Record) → length fields ≡ length (in_file_order columns header)
         → bad_column longest (in_file_order columns header) fields ≡ None
         → (column : Column) → Has columns column → is_some (place_of header column) ≡ true → HasValue fields column
     value_is fields width good column has there = by (place_of header column) refl there

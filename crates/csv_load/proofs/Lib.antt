@@ -3,3 +3,4 @@ pub mod FitFacts
 pub mod HeaderFacts
 pub mod RecordFacts
 pub mod RowFacts
+pub mod SlotFacts

@@ -1,17 +1,19 @@
 -- How the code keeps a header: the columns in the file's order, and for each column of the table its place.
 --     slots_of columns header              each column's place in a record and its kind
 --     row_of_slots longest slots fields    the row of a record
+--     has_values longest slots fields      the record has a value in each slot
+--     SlotsTell longest layout             of a record of the layout's width this is so where none of its fields is bad
 --     IsLayout columns header layout       the header fits, and the layout is its
-use Rattle.std.specs.Prelude.{◌≡◌, ℕ, true, List, map, slice_get, Option}
+use Rattle.std.specs.Prelude.{◌≡◌, Bool, not, ℕ, true, List, length, map, slice_get, Option}
 use Rattle.std.proofs.Common.{Bor}
-use Rattle.std.specs.List.{filter_map}
-use Rattle.std.specs.Option.{option_and_then, option_map}
+use Rattle.std.specs.List.{filter_map, list_all}
+use Rattle.std.specs.Option.{is_some, option_and_then, option_map}
 use Rattle.beas_core.specs.declared.value.Value.{Value}
 use Rattle.beas_core.specs.declared.schema.Column.{Column}
 use Rattle.csv_load.specs.declared.header.Layout.{Layout}
 use Rattle.csv_load.specs.declared.header.Slot.{Slot}
 use Rattle.csv_load.specs.Fields.{cell}
-use Rattle.csv_load.specs.CsvRows.{Record, in_file_order, is_header, place_of}
+use Rattle.csv_load.specs.CsvRows.{Record, bad_column, in_file_order, is_header, place_of}
 
 -- columns that are lent
 abbrev pub the_columns : List (Bor Column) → List Column
@@ -28,6 +30,14 @@ value_at longest fields slot = option_and_then (cell longest slot.kind) (slice_g
 
 abbrev pub row_of_slots : ℕ → List Slot → Record → List Value
 row_of_slots longest slots fields = filter_map (value_at longest fields) slots
+
+abbrev pub has_values : ℕ → List Slot → Record → Bool
+has_values longest slots fields = list_all (λ slot. is_some (value_at longest fields slot)) slots
+
+abbrev pub SlotsTell : ℕ → Layout → Type 0
+SlotsTell longest layout =
+    (fields : Record) → length fields ≡ length layout.in_file.items
+    → has_values longest layout.slots.items fields ≡ not (is_some (bad_column longest (the_columns layout.in_file.items) fields))
 
 pub record IsLayout (columns : List Column) (header : Record) (layout : Layout) : Type 0 where
   pub fits : is_header columns header ≡ true

@@ -1,10 +1,10 @@
 // The rows of the records under a header.
-ghost use Rattle.std.specs.Prelude.{◌≡◌, ◌≤◌, ◌<◌, ◌+◌, ◌^◌, not, None, false, map, length, slice_get, option_map, All, IfOk};
+ghost use Rattle.std.specs.Prelude.{◌≡◌, ◌≤◌, ◌<◌, ◌+◌, ◌^◌, not, None, false, true, map, length, slice_get, option_map, All, IfOk, MatchOption};
 ghost use Rattle.std.specs.Option.{is_some, option_and_then, option_map_or};
 ghost use Rattle.csv.specs.Records.{fields_of};
 ghost use Rattle.csv_load.specs.Fields.{cell};
 ghost use Rattle.csv_load.specs.CsvRows.{is_bad, bad_column, fault_in, fault_under, fault_of, rows_in};
-ghost use Rattle.csv_load.specs.Layouts.{row_of_slots, the_columns, value_at as value_in_slot};
+ghost use Rattle.csv_load.specs.Layouts.{SlotsTell, has_values, row_of_slots, the_columns, value_at as value_in_slot};
 ghost use Rattle.beas_core.specs.Results.{IsRefusedAs};
 ghost use Rattle.catalogue.specs.Database.{RowFits};
 ghost use Rattle.csv_load.specs.Reading.{weight};
@@ -54,21 +54,26 @@ fn value_at(
     }
 }
 
+/// The row of a record, where it has a value in each slot.
 fn values_of(
     alloc: Global,
     slots: &[Slot],
     fields: &ByteRecord,
     longest: u32,
-) -> Result<Row, NoMemory>
-    ensures { IfOk result (λ row. row ≡ row_of_slots longest slots.now (fields_of fields.now)) }
+) -> Result<Option<Row>, NoMemory>
+    ensures { IfOk result (λ found. MatchOption found
+        (has_values longest slots.now (fields_of fields.now) ≡ false)
+        (λ row. (has_values longest slots.now (fields_of fields.now) ≡ true)
+        × (row ≡ row_of_slots longest slots.now (fields_of fields.now)))) }
 {
     let mut values = Vec::with_capacity(alloc, slots.len())?;
     for slot in slots {
-        if let Some(value) = value_at(alloc, slot, fields, longest)? {
-            values.push(value)?;
+        match value_at(alloc, slot, fields, longest)? {
+            Some(value) => values.push(value)?,
+            None => return Ok(None),
         }
     }
-    Ok(List::from_vec(values))
+    Ok(Some(List::from_vec(values)))
 }
 
 /// The row of record `nth`.
@@ -81,6 +86,7 @@ fn row_of(
 ) -> Result<Row, Fail>
     requires few_columns { length layout.now.in_file.items < 2 ^ 32 }
     requires few_fields { length (fields_of fields.now) < 2 ^ 32 }
+    requires slots { SlotsTell longest layout.now }
     ensures rows { IfOk result (λ row. row ≡ row_of_slots longest layout.now.slots.items (fields_of fields.now)) }
     ensures refused { IsRefusedAs result
         (fault_in longest (the_columns layout.now.in_file.items) nth (fields_of fields.now)) }
@@ -94,11 +100,17 @@ fn row_of(
             wanted: wanted as u32,
         }));
     }
-    if let Some(column) = bad_column(layout.in_file.as_slice(), fields, longest) {
-        let column = column.name.copy(alloc)?;
-        return Err(Fail::Refused(Refusal::BadField { nth, column }));
+    // the fields are read by the slots, once each; only a record without a row is looked through in the file's order
+    if let Some(row) = values_of(alloc, layout.slots.as_slice(), fields, longest)? {
+        return Ok(row);
     }
-    Ok(values_of(alloc, layout.slots.as_slice(), fields, longest)?)
+    match bad_column(layout.in_file.as_slice(), fields, longest) {
+        Some(column) => {
+            let column = column.name.copy(alloc)?;
+            Err(Fail::Refused(Refusal::BadField { nth, column }))
+        }
+        None => unreachable!(),
+    }
 }
 
 /// The rows of all records that are left. They are numbered from 1.
@@ -110,6 +122,7 @@ fn rows_left(
 ) -> Result<List<Row>, Fail>
     requires few { weight records.old < 2 ^ 32 }
     requires room { length layout.now.in_file.items + weight records.old ≤ 2 ^ 32 }
+    requires slots { SlotsTell longest layout.now }
     ensures rows { IfOk result (λ rows. rows ≡ map (row_of_slots longest layout.now.slots.items) records.old) }
     ensures refused { IsRefusedAs result (fault_under longest (the_columns layout.now.in_file.items) records.old) }
 {

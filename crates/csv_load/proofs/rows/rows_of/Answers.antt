@@ -7,6 +7,7 @@ use Rattle.csv_load.specs.Layouts.{IsLayout}
 use Rattle.csv_load.specs.Reading.{weight}
 use Rattle.csv_load.proofs.FitFacts.{rows_fit}
 use Rattle.csv_load.proofs.RowFacts.{no_header, other_header, fault_is, rows_are, room}
+use Rattle.csv_load.proofs.SlotFacts.{layout_tells}
 use Rattle.csv_load.proofs.rows.rows_of.Goals as goal
 
 at_false : (b : Bool) (P Q : Type 0) → b ≡ false → MatchBool b P Q → Q
@@ -55,6 +56,13 @@ rows_left-requires-clause-room c =
       room c.args.limits.now.text c.args.columns.now c.args.bytes.now (fields_of c.read.new.fields) c.read.new.self all c.in-Some.layout
           l w,
     )
+
+pub rows_left-requires-clause-slots : goal.rows_left-requires-clause-slots
+rows_left-requires-clause-slots c =
+    let l : IsLayout c.args.columns.now (fields_of c.read.new.fields) c.in-Some.layout =
+    subst (λ columns. IsLayout columns (fields_of c.read.new.fields) c.in-Some.layout) c.as_slice.ensures
+    (at_some c.in_ok-layout.field-0 c.in-Some.layout _ _ c.in-Some.is c.in_ok-layout.ensures) in
+    layout_tells c.args.limits.now.text c.args.columns.now (fields_of c.read.new.fields) c.in-Some.layout l
 
 pub returns-clause-rows : goal.returns-clause-rows
 returns-clause-rows c =
