@@ -101,6 +101,11 @@ impl Rows {
             return Err(too_many(limit));
         }
         let mut moved = mem::replace(rows, List::new(alloc)).into_vec();
+        // the first rows of a table stay where they are: to move them would take a second list as long as theirs
+        if len == 0 {
+            self.rows = moved;
+            return Ok(());
+        }
         let outcome = self.rows.append(&mut moved);
         *rows = List::from_vec(moved);
         outcome?;
