@@ -1,5 +1,5 @@
 // One field of a record.
-ghost use Rattle.std.specs.Prelude.{◌≡◌, IfOk, option_map, slice_get};
+ghost use Rattle.std.specs.Prelude.{◌≡◌, Some, IfOk, IfSome, option_map, slice_get};
 ghost use Rattle.std.specs.Option.{is_some};
 ghost use Rattle.csv.specs.Records.{fields_of};
 ghost use Rattle.csv_load.specs.Fields.{names, integer_in, text_in, short_text_in, cell};
@@ -41,9 +41,33 @@ fn text_in(bytes: &[u8]) -> Option<&str>
     }
 }
 
+/// The most that one digit more is put behind, so that the number stays far below 2 to the 63.
+const MOST: u64 = 100_000_000_000_000_000;
+
+/// The number of digits alone, where they are few enough. None doesn't say that the field is no integer.
+fn few_digits(field: &[u8]) -> Option<i64>
+    ensures { IfSome result (λ number. integer_in field.now ≡ Some number) }
+{
+    if field.is_empty() {
+        return None;
+    }
+    let mut number: u64 = 0;
+    for digit in field {
+        if !digit.is_ascii_digit() || number > MOST {
+            return None;
+        }
+        number = number * 10 + u64::from(*digit - b'0');
+    }
+    Some(number as i64)
+}
+
+/// The integer that the field is. Most are digits alone: to read these as a text and then by `parse` takes longer.
 fn integer_of(field: &[u8]) -> Option<i64>
     ensures { result ≡ integer_in field.now }
 {
+    if let Some(number) = few_digits(field) {
+        return Some(number);
+    }
     match text_in(field) {
         Some(text) => number_of(text),
         None => None,
