@@ -92,8 +92,7 @@ pub fn start(alloc: Global, block: &Normal) -> Result<Valuations, NoMemory>
         ≡ valued_rows block.now (constant_classes block.now) (starts block.now None)) }
 {
     let constants = block.constants.as_slice();
-    let equated = classes_equated(alloc, constants)?;
-    let list = ClassList::of(block, &equated);
+    let list = ClassList::of_constants(block, constants);
     let places = first_positions(alloc, block.count, &list)?;
     let classes = classes_of(alloc, block, &places, &list)?;
     let mut rows = Vec::new(alloc);

@@ -6,17 +6,19 @@ ghost use Rattle.beas_core.specs.Valuations.{classes_in};
 ghost use Rattle.plan_ops.specs.Over.{set_of};
 ghost use Rattle.plan_ops.specs.Places.{place_of, places_in};
 
-use beas_core::{ColumnId, List, NoMemory, Normal, class_at};
+use beas_core::{ColumnId, List, NoMemory, Normal, Value, class_at};
 use std::alloc::Global;
 use std::marker::Model;
 
-/// Classes in any order, some of which may be equal: some that are given, and then those of some columns of an atom.
+/// Classes in any order, some of which may be equal: some that are given, then those of some columns of an atom, and then those
+/// of some constants.
 #[derive(Drop)]
 pub struct ClassList<'a> {
     block: &'a Normal,
     classes: &'a [u16],
     atom: u16,
     columns: &'a [ColumnId],
+    constants: &'a [(u16, Value)],
 }
 
 impl<'a> Model for ClassList<'a> {
@@ -25,7 +27,8 @@ impl<'a> Model for ClassList<'a> {
 
     ghost Value = { List ℕ };
 
-    ghost view = { λ s. s.classes.now ++ map (class_of_column s.block.now s.atom) s.columns.now };
+    ghost view = { λ s. s.classes.now ++ map (class_of_column s.block.now s.atom) s.columns.now
+        ++ map (λ c. c.0) s.constants.now };
 }
 
 impl<'a> ClassList<'a> {
@@ -38,6 +41,20 @@ impl<'a> ClassList<'a> {
             classes,
             atom: 0,
             columns: &[],
+            constants: &[],
+        }
+    }
+
+    /// The classes of constants. The list isn't made.
+    pub fn of_constants(block: &'a Normal, constants: &'a [(u16, Value)]) -> ClassList<'a>
+        ensures { result ≡ map (λ c. c.0) constants.now }
+    {
+        ClassList {
+            block,
+            classes: &[],
+            atom: 0,
+            columns: &[],
+            constants,
         }
     }
 
@@ -55,13 +72,14 @@ impl<'a> ClassList<'a> {
             classes,
             atom,
             columns,
+            constants: &[],
         }
     }
 
     pub fn len(&self) -> usize
         ensures { result ≡ length self.now }
     {
-        self.classes.len() + self.columns.len()
+        self.classes.len() + self.columns.len() + self.constants.len()
     }
 
     /// The class at a place.
@@ -70,9 +88,13 @@ impl<'a> ClassList<'a> {
         ensures { result ≡ slice_index_or self.now at 0 }
     {
         if at < self.classes.len() {
-            self.classes[at]
+            return self.classes[at];
+        }
+        let at = at - self.classes.len();
+        if at < self.columns.len() {
+            class_at(self.block, self.atom, self.columns[at])
         } else {
-            class_at(self.block, self.atom, self.columns[at - self.classes.len()])
+            self.constants[at - self.columns.len()].0
         }
     }
 }

@@ -13,17 +13,17 @@ firsts cs = map (λ b. b.0) cs
 
 pub first_positions-requires : goal.first_positions-requires
 first_positions-requires c =
-    let is = c.of-list.ensures ∙ c.deref.ensures.value ∙ c.in_ok-equated.ensures ∙ ap firsts c.as_slice-constants.ensures in
+    let is = c.of_constants-list.ensures ∙ ap firsts c.as_slice-constants.ensures in
     subst (All (λ class. class < c.args.block.now.count)) (sym is) (constants_small c.args.block.now.count c.args.block.now.constants c.requires)
 
 pub classes_of-requires-clause-classes : goal.classes_of-requires-clause-classes
 classes_of-requires-clause-classes c =
-    let is = c.of-list.ensures ∙ c.deref.ensures.value ∙ c.in_ok-equated.ensures ∙ ap firsts c.as_slice-constants.ensures in
+    let is = c.of_constants-list.ensures ∙ ap firsts c.as_slice-constants.ensures in
     subst (All (λ class. class < c.args.block.now.count)) (sym is) (constants_small c.args.block.now.count c.args.block.now.constants c.requires)
 
 pub push_constant_row-requires-clause-classes : goal.push_constant_row-requires-clause-classes
 push_constant_row-requires-clause-classes c =
-    let is = c.of-list.ensures ∙ c.deref.ensures.value ∙ c.in_ok-equated.ensures ∙ ap firsts c.as_slice-constants.ensures in
+    let is = c.of_constants-list.ensures ∙ ap firsts c.as_slice-constants.ensures in
     let set = set_of c.args.block.now (firsts c.args.block.now.constants) in
     let classes = c.as_slice.ensures ∙ c.in_ok-classes.ensures ∙ ap (λ cs. classes_in (set_of c.args.block.now cs)) is in
     subst (All (λ class. class < c.args.block.now.count)) (sym classes)
@@ -31,7 +31,7 @@ push_constant_row-requires-clause-classes c =
 
 pub push_constant_row-requires-clause-equated : goal.push_constant_row-requires-clause-equated
 push_constant_row-requires-clause-equated c =
-    let is = c.of-list.ensures ∙ c.deref.ensures.value ∙ c.in_ok-equated.ensures ∙ ap firsts c.as_slice-constants.ensures in
+    let is = c.of_constants-list.ensures ∙ ap firsts c.as_slice-constants.ensures in
     let classes = c.as_slice.ensures ∙ c.in_ok-classes.ensures ∙ ap (λ cs. classes_in (set_of c.args.block.now cs)) is in
     subst (λ (cs : List Binding). All (λ class. place_of (firsts cs) class < length cs) c.as_slice.result.now) (sym c.as_slice-constants.ensures)
     (subst (All (λ class. place_of (firsts c.args.block.now.constants) class < length c.args.block.now.constants)) (sym classes)
@@ -39,7 +39,7 @@ push_constant_row-requires-clause-equated c =
 
 pub keep-requires : goal.keep-requires
 keep-requires c =
-    let is = c.of-list.ensures ∙ c.deref.ensures.value ∙ c.in_ok-equated.ensures ∙ ap firsts c.as_slice-constants.ensures in
+    let is = c.of_constants-list.ensures ∙ ap firsts c.as_slice-constants.ensures in
     let set = set_of c.args.block.now (firsts c.args.block.now.constants) in
     let classes = c.in_ok-classes.ensures ∙ ap (λ cs. classes_in (set_of c.args.block.now cs)) is in
     let one = if agrees c.as_slice-constants.result.now then map (value_of c.as_slice-constants.result.now) c.as_slice.result.now ∷ [] else [] in
@@ -55,7 +55,7 @@ keep-requires c =
 pub returns-clause-rows : goal.returns-clause-rows
 returns-clause-rows c =
     let constants = c.args.block.now.constants in
-    let is = c.of-list.ensures ∙ c.deref.ensures.value ∙ c.in_ok-equated.ensures ∙ ap firsts c.as_slice-constants.ensures in
+    let is = c.of_constants-list.ensures ∙ ap firsts c.as_slice-constants.ensures in
     let set = set_of c.args.block.now (firsts constants) in
     let classes = c.in_ok-classes.ensures ∙ ap (λ cs. classes_in (set_of c.args.block.now cs)) is in
     let one = if agrees c.as_slice-constants.result.now then map (value_of c.as_slice-constants.result.now) c.as_slice.result.now ∷ [] else [] in
