@@ -83,13 +83,13 @@ fn own_meets<P: AccessPort>(
     own: Own,
 ) -> bool
     requires hits { HitsAre (P.accesses port.now) (P.stands port.now) (P.members port.now) hits.now }
-    requires columns { stage.now.join.columns.items ≡ member_columns (access_in (P.accesses port.now) hits.now.access) }
+    requires columns { stage.now.join.picked.0 ≡ member_columns (access_in (P.accesses port.now) hits.now.access) }
     requires member { i < hits.now.len }
-    requires own { IsOwn block.now stage.now.atom stage.now.join.columns.items own }
+    requires own { IsOwn block.now stage.now.atom stage.now.join.picked.0 own }
     ensures { result ≡ is_met_alone block.now (slice_index_or (P.members port.now hits.now) i []) own }
 {
     let comparison = &block.comparisons.as_slice()[own.number];
-    let columns = &stage.join.columns;
+    let columns = stage.join.picked.tuple();
     let left = value_at(port, columns, hits, i, own.left);
     match &comparison.right {
         Operand::Fixed(fixed) => sign_holds(comparison.sign, compare(left, fixed)),
@@ -103,9 +103,9 @@ fn own_meets<P: AccessPort>(
 // Whether a tuple that a probe found passes the sieve of its step.
 fn passes<P: AccessPort>(port: &P, block: &Normal, stage: &Stage, hits: &Hits, i: u32) -> bool
     requires hits { HitsAre (P.accesses port.now) (P.stands port.now) (P.members port.now) hits.now }
-    requires columns { stage.now.join.columns.items ≡ member_columns (access_in (P.accesses port.now) hits.now.access) }
+    requires columns { stage.now.join.picked.0 ≡ member_columns (access_in (P.accesses port.now) hits.now.access) }
     requires member { i < hits.now.len }
-    requires own { All (IsOwn block.now stage.now.atom stage.now.join.columns.items) stage.now.sieve.own.items }
+    requires own { All (IsOwn block.now stage.now.atom stage.now.join.picked.0) stage.now.sieve.own.items }
     ensures { result ≡ passes_by block.now stage.now.sieve (slice_index_or (P.members port.now hits.now) i []) }
 {
     for own in &stage.sieve.own {
@@ -129,14 +129,14 @@ fn push_kept<P: AccessPort>(
     values: &mut Vec<Value>,
 ) -> Result<usize, NoMemory>
     requires hits { HitsAre (P.accesses port.now) (P.stands port.now) (P.members port.now) hits.now }
-    requires columns { stage.now.join.columns.items ≡ member_columns (access_in (P.accesses port.now) hits.now.access) }
-    requires own { All (IsOwn block.now stage.now.atom stage.now.join.columns.items) stage.now.sieve.own.items }
-    requires width { length key.now ≤ length stage.now.join.columns.items }
+    requires columns { stage.now.join.picked.0 ≡ member_columns (access_in (P.accesses port.now) hits.now.access) }
+    requires own { All (IsOwn block.now stage.now.atom stage.now.join.picked.0) stage.now.sieve.own.items }
+    requires width { length key.now ≤ length stage.now.join.picked.0 }
     requires begins { All (λ tuple. take (length key.now) tuple ≡ key.now) (P.members port.now hits.now) }
-    ensures { IfOk result (Pushed (length stage.now.join.columns.items) values.old.items values.new.items
+    ensures { IfOk result (Pushed (length stage.now.join.picked.0) values.old.items values.new.items
         (sieved block.now stage.now.sieve one (P.members port.now hits.now))) }
 {
-    let columns = &stage.join.columns;
+    let columns = stage.join.picked.tuple();
     let mut kept = 0;
     for i in 0..hits.len() {
         if passes(port, block, stage, hits, i) {
@@ -180,7 +180,7 @@ pub fn fetch<P: AccessPort, L: Ledger>(
     ensures found { let access = access_in (P.accesses port.now) id in
         IfOk result (λ gathered. gathered.found ≡ length (group_of (P.rows port.now access.table) access key.now)) }
     ensures kept { let access = access_in (P.accesses port.now) id in
-        IfOk result (λ gathered. Pushed (length stage.now.join.columns.items) values.old.items values.new.items
+        IfOk result (λ gathered. Pushed (length stage.now.join.picked.0) values.old.items values.new.items
         (sieved block.now stage.now.sieve one (group_of (P.rows port.now access.table) access key.now)) gathered.kept) }
     ensures cost { steps.new
         ≡ steps.old + probe_reads (P.rows port.now) (access_in (P.accesses port.now) id) key.now }

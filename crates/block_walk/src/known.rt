@@ -315,7 +315,7 @@ impl Known {
         self.spots.push(Spot {
             step,
             from,
-            width: stage.join.columns.len(),
+            width: stage.join.picked.width(),
             count: kept,
             key_width,
             index: None,

@@ -159,8 +159,8 @@ module _ (normal : Normal) (stage : Stage) (is : IsStage normal stage) where
   pub sources_counted : length stage.join.sources.items ≡ length stage.join.classes
   sources_counted = ap length is.join_is.sources_are ∙ length-map stage.join.classes (place_of (joined_classes normal u stage.from.value))
 
-  pub key_made : (v : Row) → length v ≡ length stage.from.value → project stage.picked.0 v ≡ key_by normal u set v
-  key_made v wide = ap (λ k. project k v) is.key_is
+  pub key_made : (v : Row) → length v ≡ length stage.from.value → project stage.join.picked.1.0 v ≡ key_by normal u set v
+  key_made v wide = ap (λ k. project k v) is.join_is.key_is
       ∙ picked_values set stage.from.value (class_at normal stage.atom) stage.access.value.key v is.from_are wide
 
   pub output_settled : stage.settled ≡ true → (v t : Row) → length v ≡ length stage.from.value
@@ -195,10 +195,10 @@ module _ (normal : Normal) (stage : Stage) (is : IsStage normal stage) where
     pair_shares e = shared_agree stage.join.checks.items stage.join.shared (length stage.from.value) is.join_is.sharing.shared_are is.join_is.sharing.behind v t pair.wide
         (pair_joined.0 ∙ and_left (agrees (joined_bindings normal u set v t)) (meets_bound normal after (joined_row normal u set v t)) e)
 
-    pub output_made : project stage.picked.1 (joined_by stage.join.sources.items v t) ≡ output_row normal after (joined_row normal u set v t)
+    pub output_made : project stage.join.picked.1.1 (joined_by stage.join.sources.items v t) ≡ output_row normal after (joined_row normal u set v t)
     output_made =
         let r = joined_by stage.join.sources.items v t in
-        ap (λ cs. project cs r) is.output_is
+        ap (λ cs. project cs r) is.join_is.output_is
         ∙ picked_values after stage.join.classes (place_class normal) normal.output r is.join_is.classes_are
         (length-map stage.join.sources.items (at_place v t) ∙ sources_counted)
         ∙ ap (output_row normal after) pair_joined.1

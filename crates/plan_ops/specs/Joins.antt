@@ -18,13 +18,13 @@ use Rattle.beas_core.specs.Types.{Row, TableRows, Use}
 use Rattle.beas_core.specs.Found.{Found}
 use Rattle.beas_core.specs.Full.{same_value}
 use Rattle.beas_core.specs.Groups.{group_of, member_columns, value_in}
-use Rattle.beas_core.specs.Coverage.{with_classes}
+use Rattle.beas_core.specs.Coverage.{class_at, place_class, with_classes}
 use Rattle.beas_core.specs.Derivations.{access_in, is_live, member_classes}
 use Rattle.beas_core.specs.Valuations.{classes_in}
 use Rattle.plan_ops.specs.declared.joining.Join.{Join}
 use Rattle.plan_ops.specs.Matching.{IsShared}
 use Rattle.plan_ops.specs.Over.{set_of}
-use Rattle.plan_ops.specs.Places.{place_of}
+use Rattle.plan_ops.specs.Places.{column_of, place_of}
 
 pub record IsTuple (columns : List ColumnId) (tuple : Row) : Type 0 where
   pub wide : length tuple ≡ length columns
@@ -78,7 +78,9 @@ pub record IsSharing (width : ℕ) (join : Join) : Type 0 where
   pub shared_are : IsShared width join.checks.items join.shared
 
 pub record IsJoin (normal : Normal) (u : Use) (classes : List ℕ) (join : Join) : Type 0 where
-  pub columns_are : join.columns.items ≡ member_columns u.access
+  pub columns_are : join.picked.0 ≡ member_columns u.access
+  pub key_is : join.picked.1.0 ≡ map (λ c. column_of classes (class_at normal u.atom c)) u.access.key
+  pub output_is : join.picked.1.1 ≡ map (λ p. column_of join.classes (place_class normal p)) normal.output
   pub classes_are : join.classes ≡ classes_in (with_classes (set_of normal classes) (member_classes normal u))
   pub sources_are : join.sources.items ≡ map (place_of (joined_classes normal u classes)) join.classes
   pub checks_are : join.checks.items ≡ checks_of (length classes + length u.access.key) (joined_classes normal u classes)

@@ -11,7 +11,7 @@ use Rattle.beas_core.specs.declared.value.Value.TheVariants.{Int}
 use Rattle.beas_core.specs.declared.plan.Normal.{Normal}
 use Rattle.beas_core.specs.Types.{Row, ClassSet, Bindings, Use}
 use Rattle.beas_core.specs.Groups.{member_columns}
-use Rattle.beas_core.specs.Coverage.{class_at, place_class, with_classes, holds_classes, key_classes, output_classes}
+use Rattle.beas_core.specs.Coverage.{class_at, with_classes, holds_classes, key_classes, output_classes}
 use Rattle.beas_core.specs.Derivations.{member_classes}
 use Rattle.beas_core.specs.Valuations.{value_of, agrees, classes_in, as_bindings}
 use Rattle.beas_core.specs.Extensions.{meets_bound}
@@ -19,7 +19,6 @@ use Rattle.plan_ops.specs.declared.stages.Stage.{Stage}
 use Rattle.plan_ops.specs.Comparing.{sides_at}
 use Rattle.plan_ops.specs.Joins.{IsJoin}
 use Rattle.plan_ops.specs.Over.{set_of}
-use Rattle.plan_ops.specs.Places.{column_of}
 use Rattle.plan_ops.specs.Sieves.{IsSieve, is_plain}
 
 abbrev pub key_by : Normal → Use → ClassSet → Row → Row
@@ -55,10 +54,8 @@ set_before normal stage = set_of normal stage.from.value
 pub record IsStage (normal : Normal) (stage : Stage) : Type 0 where
   pub from_are : stage.from.value ≡ classes_in (set_before normal stage)
   pub key_held : IsTrue (holds_classes (set_before normal stage) (key_classes normal (use_at stage)))
-  pub key_is : stage.picked.0 ≡ map (λ c. column_of stage.from.value (class_at normal stage.atom c)) stage.access.value.key
   pub join_is : IsJoin normal (use_at stage) stage.from.value stage.join
   pub sides_are : stage.sides.items ≡ map (sides_at normal stage.join.classes) normal.comparisons
-  pub output_is : stage.picked.1 ≡ map (λ p. column_of stage.join.classes (place_class normal p)) normal.output
   pub settled_is : stage.settled ≡ holds_classes (set_before normal stage) (output_classes normal)
   pub sieve_is : IsSieve normal (set_before normal stage) stage.atom (member_columns stage.access.value)
       (is_plain stage.settled stage.join.checks.items) stage.sieve

@@ -1,6 +1,6 @@
 // One step: the valuations with the tuples that its probes find.
 ghost use Rattle.std.specs.Prelude.{◌≡◌, ◌+◌, ◌*◌, ◌<◌, ◌≤◌, ◌^◌, length, map, flat_map, sum_by, All, IfOk, IsTrue};
-ghost use Rattle.beas_core.specs.Coverage.{ClassesInRange, class_at};
+ghost use Rattle.beas_core.specs.Coverage.{ClassesInRange};
 ghost use Rattle.beas_core.specs.Derivations.{access_in, bound_by, is_live, key_is_bound};
 ghost use Rattle.beas_core.specs.Groups.{group_of, member_columns, project};
 ghost use Rattle.beas_core.specs.Order.{row_cmp};
@@ -9,12 +9,10 @@ ghost use Rattle.beas_core.specs.Sets.{distinct};
 ghost use Rattle.beas_core.specs.Extensions.{extensions};
 ghost use Rattle.plan_ops.specs.Joins.{IsJoin, IsSharing, IsWithin, joins};
 ghost use Rattle.plan_ops.specs.Over.{Counts, IsOver, bound_set};
-ghost use Rattle.plan_ops.specs.Places.{column_of};
 
 use crate::joining::{Join, join_of};
 use crate::matching::joined_rows;
 use crate::picking::distinct_values;
-use crate::places::columns_in;
 use crate::probing::groups_of;
 use crate::valuations::Valuations;
 use beas_core::{
@@ -39,22 +37,6 @@ fn join_of_step(
     join_of(alloc, block, step.atom, access, from.classes.as_slice())
 }
 
-// The columns of a step's key in valuations.
-fn key_of_step(
-    alloc: Global,
-    block: &Normal,
-    step: &DStep,
-    access: &Access,
-    from: &Valuations,
-) -> Result<Vec<ColumnId>, NoMemory>
-    requires { IsOver (bound_set block.now from.now) from.now }
-    ensures { IfOk result (λ key. key.items
-        ≡ map (λ c. column_of from.now.classes (class_at block.now step.now.atom c)) access.now.key) }
-{
-    let classes = from.classes.as_slice();
-    columns_in(alloc, block, classes, step.atom, access.key.as_slice())
-}
-
 // Each valuation with each tuple of its key's group that fits it, where these are the keys.
 fn rows_by_keys<P: AccessPort, L: Ledger>(
     alloc: Global,
@@ -71,8 +53,8 @@ fn rows_by_keys<P: AccessPort, L: Ledger>(
     requires least { 1 ≤ (access_in (P.accesses port.now) id).bound }
     requires widths { All (λ key. length key ≡ length (access_in (P.accesses port.now) id).key) keys.now }
     requires room { reads.old + length keys.now * (access_in (P.accesses port.now) id).bound < 2 ^ 128 }
-    requires columns { join.now.columns.items ≡ member_columns (access_in (P.accesses port.now) id) }
-    requires within { All (λ row. IsWithin (length row + length join.now.columns.items) join.now) rows.now }
+    requires columns { join.now.picked.0 ≡ member_columns (access_in (P.accesses port.now) id) }
+    requires within { All (λ row. IsWithin (length row + length join.now.picked.0) join.now) rows.now }
     requires sharing { All (λ row. IsSharing (length row) join.now) rows.now }
     requires bound { All (λ row. All (λ column. column.0 < length row) key.now) rows.now }
     requires keys { keys.now ≡ distinct row_cmp (map (project key.now) rows.now) }
@@ -104,8 +86,8 @@ fn rows_by_key<P: AccessPort, L: Ledger>(
     requires least { 1 ≤ (access_in (P.accesses port.now) id).bound }
     requires width { length key.now ≡ length (access_in (P.accesses port.now) id).key }
     requires room { reads.old + length rows.now * (access_in (P.accesses port.now) id).bound < 2 ^ 128 }
-    requires columns { join.now.columns.items ≡ member_columns (access_in (P.accesses port.now) id) }
-    requires within { All (λ row. IsWithin (length row + length join.now.columns.items) join.now) rows.now }
+    requires columns { join.now.picked.0 ≡ member_columns (access_in (P.accesses port.now) id) }
+    requires within { All (λ row. IsWithin (length row + length join.now.picked.0) join.now) rows.now }
     requires sharing { All (λ row. IsSharing (length row) join.now) rows.now }
     requires bound { All (λ row. All (λ column. column.0 < length row) key.now) rows.now }
 
@@ -164,9 +146,9 @@ pub fn extend<P: AccessPort, L: Ledger>(
 {
     let access = port.access(step.access);
     let join = join_of_step(alloc, block, step, access, from)?;
-    let key = key_of_step(alloc, block, step, access, from)?;
+    let key = join.picked.key();
     let rows = from.rows.as_slice();
-    let found = rows_by_key(alloc, port, step.access, &join, &key, rows, reads, steps)?;
+    let found = rows_by_key(alloc, port, step.access, &join, key, rows, reads, steps)?;
     Ok(Valuations {
         classes: join.classes,
         rows: List::from_vec(sort_distinct(found)),

@@ -97,9 +97,9 @@ fn push_if_fits<P: AccessPort>(
     found: &mut Vec<Row>,
 ) -> Result<(), NoMemory>
     requires hits { HitsAre (P.accesses port.now) (P.stands port.now) (P.members port.now) hits.now }
-    requires columns { join.now.columns.items ≡ member_columns (access_in (P.accesses port.now) hits.now.access) }
+    requires columns { join.now.picked.0 ≡ member_columns (access_in (P.accesses port.now) hits.now.access) }
     requires member { i < hits.now.len }
-    requires within { IsWithin (length row.now + length join.now.columns.items) join.now }
+    requires within { IsWithin (length row.now + length join.now.picked.0) join.now }
     ensures { OnOk result (found.new.items ≡ found.old.items
         ++ joins join.now.sources.items join.now.checks.items row.now (slice_index_or (P.members port.now hits.now) i [] ∷ [])) }
 {
@@ -118,13 +118,13 @@ fn run_of<'a, P: AccessPort>(
     order: &'a TupleOrder,
 ) -> &'a [usize]
     requires hits { HitsAre (P.accesses port.now) (P.stands port.now) (P.members port.now) hits.now }
-    requires columns { join.now.columns.items ≡ member_columns (access_in (P.accesses port.now) hits.now.access) }
+    requires columns { join.now.picked.0 ≡ member_columns (access_in (P.accesses port.now) hits.now.access) }
     requires order { IsOrder join.now.shared.tuple.items (P.members port.now hits.now) order.now }
     ensures { let shared = join.now.shared in
         IsRun shared.tuple.items (P.members port.now hits.now) (values_at shared.row.items row.now) 0 result.now }
 {
     let zero = Value::Int(0);
-    let columns = join.columns.as_slice();
+    let columns = join.picked.tuple();
     let value = |i: usize, place: usize|
         requires hits { HitsAre (P.accesses port.now) (P.stands port.now) (P.members port.now) hits.now }
         requires columns { columns.now ≡ member_columns (access_in (P.accesses port.now) hits.now.access) }
@@ -147,8 +147,8 @@ pub fn push_from_group<P: AccessPort>(
     found: &mut Vec<Row>,
 ) -> Result<(), NoMemory>
     requires hits { HitsAre (P.accesses port.now) (P.stands port.now) (P.members port.now) hits.now }
-    requires columns { join.now.columns.items ≡ member_columns (access_in (P.accesses port.now) hits.now.access) }
-    requires within { IsWithin (length row.now + length join.now.columns.items) join.now }
+    requires columns { join.now.picked.0 ≡ member_columns (access_in (P.accesses port.now) hits.now.access) }
+    requires within { IsWithin (length row.now + length join.now.picked.0) join.now }
     requires sharing { IsSharing (length row.now) join.now }
     requires index { IsIndexed join.now.shared.tuple.items (P.members port.now hits.now) index.now }
     ensures { OnOk result (found.new.items

@@ -8,6 +8,7 @@ ghost use Rattle.plan_ops.specs.Matching.{IsShared};
 ghost use Rattle.plan_ops.specs.Over.{set_of};
 ghost use Rattle.plan_ops.specs.Places.{places_in};
 
+use crate::picked::Picked;
 use crate::tables::{ClassList, classes_of, first_positions, positions_held};
 use beas_core::{Access, ColumnId, List, NoMemory, Normal};
 use std::alloc::Global;
@@ -22,8 +23,8 @@ pub struct Shared {
 /// What is worked out once for a step. A joined row is a valuation and then a tuple, and places are places of it.
 #[derive(Drop)]
 pub struct Join {
-    /// The columns of a tuple.
-    pub columns: Vec<ColumnId>,
+    /// The columns of a tuple, those of the step's key in the valuation, and those of the block's output after the step.
+    pub picked: Picked,
     /// The classes that are bound after the step, ascending.
     pub classes: List<u16>,
     /// Where the value of each of these classes stands.
@@ -46,11 +47,13 @@ fn push_columns(columns: &[ColumnId], to: &mut Vec<ColumnId>)
     }
 }
 
-/// The columns of a tuple of a constraint.
-pub fn columns_of(alloc: Global, access: &Access) -> Result<Vec<ColumnId>, NoMemory>
+// The columns of a tuple of a constraint, with room for as many more as its key and the block's output have.
+fn columns_of(alloc: Global, block: &Normal, access: &Access) -> Result<Vec<ColumnId>, NoMemory>
     ensures { IfOk result (λ columns. columns.items ≡ member_columns access.now) }
 {
-    let count = access.key.len().saturating_add(access.fetched.len());
+    let more = access.key.len().saturating_add(block.output.len());
+    let own = access.key.len().saturating_add(access.fetched.len());
+    let count = own.saturating_add(more);
     let mut columns = Vec::with_capacity(alloc, count)?;
     push_columns(access.key.as_slice(), &mut columns);
     push_columns(access.fetched.as_slice(), &mut columns);
@@ -110,7 +113,7 @@ pub fn join_of(
     requires classes { classes.now ≡ classes_in (set_of block.now classes.now) }
     ensures { IfOk result (IsJoin block.now (record { atom = atom; access = access.now }) classes.now) }
 {
-    let columns = columns_of(alloc, access)?;
+    let columns = columns_of(alloc, block, access)?;
     let joined = ClassList::with_columns(block, classes, atom, &columns);
     let width = joined.len();
     let places = first_positions(alloc, block.count, &joined)?;
@@ -119,8 +122,10 @@ pub fn join_of(
     let shared = shared_of(alloc, &checks, classes.len())?;
     let bound = classes_of(alloc, block, &places, &joined)?;
     let sources = positions_held(places, width);
+    let after = bound.as_slice();
+    let picked = Picked::of(columns, block, classes, after, atom, access.key.as_slice())?;
     Ok(Join {
-        columns,
+        picked,
         classes: bound,
         sources,
         checks,

@@ -62,13 +62,13 @@ fn is_same<P: AccessPort>(
 /// Whether a tuple fits the valuation.
 pub fn fits<P: AccessPort>(port: &P, join: &Join, row: &[Value], hits: &Hits, i: u32) -> bool
     requires hits { HitsAre (P.accesses port.now) (P.stands port.now) (P.members port.now) hits.now }
-    requires columns { join.now.columns.items ≡ member_columns (access_in (P.accesses port.now) hits.now.access) }
+    requires columns { join.now.picked.0 ≡ member_columns (access_in (P.accesses port.now) hits.now.access) }
     requires member { i < hits.now.len }
-    requires within { IsWithin (length row.now + length join.now.columns.items) join.now }
+    requires within { IsWithin (length row.now + length join.now.picked.0) join.now }
     ensures { result ≡ fits_by join.now.checks.items row.now (slice_index_or (P.members port.now hits.now) i []) }
 {
     for check in &join.checks {
-        if !is_same(port, &join.columns, row, hits, i, *check) {
+        if !is_same(port, join.picked.tuple(), row, hits, i, *check) {
             return false;
         }
     }
@@ -85,15 +85,15 @@ pub fn joined_row<P: AccessPort>(
     i: u32,
 ) -> Result<Row, NoMemory>
     requires hits { HitsAre (P.accesses port.now) (P.stands port.now) (P.members port.now) hits.now }
-    requires columns { join.now.columns.items ≡ member_columns (access_in (P.accesses port.now) hits.now.access) }
+    requires columns { join.now.picked.0 ≡ member_columns (access_in (P.accesses port.now) hits.now.access) }
     requires member { i < hits.now.len }
-    requires within { IsWithin (length row.now + length join.now.columns.items) join.now }
+    requires within { IsWithin (length row.now + length join.now.picked.0) join.now }
     ensures { IfOk result (λ joined. joined
         ≡ joined_by join.now.sources.items row.now (slice_index_or (P.members port.now hits.now) i [])) }
 {
     let mut joined = Vec::with_capacity(alloc, join.sources.len())?;
     for place in &join.sources {
-        let value = value_at(port, &join.columns, row, hits, i, *place);
+        let value = value_at(port, join.picked.tuple(), row, hits, i, *place);
         joined.push_reserved(value.copy(alloc)?);
     }
     Ok(List::from_vec(joined))
@@ -111,8 +111,8 @@ fn rows_from_groups<P: AccessPort>(
     indexes: &[Option<TupleOrder>],
     rows: &[Row],
 ) -> Result<Vec<Row>, NoMemory>
-    requires columns { join.now.columns.items ≡ member_columns (access_in (P.accesses port.now) id) }
-    requires within { All (λ row. IsWithin (length row + length join.now.columns.items) join.now) rows.now }
+    requires columns { join.now.picked.0 ≡ member_columns (access_in (P.accesses port.now) id) }
+    requires within { All (λ row. IsWithin (length row + length join.now.picked.0) join.now) rows.now }
     requires sharing { All (λ row. IsSharing (length row) join.now) rows.now }
     requires bound { All (λ row. All (λ column. column.0 < length row) key.now) rows.now }
     requires keys { keys.now ≡ distinct row_cmp (map (project key.now) rows.now) }
@@ -151,8 +151,8 @@ pub fn joined_rows<P: AccessPort>(
     groups: &[Hits],
     rows: &[Row],
 ) -> Result<Vec<Row>, NoMemory>
-    requires columns { join.now.columns.items ≡ member_columns (access_in (P.accesses port.now) id) }
-    requires within { All (λ row. IsWithin (length row + length join.now.columns.items) join.now) rows.now }
+    requires columns { join.now.picked.0 ≡ member_columns (access_in (P.accesses port.now) id) }
+    requires within { All (λ row. IsWithin (length row + length join.now.picked.0) join.now) rows.now }
     requires sharing { All (λ row. IsSharing (length row) join.now) rows.now }
     requires bound { All (λ row. All (λ column. column.0 < length row) key.now) rows.now }
     requires keys { keys.now ≡ distinct row_cmp (map (project key.now) rows.now) }
@@ -165,7 +165,7 @@ pub fn joined_rows<P: AccessPort>(
 {
     // Where several valuations give one key.
     let shared = rows.len() > keys.len();
-    let (columns, places) = (&join.columns, &join.shared.tuple);
+    let (columns, places) = (join.picked.tuple(), &join.shared.tuple);
     let indexes = indexes_of(alloc, port, columns, places, groups, shared)?;
     rows_from_groups(alloc, port, id, join, key, keys, groups, &indexes, rows)
 }

@@ -66,23 +66,6 @@ pub fn push_columns_in(
     }
 }
 
-/// The columns that the classes of some columns of an atom have in valuations.
-pub fn columns_in(
-    alloc: Global,
-    block: &Normal,
-    classes: &[u16],
-    atom: u16,
-    columns: &[ColumnId],
-) -> Result<Vec<ColumnId>, NoMemory>
-    requires { classes.now ≡ classes_in (set_of block.now classes.now) }
-    ensures { IfOk result (λ found. found.items
-        ≡ map (λ c. column_of classes.now (class_of_column block.now atom c)) columns.now) }
-{
-    let mut found = Vec::with_capacity(alloc, columns.len())?;
-    push_columns_in(block, classes, atom, columns, &mut found);
-    Ok(found)
-}
-
 /// Adds the columns that the classes of some places have in valuations, where there is room for them.
 pub fn push_columns_at(block: &Normal, classes: &[u16], places: &[Place], found: &mut Vec<ColumnId>)
     requires classes { classes.now ≡ classes_in (set_of block.now classes.now) }

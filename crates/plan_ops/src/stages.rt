@@ -14,7 +14,6 @@ use crate::comparing::{Sides, all_sides};
 use crate::joining::{Join, join_of};
 use crate::keeping::sign_holds;
 use crate::pairs::{pair_fits, push_pair, value_in_pair};
-use crate::picked::Picked;
 use crate::picking::{push_values, values_in};
 use crate::places::{are_bound, columns_at};
 use crate::sieving::{Sieve, sieve_of};
@@ -37,8 +36,6 @@ pub struct Stage {
     pub join: Join,
     /// Where the sides of each of the block's comparisons stand in valuations after it.
     pub sides: Vec<Sides>,
-    /// The columns of its key in these valuations, and those of the block's output in valuations after it.
-    pub picked: Picked,
     /// Whether all classes of the block's output are bound before it: then none of its tuples changes the output of a valuation.
     pub settled: bool,
     /// Which of its tuples are kept.
@@ -66,17 +63,15 @@ pub fn stage_of(
     let join = join_of(alloc, block, atom, access, before)?;
     let after = join.classes.as_slice();
     let sides = all_sides(alloc, block, after)?;
-    let picked = Picked::of(alloc, block, before, after, atom, access.key.as_slice())?;
     let settled = are_bound(block, before, block.output.as_slice());
     let plain = settled & join.checks.is_empty();
-    let sieve = sieve_of(alloc, block, before, atom, &join.columns, plain)?;
+    let sieve = sieve_of(alloc, block, before, atom, join.picked.tuple(), plain)?;
     Ok(Stage {
         atom,
         access: Snapshot::of(access),
         from: Snapshot::of(from),
         join,
         sides,
-        picked,
         settled,
         sieve,
     })
@@ -94,7 +89,7 @@ pub fn key_into(
         → OnOk result (key.new.items ≡ key_by normal (use_at stage.now) (set_before normal stage.now) row.now) }
 {
     key.clear();
-    let columns = stage.picked.key();
+    let columns = stage.join.picked.key();
     key.reserve(columns.len())?;
     push_values(alloc, columns, row, key)
 }
@@ -241,7 +236,7 @@ pub fn joined_output(
         → IfOk result (λ output. output ≡ output_row normal (bound_with normal (use_at stage.now) (set_before normal stage.now))
         (joined_row normal (use_at stage.now) (set_before normal stage.now) row.now tuple.now)) }
 {
-    output_values(alloc, &stage.join, row, tuple, stage.picked.output())
+    output_values(alloc, &stage.join, row, tuple, stage.join.picked.output())
 }
 
 // Whether a joined row has a value in a column. One past its end has a made-up one, since nothing reaches it.
@@ -287,7 +282,7 @@ pub fn is_joined_output(stage: &Stage, row: &[Value], tuple: &[Value], output: &
         → (IsTrue result ↔ (output.now ≡ output_row normal (bound_with normal (use_at stage.now) (set_before normal stage.now))
         (joined_row normal (use_at stage.now) (set_before normal stage.now) row.now tuple.now))) }
 {
-    has_values(&stage.join, row, tuple, stage.picked.output(), output)
+    has_values(&stage.join, row, tuple, stage.join.picked.output(), output)
 }
 
 /// The output row of a valuation of these classes.

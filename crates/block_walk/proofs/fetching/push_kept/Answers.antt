@@ -13,7 +13,7 @@ use Rattle.block_walk.proofs.fetching.push_kept.Goals as goal
 pub returns-then-one : goal.returns-then-one
 returns-then-one g c =
     let members = g.P.AccessPort.members c.args.port.now c.args.hits.now in
-    let columns = c.args.stage.now.join.columns.items in
+    let columns = c.args.stage.now.join.picked.0 in
     let i = c.loop-i.i in
     let test = c.loop-i-test.true in
     let end = c.len-i-end.ensures in
@@ -31,7 +31,7 @@ pub loop-i-preserved : goal.loop-i-preserved
 loop-i-preserved g c =
     let members = g.P.AccessPort.members c.args.port.now c.args.hits.now in
     let sieve = c.args.stage.now.sieve in
-    let columns = c.args.stage.now.join.columns.items in
+    let columns = c.args.stage.now.join.picked.0 in
     let i = c.loop-i.i in
     let old = c.args.values.now.items in
     let values = c.loop-i.values.items in

@@ -20,6 +20,6 @@ indexes_of-requires-clause-columns g c =
     let stands = g.P.AccessPort.stands c.args.port.now in
     let members = g.P.AccessPort.members c.args.port.now in
     let R = IsGroup (g.P.AccessPort.rows c.args.port.now) accesses stands members c.args.id in
-    zip_all R (λ (h : Found). c.deref.result.now ≡ member_columns (access_in accesses h.access))
-    (λ k h is. c.deref.ensures.value ∙ c.requires.columns ∙ ap (λ n. member_columns (access_in accesses n)) (sym is.access_is))
+    zip_all R (λ (h : Found). c.tuple-columns.result.now ≡ member_columns (access_in accesses h.access))
+    (λ k h is. c.tuple-columns.ensures ∙ c.requires.columns ∙ ap (λ n. member_columns (access_in accesses n)) (sym is.access_is))
     c.args.keys.now c.args.groups.now c.requires.groups

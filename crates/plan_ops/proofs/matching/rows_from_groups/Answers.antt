@@ -47,7 +47,7 @@ push_from_group-requires-clause-columns g c =
 
 pub push_from_group-requires-clause-within : goal.push_from_group-requires-clause-within
 push_from_group-requires-clause-within g c =
-    subst (λ (r : Row). IsWithin (length r + length c.args.join.now.columns.items) c.args.join.now)
+    subst (λ (r : Row). IsWithin (length r + length c.args.join.now.picked.0) c.args.join.now)
     (sym (c.as_slice-in-loop-row.ensures ∙ c.row-item.is))
     (c.requires.within c.loop-row.row-index c.row-item.result c.loop-row-test.true)
 

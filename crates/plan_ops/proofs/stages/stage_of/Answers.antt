@@ -12,10 +12,3 @@ all_sides-requires c =
     let u : Use = record { atom = c.args.atom; access = c.args.access.now } in
     let is = subst (λ cs. IsJoin normal u cs c.in_ok-join.join) c.as_slice-before.ensures c.in_ok-join.ensures in
     subst (λ cs. cs ≡ classes_in (set_of normal cs)) (sym c.as_slice-after.ensures) (join_classes normal u c.args.from.now c.in_ok-join.join is)
-
-pub of-requires-clause-after : goal.of-requires-clause-after
-of-requires-clause-after c =
-    let normal = c.args.block.now in
-    let u : Use = record { atom = c.args.atom; access = c.args.access.now } in
-    let is = subst (λ cs. IsJoin normal u cs c.in_ok-join.join) c.as_slice-before.ensures c.in_ok-join.ensures in
-    subst (λ cs. cs ≡ classes_in (set_of normal cs)) (sym c.as_slice-after.ensures) (join_classes normal u c.args.from.now c.in_ok-join.join is)

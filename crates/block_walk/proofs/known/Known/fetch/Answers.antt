@@ -21,14 +21,14 @@ abbrev spot_of : (g : Given.Over) → After-max g → Spot
 spot_of g c = record {
   step = c.args.step;
   from = c.len-from.result;
-  width = c.len.result;
+  width = c.width.result;
   count = c.in_ok-found.field-0.kept;
   key_width = c.len-key_width.result;
   index = None;
   all = c.in_ok-found.field-0.all;
 }
 
-pushed_at : (g : Given.Over) (c : After-max g) → Pushed c.len.result c.args.self.now.values.items c.fetch.new.values.items
+pushed_at : (g : Given.Over) (c : After-max g) → Pushed c.width.result c.args.self.now.values.items c.fetch.new.values.items
     (sieved c.args.block.now c.args.stage.now.sieve c.args.one
     (group_of (g.P.AccessPort.rows c.args.port.now (access_in (g.P.AccessPort.accesses c.args.port.now) c.args.id).table)
     (access_in (g.P.AccessPort.accesses c.args.port.now) c.args.id) c.args.key.now.items)) c.in_ok-found.field-0.kept
@@ -38,8 +38,8 @@ pushed_at g c =
     let old = c.args.self.now.values.items in
     let new = c.fetch.new.values.items in
     let kept = c.in_ok-found.field-0.kept in
-    let wide : length c.args.stage.now.join.columns.items ≡ c.len.result = grind (arith, common_steps) in
-    subst (λ k. Pushed c.len.result old new (sieved c.args.block.now c.args.stage.now.sieve c.args.one (group k)) kept) c.deref.ensures.value
+    let wide : length c.args.stage.now.join.picked.0 ≡ c.width.result = grind (arith, common_steps) in
+    subst (λ k. Pushed c.width.result old new (sieved c.args.block.now c.args.stage.now.sieve c.args.one (group k)) kept) c.deref.ensures.value
     (subst (λ n. Pushed n old new (sieved c.args.block.now c.args.stage.now.sieve c.args.one (group c.deref.result.now)) kept) wide c.in_ok-found.ensures.kept)
 
 added : (g : Given.Over) (c : After-max g)
@@ -53,7 +53,7 @@ added g c =
     let access = access_in (g.P.AccessPort.accesses c.args.port.now) c.args.id in
     let stage = c.args.stage.now in
     let pushed = pushed_at g c in
-    let long : length c.args.stage.now.join.columns.items ≡ c.len.result = grind (arith, common_steps) in
+    let long : length c.args.stage.now.join.picked.0 ≡ c.width.result = grind (arith, common_steps) in
     let whole = pushed.whole in
     let columns = ap length c.requires.stage.join_is.columns_are ∙ ap (λ (a : Access). length (member_columns a)) c.requires.access
     ∙ length-append access.key access.fetched in
@@ -64,7 +64,7 @@ added g c =
       key_wide = grind (arith, common_steps);
       narrow = (let w = c.requires.width in omega (arith, columns, w, long));
       begin = all_kept (λ tuple. take (length key) tuple ≡ key) c.args.block.now stage.sieve c.args.one (group key)
-          (rows_in c.len.result c.in_ok-found.field-0.kept (drop (length old) fetched)) pushed.cut
+          (rows_in c.width.result c.in_ok-found.field-0.kept (drop (length old) fetched)) pushed.cut
           (group_takes (g.P.AccessPort.rows c.args.port.now access.table) access key c.requires.width);
       values_are = values_behind old fetched (key_alone c.in_ok-found.field-0.kept key) c.keep_key.new.values.items pushed.front
           c.in_ok-keep_key.ensures.values;
