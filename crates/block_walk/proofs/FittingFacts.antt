@@ -18,10 +18,10 @@ use Rattle.block_walk.proofs.SameFacts.{same_more, same_one}
 
 module _ (normal : Normal) (stage : Stage) (is : IsStage normal stage) (v : Row) (tuples : List Row) (pairs : All (IsPair normal stage v) tuples) where
   abbrev pub places : List ℕ
-  places = stage.join.shared.tuple.items
+  places = stage.join.shared.1
 
   abbrev pub values : Row
-  values = values_at stage.join.shared.row.items v
+  values = values_at stage.join.shared.0 v
 
   abbrev pub p : Row → Bool
   p = leads_to normal (use_at stage) (set_before normal stage) v

@@ -236,8 +236,8 @@ impl Known {
     ) -> &'a [usize]
         requires known { IsKnown self.now }
         requires place { place < length (entries_in self.now) }
-        requires order { IsOrder shared.now.tuple.items (kept_of self.now place) order.now }
-        ensures { IsRun shared.now.tuple.items (kept_of self.now place) (values_at shared.now.row.items row.now) 0 result.now }
+        requires order { IsOrder shared.now.1 (kept_of self.now place) order.now }
+        ensures { IsRun shared.now.1 (kept_of self.now place) (values_at shared.now.0 row.now) 0 result.now }
     {
         let zero = Value::Int(0);
         let value = |i: usize, at: usize|
@@ -247,7 +247,7 @@ impl Known {
             ensures { result.now ≡ slice_index_or (slice_index_or (kept_of self.entry.now place) i []) at zero }
         { value_or(self.tuple(place, i), at, &zero) };
         let count = self.count(place);
-        order.run(count, &value, &zero, &shared.tuple, &shared.row, row)
+        order.run(count, &value, &zero, shared.tuple(), shared.row(), row)
     }
 
     /// The tuples of an entry that may share a row's values: all, or by an index those alone that do.
@@ -256,9 +256,9 @@ impl Known {
         requires known { IsKnown self.now }
         requires place { place < length (entries_in self.now) }
         ensures first { result.from ≡ 0 }
-        ensures fits { IsFitting shared.now.tuple.items (kept_of self.now place) (values_at shared.now.row.items row.now) result }
+        ensures fits { IsFitting shared.now.1 (kept_of self.now place) (values_at shared.now.0 row.now) result }
     {
-        let run = match self.order(place, &shared.tuple) {
+        let run = match self.order(place, shared.tuple()) {
             Some(order) => Some(self.run(place, order, shared, row)),
             None => None,
         };

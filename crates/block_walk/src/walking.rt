@@ -304,7 +304,7 @@ fn entry_for<P: AccessPort, L: Ledger>(
     let hash = hash_of(at.step, key);
     if let Some(place) = known.find(at.step, key, hash) {
         // Where several valuations give one key, those that share values with its tuples are joined by them.
-        known.index(alloc, place, &stage.join.shared.tuple)?;
+        known.index(alloc, place, stage.join.shared.tuple())?;
         return Ok(Found { place, reads: None });
     }
     let one = is_last & stage.sieve.one;

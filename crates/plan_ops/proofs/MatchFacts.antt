@@ -2,8 +2,8 @@
 use Rattle.std.proofs.Common.{ltb, ◌≡◌, ◌&&◌, ◌<◌, ◌≤◌, ◌+◌, ◌-◌, ◌++◌, ◌∷◌, [], ℕ, pos, Bool, true, false, cond, List, Option, All, length, map, take, get_or, inl, inr, refl, ap, sym, subst, ◌∙◌, arith}
 use Rattle.std.proofs.Math.Seq.{get_or-append_right}
 use Rattle.std.proofs.lemmas.Bool.{cases_lt, ltb-true}
-use Rattle.std.proofs.lemmas.List.{get_or_append_left, append-nil, get_or_push, length_push, map-append, take_all, take_more}
-use Rattle.std.proofs.lemmas.List.Elements.{All-head, All-tail, filter-append}
+use Rattle.std.proofs.lemmas.List.{get_or_append_left, get_or_push, length_push, take_all, take_more}
+use Rattle.std.proofs.lemmas.List.Elements.{All-head, All-tail}
 use Rattle.beas_core.specs.declared.value.Value.{Value}
 use Rattle.beas_core.specs.declared.value.Value.TheVariants.{Int}
 use Rattle.beas_core.specs.Found.{Found}
@@ -11,40 +11,11 @@ use Rattle.beas_core.specs.Full.{same_value}
 use Rattle.beas_core.specs.Types.{Row}
 use Rattle.beas_core.proofs.BindingFacts.{same_from}
 use Rattle.plan_ops.specs.declared.joining.Join.{Join}
-use Rattle.plan_ops.specs.declared.joining.Shared.{Shared}
 use Rattle.place_chains.specs.TupleOrder.{values_at}
 use Rattle.plan_ops.specs.Joins.{IsSharing, at_place, fits_by}
 use Rattle.plan_ops.specs.Matching.{AreIndexes, IsIndexed, IsShared, shared_in}
 
 -- ---- the places that a valuation and a tuple share
-
-shared_push : (width : ℕ) (checks : List (ℕ × ℕ)) (c : ℕ × ℕ) → shared_in width (checks ++ c ∷ [])
-    ≡ shared_in width checks ++ cond (ltb c.1 width) (c ∷ []) []
-shared_push width checks c = filter-append (λ (k : ℕ × ℕ). ltb k.1 width) checks (c ∷ [])
-
-module _ (width : ℕ) (checks : List (ℕ × ℕ)) (i : ℕ) (c : ℕ × ℕ) (l : i < length checks) (is : c ≡ get_or checks i c) where
-  more : shared_in width (take (i + 1) checks) ≡ shared_in width (take i checks) ++ cond (ltb c.1 width) (c ∷ []) []
-  more = ap (shared_in width) (take_more checks i c l ∙ ap (λ k. take i checks ++ k ∷ []) (sym is)) ∙ shared_push width (take i checks) c
-
-  pub shared_more : (old new : Shared) → IsShared width (take i checks) old → ltb c.1 width ≡ true → new.row.items ≡ old.row.items ++ c.1 ∷ []
-      → new.tuple.items ≡ old.tuple.items ++ (c.0 - width) ∷ [] → IsShared width (take (i + 1) checks) new
-  shared_more old new was test row tuple =
-      let pushed : shared_in width (take (i + 1) checks) ≡ shared_in width (take i checks) ++ c ∷ [] =
-      more ∙ ap (λ b. shared_in width (take i checks) ++ cond b (c ∷ []) []) test in record {
-        rows_are = row ∙ ap (λ xs. xs ++ c.1 ∷ []) was.rows_are
-            ∙ sym (ap (map (λ (k : ℕ × ℕ). k.1)) pushed ∙ map-append (λ (k : ℕ × ℕ). k.1) (shared_in width (take i checks)) (c ∷ []));
-        tuples_are = tuple ∙ ap (λ xs. xs ++ (c.0 - width) ∷ []) was.tuples_are
-            ∙ sym (ap (map (λ (k : ℕ × ℕ). k.0 - width)) pushed ∙ map-append (λ (k : ℕ × ℕ). k.0 - width) (shared_in width (take i checks)) (c ∷ []));
-      }
-
-  pub shared_same : (old new : Shared) → IsShared width (take i checks) old → ltb c.1 width ≡ false → new ≡ old → IsShared width (take (i + 1) checks) new
-  shared_same old new was test same =
-      let kept : shared_in width (take (i + 1) checks) ≡ shared_in width (take i checks) ++ [] =
-      more ∙ ap (λ b. shared_in width (take i checks) ++ cond b (c ∷ []) []) test in
-      subst (IsShared width (take (i + 1) checks)) (sym same) (record {
-        rows_are = was.rows_are ∙ ap (map (λ (k : ℕ × ℕ). k.1)) (sym (kept ∙ append-nil (shared_in width (take i checks))));
-        tuples_are = was.tuples_are ∙ ap (map (λ (k : ℕ × ℕ). k.0 - width)) (sym (kept ∙ append-nil (shared_in width (take i checks))));
-      })
 
 -- a tuple that fits has the valuation's values there
 module _ (row tuple : Row) where
@@ -79,9 +50,9 @@ module _ (row tuple : Row) where
           ap (λ v. v ∷ lefts (shared_in (length row) checks)) equal
           ∙ ap (λ vs. value tuple (c.0 - length row) ∷ vs) (rest f)
 
-pub shared_agree : (checks : List (ℕ × ℕ)) (shared : Shared) (width : ℕ) → IsShared width checks shared → All (λ c. width ≤ c.0) checks
+pub shared_agree : (checks : List (ℕ × ℕ)) (shared : List ℕ × List ℕ) (width : ℕ) → IsShared width checks shared → All (λ c. width ≤ c.0) checks
     → (row tuple : Row) → length row ≡ width → fits_by checks row tuple ≡ true
-    → values_at shared.tuple.items tuple ≡ values_at shared.row.items row
+    → values_at shared.1 tuple ≡ values_at shared.0 row
 shared_agree checks shared width is behind row tuple wide fits =
     let at_row = subst (λ n. IsShared n checks shared) (sym wide) is in
     let far = subst (λ n. All (λ (c : ℕ × ℕ). n ≤ c.0) checks) (sym wide) behind in
@@ -90,7 +61,7 @@ shared_agree checks shared width is behind row tuple wide fits =
 
 pub fits_only : (join : Join) (row : Row) → IsSharing (length row) join → (tuples : List Row) (k : ℕ) → k < length tuples
     → fits_by join.checks.items row (get_or tuples k []) ≡ true
-    → values_at join.shared.tuple.items (get_or tuples k []) ≡ values_at join.shared.row.items row
+    → values_at join.shared.1 (get_or tuples k []) ≡ values_at join.shared.0 row
 fits_only join row sharing tuples k l t =
     shared_agree join.checks.items join.shared (length row) sharing.shared_are sharing.behind row (get_or tuples k []) refl t
 

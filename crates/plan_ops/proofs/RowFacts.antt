@@ -191,7 +191,7 @@ module _ (normal : Normal) (stage : Stage) (is : IsStage normal stage) where
     led e = pair_met ∙ ap (λ b. b && meets_bound normal after (joined_row normal u set v t)) (sym e ∙ pair_joined.0)
 
     -- the values that a tuple shares with the valuation, where it leads on
-    pub pair_shares : leads_to normal u set v t ≡ true → values_at stage.join.shared.tuple.items t ≡ values_at stage.join.shared.row.items v
+    pub pair_shares : leads_to normal u set v t ≡ true → values_at stage.join.shared.1 t ≡ values_at stage.join.shared.0 v
     pair_shares e = shared_agree stage.join.checks.items stage.join.shared (length stage.from.value) is.join_is.sharing.shared_are is.join_is.sharing.behind v t pair.wide
         (pair_joined.0 ∙ and_left (agrees (joined_bindings normal u set v t)) (meets_bound normal after (joined_row normal u set v t)) e)
 

@@ -7,14 +7,13 @@ use Rattle.std.specs.Prelude.{◌≡◌, ◌<◌, ◌-◌, ℕ, List, Option, If
 use Rattle.beas_core.specs.Found.{Found}
 use Rattle.beas_core.specs.Types.{Row}
 use Rattle.place_chains.specs.TupleOrder.{IsOrder}
-use Rattle.plan_ops.specs.declared.joining.Shared.{Shared}
 
 abbrev pub shared_in : ℕ → List (ℕ × ℕ) → List (ℕ × ℕ)
 shared_in width checks = filter (λ c. nat_lt c.1 width) checks
 
-pub record IsShared (width : ℕ) (checks : List (ℕ × ℕ)) (shared : Shared) : Type 0 where
-  pub rows_are : shared.row.items ≡ map (λ c. c.1) (shared_in width checks)
-  pub tuples_are : shared.tuple.items ≡ map (λ c. c.0 - width) (shared_in width checks)
+pub record IsShared (width : ℕ) (checks : List (ℕ × ℕ)) (shared : List ℕ × List ℕ) : Type 0 where
+  pub rows_are : shared.0 ≡ map (λ c. c.1) (shared_in width checks)
+  pub tuples_are : shared.1 ≡ map (λ c. c.0 - width) (shared_in width checks)
 
 abbrev pub IsIndexed : List ℕ → List Row → Option (List ℕ) → Type 0
 IsIndexed places tuples o = IfSome o (IsOrder places tuples)

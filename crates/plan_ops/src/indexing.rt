@@ -119,9 +119,9 @@ fn run_of<'a, P: AccessPort>(
 ) -> &'a [usize]
     requires hits { HitsAre (P.accesses port.now) (P.stands port.now) (P.members port.now) hits.now }
     requires columns { join.now.picked.0 ≡ member_columns (access_in (P.accesses port.now) hits.now.access) }
-    requires order { IsOrder join.now.shared.tuple.items (P.members port.now hits.now) order.now }
+    requires order { IsOrder join.now.shared.1 (P.members port.now hits.now) order.now }
     ensures { let shared = join.now.shared in
-        IsRun shared.tuple.items (P.members port.now hits.now) (values_at shared.row.items row.now) 0 result.now }
+        IsRun shared.1 (P.members port.now hits.now) (values_at shared.0 row.now) 0 result.now }
 {
     let zero = Value::Int(0);
     let columns = join.picked.tuple();
@@ -133,7 +133,7 @@ fn run_of<'a, P: AccessPort>(
         ensures { result.now ≡ slice_index_or (slice_index_or (P.members port.entry.now hits.entry.now) i []) place zero }
     { tuple_value(port, columns, hits, i as u32, place, &zero) };
     let (count, shared) = (hits.len() as usize, &join.shared);
-    order.run(count, &value, &zero, &shared.tuple, &shared.row, row)
+    order.run(count, &value, &zero, shared.tuple(), shared.row(), row)
 }
 
 /// Adds the valuation with each tuple that fits it, by the order of the tuples where there is one.
@@ -150,7 +150,7 @@ pub fn push_from_group<P: AccessPort>(
     requires columns { join.now.picked.0 ≡ member_columns (access_in (P.accesses port.now) hits.now.access) }
     requires within { IsWithin (length row.now + length join.now.picked.0) join.now }
     requires sharing { IsSharing (length row.now) join.now }
-    requires index { IsIndexed join.now.shared.tuple.items (P.members port.now hits.now) index.now }
+    requires index { IsIndexed join.now.shared.1 (P.members port.now hits.now) index.now }
     ensures { OnOk result (found.new.items
         ≡ found.old.items ++ joins join.now.sources.items join.now.checks.items row.now (P.members port.now hits.now)) }
 {

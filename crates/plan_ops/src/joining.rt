@@ -4,21 +4,14 @@ ghost use Rattle.beas_core.specs.Coverage.{ClassesInRange};
 ghost use Rattle.beas_core.specs.Groups.{member_columns};
 ghost use Rattle.beas_core.specs.Valuations.{classes_in};
 ghost use Rattle.plan_ops.specs.Joins.{IsJoin, checks_of as checks_in};
-ghost use Rattle.plan_ops.specs.Matching.{IsShared};
 ghost use Rattle.plan_ops.specs.Over.{set_of};
 ghost use Rattle.plan_ops.specs.Places.{places_in};
 
 use crate::picked::Picked;
+use crate::shared::Shared;
 use crate::tables::{ClassList, classes_of, first_positions, positions_held};
 use beas_core::{Access, ColumnId, List, NoMemory, Normal};
 use std::alloc::Global;
-
-/// Places of a valuation, and for each the place of a tuple that has the same value where the tuple fits.
-#[derive(Drop)]
-pub struct Shared {
-    pub row: Vec<usize>,
-    pub tuple: Vec<usize>,
-}
 
 /// What is worked out once for a step. A joined row is a valuation and then a tuple, and places are places of it.
 #[derive(Drop)]
@@ -83,24 +76,6 @@ fn checks_of(
     Ok(checks)
 }
 
-// The places of a valuation of a width, and those of a tuple, that checks compare.
-fn shared_of(alloc: Global, checks: &[(usize, usize)], width: usize) -> Result<Shared, NoMemory>
-    requires { All (λ c. width ≤ c.0) checks.now }
-    ensures { IfOk result (IsShared width checks.now) }
-{
-    let mut shared = Shared {
-        row: Vec::new(alloc),
-        tuple: Vec::new(alloc),
-    };
-    for check in checks {
-        if check.1 < width {
-            shared.row.push(check.1)?;
-            shared.tuple.push(check.0 - width)?;
-        }
-    }
-    Ok(shared)
-}
-
 /// How tuples of a constraint on an atom join valuations over some classes.
 pub fn join_of(
     alloc: Global,
@@ -119,7 +94,7 @@ pub fn join_of(
     let places = first_positions(alloc, block.count, &joined)?;
     // A tuple agrees with the valuation in the columns of its key.
     let checks = checks_of(alloc, block, &places, &joined, width - access.fetched.len())?;
-    let shared = shared_of(alloc, &checks, classes.len())?;
+    let shared = Shared::of_checks(alloc, &checks, classes.len())?;
     let bound = classes_of(alloc, block, &places, &joined)?;
     let sources = positions_held(places, width);
     let after = bound.as_slice();

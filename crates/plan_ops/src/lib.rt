@@ -20,6 +20,7 @@ mod places;
 mod probing;
 mod projecting;
 mod sets;
+mod shared;
 mod sieving;
 mod stages;
 mod starting;
@@ -29,10 +30,11 @@ mod valuations;
 pub use asking::ask_for_all;
 pub use copying::push_copy;
 pub use extending::extend;
-pub use joining::{Join, Shared};
+pub use joining::Join;
 pub use keeping::{keep, sign_holds};
 pub use projecting::project;
 pub use sets::{subtract, unite};
+pub use shared::Shared;
 pub use sieving::{Own, Sieve};
 pub use stages::{
     Stage, is_joined_output, joined_output, key_into, leads, output_of, push_joined, stage_of,

@@ -119,7 +119,7 @@ fn rows_from_groups<P: AccessPort>(
     requires groups { AllZip
         (IsGroup (P.rows port.now) (P.accesses port.now) (P.stands port.now) (P.members port.now) id)
         keys.now groups.now }
-    requires indexes { AreIndexes join.now.shared.tuple.items (P.members port.now) groups.now indexes.now }
+    requires indexes { AreIndexes join.now.shared.1 (P.members port.now) groups.now indexes.now }
     ensures { let access = access_in (P.accesses port.now) id in
         IfOk result (λ found. found.items ≡ flat_map (λ row. joins join.now.sources.items join.now.checks.items row
         (group_of (P.rows port.now access.table) access (project key.now row))) rows.now) }
@@ -165,7 +165,7 @@ pub fn joined_rows<P: AccessPort>(
 {
     // Where several valuations give one key.
     let shared = rows.len() > keys.len();
-    let (columns, places) = (join.picked.tuple(), &join.shared.tuple);
+    let (columns, places) = (join.picked.tuple(), join.shared.tuple());
     let indexes = indexes_of(alloc, port, columns, places, groups, shared)?;
     rows_from_groups(alloc, port, id, join, key, keys, groups, &indexes, rows)
 }

@@ -21,7 +21,7 @@ tuples-init c =
       stack = c.requires.stack;
       inside = c.requires.inside;
       same = refl;
-      fits = subst (λ v. IsFitting stage.join.shared.tuple.items tuples (values_at stage.join.shared.row.items v) c.fitting-fitting.result) c.row.ensures
+      fits = subst (λ v. IsFitting stage.join.shared.1 tuples (values_at stage.join.shared.0 v) c.fitting-fitting.result) c.row.ensures
           c.fitting-fitting.ensures.fits;
       pending = subst (λ n. start ≡ start ++ children (pending_of c.args.pending.now.values.items at)
           (next_by c.args.block.now (use_at stage) (set_before c.args.block.now stage) (row_of c.args.pending.now at) (take n tuples)))
@@ -45,7 +45,7 @@ tuples-preserved-in-Continue-1 c =
     let was = c.tuples.invariant in
     let old = c.tuples.fitting in
     let so_far = next_by normal u set row (take old.from tuples) in
-    let comes = c.in-Some.ensures stage.join.shared.tuple.items tuples (values_at stage.join.shared.row.items row) was.fits in
+    let comes = c.in-Some.ensures stage.join.shared.1 tuples (values_at stage.join.shared.0 row) was.fits in
     let led : leads_to normal u set row t ≡ true =
     sym (c.leads.ensures ∙ ap (λ (v : Row). leads_to normal u set v t) (c.row-in-Some.ensures ∙ was.same)) ∙ c.if-leads.true in
     let done = c.in_ok-push_child.ensures in
@@ -71,7 +71,7 @@ tuples-preserved c =
     let t = c.tuple-tuple.result.now in
     let tuples = kept_of c.args.known.now c.args.place in
     let was = c.tuples.invariant in
-    let comes = c.in-Some.ensures stage.join.shared.tuple.items tuples (values_at stage.join.shared.row.items row) was.fits in
+    let comes = c.in-Some.ensures stage.join.shared.1 tuples (values_at stage.join.shared.0 row) was.fits in
     let led : leads_to normal (use_at stage) (set_before normal stage) row t ≡ false =
     sym (c.leads.ensures ∙ ap (λ (v : Row). leads_to normal (use_at stage) (set_before normal stage) v t) (c.row-in-Some.ensures ∙ was.same)) ∙ c.if-leads.false in
     record {
@@ -92,6 +92,6 @@ returns-clause-pending c =
     let row = row_of c.args.pending.now at in
     let tuples = kept_of c.args.known.now c.args.place in
     let was = c.tuples.invariant in
-    let none = (c.in_default.ensures stage.join.shared.tuple.items tuples (values_at stage.join.shared.row.items row) was.fits).0 in
+    let none = (c.in_default.ensures stage.join.shared.1 tuples (values_at stage.join.shared.0 row) was.fits).0 in
     was.pending ∙ ap (λ (rows : List Row). pending_in c.args.pending.now ++ children (pending_of c.args.pending.now.values.items at) rows)
     (next_all normal stage c.requires.stage row tuples c.requires.pairs c.tuples.fitting.from was.fits.from none)

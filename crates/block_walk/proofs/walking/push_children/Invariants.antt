@@ -14,7 +14,7 @@ invariant-tuples l =
       stack : IsStack l.pending;
       inside : IsInside l.pending.values.items l.at;
       same : row_of l.pending l.at ≡ row;
-      fits : IsFitting l.stage.join.shared.tuple.items (kept_of l.known l.place) (values_at l.stage.join.shared.row.items row) l.fitting;
+      fits : IsFitting l.stage.join.shared.1 (kept_of l.known l.place) (values_at l.stage.join.shared.0 row) l.fitting;
       pending : pending_in l.pending ≡ pending_in l.fn.pending
           ++ children (pending_of l.fn.pending.values.items l.at)
           (next_by l.block (use_at l.stage) (set_before l.block l.stage) row (take l.fitting.from (kept_of l.known l.place)));

@@ -28,7 +28,7 @@ tuples-preserved-else-stage c =
     let row = c.args.row.now in
     let tuples = kept_of c.args.known.now c.args.place in
     let was = c.tuples.invariant in
-    let comes = c.in-Some.ensures stage.join.shared.tuple.items tuples (values_at stage.join.shared.row.items row) was.fits in
+    let comes = c.in-Some.ensures stage.join.shared.1 tuples (values_at stage.join.shared.0 row) was.fits in
     record {
       fits = comes.4;
       through = outputs_taken c.args.block.now stage c.requires.stage row tuples c.requires.pairs c.tuples.fitting c.next.new.self c.in-Some.i comes
@@ -43,7 +43,7 @@ returns-then-stage c =
     let row = c.args.row.now in
     let tuples = kept_of c.args.known.now c.args.place in
     let was = c.tuples.invariant in
-    let comes = c.in-Some.ensures stage.join.shared.tuple.items tuples (values_at stage.join.shared.row.items row) was.fits in
+    let comes = c.in-Some.ensures stage.join.shared.1 tuples (values_at stage.join.shared.0 row) was.fits in
     outputs_settled c.args.block.now stage c.requires.stage row tuples c.requires.pairs c.tuples.fitting c.next.new.self c.in-Some.i comes
     c.tuple-tuple.result.now c.tuple-tuple.ensures (sym c.leads.ensures ∙ c.if-leads.true) c.args.through.now c.tuples.through
     c.push_output_once.new.through was.through c.in_ok-push_output_once.ensures c.if-stage.true
@@ -55,7 +55,7 @@ tuples-preserved c =
     let row = c.args.row.now in
     let out = output_row normal (bound_with normal (use_at stage) (set_before normal stage)) in
     let tuples = kept_of c.args.known.now c.args.place in
-    let comes = c.in-Some.ensures stage.join.shared.tuple.items tuples (values_at stage.join.shared.row.items row) c.tuples.invariant.fits in
+    let comes = c.in-Some.ensures stage.join.shared.1 tuples (values_at stage.join.shared.0 row) c.tuples.invariant.fits in
     record {
       fits = comes.4;
       through = subst (λ rows. SameMembers c.tuples.through (c.args.through.now ++ map out rows))
@@ -73,6 +73,6 @@ returns c =
     let tuples = kept_of c.args.known.now c.args.place in
     let out = output_row normal (bound_with normal (use_at stage) (set_before normal stage)) in
     let fits = c.tuples.invariant.fits in
-    let none = (c.in_default.ensures stage.join.shared.tuple.items tuples (values_at stage.join.shared.row.items row) fits).0 in
+    let none = (c.in_default.ensures stage.join.shared.1 tuples (values_at stage.join.shared.0 row) fits).0 in
     subst (λ rows. SameMembers c.tuples.through (start ++ map out rows))
     (next_all normal stage c.requires.stage row tuples c.requires.pairs c.tuples.fitting.from fits.from none) c.tuples.invariant.through

@@ -9,7 +9,7 @@ use Rattle.block_walk.proofs.walking.push_outputs.Given as goal
 
 abbrev pub invariant-tuples : goal.invariant-tuples
 invariant-tuples l = record {
-  fits : IsFitting l.stage.join.shared.tuple.items (kept_of l.known l.place) (values_at l.stage.join.shared.row.items l.row) l.fitting;
+  fits : IsFitting l.stage.join.shared.1 (kept_of l.known l.place) (values_at l.stage.join.shared.0 l.row) l.fitting;
   through : SameMembers l.through (l.fn.through
       ++ map (output_row l.block (bound_with l.block (use_at l.stage) (set_before l.block l.stage)))
       (next_by l.block (use_at l.stage) (set_before l.block l.stage) l.row (take l.fitting.from (kept_of l.known l.place))));

@@ -16,14 +16,14 @@ tuples-init g c =
     let tuples = g.P.AccessPort.members c.args.port.now c.args.hits.now in
     let start = c.args.found.now.items in
     let Runs : Option (Bor (List ℕ)) → Type 0 = λ o.
-    IfSome o (λ numbers. IsRun join.shared.tuple.items tuples (values_at join.shared.row.items row) 0 numbers.now) in
+    IfSome o (λ numbers. IsRun join.shared.1 tuples (values_at join.shared.0 row) 0 numbers.now) in
     let run_is : Runs c.match-index.run =
     elim c.match-index.branch [
       | in-Some w ↦ subst Runs (sym w.run-is) w.run_of.ensures
       | in-None w ↦ subst Runs (sym w.run-is) tt
     ] in
     record {
-      fits = c.among-fitting.ensures.fits join.shared.tuple.items tuples (values_at join.shared.row.items row)
+      fits = c.among-fitting.ensures.fits join.shared.1 tuples (values_at join.shared.0 row)
           (c.len-count.ensures ∙ c.requires.hits.count) run_is;
       found = subst (λ n. start ≡ start ++ joins join.sources.items join.checks.items row (take n tuples)) (sym c.among-fitting.ensures.first) (sym (append-nil start));
     }
@@ -39,9 +39,9 @@ tuples-preserved g c =
     let i = c.in-Some-next.i in
     let t = get_or tuples i [] in
     let was = c.tuples.invariant in
-    let next = c.in-Some-next.ensures join.shared.tuple.items tuples (values_at join.shared.row.items row) was.fits in
+    let next = c.in-Some-next.ensures join.shared.1 tuples (values_at join.shared.0 row) was.fits in
     let within = next.1 in
-    let passed = none_passes p tuples join.shared.tuple.items (values_at join.shared.row.items row) (fits_only join row c.requires.sharing tuples)
+    let passed = none_passes p tuples join.shared.1 (values_at join.shared.0 row) (fits_only join row c.requires.sharing tuples)
     c.tuples.fitting.from i next.0 (omega (arith, within)) next.2 in
     record {
       fits = next.4;
@@ -60,7 +60,7 @@ returns g c =
     let tuples = g.P.AccessPort.members c.args.port.now c.args.hits.now in
     let p = fits_by join.checks.items row in
     let was = c.tuples.invariant in
-    let none = (c.in_default.ensures join.shared.tuple.items tuples (values_at join.shared.row.items row) was.fits).0 in
+    let none = (c.in_default.ensures join.shared.1 tuples (values_at join.shared.0 row) was.fits).0 in
     was.found ∙ ap (λ xs. c.args.found.now.items ++ map (joined_by join.sources.items row) xs)
-    (sym (none_passes_more p tuples join.shared.tuple.items (values_at join.shared.row.items row) (fits_only join row c.requires.sharing tuples)
+    (sym (none_passes_more p tuples join.shared.1 (values_at join.shared.0 row) (fits_only join row c.requires.sharing tuples)
     c.tuples.fitting.from was.fits.from none))

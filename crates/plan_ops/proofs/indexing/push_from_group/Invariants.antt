@@ -6,7 +6,7 @@ use Rattle.plan_ops.proofs.indexing.push_from_group.Given as goal
 
 abbrev pub invariant-tuples : goal.invariant-tuples
 invariant-tuples g l = record {
-  fits : IsFitting l.join.shared.tuple.items (g.P.AccessPort.members l.port l.hits) (values_at l.join.shared.row.items l.row) l.fitting;
+  fits : IsFitting l.join.shared.1 (g.P.AccessPort.members l.port l.hits) (values_at l.join.shared.0 l.row) l.fitting;
   found : l.found.items ≡ l.fn.found.items
       ++ joins l.join.sources.items l.join.checks.items l.row (take l.fitting.from (g.P.AccessPort.members l.port l.hits));
 }

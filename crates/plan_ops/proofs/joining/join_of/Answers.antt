@@ -30,8 +30,8 @@ checks_of-requires-clause-classes c =
     ∙ ap (λ cs. c.args.classes.now ++ map (class_at c.args.block.now c.args.atom) cs) (c.deref.ensures.value ∙ c.in_ok-columns.ensures) in
     subst (All (λ class. class < c.args.block.now.count)) (sym is) (joined_small c.args.block.now c.requires.ranges u c.args.classes.now c.requires.classes)
 
-pub shared_of-requires : goal.shared_of-requires
-shared_of-requires c =
+pub of_checks-requires : goal.of_checks-requires
+of_checks-requires c =
     let u : Use = record { atom = c.args.atom; access = c.args.access.now } in
     let normal = c.args.block.now in
     let is = c.with_columns-joined.ensures

@@ -77,7 +77,7 @@ offset_bounds-indexes-at g c =
 pub push_from_group-requires-clause-index : goal.push_from_group-requires-clause-index
 push_from_group-requires-clause-index g c =
     let members = g.P.AccessPort.members c.args.port.now in
-    let places = c.args.join.now.shared.tuple.items in
+    let places = c.args.join.now.shared.1 in
     let R = IsGroup (g.P.AccessPort.rows c.args.port.now) (g.P.AccessPort.accesses c.args.port.now) (g.P.AccessPort.stands c.args.port.now) members c.args.id in
     let at = c.position_of_key-at.result in
     let n = length-zip R c.args.keys.now c.args.groups.now c.requires.groups in

@@ -9,11 +9,11 @@ pub returns-clause-fits : goal.returns-clause-fits
 returns-clause-fits c =
     let shared = c.args.shared.now in
     let tuples = kept_of c.args.self.now c.args.place in
-    let values = values_at shared.row.items c.args.row.now in
-    let Runs : Option (Bor (List ℕ)) → Type 0 = λ o. IfSome o (λ numbers. IsRun shared.tuple.items tuples values 0 numbers.now) in
+    let values = values_at shared.0 c.args.row.now in
+    let Runs : Option (Bor (List ℕ)) → Type 0 = λ o. IfSome o (λ numbers. IsRun shared.1 tuples values 0 numbers.now) in
     let run_is : Runs c.match-order.run =
     elim c.match-order.branch [
       | in-Some w ↦ subst Runs (sym w.run-is) w.run.ensures
       | in-None w ↦ subst Runs (sym w.run-is) tt
     ] in
-    c.among.ensures.fits shared.tuple.items tuples values c.count.ensures run_is
+    c.among.ensures.fits shared.1 tuples values c.count.ensures run_is

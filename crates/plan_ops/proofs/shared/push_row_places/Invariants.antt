@@ -1,0 +1,6 @@
+use Rattle.std.proofs.Common.{◌≡◌, ◌++◌, map, take}
+use Rattle.plan_ops.specs.Matching.{shared_in}
+use Rattle.plan_ops.proofs.shared.push_row_places.Given as goal
+
+abbrev pub invariant-loop-check : goal.invariant-loop-check
+invariant-loop-check l = l.places.items ≡ l.initial.places.items ++ map (λ c. c.1) (shared_in l.width (take l.check-index l.checks))
