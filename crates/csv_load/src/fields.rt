@@ -41,10 +41,10 @@ fn text_in(bytes: &[u8]) -> Option<&str>
     }
 }
 
-/// The most that one digit more is put behind, so that the number stays far below 2 to the 63.
+/// A number up to this can take one more digit, and is then still far below 2 to the 63.
 const MOST: u64 = 100_000_000_000_000_000;
 
-/// The number of digits alone, where they are few enough. None doesn't say that the field is no integer.
+/// The number of a few digits alone. None doesn't say that the field is no integer.
 fn few_digits(field: &[u8]) -> Option<i64>
     ensures { IfSome result (λ number. integer_in field.now ≡ Some number) }
 {
@@ -61,7 +61,7 @@ fn few_digits(field: &[u8]) -> Option<i64>
     Some(number as i64)
 }
 
-/// The integer that the field is. Most are digits alone: to read these as a text and then by `parse` takes longer.
+/// The integer that the field is. Most are a few digits, which would take longer as a text and then by `parse`.
 fn integer_of(field: &[u8]) -> Option<i64>
     ensures { result ≡ integer_in field.now }
 {
