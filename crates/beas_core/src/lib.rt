@@ -1,4 +1,4 @@
-//! The types that every layer of beas shares, the value order, and the index that plans read through.
+//! The types that all layers share, the value order, the index that plans read through, and what evaluation means.
 #![tactic(auto)]
 
 mod duplicate;

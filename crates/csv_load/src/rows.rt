@@ -100,7 +100,7 @@ fn row_of(
             wanted: wanted as u32,
         }));
     }
-    // the fields are read by the slots, once each; only a record without a row is looked through in the file's order
+    // each field is read once, by the slots; only a record without a row is read again, in the file's order
     if let Some(row) = values_of(alloc, layout.slots.as_slice(), fields, longest)? {
         return Ok(row);
     }

@@ -1,7 +1,7 @@
 //! What sessions do that take turns at one database: the meaning of events, of pieces that name a session, of what an
-//! open query goes on seeing while other tables and constraints change, and laws on these. Each law is a function
-//! without a result whose contract is the law. There are no threads: events come one after another, and each is done
-//! whole.
+//! open query goes on seeing while other tables and constraints change, and laws on these and on the statements that
+//! tokens spell. Each law is a function without a result whose contract is the law. There are no threads: events come
+//! one after another, and each is done whole.
 #![tactic(auto)]
 
 mod laws;

@@ -9,14 +9,14 @@ use crate::places::{push_columns_at, push_columns_in};
 use beas_core::{ColumnId, NoMemory, Normal};
 use std::marker::Model;
 
-/// The columns of a step's tuples, those of its key in valuations before it, and those of the block's output in valuations after
-/// it, in one piece of memory.
+/// The columns of a step's tuples, then where the step's key stands in valuations before it, then where the block's output stands
+/// in valuations after it, in one piece of memory.
 #[derive(Drop)]
 pub struct Picked {
     columns: Vec<ColumnId>,
-    /// How many are a tuple's, which stand first.
+    /// How many are a tuple's.
     width: usize,
-    /// Where the key's end, which stand next.
+    /// Where the key's end, which stand after the tuple's.
     key_end: usize,
 }
 
@@ -35,8 +35,8 @@ impl Model for Picked {
 }
 
 impl Picked {
-    /// The columns of a tuple, and after them those of a key's columns of an atom in valuations of some classes, and of the output
-    /// in valuations of others.
+    /// A tuple's columns, then where the classes of an atom's key columns stand in `before`, then where those of the block's output
+    /// stand in `after`.
     pub fn of(
         tuple: Vec<ColumnId>,
         block: &Normal,

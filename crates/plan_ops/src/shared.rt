@@ -6,11 +6,11 @@ use beas_core::NoMemory;
 use std::alloc::Global;
 use std::marker::Model;
 
-/// Places of a valuation, and for each the place of a tuple that has the same value where the tuple fits, in one piece of memory.
+/// Pairs of a place of a valuation and one of a tuple, which have the same value if the tuple fits. The valuation's stand first.
 #[derive(Drop)]
 pub struct Shared {
     places: Vec<usize>,
-    /// How many are the valuation's, which stand first.
+    /// How many are the valuation's.
     count: usize,
 }
 
@@ -24,7 +24,7 @@ impl Model for Shared {
     ghost invariant = { λ s. s.count ≤ vec_len s.places };
 }
 
-// Adds the places of a valuation of a width that checks compare with a tuple.
+// Adds, of each check of a tuple against a valuation of this width, the valuation's place.
 fn push_row_places(
     checks: &[(usize, usize)],
     width: usize,
@@ -40,7 +40,7 @@ fn push_row_places(
     Ok(())
 }
 
-// Adds the places of a tuple that checks compare with a valuation of a width.
+// Adds, of each check of a tuple against a valuation of this width, the tuple's place.
 fn push_tuple_places(
     checks: &[(usize, usize)],
     width: usize,

@@ -45,7 +45,7 @@ impl<'a> ClassList<'a> {
         }
     }
 
-    /// The classes of constants. The list isn't made.
+    /// The classes of these constants, read where they stand.
     pub fn of_constants(block: &'a Normal, constants: &'a [(u16, Value)]) -> ClassList<'a>
         ensures { result ≡ map (λ c. c.0) constants.now }
     {

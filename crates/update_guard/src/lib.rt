@@ -1,4 +1,4 @@
-//! The store: tables with their rows, each constraint with its index, and updates that keep every constraint.
+//! The store: tables with their rows, each constraint with its index; tests of rows, and updates that keep every constraint.
 #![tactic(auto)]
 
 mod breaking;
