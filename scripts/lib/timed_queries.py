@@ -34,7 +34,7 @@ def chain_begun(tables: list[list[tuple[int, int]]], fans: tuple[int, ...]) -> l
 def chain(program: str, output: str, fans: tuple[int, ...] = FAN, more: str = "") -> Timed:
     """Four tables, of which each value leads to some in the next: 100,000 valuations."""
     query, tables = chain_query(output, more), chain_rows(fans)
-    begun, times = chain_begun(tables, fans), 10
+    begun, times = chain_begun(tables, fans), 50
     spent, refusals = beyond(program, begun, [query + ";\n"] * times)
     beside = sqlite_seconds(
         [f"CREATE TABLE r{at} (a INTEGER, b INTEGER)" for at in range(4)],
