@@ -4,7 +4,7 @@ import textwrap
 from collections.abc import Callable, Iterator
 from typing import Any
 
-from .benchmark_sets import SETS
+from .benchmark_sets import SETS, Set
 
 FEWEST_FOR_MEMORY = 100_000
 ENGINES = ["beas", "sqlite", "postgres"]
@@ -92,12 +92,19 @@ def pictures(results: dict[str, Any], folder: str) -> dict[str, list[tuple[str, 
 def row_of(count: int, engine: str, it: dict[str, Any]) -> str:
     of_million = per_million(it)
     cells = [f"{count:,}", NAMES[engine], told(it["query"]), told(it["load"]), "not taken" if it["memory"] is None else megabytes(it["memory"]),
-             "" if of_million is None else megabytes(of_million), *((f"{it['bound']:,}", f"{it['reads']:.1f}") if engine == "beas" else ("", ""))]
+             "" if of_million is None else megabytes(of_million), *((f"{it['bound']:,}", f"{it['reads']:,.1f}") if engine == "beas" else ("", ""))]
     return f"| {' | '.join(cells)} |"
 
 
 def item(text: str) -> str:
     return textwrap.fill(text, 118, initial_indent="- ", subsequent_indent="  ")
+
+
+def statements_of(count: int, make: Callable[[int], Set]) -> str:
+    """The tables, constraints and query of a set with so many rows."""
+    the_set = make(count)
+    query = textwrap.fill(the_set.query, 118, subsequent_indent="  ", break_long_words=False)
+    return "\n".join(["```sql", *(f"{it};" for it in (*the_set.schema(), *the_set.accesses(), query)), "```"])
 
 
 def with_part(page: str, mark: str, part: str) -> str:
@@ -110,16 +117,18 @@ def with_part(page: str, mark: str, part: str) -> str:
 
 
 def page(results: dict[str, Any], drawn: dict[str, list[tuple[str, str]]]) -> Iterator[str]:
-    yield "# Benchmarks\n\nMade by `scripts/benchmark`. Its first lines say how each engine is run. Nothing here is proved."
+    yield ("# Benchmarks\n\nMade by `scripts/benchmark`. Nothing here is proved. All engines have the same rows in memory, the same covering\n"
+           "indexes and the same queries. PostgreSQL is a server of its own, without sync.")
     yield "\n".join(map(item, [
         f"**When, where and what**: {results['machine']}.",
         "**Rows** are those of the largest table.",
         "**A query**: the mean time of all queries of a set, in the best of three passes over them. beas reads each query from its text; the"
-        " others have it prepared. All answers that were compared were equal.",
+        " others have it prepared. All answers that were compared were equal. One pass differs from the next by up to a fifth, and a set has"
+        " other rows and other queries at each size.",
         "**Times** of beas and SQLite are processor time. Those of PostgreSQL are wall time at its client, so a query's time includes the way"
         " to the server and back.",
         "**Memory** is the most that the process grew by, and for PostgreSQL what its files grew by. *Of a million rows* is this memory divided"
-        " by the millions of rows of all tables.",
+        f" by the millions of rows of all tables, from {FEWEST_FOR_MEMORY:,} rows of all tables on.",
     ]))
     if any(it["query"] is None for it in results["runs"].values()):
         yield "'Not taken' means that beas was a program without proof, whose bounds and reads are the same and whose times tell nothing."
@@ -131,6 +140,9 @@ def page(results: dict[str, Any], drawn: dict[str, list[tuple[str, str]]]) -> It
             continue
         title = make(1000).title
         yield f"## {title[0].upper()}{title[1:]}"
+        yield statements_of(counts[-1], make)
+        if name == "chain":
+            yield item("The limit of r3 is the size of its one group, so the bound grows with the rows, and so do the reads and the time.")[2:]
         there = [(count, it) for count in counts for it in ENGINES if f"{name} {count} {it}" in results["runs"]]
         yield "\n".join(["| Rows | Engine | A query | Load | Memory | Of a million rows | Bound | Reads of a query |", "|---|---|---|---|---|---|---|---|",
                          *(row_of(count, it, results["runs"][f"{name} {count} {it}"]) for count, it in there)])

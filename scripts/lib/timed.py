@@ -5,7 +5,7 @@ import sqlite3
 import subprocess
 import sys
 import time
-from collections.abc import Iterable, Sequence
+from collections.abc import Callable, Iterable, Sequence
 from typing import Any, TypeVar
 
 from .measures import refuse_broken
@@ -24,6 +24,8 @@ Row = tuple[Any, ...]
 SECONDS_OF_A_RUN = 300
 # what was measured first, refused statements, and what was measured besides: mostly processor seconds, and those of SQLite for the same
 Timed = tuple[float, int] | tuple[float, int, float] | tuple[float, int, float, float]
+# gives the seconds of one pass
+Pass = Callable[[], float]
 
 
 def written(name: str, lines: Iterable[str]) -> None:
@@ -57,16 +59,27 @@ def refusals_of(program: str, script: str) -> int:
     return sum(it.outcome == "refused" for it in reports_in(out.decode()))
 
 
+def taking_turns(program: str, prepared: list[str], scripts: list[list[str]], *others: Pass) -> tuple[list[float], int]:
+    """Processor seconds of scripts beyond those of a first part, and then of whatever else takes turns with them, each the best of its
+    runs; and how many statements were refused. They take turns, since the machine's own speed varies from minute to minute."""
+    names = ["whole.beas", *(f"whole{nth}.beas" for nth in range(1, len(scripts)))]
+    written("first.beas", prepared)
+    for name, script in zip(names, scripts):
+        written(name, [*prepared, *script])
+    runs = [[*(seconds_of(program, it) for it in ("first.beas", *names)), *(one() for one in others)] for _ in range(RUNS)]
+    first, *best = map(min, zip(*runs))
+    spent = [it - first for it in best[: len(scripts)]]
+    return [*spent, *best[len(scripts) :]], sum(refusals_of(program, it) for it in names)
+
+
 def beyond(program: str, prepared: list[str], script: list[str]) -> tuple[float, int]:
     """Processor seconds of a script beyond those of its first part, each the best of its runs, and how many statements were refused."""
-    written("first.beas", prepared)
-    written("whole.beas", [*prepared, *script])
-    runs = [(seconds_of(program, "first.beas"), seconds_of(program, "whole.beas")) for _ in range(RUNS)]
-    return min(whole for _, whole in runs) - min(first for first, _ in runs), refusals_of(program, "whole.beas")
+    (spent,), refusals = taking_turns(program, prepared, [script])
+    return spent, refusals
 
 
-def sqlite_seconds(tables: list[str], indexes: list[str], fill: list[tuple[str, Sequence[Row]]], queries: list[tuple[str, Row]]) -> float:
-    """Processor seconds that SQLite takes for queries, each a text with the values of its parameters, rows fetched."""
+def sqlite_pass(tables: list[str], indexes: list[str], fill: list[tuple[str, Sequence[Row]]], queries: list[tuple[str, Row]]) -> Pass:
+    """What gives the processor seconds that SQLite takes for queries, each a text with the values of its parameters, rows fetched."""
     base = sqlite3.connect(":memory:")
     for statement in tables:
         base.execute(statement)
@@ -74,10 +87,11 @@ def sqlite_seconds(tables: list[str], indexes: list[str], fill: list[tuple[str, 
         base.executemany(statement, rows)
     for statement in indexes:
         base.execute(statement)
-    best = float("inf")
-    for _ in range(RUNS):
+
+    def seconds() -> float:
         began = time.process_time()
         for query, values in queries:
             base.execute(query, values).fetchall()
-        best = min(best, time.process_time() - began)
-    return best
+        return time.process_time() - began
+
+    return seconds

@@ -6,7 +6,7 @@ import sys
 from collections.abc import Iterable
 
 from .measures import refuse_broken
-from .timed import MILLION, SECONDS_OF_A_RUN, SMALL_GROUPS, Timed, beyond, refusals_of, rows_of, shuffled, written
+from .timed import MILLION, SECONDS_OF_A_RUN, SMALL_GROUPS, Timed, refusals_of, rows_of, shuffled, taking_turns, written
 
 RUNS = 3
 STARTER = """
@@ -107,6 +107,6 @@ def by_turns(program: str, query: str, probes: int, times: int = 20_000) -> Time
     # each of their five values is a group, too
     asked = [query.format(nth * 7919 % (GROUPS // 5)) for nth in range(times)]
     begun = [SMALL_GROUPS, "LOAD r FROM 'rows.csv';\n"]
-    at_once, refused = beyond(program, begun, [f"{it};\n" for it in asked])
-    spent, refusals = beyond(program, begun, [f"@1 {it};\n{'@1 STEP; ' * (probes + 1)}\n" for it in asked])
-    return spent / times, refused + refusals, at_once / times
+    one_by_one = [f"@1 {it};\n{'@1 STEP; ' * (probes + 1)}\n" for it in asked]
+    (at_once, spent), refusals = taking_turns(program, begun, [[f"{it};\n" for it in asked], one_by_one])
+    return spent / times, refusals, at_once / times

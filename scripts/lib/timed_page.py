@@ -59,7 +59,7 @@ def head(rows: Iterable[Row]) -> str:
     last = its[-1]
     text = f"Taken on {' and '.join(days)} on {last['machine']}, with SQLite {last['sqlite']}. The machine's load at the beginning was {span}."
     runs = " or ".join(map(str, sorted({it["runs"] for it in its})))
-    text += f" Of times the best of {runs} runs counts, since other work on the machine only adds."
+    text += f" Each time is the best of {runs} runs, since other work only adds to it."
     if loads[-1] > QUIET:
         text += " **The times are to be taken again**, as other work went on."
     return paragraph(text)

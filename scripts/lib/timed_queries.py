@@ -5,7 +5,7 @@ import random
 from collections.abc import Iterator
 from itertools import accumulate
 
-from .timed import MILLION, SMALL_GROUPS, Timed, beyond, rows_of, sqlite_seconds, written
+from .timed import MILLION, SMALL_GROUPS, Timed, beyond, rows_of, sqlite_pass, taking_turns, written
 
 
 FAN = (10, 10, 10, 100)
@@ -35,13 +35,13 @@ def chain(program: str, output: str, fans: tuple[int, ...] = FAN, more: str = ""
     """Four tables, of which each value leads to some in the next: 100,000 valuations."""
     query, tables = chain_query(output, more), chain_rows(fans)
     begun, times = chain_begun(tables, fans), 50
-    spent, refusals = beyond(program, begun, [query + ";\n"] * times)
-    beside = sqlite_seconds(
+    asked = sqlite_pass(
         [f"CREATE TABLE r{at} (a INTEGER, b INTEGER)" for at in range(4)],
         [f"CREATE INDEX c{at} ON r{at} (a, b)" for at in range(4)],
         [(f"INSERT INTO r{at} VALUES (?, ?)", rows) for at, rows in enumerate(tables)],
         [(query + " ORDER BY 1", ())] * times,
     )
+    (spent, beside), refusals = taking_turns(program, begun, [[query + ";\n"] * times], asked)
     return spent / times, refusals, beside / times
 
 
@@ -99,13 +99,13 @@ def cafes(program: str, count: int, is_prepared: bool = False) -> Timed:
     asked = [(query + " ORDER BY 1", ()) for query in queries]
     if is_prepared:
         asked = [(CAFE_QUERY.format("?", "?", "?") + " ORDER BY 1", (person, month, f"c{city}")) for person, month, city in draws]
-    spent, refusals = beyond(program, begun, [query + ";\n" for query in queries])
-    beside = sqlite_seconds(
+    one_pass = sqlite_pass(
         [f"CREATE TABLE {table} ({columns})" for table, (columns, *_) in TABLES.items()],
         [f"CREATE INDEX {name} ON {table} ({key}, {fetched})" for table, (_, name, key, fetched, _) in TABLES.items()],
         [(f"INSERT INTO {table} VALUES ({', '.join('?' * len(rows[table][0]))})", rows[table]) for table in TABLES],
         asked,
     )
+    (spent, beside), refusals = taking_turns(program, begun, [[query + ";\n" for query in queries]], one_pass)
     return spent / times, refusals, beside / times
 
 
@@ -130,13 +130,13 @@ def union(program: str) -> Timed:
     blocks = lambda at: " UNION ".join(f"SELECT DISTINCT b FROM r WHERE a = {(at * 16 + i) % 10_000}" for i in range(16))
     times = 2_000
     begun = [SMALL_GROUPS, "LOAD r FROM 'rows.csv';\n"]
-    spent, refusals = beyond(program, begun, [blocks(at) + ";\n" for at in range(times)])
-    beside = sqlite_seconds(
+    one_pass = sqlite_pass(
         ["CREATE TABLE r (a INTEGER, b INTEGER)"],
         ["CREATE INDEX ab ON r (a, b)"],
         [("INSERT INTO r VALUES (?, ?)", rows)],
         [(blocks(at).replace("SELECT DISTINCT", "SELECT") + " ORDER BY 1", ()) for at in range(times)],
     )
+    (spent, beside), refusals = taking_turns(program, begun, [[blocks(at) + ";\n" for at in range(times)]], one_pass)
     return spent / times, refusals, beside / times
 
 
@@ -150,14 +150,14 @@ def guided_except(program: str) -> Timed:
     queries = [f"SELECT b FROM r WHERE a = {i % 10_000} EXCEPT SELECT k FROM names" for i in range(times)]
     begun = [SMALL_GROUPS, "CREATE TABLE names (k INTEGER, v INTEGER); CREATE ACCESS kv ON names (k) FETCH (v) LIMIT 1;\n"]
     begun += ["LOAD r FROM 'rows.csv';\n", "LOAD names FROM 'names.csv';\n"]
-    spent, refusals = beyond(program, begun, [query + ";\n" for query in queries])
     asked = [(f"SELECT b FROM r WHERE a = {i % 10_000} AND NOT EXISTS (SELECT 1 FROM names WHERE k = b) ORDER BY 1", ()) for i in range(times)]
-    beside = sqlite_seconds(
+    one_pass = sqlite_pass(
         ["CREATE TABLE r (a INTEGER, b INTEGER)", "CREATE TABLE names (k INTEGER, v INTEGER)"],
         ["CREATE INDEX ab ON r (a, b)", "CREATE INDEX kv ON names (k, v)"],
         [("INSERT INTO r VALUES (?, ?)", rows), ("INSERT INTO names VALUES (?, ?)", names)],
         asked,
     )
+    (spent, beside), refusals = taking_turns(program, begun, [[query + ";\n" for query in queries]], one_pass)
     return spent / times, refusals, beside / times
 
 

@@ -3,7 +3,7 @@ import random
 import sqlite3
 import time
 
-from .timed import EMPTY_KEY, MILLION, SMALL_GROUPS, Timed, beyond, rows_of, shuffled, sqlite_seconds, written
+from .timed import EMPTY_KEY, MILLION, SMALL_GROUPS, Pass, Timed, beyond, rows_of, shuffled, sqlite_pass, taking_turns, written
 
 
 def load_ascending(program: str) -> Timed:
@@ -45,17 +45,26 @@ def loads_of(rows: list[tuple[int, int, int]]) -> list[str]:
     return loads
 
 
+def sqlite_load(rows: list[tuple[int, int, int]]) -> Pass:
+    """What puts rows into a new table with an index, and gives the seconds of that."""
+
+    def seconds() -> float:
+        base = sqlite3.connect(":memory:")
+        base.execute("CREATE TABLE t (a INTEGER, b INTEGER, c INTEGER)")
+        base.execute("CREATE INDEX ab ON t (a, b)")
+        began = time.process_time()
+        base.executemany("INSERT INTO t VALUES (?, ?, ?)", rows)
+        return time.process_time() - began
+
+    return seconds
+
+
 def load_triples(program: str, count: int) -> Timed:
     """Rows of three integers at random, in groups of five; SQLite puts the same into a table with such an index."""
     rows = triples_of(count)
     begun = ["CREATE TABLE t (a INTEGER, b INTEGER, c INTEGER); CREATE ACCESS ab ON t (a) FETCH (b) LIMIT 100;\n"]
-    spent, refusals = beyond(program, begun, loads_of(rows))
-    base = sqlite3.connect(":memory:")
-    base.execute("CREATE TABLE t (a INTEGER, b INTEGER, c INTEGER)")
-    base.execute("CREATE INDEX ab ON t (a, b)")
-    began = time.process_time()
-    base.executemany("INSERT INTO t VALUES (?, ?, ?)", rows)
-    return spent / count, refusals, (time.process_time() - began) / count
+    (spent, beside), refusals = taking_turns(program, begun, [loads_of(rows)], sqlite_load(rows))
+    return spent / count, refusals, beside / count
 
 
 def keys_over(rows: list[tuple[int, int, int]], first: int) -> tuple[list[int], list[str]]:
@@ -78,21 +87,21 @@ def probes(program: str) -> Timed:
     """A step that probes 100,000 keys, each with five tuples."""
     rows = triples_of(MILLION)
     keys, begun = keys_over(rows, 0)
-    spent, refusals = beyond(program, begun, [PROBES + ";\n"] * 5)
-    beside = sqlite_seconds(
+    one_pass = sqlite_pass(
         ["CREATE TABLE t (a INTEGER, b INTEGER, c INTEGER)", "CREATE TABLE keys (k INTEGER, v INTEGER)"],
         ["CREATE INDEX ab ON t (a, b)", "CREATE INDEX kv ON keys (k, v)"],
         [("INSERT INTO t VALUES (?, ?, ?)", rows), ("INSERT INTO keys VALUES (1, ?)", [(key,) for key in keys])],
         [("SELECT DISTINCT k.k, t.b FROM keys k, t WHERE k.k = 1 AND k.v = t.a ORDER BY 1", ())] * 5,
     )
+    (spent, beside), refusals = taking_turns(program, begun, [[PROBES + ";\n"] * 5], one_pass)
     return spent / 500_000, refusals, beside / 500_000
 
 
 def probes_of_nothing(program: str) -> Timed:
     """A step that probes 100,000 keys that aren't there, beyond the step that gives the keys."""
     _, begun = keys_over(triples_of(MILLION), MILLION)
-    one, _ = beyond(program, begun, ["SELECT DISTINCT k.k FROM keys k WHERE k.k = 1;\n"] * 5)
-    both, refusals = beyond(program, begun, [PROBES + ";\n"] * 5)
+    keys_alone = ["SELECT DISTINCT k.k FROM keys k WHERE k.k = 1;\n"] * 5
+    (one, both), refusals = taking_turns(program, begun, [keys_alone, [PROBES + ";\n"] * 5])
     return (both - one) / 500_000, refusals
 
 
