@@ -17,7 +17,7 @@ from beas import _library  # noqa: E402
 from stand_in import StandIn  # noqa: E402
 
 IS_TRUE = bool(os.environ.get("BEAS_LIBRARY"))
-CASES = TOP / "crates/session_cases/data/scripts"
+CASES = TOP / "crates/cases/data/scripts"
 # an account has at most three cards
 CARDS = """
 CREATE TABLE cards (account INTEGER, card INTEGER, holder TEXT);

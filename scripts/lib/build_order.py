@@ -2,7 +2,6 @@
 import os
 import re
 import shutil
-from collections.abc import Callable
 
 KIT = re.compile(r"rattle-kit-\S+ logic [0-9a-f]+")
 SECONDS_OF_A_CRATE = 60
@@ -65,18 +64,6 @@ def crates_and_below(order: Order, names: set[str]) -> set[str]:
 def crates_above(order: Order, names: set[str]) -> set[str]:
     """The crates that stand on one of these, without these."""
     return {it for it in order if names & crates_and_below(order, {it})} - names
-
-
-def nearest(order: Order, names: set[str], is_wanted: Callable[[str], bool]) -> list[str]:
-    """The wanted crates fewest steps above these, in the order of crates.txt, without these and those below them."""
-    near, others = set(names), order.keys() - crates_and_below(order, names)
-    while near:
-        near = {it for it in others if near & {*order[it]}}
-        others -= near
-        found = [it for it in order if it in near and is_wanted(it)]
-        if found:
-            return found
-    return []
 
 
 def copy_of_crates(top: str, order: Order, to: str) -> None:

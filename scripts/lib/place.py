@@ -8,7 +8,7 @@ from types import FrameType
 
 TOP = Path(__file__).resolve().parents[2]
 # folders of scripts with what is to be written for each
-CASES = TOP / "crates/session_cases/data/scripts"
+CASES = TOP / "crates/cases/data/scripts"
 PROVED = TOP / "crates/beas_shell/out/beas_shell"
 LAUNCHED = TOP / "out/beas"
 # as the launcher asks: large pages, and freed blocks at hand for the next query

@@ -1,5 +1,4 @@
 """Runs of a program in which allocations are refused."""
-import os
 import subprocess
 from collections.abc import Iterator
 
@@ -28,14 +27,14 @@ def read(path: str) -> bytes:
 class Runs:
     """Runs of a command in a folder."""
 
-    def __init__(self, command: list[str], folder: str, library: str, stdin: str = os.devnull, every: int = 1) -> None:
-        self.command, self.folder, self.library, self.stdin, self.every = command, folder, library, stdin, every
+    def __init__(self, command: list[str], folder: str, library: str, every: int = 1) -> None:
+        self.command, self.folder, self.library, self.every = command, folder, library, every
         self.records = f"{folder}.records"
 
     def run(self, **given: str) -> Ending:
         """The output is a file, so that the library can tell how much of it stands."""
-        with open(self.stdin, "rb") as source, open(f"{self.folder}.out", "wb") as out, open(f"{self.folder}.err", "wb") as err:
-            ran = subprocess.run(self.command, cwd=self.folder, env=given, stdin=source, stdout=out, stderr=err, check=False)
+        with open(f"{self.folder}.out", "wb") as out, open(f"{self.folder}.err", "wb") as err:
+            ran = subprocess.run(self.command, cwd=self.folder, env=given, stdin=subprocess.DEVNULL, stdout=out, stderr=err, check=False)
         return Ending(ran.returncode, read(f"{self.folder}.out"), read(f"{self.folder}.err"))
 
     def run_without_memory(self) -> Ending:

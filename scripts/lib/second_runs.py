@@ -74,10 +74,10 @@ class SecondRuns:
 
     def runs(self, count: int) -> Runs:
         """Runs in which so many statements of the second script are carried out."""
-        os.makedirs(f"{self.room}/calls", exist_ok=True)
-        with open(f"{self.room}/stdin", "w", encoding="utf-8", newline="") as file:
+        os.makedirs(f"{self.room}/runs", exist_ok=True)
+        with open(f"{self.room}/runs/calls", "w", encoding="utf-8", newline="") as file:
             file.write(calls_of(self.statements[:count]))
-        return Runs([self.program, "calls"], f"{self.room}/calls", self.library, f"{self.room}/stdin")
+        return Runs([self.program, "calls"], f"{self.room}/runs", self.library)
 
     def faults(self) -> int:
         """How many second runs that ran out of memory left a session that no number of statements leaves."""

@@ -1,4 +1,4 @@
-// Runs over files and sinks that never fail. Scripts with what is to be written for them are in `session_cases`.
+// Runs over files and sinks that never fail. Scripts with what is to be written for them are in `cases/data/scripts`.
 ghost use Rattle.std.specs.Prelude.{◌≡◌, ℕ, List, [], Some, map, unwrap_or};
 ghost use Rattle.std.specs.String.{string_bytes};
 ghost use Rattle.outside.specs.Contents.{content_of};

@@ -5,7 +5,7 @@
 //! three more: `Database`, what updates make of tables with their rows, `Stored`, a catalogue and the rows of its tables
 //! as a database, and `Queries`, when a query is over a catalogue's tables.
 //!
-//! Scripts and sessions with lowered limits test it (`session_cases/data`), and so do drawn statements
+//! Scripts and sessions with lowered limits test it (`cases/data`), and so do drawn statements
 //! (`scripts/compare-statements`). It keeps no rows, so it doesn't promise that a constraint holds, nor that a call says
 //! `NoMemory` only where memory ran out.
 #![tactic(auto)]

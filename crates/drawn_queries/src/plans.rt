@@ -9,10 +9,13 @@ use crate::constraints::draw_constraints;
 use crate::outcomes::outcome_of;
 use crate::tallies::{BUDGET, Tally};
 use beas_core::{AccessSpec, Fail, List, NoMemory, Prepared, Row, Steps};
-use drawn_scenes::{Trial, Twin, announced_query, bound_query, draw_query, try_scenes};
+use drawn_scenes::{
+    Trial, Twin, announced_query, bound_query, draw_query, out_of_memory, try_scenes,
+};
 use reference_queries::{Planned, plan_query};
 use session::{Session, Store};
 use std::alloc::Global;
+use std::io;
 use std::sync::ledger::Ledger;
 
 /// So many queries are drawn for one session.
@@ -131,12 +134,22 @@ impl Trial for Tally {
     }
 }
 
-/// Tries drawn queries over so many sessions, and says what came of them and what differed.
-pub fn try_plans<L: Ledger>(
+/// What comes of drawn queries that are prepared and executed over so many sessions, told in words.
+fn said_of<L: Ledger>(
     alloc: Global,
     sessions: u32,
     steps: &mut Steps<L>,
 ) -> Result<String, NoMemory> {
     let tally = try_scenes(alloc, sessions, Some(BUDGET), Tally::none(), steps)?;
     tally.said(alloc)
+}
+
+/// Tries drawn queries over so many sessions, and prints what came of them and what differed.
+pub fn try_plans<L: Ledger>(
+    rt: &HostRuntime,
+    sessions: u32,
+    steps: &mut Steps<L>,
+) -> io::Result<()> {
+    let said = said_of(rt.alloc(), sessions, steps).map_err(out_of_memory)?;
+    println!(rt; "{said}")
 }

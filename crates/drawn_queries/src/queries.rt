@@ -1,12 +1,13 @@
 // Drawn queries over small drawn tables.
 use crate::answers::{Scene, Wanted, wanted_of};
 use beas_core::{Fail, List, NoMemory, Row, Steps, Text};
-use drawn_scenes::{Draws, Trial, Twin, draw_query, reports, try_scenes};
+use drawn_scenes::{Draws, Trial, Twin, draw_query, out_of_memory, reports, try_scenes};
 use full_meaning::plain_store;
 use reference_queries::GuidedBlocks;
 use report::{Report, text};
 use session::{Session, Store};
 use std::alloc::Global;
+use std::io;
 use std::sync::ledger::Ledger;
 
 /// So many queries are drawn for one session.
@@ -212,8 +213,8 @@ impl Trial for Tally {
     }
 }
 
-/// Has drawn queries answered by so many sessions, and says what came of them and what differed.
-pub fn try_queries<L: Ledger>(
+/// What comes of drawn queries that so many sessions answer, told in words.
+fn said_of<L: Ledger>(
     alloc: Global,
     sessions: u32,
     steps: &mut Steps<L>,
@@ -227,4 +228,14 @@ pub fn try_queries<L: Ledger>(
     };
     let tally = try_scenes(alloc, sessions, Some(BUDGET), none, steps)?;
     tally.said(alloc, sessions)
+}
+
+/// Has drawn queries answered by so many sessions, and prints what came of them and what differed.
+pub fn try_queries<L: Ledger>(
+    rt: &HostRuntime,
+    sessions: u32,
+    steps: &mut Steps<L>,
+) -> io::Result<()> {
+    let said = said_of(rt.alloc(), sessions, steps).map_err(out_of_memory)?;
+    println!(rt; "{said}")
 }

@@ -1,9 +1,10 @@
 // Drawn queries whose outputs lose their columns.
 use crate::outcomes::{Outcome, more, outcome_of};
 use beas_core::{Fail, List, NoMemory, Query, QueryNode, Row, Steps};
-use drawn_scenes::{Trial, Twin, bound_query, draw_query, try_scenes};
+use drawn_scenes::{Trial, Twin, bound_query, draw_query, out_of_memory, try_scenes};
 use session::{Session, Store};
 use std::alloc::Global;
+use std::io;
 use std::sync::ledger::Ledger;
 
 /// So many queries are drawn for one session.
@@ -123,8 +124,8 @@ impl Trial for Tally {
     }
 }
 
-/// Tries drawn queries over so many sessions, and says what came of them and what differed.
-pub fn try_columnless<L: Ledger>(
+/// What comes of drawn queries over so many sessions, told in words.
+fn said_of<L: Ledger>(
     alloc: Global,
     sessions: u32,
     steps: &mut Steps<L>,
@@ -139,4 +140,14 @@ pub fn try_columnless<L: Ledger>(
     };
     let tally = try_scenes(alloc, sessions, None, none, steps)?;
     tally.line(alloc)
+}
+
+/// Tries drawn queries over so many sessions, and prints what came of them and what differed.
+pub fn try_columnless<L: Ledger>(
+    rt: &HostRuntime,
+    sessions: u32,
+    steps: &mut Steps<L>,
+) -> io::Result<()> {
+    let said = said_of(rt.alloc(), sessions, steps).map_err(out_of_memory)?;
+    println!(rt; "{said}")
 }

@@ -1,4 +1,4 @@
-// The text of standard input, and what is wrong with it.
+// What is wrong with a file of named cases.
 use named_blocks::Wrong;
 use std::io;
 
@@ -10,12 +10,10 @@ pub fn error_of(wrong: Wrong) -> io::Error {
     }
 }
 
-/// The text of standard input.
-pub fn text_of(rt: &HostRuntime) -> io::Result<String> {
-    let mut text = String::new(rt.alloc());
-    for line in rt.lines(rt.alloc()) {
-        text.push_str(line?.as_str())?;
-        text.push('\n')?;
+/// Says which line can't be read.
+pub fn say_wrong(rt: &HostRuntime, wrong: Wrong) -> io::Result<()> {
+    match wrong {
+        Wrong::Line(number) => println!(rt; "line {number} can't be read"),
+        wrong => Err(error_of(wrong)),
     }
-    Ok(text)
 }

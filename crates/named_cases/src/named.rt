@@ -1,14 +1,14 @@
 // Named cases, prepared and executed.
-use crate::input::error_of;
+use crate::input::{error_of, say_wrong};
 use crate::outcomes::{Outcome, more, outcome_of};
 use crate::scripts::script_of;
 use beas_core::{Access, Limits, NoMemory, Steps};
 use drawn_scenes::reports;
-use named_blocks::{NamedCase, Wrong};
+use named_blocks::{NamedCase, Wrong, cases_of};
 use session::{Session, Store};
 use std::alloc::Global;
-use std::io;
 use std::sync::ledger::Ledger;
+use std::{fs, io};
 
 /// What came of some cases.
 #[derive(Clone, Copy)]
@@ -121,7 +121,7 @@ fn print_case<L: Ledger>(
 }
 
 /// Tries the cases, and prints a line for each and one that sums them up.
-pub fn print_cases<L: Ledger>(
+fn print_cases<L: Ledger>(
     rt: &HostRuntime,
     cases: &[NamedCase],
     steps: &mut Steps<L>,
@@ -144,4 +144,13 @@ pub fn print_cases<L: Ledger>(
     println!(rt;
         "named cases: {answered} answered, {refused} refused, {misshapen} of a wrong shape, {differing} differences"
     )
+}
+
+/// Tries the cases of a file, and prints a line for each and one that sums them up.
+pub fn try_named<L: Ledger>(rt: &HostRuntime, path: &str, steps: &mut Steps<L>) -> io::Result<()> {
+    let text = fs::read_to_string(rt, path)?;
+    match cases_of(rt.alloc(), text.as_str()) {
+        Ok(cases) => print_cases(rt, &cases, steps),
+        Err(wrong) => say_wrong(rt, wrong),
+    }
 }

@@ -1,5 +1,5 @@
 // A refusal of each text.
-use crate::{Stop, name, write};
+use crate::writing::{Stop, name, write};
 use beas_core::{Counted, List, Name, NoMemory, Refusal, Row, Text, Value};
 use report::Report;
 use std::alloc::Global;

@@ -1,5 +1,5 @@
 // A report of each kind, and the records of answers.
-use crate::{Stop, name, write};
+use crate::writing::{Stop, name, write};
 use aggregate::Cell;
 use beas_core::{List, Name, NoMemory, Row, Text, Value};
 use report::Report;

@@ -6,8 +6,8 @@ use crate::table::Table;
 use beas_core::{Limits, NoMemory, Steps};
 use session::Session;
 use std::alloc::Global;
-use std::io;
 use std::sync::ledger::Ledger;
+use std::{fs, io};
 
 /// What the calls are made on.
 #[derive(Drop)]
@@ -55,18 +55,18 @@ fn call_of(line: &str) -> (&str, &str, &str) {
     (name, first, second)
 }
 
-/// Makes the calls of standard input, one after another.
+/// Makes the calls of a text, one after another.
 fn answer_all<L: Ledger>(
     rt: &HostRuntime,
+    text: &str,
     scene: &mut Scene,
     session: &mut Session,
     steps: &mut Steps<L>,
 ) -> io::Result<()> {
     let alloc = rt.alloc();
-    for line in rt.lines(alloc) {
-        let line = line?;
+    for line in text.lines() {
         if !line.starts_with('#') {
-            match answer_to(alloc, scene, session, call_of(line.as_str()), steps) {
+            match answer_to(alloc, scene, session, call_of(line), steps) {
                 Ok(said) => println!(rt; "{said}")?,
                 Err(NoMemory) => println!(rt; "out of memory")?,
             }
@@ -75,8 +75,8 @@ fn answer_all<L: Ledger>(
     Ok(())
 }
 
-/// Makes the calls of standard input over one session, and prints what each gives.
-pub fn make_calls<L: Ledger>(rt: &HostRuntime, steps: &mut Steps<L>) -> io::Result<()> {
+/// The same over one session that is made for them.
+fn answer_text<L: Ledger>(rt: &HostRuntime, text: &str, steps: &mut Steps<L>) -> io::Result<()> {
     let alloc = rt.alloc();
     let mut scene = Scene {
         shelves: Shelves::new(alloc),
@@ -84,7 +84,13 @@ pub fn make_calls<L: Ledger>(rt: &HostRuntime, steps: &mut Steps<L>) -> io::Resu
         table: Table::new(alloc),
     };
     let mut session = Session::new(alloc, Limits::standard(), None, false);
-    let ended = answer_all(rt, &mut scene, &mut session, steps);
+    let ended = answer_all(rt, text, &mut scene, &mut session, steps);
     session.discard();
     ended
+}
+
+/// Makes the calls of a file over one session, and prints what each gives.
+pub fn make_calls<L: Ledger>(rt: &HostRuntime, path: &str, steps: &mut Steps<L>) -> io::Result<()> {
+    let text = fs::read_to_string(rt, path)?;
+    answer_text(rt, text.as_str(), steps)
 }

@@ -205,7 +205,7 @@ fn is_wanted(rt: &HostRuntime, folder: &str, lines: &Lines) -> io::Result<bool> 
 }
 
 /// Tries the case of a folder. True where its lines are as wanted.
-pub fn try_evaluated<L: Ledger>(
+pub fn try_case<L: Ledger>(
     rt: &HostRuntime,
     folder: &str,
     steps: &mut Steps<L>,

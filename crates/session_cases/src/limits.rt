@@ -76,7 +76,7 @@ fn wrote_in<L: Ledger>(rt: &HostRuntime, folder: &str, steps: &mut Steps<L>) -> 
 }
 
 /// Tries a case, and says what it wrote where that isn't as wanted. Whether it is.
-pub fn try_limits<L: Ledger>(
+pub fn try_case<L: Ledger>(
     rt: &HostRuntime,
     folder: &str,
     steps: &mut Steps<L>,

@@ -4,8 +4,8 @@
 //! grammar, which is `Grammar` among the specs of `sql_text`, or why they spell none. The parts of the parser speak in
 //! `specs/Reading`, which reads from left to right.
 //!
-//! Spellings with their canonical texts or refusals test it (`text_cases/data`), and so do scripts
-//! (`session_cases/data`). A refusal doesn't say which token is at fault. It isn't promised that a name stands for
+//! Spellings with their canonical texts or refusals test it (`cases/data/spellings`), and so do scripts
+//! (`cases/data/scripts`). A refusal doesn't say which token is at fault. It isn't promised that a name stands for
 //! something or that a number is in range, which `binder` and `catalogue` see to, nor that a call says `NoMemory` only
 //! where memory ran out.
 #![tactic(auto)]

@@ -4,7 +4,7 @@ use beas_core::NoMemory;
 use command_words::{Args, Usage, args};
 use demo_gen::demo;
 use std::alloc::Global;
-use std::io;
+use std::{fs, io};
 
 const LONG: u32 = 70_000;
 
@@ -102,12 +102,18 @@ fn answer(alloc: Global, line: &str) -> Result<String, NoMemory> {
     }
 }
 
-/// Prints what each line of a text asks for.
-pub fn try_arguments(rt: &HostRuntime, text: &str) -> io::Result<()> {
+// Prints what each line of a text asks for.
+fn answer_lines(rt: &HostRuntime, text: &str) -> io::Result<()> {
     for line in text.lines() {
         if !line.starts_with('#') {
             print_answer(rt, answer(rt.alloc(), line))?;
         }
     }
     Ok(())
+}
+
+/// Prints what each line of a file asks for.
+pub fn try_arguments(rt: &HostRuntime, path: &str) -> io::Result<()> {
+    let text = fs::read_to_string(rt, path)?;
+    answer_lines(rt, text.as_str())
 }

@@ -4,7 +4,7 @@ use crate::lines::print_answer;
 use crate::spelled_bytes::bytes_of;
 use beas_core::{ColType, Column, List, Name, NoMemory};
 use std::alloc::Global;
-use std::io;
+use std::{fs, io};
 
 /// Adds a column to a table.
 fn add(
@@ -41,7 +41,7 @@ fn answer_to(alloc: Global, letter: u8, spelled: &[u8]) -> Result<String, NoMemo
 }
 
 /// Prints what each file gives that a line of a text spells.
-pub fn try_csv(rt: &HostRuntime, text: &str) -> io::Result<()> {
+fn answer_lines(rt: &HostRuntime, text: &str) -> io::Result<()> {
     for line in text.lines() {
         match line.as_bytes() {
             [b'#', ..] => {}
@@ -52,4 +52,10 @@ pub fn try_csv(rt: &HostRuntime, text: &str) -> io::Result<()> {
         }
     }
     Ok(())
+}
+
+/// Prints what each file gives that a line of a file of cases spells.
+pub fn try_csv(rt: &HostRuntime, path: &str) -> io::Result<()> {
+    let text = fs::read_to_string(rt, path)?;
+    answer_lines(rt, text.as_str())
 }

@@ -1,12 +1,6 @@
-// Files of cases, their lines and the words of a line.
+// What comes of the lines of files, and the words of a line.
 use beas_core::NoMemory;
-use std::{fs, io};
-
-/// The text of a file of cases.
-pub fn text_in(rt: &HostRuntime, folder: &str, file: &str) -> io::Result<String> {
-    let path = format!(in rt.alloc(); "{folder}/{file}")?;
-    fs::read_to_string(rt, path.as_str())
-}
+use std::io;
 
 /// Prints what came of a case.
 pub fn print_answer(rt: &HostRuntime, answer: Result<String, NoMemory>) -> io::Result<()> {

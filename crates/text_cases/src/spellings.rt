@@ -1,9 +1,9 @@
 // Texts with what they are to be read as.
 use crate::cases::{Case, cases_of, reserved_cases};
-use crate::lines::text_in;
 use crate::readings::{name_in, pieces_in, statement_in};
 use crate::tokens::{cuts_in, tokens_in};
 use beas_core::NoMemory;
+use drawn_scenes::{out_of_memory, text_in};
 use std::alloc::Global;
 use std::io;
 
@@ -36,10 +36,6 @@ fn reading(alloc: Global, file: &str, text: &str) -> Result<String, NoMemory> {
         "cuts" => cuts_in(alloc, text),
         _ => statement_in(alloc, text),
     }
-}
-
-fn out_of_memory(_: NoMemory) -> io::Error {
-    io::Error::from(io::ErrorKind::OutOfMemory)
 }
 
 /// Tries a case, and says where it goes wrong. Whether it went well.

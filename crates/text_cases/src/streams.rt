@@ -2,7 +2,7 @@
 use crate::lines::{cut_at_space, number_of};
 use crate::reads::{read_endless, read_file, read_text};
 use crate::writes::write_text;
-use std::io;
+use std::{fs, io};
 
 fn try_line(rt: &HostRuntime, line: &str) -> io::Result<()> {
     let (call, rest) = cut_at_space(line);
@@ -16,12 +16,17 @@ fn try_line(rt: &HostRuntime, line: &str) -> io::Result<()> {
     }
 }
 
-/// Prints what comes of the reader or the writer of each line of a text.
-pub fn try_streams(rt: &HostRuntime, text: &str) -> io::Result<()> {
+fn try_lines(rt: &HostRuntime, text: &str) -> io::Result<()> {
     for line in text.lines() {
         if !line.starts_with('#') {
             try_line(rt, line)?;
         }
     }
     Ok(())
+}
+
+/// Prints what comes of the reader or the writer of each line of a file.
+pub fn try_streams(rt: &HostRuntime, path: &str) -> io::Result<()> {
+    let text = fs::read_to_string(rt, path)?;
+    try_lines(rt, text.as_str())
 }
