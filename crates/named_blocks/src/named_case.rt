@@ -10,6 +10,13 @@ pub struct NamedTable {
     pub columns: Vec<String>,
 }
 
+impl NamedTable {
+    /// Whether this is the table's name.
+    pub(crate) fn is_named(&self, name: &str) -> bool {
+        self.name.as_str() == name
+    }
+}
+
 /// A block with the names of its atoms.
 #[derive(Drop)]
 pub struct NamedBlock {
@@ -39,6 +46,18 @@ pub struct NamedCase {
 }
 
 impl NamedCase {
+    /// A case with this name and nothing in it.
+    pub(crate) fn new(alloc: Global, name: String) -> NamedCase {
+        NamedCase {
+            name,
+            tables: Vec::new(alloc),
+            rows: Vec::new(alloc),
+            accesses: List::new(alloc),
+            blocks: Vec::new(alloc),
+            parts: Vec::new(alloc),
+        }
+    }
+
     /// The columns of a table.
     pub fn columns_of(&self, table: TableId) -> &[String] {
         match self.tables.get(table.0 as usize) {
@@ -66,27 +85,42 @@ impl NamedCase {
         let mut blocks = self.blocks.iter();
         for part in &self.parts {
             let node = match part {
-                Part::Block => match blocks.next() {
-                    Some(named) => QueryNode::Block(named.block.copy(alloc)?),
-                    None => return Err(Wrong::Line(0)),
-                },
+                Part::Block => copied(alloc, blocks.next())?,
                 sign => join(alloc, *sign, &mut stack)?,
             };
             stack.push(Query { node })?;
         }
-        match stack.pop() {
-            Some(query) if stack.is_empty() => Ok(query),
-            _ => Err(Wrong::Line(0)),
-        }
+        only(stack)
+    }
+}
+
+fn copied(alloc: Global, block: Option<&NamedBlock>) -> Result<QueryNode, Wrong> {
+    match block {
+        Some(named) => Ok(QueryNode::Block(named.block.copy(alloc)?)),
+        None => Err(Wrong::Line(0)),
+    }
+}
+
+// The one query that there is.
+fn only(mut stack: Vec<Query>) -> Result<Query, Wrong> {
+    match stack.pop() {
+        Some(query) if stack.is_empty() => Ok(query),
+        _ => Err(Wrong::Line(0)),
+    }
+}
+
+// The last query.
+fn pop(alloc: Global, stack: &mut Vec<Query>) -> Result<Box<Query>, Wrong> {
+    match stack.pop() {
+        Some(query) => Ok(Box::new(alloc, query)?),
+        None => Err(Wrong::Line(0)),
     }
 }
 
 // The last two queries, joined by a sign.
 fn join(alloc: Global, sign: Part, stack: &mut Vec<Query>) -> Result<QueryNode, Wrong> {
-    let (right, left) = match (stack.pop(), stack.pop()) {
-        (Some(right), Some(left)) => (Box::new(alloc, right)?, Box::new(alloc, left)?),
-        _ => return Err(Wrong::Line(0)),
-    };
+    let right = pop(alloc, stack)?;
+    let left = pop(alloc, stack)?;
     match sign {
         Part::Except => Ok(QueryNode::Except(left, right)),
         _ => Ok(QueryNode::Union(left, right)),

@@ -14,17 +14,16 @@ pub fn number_of(word: &str) -> Result<u32, Wrong> {
 
 /// The table with this name.
 pub fn table_at(case: &NamedCase, name: &str) -> Result<TableId, Wrong> {
-    let found = case
-        .tables
-        .iter()
-        .position(|table| table.name.as_str() == name);
+    let found = case.tables.iter().position(|table| table.is_named(name));
     match u32::try_from(found.unwrap_or(usize::MAX)) {
         Ok(number) => Ok(TableId(number)),
         Err(_) => Err(Wrong::Line(0)),
     }
 }
 
-fn short(found: Option<usize>) -> Result<u16, Wrong> {
+// Where a name stands among some.
+fn position_of(names: &[String], name: &str) -> Result<u16, Wrong> {
+    let found = names.iter().position(|other| other.as_str() == name);
     match u16::try_from(found.unwrap_or(usize::MAX)) {
         Ok(number) => Ok(number),
         Err(_) => Err(Wrong::Line(0)),
@@ -33,11 +32,8 @@ fn short(found: Option<usize>) -> Result<u16, Wrong> {
 
 /// The column of a table with this name.
 pub fn column_at(case: &NamedCase, table: TableId, name: &str) -> Result<ColumnId, Wrong> {
-    let found = case
-        .columns_of(table)
-        .iter()
-        .position(|column| column.as_str() == name);
-    Ok(ColumnId(short(found)?))
+    let number = position_of(case.columns_of(table), name)?;
+    Ok(ColumnId(number))
 }
 
 /// The columns of a table that follow the first of some words.
@@ -47,9 +43,13 @@ pub fn columns_at(
     table: TableId,
     words: &[&str],
 ) -> Result<List<ColumnId>, Wrong> {
+    let names = match words {
+        [_, names @ ..] => names,
+        [] => words,
+    };
     let mut columns = List::new(alloc);
-    for word in words.iter().skip(1) {
-        columns.push(column_at(case, table, word)?)?;
+    for name in names {
+        columns.push(column_at(case, table, name)?)?;
     }
     Ok(columns)
 }
@@ -64,7 +64,7 @@ pub fn place_at(case: &NamedCase, word: &str) -> Result<Place, Wrong> {
         Some(named) => named,
         None => return Err(Wrong::Line(0)),
     };
-    let atom = short(named.atoms.iter().position(|atom| atom.as_str() == name))?;
+    let atom = position_of(&named.atoms, name)?;
     match named.block.atoms.as_slice().get(usize::from(atom)) {
         Some(found) => Ok(Place {
             atom,

@@ -207,6 +207,19 @@ pub fn atoms_of(alloc: Global, normal: &Normal) -> Result<Vec<u16>, NoMemory>
     Ok(numbers)
 }
 
+fn first_unserved_among(
+    normal: &Normal,
+    accesses: &[Access],
+    found: &[AccessUse],
+    set: &[bool],
+) -> Option<u16>
+    requires atoms { length normal.now.atoms < 65536 }
+    requires found { found.now ≡ uses normal.now accesses.now }
+    ensures { result ≡ find (λ atom. not (is_served normal.now accesses.now set.now atom)) (atoms_of normal.now) }
+{
+    (0..normal.atoms.len() as u16).find(|atom| !is_served(normal, accesses, found, set, *atom))
+}
+
 // The first atom that no constraint serves.
 fn first_unserved(
     alloc: Global,
@@ -219,14 +232,7 @@ fn first_unserved(
         ≡ find (λ atom. not (is_served normal.now accesses.now set.now atom)) (atoms_of normal.now)) }
 {
     let found = uses(alloc, normal, accesses)?;
-    let unserved = (0..normal.atoms.len() as u16).find(|atom| !is_served(
-        normal,
-        accesses,
-        found.as_slice(),
-        set,
-        *atom,
-    ));
-    Ok(unserved)
+    Ok(first_unserved_among(normal, accesses, found.as_slice(), set))
 }
 
 /// The first needed column whose class isn't in the set, else the first atom that no constraint serves.
@@ -251,6 +257,14 @@ pub fn reason(
     Ok(unserved.map(|atom| NotCovered::AtomUnindexed { atom }))
 }
 
+fn all_served_among(normal: &Normal, accesses: &[Access], found: &[AccessUse], set: &[bool]) -> bool
+    requires atoms { length normal.now.atoms < 65536 }
+    requires found { found.now ≡ uses normal.now accesses.now }
+    ensures { result ≡ list_all (is_served normal.now accesses.now set.now) (atoms_of normal.now) }
+{
+    (0..normal.atoms.len() as u16).all(|atom| is_served(normal, accesses, found, set, atom))
+}
+
 // Whether each atom has a constraint that serves it.
 fn all_served(
     alloc: Global,
@@ -263,14 +277,7 @@ fn all_served(
         ≡ list_all (is_served normal.now accesses.now set.now) (atoms_of normal.now)) }
 {
     let found = uses(alloc, normal, accesses)?;
-    let served = (0..normal.atoms.len() as u16).all(|atom| is_served(
-        normal,
-        accesses,
-        found.as_slice(),
-        set,
-        atom,
-    ));
-    Ok(served)
+    Ok(all_served_among(normal, accesses, found.as_slice(), set))
 }
 
 /// Whether the set holds each needed column's class, and each atom has a constraint that serves it.

@@ -150,6 +150,24 @@ fn after_step(
     }
 }
 
+fn enabled_among<'a>(
+    alloc: Global,
+    normal: &Normal,
+    set: &[bool],
+    found: &[AccessUse<'a>],
+) -> Result<Vec<AccessUse<'a>>, NoMemory>
+    ensures { IfOk result (λ ready. ready.items ≡ filter (λ u. holds_classes set.now (key_classes normal.now u)
+        && adds_class normal.now set.now u) found.now) }
+{
+    let mut ready = Vec::new(alloc);
+    for candidate in found {
+        if is_enabled(normal, set, candidate) {
+            ready.push(candidate.again())?;
+        }
+    }
+    Ok(ready)
+}
+
 fn least_enabled<'a>(
     alloc: Global,
     normal: &Normal,
@@ -160,12 +178,7 @@ fn least_enabled<'a>(
     ensures { IfOk result (λ chosen. chosen ≡ least_bound (enabled_uses normal.now accesses.now set.now)) }
 {
     let found = uses(alloc, normal, accesses)?;
-    let mut ready = Vec::new(alloc);
-    for candidate in found.as_slice() {
-        if is_enabled(normal, set, candidate) {
-            ready.push(candidate.again())?;
-        }
-    }
+    let ready = enabled_among(alloc, normal, set, found.as_slice())?;
     Ok(least_bound(&ready))
 }
 
@@ -205,6 +218,25 @@ pub fn is_served_by(normal: &Normal, accesses: &[Access], steps: &[DStep], atom:
     steps.iter().any(|step| step.atom == atom && step_holds_needed(normal, accesses, step))
 }
 
+fn serving_among<'a>(
+    alloc: Global,
+    normal: &Normal,
+    set: &[bool],
+    found: &[AccessUse<'a>],
+    atom: u16,
+) -> Result<Vec<AccessUse<'a>>, NoMemory>
+    ensures { IfOk result (λ ready. ready.items
+        ≡ filter (λ u. (u.atom == atom) && serves normal.now set.now u) found.now) }
+{
+    let mut ready = Vec::new(alloc);
+    for candidate in found {
+        if serves_atom(normal, set, candidate, atom) {
+            ready.push(candidate.again())?;
+        }
+    }
+    Ok(ready)
+}
+
 fn least_serving<'a>(
     alloc: Global,
     normal: &Normal,
@@ -220,12 +252,7 @@ fn least_serving<'a>(
         return Ok(None);
     }
     let found = uses(alloc, normal, accesses)?;
-    let mut ready = Vec::new(alloc);
-    for candidate in found.as_slice() {
-        if serves_atom(normal, set, candidate, atom) {
-            ready.push(candidate.again())?;
-        }
-    }
+    let ready = serving_among(alloc, normal, set, found.as_slice(), atom)?;
     Ok(least_bound(&ready))
 }
 

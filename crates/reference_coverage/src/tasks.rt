@@ -1,5 +1,5 @@
 // The blocks of a query as they are to be planned: which have a guide, which are guided, and which aren't covered.
-ghost use Rattle.std.specs.Prelude.{◌≡◌, ◌<◌, ◌+◌, ◌^◌, ◌↔◌, [], ℕ, length, map, unwrap_or, All, IfOk, IsTrue};
+ghost use Rattle.std.specs.Prelude.{◌≡◌, ◌<◌, ◌+◌, ◌^◌, ◌↔◌, ◌∷◌, [], ℕ, length, map, unwrap_or, All, IfOk, IsTrue};
 ghost use Rattle.beas_core.specs.Guiding.{block_tasks, first_uncovered, first_uncovered_from, is_guided_task, task_reason, task_start, task_steps};
 ghost use Rattle.beas_core.specs.Classes.{normal_of};
 ghost use Rattle.beas_core.specs.Coverage.{own_is_covered};
@@ -81,6 +81,21 @@ fn task_of<'a>(
     })
 }
 
+fn one_task<'a>(
+    alloc: Global,
+    accesses: &'a [Access],
+    has_guide: bool,
+    block: &Block,
+) -> Result<List<Task<'a>>, NoMemory>
+    requires { HasFewPlaces block.now }
+    ensures { IfOk result (λ tasks. tasks
+        ≡ (record { normal = normal_of block.now; accesses = accesses.now; has_guide = has_guide }) ∷ []) }
+{
+    let mut tasks = List::new(alloc);
+    tasks.push(task_of(alloc, accesses, has_guide, block)?)?;
+    Ok(tasks)
+}
+
 // The tasks of a tree, where `has_guide` says whether it has a guide as a whole.
 fn tasks_from<'a>(
     alloc: Global,
@@ -92,11 +107,7 @@ fn tasks_from<'a>(
     ensures { IfOk result (λ tasks. tasks ≡ tasks_with accesses.now has_guide query.now) }
 {
     match &query.node {
-        QueryNode::Block(block) => {
-            let mut tasks = List::new(alloc);
-            tasks.push(task_of(alloc, accesses, has_guide, block)?)?;
-            Ok(tasks)
-        }
+        QueryNode::Block(block) => one_task(alloc, accesses, has_guide, block),
         QueryNode::Union(left, right) => append(
             tasks_from(alloc, accesses, has_guide, left)?,
             tasks_from(alloc, accesses, has_guide, right)?,

@@ -39,14 +39,13 @@ pub fn classes_at(
     Ok(classes)
 }
 
-fn with_class(mut set: Vec<bool>, class: u16) -> Vec<bool>
-    ensures { result.items ≡ slice_set set.items class true }
+fn add_class(set: &mut [bool], class: u16)
+    ensures { set.new ≡ slice_set set.old class true }
 {
     let at = usize::from(class);
     if at < set.len() {
         set[at] = true;
     }
-    set
 }
 
 /// The set with some more classes.
@@ -57,7 +56,7 @@ pub fn with_classes(alloc: Global, set: &[bool], classes: &[u16]) -> Result<List
 {
     let mut more = set.to_vec(alloc)?;
     for class in classes {
-        more = with_class(more, *class);
+        add_class(&mut more, *class);
     }
     Ok(List::from_vec(more))
 }

@@ -7,13 +7,19 @@ use crate::places::same_place;
 use beas_core::{Block, ColumnId, Comparison, List, NoMemory, Operand, Place, Value};
 use std::alloc::Global;
 
+fn push_both(places: &mut List<Place>, equality: &(Place, Place)) -> Result<(), NoMemory>
+    ensures { OnOk result (places.new ≡ places.old ++ equality.now.0 ∷ equality.now.1 ∷ []) }
+{
+    places.push(equality.0)?;
+    places.push(equality.1)
+}
+
 #[tactic(auto, using(std::proofs::lemmas::List::flat_map_more))]
 fn push_equalities(places: &mut List<Place>, equalities: &[(Place, Place)]) -> Result<(), NoMemory>
     ensures { OnOk result (places.new ≡ places.old ++ flat_map (λ e. e.0 ∷ e.1 ∷ []) equalities.now) }
 {
-    for (left, right) in equalities {
-        places.push(*left)?;
-        places.push(*right)?;
+    for equality in equalities {
+        push_both(places, equality)?;
     }
     Ok(())
 }

@@ -179,6 +179,39 @@ fn constants(
     Ok(all)
 }
 
+// The normal form with these classes, and with what a block has in it as it stands.
+fn with_conditions(
+    alloc: Global,
+    block: &Block,
+    count: u16,
+    classes: List<List<u16>>,
+    constants: List<(u16, Value)>,
+    needed: List<List<ColumnId>>,
+) -> Result<Normal, NoMemory>
+    ensures { IfOk result (λ normal. normal ≡ record {
+      atoms = block.now.atoms;
+      classes = classes;
+      count = count;
+      constants = constants;
+      needed = needed;
+      comparisons = block.now.comparisons;
+      output = block.now.output;
+    }) }
+{
+    let atoms = block.atoms.copy(alloc)?;
+    let comparisons = block.comparisons.copy(alloc)?;
+    let output = block.output.copy(alloc)?;
+    Ok(Normal {
+        atoms,
+        classes,
+        count,
+        constants,
+        needed,
+        comparisons,
+        output,
+    })
+}
+
 // The normal form of a block, where `groups` has the places of each class.
 #[tactic(auto, unfolding(beas_core::specs::Classes::normal_of))]
 fn normal_over(alloc: Global, block: &Block, groups: &[List<Place>]) -> Result<Normal, NoMemory>
@@ -188,15 +221,17 @@ fn normal_over(alloc: Global, block: &Block, groups: &[List<Place>]) -> Result<N
     requires count { length groups.now ≡ length (leaders block.now) }
     ensures { IfOk result (λ normal. normal ≡ normal_of block.now) }
 {
-    Ok(Normal {
-        atoms: block.atoms.copy(alloc)?,
-        classes: classes(alloc, block, groups)?,
-        count: groups.len() as u16,
-        constants: constants(alloc, block, groups)?,
-        needed: needed_columns_by_atom(alloc, block)?,
-        comparisons: block.comparisons.copy(alloc)?,
-        output: block.output.copy(alloc)?,
-    })
+    let classes = classes(alloc, block, groups)?;
+    let constants = constants(alloc, block, groups)?;
+    let needed = needed_columns_by_atom(alloc, block)?;
+    with_conditions(
+        alloc,
+        block,
+        groups.len() as u16,
+        classes,
+        constants,
+        needed,
+    )
 }
 
 /// The normal form of a block. Classes are numbered in order of their first place, by atom and then column.
