@@ -1,5 +1,5 @@
 // Cases as folders of files.
-use crate::errors::out_of_memory;
+use crate::words::out_of_memory;
 use beas_core::{Bytes, Text};
 use outside::MemoryFiles;
 use std::{fs, io};

@@ -7,7 +7,7 @@
 //! the text of a query, `statement_of` reads it, `bound_query` binds it, `announced_query` and `report_by` have a
 //! session announce it and carry it out, and `refusal_of_block` is its refusal where a block isn't covered.
 //! `try_scenes` tries a `Trial` over many sessions, each with a scene of its own. Beside them stands what such programs
-//! need of folders of files.
+//! need of their arguments and of folders of files.
 //!
 //! It promises nothing but safety, and of `statement_of` that a statement has what a session asks for, of `bound_query`
 //! that a query is well-formed, of `announced_query` that it fits the session's store: what is drawn can be seen by
@@ -18,7 +18,6 @@ mod announced;
 mod bound;
 mod conditions;
 mod draws;
-mod errors;
 mod folders;
 mod plain;
 mod queries;
@@ -28,12 +27,12 @@ mod statements;
 mod tables;
 mod trials;
 mod updates;
+mod words;
 
 pub use announced::announced_query;
 pub use bound::bound_query;
 pub use conditions::{Test, push_column, push_conditions};
 pub use draws::Draws;
-pub use errors::out_of_memory;
 pub use folders::{files_in, names_in, text_in};
 pub use plain::{Plain, Rule};
 pub use queries::draw_query;
@@ -42,3 +41,4 @@ pub use statements::{fill_scene, report_by, reports, reports_over, statement_of}
 pub use tables::{Fact, Shape, TABLES, column_name, table_name, value};
 pub use trials::{Trial, try_scenes};
 pub use updates::{Batch, Twin, Update, creations, script_of};
+pub use words::{argument_at, number_at, out_of_memory};

@@ -1,8 +1,0 @@
-// The error of a program of cases that can't go on.
-use beas_core::NoMemory;
-use std::io;
-
-/// The error of a program that runs out of memory.
-pub fn out_of_memory(_: NoMemory) -> io::Error {
-    io::Error::from(io::ErrorKind::OutOfMemory)
-}
