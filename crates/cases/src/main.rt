@@ -1,8 +1,8 @@
 //! Tries the cases of the crates of cases, section by section, and prints what comes of them.
 //!
 //! Each argument names a section, and the sections are tried in this order, each under its name. The cases of a section
-//! lie in a file or a folder of its name beside which the program is started. The crates that try them say what stands
-//! there.
+//! lie in a file or a folder of its name, in the folder that the program is started in. The crates that try them say
+//! what stands there.
 //!
 //! - `csv`, `arguments`, `streams` and `spellings`: what texts and files are read as, by `text_cases`.
 //! - `refusals`, `reports` and `groups`: what is reported, and rows in groups, by `report_cases`.
