@@ -32,6 +32,13 @@ fn are_short(rows: &[Row]) -> bool
     rows.iter().all(|row| row.len() < 4_294_967_296)
 }
 
+fn too_many_columns() -> Fail {
+    Fail::Refused(Refusal::TooMany {
+        what: Counted::Columns,
+        limit: u64::from(Limits::standard().columns),
+    })
+}
+
 /// Adds copies of some rows to a table.
 fn add_rows<L: Ledger>(
     alloc: Global,
@@ -42,16 +49,12 @@ fn add_rows<L: Ledger>(
 ) -> Result<(), Fail>
     requires { table.0 < length (database_in plain.old).tables }
 {
-    let limits = Limits::standard();
     let _count = rows.len();
     let copies = copied_rows(alloc, rows, steps)?;
     if !are_short(copies.as_slice()) {
-        return Err(Fail::Refused(Refusal::TooMany {
-            what: Counted::Columns,
-            limit: u64::from(limits.columns),
-        }));
+        return Err(too_many_columns());
     }
-    plain.insert(alloc, &limits, table, copies)?;
+    plain.insert(alloc, &Limits::standard(), table, copies)?;
     Ok(())
 }
 
@@ -91,22 +94,29 @@ fn copy_table<L: Ledger>(
 }
 
 /// Makes all tables of a catalogue with copies of these rows.
-fn copied_store<L: Ledger>(
+fn copy_tables<L: Ledger>(
     alloc: Global,
+    plain: &mut Guarded,
     catalogue: &Catalogue,
     rows: &[Rows],
     steps: &mut Steps<L>,
-) -> Result<Guarded, Fail>
+) -> Result<(), Fail>
     requires { length rows.now ≡ length catalogue.now.tables }
 {
     // Read for what its type tells: there are few tables.
     let _accesses = catalogue.accesses();
-    let mut plain = Guarded::new(alloc);
     for (place, table) in rows.iter().enumerate() {
         let id = TableId(place as u32);
-        copy_table(alloc, &mut plain, catalogue, id, table, steps)?;
+        copy_table(alloc, plain, catalogue, id, table, steps)?;
     }
-    Ok(plain)
+    Ok(())
+}
+
+fn no_store(why: Fail) -> Result<Option<Guarded>, NoMemory> {
+    match why {
+        Fail::Refused(_) => Ok(None),
+        Fail::NoMemory => Err(NoMemory),
+    }
 }
 
 /// The tables of a catalogue with copies of these rows, and without constraints, as a store of its own, over which
@@ -120,9 +130,13 @@ pub fn plain_store<L: Ledger>(
 ) -> Result<Option<Guarded>, NoMemory>
     requires { length rows.now ≡ length catalogue.now.tables }
 {
-    match copied_store(alloc, catalogue, rows, steps) {
-        Ok(plain) => Ok(Some(plain)),
-        Err(Fail::Refused(_)) => Ok(None),
-        Err(Fail::NoMemory) => Err(NoMemory),
+    let mut plain = Guarded::new(alloc);
+    match copy_tables(alloc, &mut plain, catalogue, rows, steps) {
+        Ok(()) => Ok(Some(plain)),
+        Err(why) => {
+            // A store that goes out of scope is proved anew in each crate where it does, with all its parts.
+            plain.discard();
+            no_store(why)
+        }
     }
 }
