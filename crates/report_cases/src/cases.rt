@@ -13,7 +13,7 @@ pub struct Case {
 }
 
 /// Why a text has no cases.
-#[derive(Debug, Drop)]
+#[derive(Clone, Copy)]
 pub enum Wrong {
     /// This line, from 1 on, can't be read.
     Line(usize),
@@ -44,28 +44,42 @@ pub fn cases_of(alloc: Global, text: &str) -> Result<Vec<Case>, Wrong> {
     let mut number = 0_usize;
     for line in text.split('\n') {
         number = number.saturating_add(1);
-        if !line.is_empty() && !line.starts_with('#') && !read_line(alloc, &mut cases, line)? {
+        if !read_line(alloc, &mut cases, line)? {
             return Err(Wrong::Line(number));
         }
     }
     Ok(cases)
 }
 
-// Takes a line up. Whether it could be read.
+// A case without rows.
+fn case_named(alloc: Global, name: &str) -> Result<Case, Wrong> {
+    Ok(Case {
+        name: String::from_str(alloc, name)?,
+        keys: 0,
+        folds: List::new(alloc),
+        rows: Vec::new(alloc),
+    })
+}
+
+// Takes a line up, if it isn't empty or a remark. Whether it could be read.
 fn read_line(alloc: Global, cases: &mut Vec<Case>, line: &str) -> Result<bool, Wrong> {
-    let (word, rest) = match line.split_once(' ') {
-        Some(parts) => parts,
-        None => return Ok(false),
-    };
-    if word == "case" {
-        cases.push(Case {
-            name: String::from_str(alloc, rest)?,
-            keys: 0,
-            folds: List::new(alloc),
-            rows: Vec::new(alloc),
-        })?;
+    if line.is_empty() || line.starts_with('#') {
         return Ok(true);
     }
+    match line.split_once(' ') {
+        Some(("case", name)) => add_case(alloc, cases, name),
+        Some((word, rest)) => read_last(alloc, cases, word, rest),
+        None => Ok(false),
+    }
+}
+
+fn add_case(alloc: Global, cases: &mut Vec<Case>, name: &str) -> Result<bool, Wrong> {
+    cases.push(case_named(alloc, name)?)?;
+    Ok(true)
+}
+
+// Takes up a line of the last case.
+fn read_last(alloc: Global, cases: &mut Vec<Case>, word: &str, rest: &str) -> Result<bool, Wrong> {
     match cases.last_mut() {
         Some(case) => read_part(alloc, case, word, rest),
         None => Ok(false),
@@ -76,14 +90,18 @@ fn read_part(alloc: Global, case: &mut Case, word: &str, rest: &str) -> Result<b
     match word {
         "keys" => Ok(read_keys(case, rest)),
         "folds" => read_folds(case, rest),
-        "row" => match row_of(alloc, rest)? {
-            Some(row) => {
-                case.rows.push(row)?;
-                Ok(true)
-            }
-            None => Ok(false),
-        },
+        "row" => read_row(alloc, case, rest),
         _ => Ok(false),
+    }
+}
+
+fn read_row(alloc: Global, case: &mut Case, rest: &str) -> Result<bool, Wrong> {
+    match row_of(alloc, rest)? {
+        Some(row) => {
+            case.rows.push(row)?;
+            Ok(true)
+        }
+        None => Ok(false),
     }
 }
 
@@ -128,12 +146,21 @@ fn value_of(alloc: Global, word: &str) -> Result<Option<Value>, Wrong> {
     }
 }
 
+fn read_value(alloc: Global, row: &mut Row, word: &str) -> Result<bool, Wrong> {
+    match value_of(alloc, word)? {
+        Some(value) => {
+            row.push(value)?;
+            Ok(true)
+        }
+        None => Ok(false),
+    }
+}
+
 fn row_of(alloc: Global, rest: &str) -> Result<Option<Row>, Wrong> {
     let mut row = List::new(alloc);
     for word in rest.split(' ') {
-        match value_of(alloc, word)? {
-            Some(value) => row.push(value)?,
-            None => return Ok(None),
+        if !read_value(alloc, &mut row, word)? {
+            return Ok(None);
         }
     }
     Ok(Some(row))

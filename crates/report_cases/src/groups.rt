@@ -1,20 +1,34 @@
 // Answers in groups.
-use crate::cases::{Wrong, cases_of};
+use crate::cases::{Case, Wrong, cases_of};
 use crate::many::try_many;
 use crate::shown::show_case;
 use crate::writing::Stop;
+use beas_core::NoMemory;
+use std::io;
 
-fn write_cases(rt: &HostRuntime, text: &str) -> Result<(), Stop> {
-    let cases = match cases_of(rt.alloc(), text) {
-        Ok(cases) => cases,
-        Err(Wrong::Line(number)) => return Ok(println!(rt; "line {number} can't be read")?),
-        Err(Wrong::NoMemory) => return Err(Stop::NoMemory),
-    };
-    for case in cases {
-        let shown = show_case(rt.alloc(), case)?;
-        print!(rt; "{shown}")?;
+fn write_case(rt: &HostRuntime, case: &mut Case) -> Result<(), Stop> {
+    let shown = show_case(rt.alloc(), case)?;
+    print!(rt; "{shown}")?;
+    Ok(())
+}
+
+fn write_each(rt: &HostRuntime, cases: &mut [Case]) -> Result<(), Stop> {
+    for case in cases.iter_mut() {
+        write_case(rt, case)?;
     }
     Ok(())
+}
+
+fn say_unread(rt: &HostRuntime, number: usize) -> io::Result<()> {
+    println!(rt; "line {number} can't be read")
+}
+
+fn write_cases(rt: &HostRuntime, text: &str) -> Result<(), Stop> {
+    match cases_of(rt.alloc(), text) {
+        Ok(mut cases) => write_each(rt, &mut cases),
+        Err(Wrong::Line(number)) => Ok(say_unread(rt, number)?),
+        Err(Wrong::NoMemory) => Err(Stop::from(NoMemory)),
+    }
 }
 
 /// Writes what comes of the cases of a text, and of so many rows.

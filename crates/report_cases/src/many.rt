@@ -11,30 +11,33 @@ const EACH: u32 = 100;
 // times, and the others have a hundred. The rows stand last first.
 fn row_at(alloc: Global, number: u32) -> Result<Row, NoMemory> {
     let place = i64::from(number % EACH);
-    let mut row = List::new(alloc);
-    row.push(Value::Int(i64::from(number / EACH)))?;
-    row.push(Value::Int(place % 10))?;
-    row.push(Value::Int(place % 10))?;
-    row.push(Value::Int(place - 50))?;
-    row.push(Value::Int(place - 50))?;
-    Ok(row)
+    let first = i64::from(number / EACH);
+    let (second, third) = (place % 10, place - 50);
+    let values = vec![in alloc;
+        Value::Int(first),
+        Value::Int(second),
+        Value::Int(second),
+        Value::Int(third),
+        Value::Int(third),
+    ]?;
+    Ok(List::from_vec(values))
+}
+
+fn add_row(alloc: Global, rows: &mut Vec<Row>, number: u32) -> Result<(), NoMemory> {
+    Ok(rows.push(row_at(alloc, number)?)?)
 }
 
 fn rows_to(alloc: Global, count: u32) -> Result<Vec<Row>, NoMemory> {
     let mut rows = Vec::new(alloc);
     for number in (0..count).rev() {
-        rows.push(row_at(alloc, number)?)?;
+        add_row(alloc, &mut rows, number)?;
     }
     Ok(rows)
 }
 
 fn folds(alloc: Global) -> Result<List<Fold>, NoMemory> {
-    let mut folds = List::new(alloc);
-    folds.push(Fold::Count)?;
-    folds.push(Fold::Sum)?;
-    folds.push(Fold::Least)?;
-    folds.push(Fold::Greatest)?;
-    Ok(folds)
+    let folds = vec![in alloc; Fold::Count, Fold::Sum, Fold::Least, Fold::Greatest]?;
+    Ok(List::from_vec(folds))
 }
 
 // Whether a group of a hundred rows has what it is to have.
@@ -50,18 +53,34 @@ fn is_as_wanted(cells: &[Cell]) -> bool {
     )
 }
 
-/// Makes so many rows, and groups them. How many groups came of them, and how many have what they are to have, as text.
-pub fn try_many(alloc: Global, count: u32) -> Result<String, NoMemory> {
-    let rows = rows_to(alloc, count)?;
+// How many groups have what they are to have.
+fn count_as_wanted(groups: &[List<Cell>]) -> usize {
     let mut well = 0_usize;
-    let mut all = 0_usize;
-    if let Some(groups) = groups_of(alloc, rows, 1, &folds(alloc)?)? {
-        all = groups.len();
-        for cells in groups.as_slice() {
-            if is_as_wanted(cells.as_slice()) {
-                well = well.saturating_add(1);
-            }
+    for cells in groups {
+        if is_as_wanted(cells.as_slice()) {
+            well = well.saturating_add(1);
         }
     }
+    well
+}
+
+// The groups of so many rows.
+fn groups_to(alloc: Global, count: u32) -> Result<Option<List<List<Cell>>>, NoMemory> {
+    let folds = folds(alloc)?;
+    groups_of(alloc, rows_to(alloc, count)?, 1, &folds)
+}
+
+// How many groups came of so many rows, and how many have what they are to have.
+fn told(alloc: Global, count: u32, groups: &[List<Cell>]) -> Result<String, NoMemory> {
+    let well = count_as_wanted(groups);
+    let all = groups.len();
     Ok(format!(in alloc; "{count} rows: {well} of {all} groups as wanted")?)
+}
+
+/// Makes so many rows, and groups them. How many groups came of them, and how many have what they are to have, as text.
+pub fn try_many(alloc: Global, count: u32) -> Result<String, NoMemory> {
+    match groups_to(alloc, count)? {
+        Some(groups) => told(alloc, count, groups.as_slice()),
+        None => told(alloc, count, &[]),
+    }
 }

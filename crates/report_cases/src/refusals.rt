@@ -1,5 +1,5 @@
 // A refusal of each text.
-use crate::writing::{Stop, name, write};
+use crate::writing::{Stop, Unmade, name, write};
 use beas_core::{Counted, List, Name, NoMemory, Refusal, Row, Text, Value};
 use report::Report;
 use std::alloc::Global;
@@ -114,26 +114,29 @@ const COUNTED: [Counted; 7] = [
 ];
 
 fn key_of_two(alloc: Global) -> Result<Row, NoMemory> {
-    let mut key = List::new(alloc);
-    key.push(Value::Int(i64::MIN))?;
-    key.push(Value::Str(Text::from_str(alloc, "O'Hara, \"J\"")?))?;
-    Ok(key)
+    let text = Value::Str(Text::from_str(alloc, "O'Hara, \"J\"")?);
+    Ok(List::from_vec(vec![in alloc; Value::Int(i64::MIN), text]?))
+}
+
+/// A row that breaks a constraint at a key.
+fn broken_at(alloc: Global, key: Row) -> Result<Refusal, Unmade> {
+    let access = name(alloc, "d1")?;
+    Ok(Refusal::BreaksBound {
+        row: 4,
+        access,
+        key,
+    })
+}
+
+/// A column that a table lacks.
+fn lacking_column(alloc: Global) -> Result<Refusal, Unmade> {
+    let table = Some(name(alloc, "t")?);
+    let column = name(alloc, "c")?;
+    Ok(Refusal::UnknownColumn { table, column })
 }
 
 fn refuse(rt: &HostRuntime, why: Refusal) -> Result<(), Stop> {
-    write(rt, &Report::Refused { why })
-}
-
-fn refuse_key(rt: &HostRuntime, key: Row) -> Result<(), Stop> {
-    let access = name(rt.alloc(), "d1")?;
-    refuse(
-        rt,
-        Refusal::BreaksBound {
-            row: 4,
-            access,
-            key,
-        },
-    )
+    write(rt, Report::Refused { why })
 }
 
 fn write_those_of_numbers(rt: &HostRuntime) -> Result<(), Stop> {
@@ -165,15 +168,22 @@ fn write_those_of_limits(rt: &HostRuntime) -> Result<(), Stop> {
     Ok(())
 }
 
+fn write_that_of_a_column(rt: &HostRuntime) -> Result<(), Stop> {
+    let why = lacking_column(rt.alloc())?;
+    refuse(rt, why)
+}
+
+fn write_that_of_a_key(rt: &HostRuntime, key: Row) -> Result<(), Stop> {
+    let why = broken_at(rt.alloc(), key)?;
+    refuse(rt, why)
+}
+
 pub fn write_all(rt: &HostRuntime) -> Result<(), Stop> {
-    let alloc = rt.alloc();
     write_those_of_numbers(rt)?;
     write_those_of_names(rt)?;
     write_those_of_texts(rt)?;
     write_those_of_limits(rt)?;
-    let table = Some(name(alloc, "t")?);
-    let column = name(alloc, "c")?;
-    refuse(rt, Refusal::UnknownColumn { table, column })?;
-    refuse_key(rt, List::new(alloc))?;
-    refuse_key(rt, key_of_two(alloc)?)
+    write_that_of_a_column(rt)?;
+    write_that_of_a_key(rt, List::new(rt.alloc()))?;
+    write_that_of_a_key(rt, key_of_two(rt.alloc())?)
 }
