@@ -1,6 +1,6 @@
 // What is announced of a query, compared with what the reference programs announce of it.
 use beas_core::{Access, DStep, Derivation, NoMemory, Prepared, Refusal};
-use reference_queries::{Planned, QueryPlans, plan_query};
+use reference_evaluation::{Planned, QueryPlans, plan_query};
 use std::alloc::Global;
 
 fn is_step(left: &DStep, right: &DStep) -> bool {

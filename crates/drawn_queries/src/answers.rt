@@ -9,8 +9,9 @@ use drawn_scenes::{bound_query, column_name, refusal_of_block};
 use full_meaning::evaluate;
 use normal_form::blocks;
 use reference_coverage::BlockPlans;
-use reference_evaluation::{PlansOnTables, full_of};
-use reference_queries::{GuidedBlocks, Planned, QueryPlans, Run, plan_query, run_of};
+use reference_evaluation::{
+    GuidedBlocks, Planned, PlansOnTables, QueryPlans, Run, full_of, plan_query, run_of,
+};
 use report::Report;
 use std::alloc::Global;
 use std::sync::ledger::Ledger;

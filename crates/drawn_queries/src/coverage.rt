@@ -3,7 +3,7 @@ ghost use Rattle.beas_core.specs.Shapes.{QueryIsWellFormed};
 
 use beas_core::{Access, Fail, List, NotCovered, Query, QueryNode};
 use coverage_check::check;
-use reference_queries::Planned;
+use reference_evaluation::Planned;
 use std::alloc::Global;
 
 fn are_same(left: &Option<NotCovered>, right: &Option<NotCovered>) -> bool {

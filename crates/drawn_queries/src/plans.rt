@@ -12,7 +12,7 @@ use beas_core::{AccessSpec, Fail, List, NoMemory, Prepared, Row, Steps};
 use drawn_scenes::{
     Trial, Twin, announced_query, bound_query, draw_query, out_of_memory, try_scenes,
 };
-use reference_queries::{Planned, plan_query};
+use reference_evaluation::{Planned, plan_query};
 use session::{Session, Store};
 use std::alloc::Global;
 use std::io;

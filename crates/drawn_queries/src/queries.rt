@@ -3,7 +3,7 @@ use crate::answers::{Scene, Wanted, wanted_of};
 use beas_core::{Fail, List, NoMemory, Row, Steps, Text};
 use drawn_scenes::{Draws, Trial, Twin, draw_query, out_of_memory, reports, try_scenes};
 use full_meaning::plain_store;
-use reference_queries::GuidedBlocks;
+use reference_evaluation::GuidedBlocks;
 use report::{Report, text};
 use session::{Session, Store};
 use std::alloc::Global;

@@ -1,6 +1,6 @@
 // What came of many queries.
 use beas_core::NoMemory;
-use reference_queries::GuidedBlocks;
+use reference_evaluation::GuidedBlocks;
 use std::alloc::Global;
 
 /// A query with a greater number isn't executed: the reference programs take long over it.

@@ -12,8 +12,7 @@ use beas_core::{Answer, Fail, List, NoMemory, Prepared, Query, Refusal, Row, Ste
 use plan_builder::prepare;
 use plan_executor::execute;
 use reference_coverage::BlockPlans;
-use reference_evaluation::{PlansOnTables, full_of};
-use reference_queries::{Planned, QueryPlans, Run, plan_query, run_of};
+use reference_evaluation::{Planned, PlansOnTables, QueryPlans, Run, full_of, plan_query, run_of};
 use session::Store;
 use std::alloc::Global;
 use std::sync::ledger::Ledger;

@@ -1,5 +1,6 @@
 // The answers of a query: a guided block gives those alone that stand in its guide's answers.
-ghost use Rattle.std.specs.Prelude.{◌≡◌, ◌<◌, ◌+◌, ◌^◌, filter, length, IfOk};
+ghost use Rattle.std.specs.Prelude.{◌≡◌, ◌<◌, ◌+◌, ◌^◌, [], filter, length, unwrap_or, IfOk};
+ghost use Rattle.beas_core.specs.Full.{full_of_block, set_difference};
 ghost use Rattle.std.specs.List.{list_any};
 ghost use Rattle.beas_core.specs.Groups.{same_row};
 ghost use Rattle.beas_core.specs.Queries.{answers, guide_of, inside, query_answers};
@@ -7,27 +8,9 @@ ghost use Rattle.beas_core.specs.Trees.{blocks_of};
 ghost use Rattle.reference_evaluation.specs.Tables.{rows_in};
 
 use crate::full::{full_of_block, has_row, set_difference, set_union};
-use beas_core::{Duplicate, List, NoMemory, Query, QueryNode, Row};
+use beas_core::{Block, Duplicate, List, NoMemory, Query, QueryNode, Row};
 use reference_coverage::{is_guided, number_after};
 use std::alloc::Global;
-
-/// What guides a block: its guide's answers where it is guided, and nothing where it starts alone.
-pub fn guide_of(
-    alloc: Global,
-    guided: &[bool],
-    number: usize,
-    guide: &Option<List<Row>>,
-) -> Result<Option<List<Row>>, NoMemory>
-    ensures { IfOk result (λ own. own ≡ guide_of guided.now number guide.now) }
-{
-    if !is_guided(guided, number) {
-        return Ok(None);
-    }
-    match guide {
-        None => Ok(None),
-        Some(answers) => Ok(Some(answers.copy(alloc)?)),
-    }
-}
 
 fn rows_among(alloc: Global, answers: &[Row], found: &[Row]) -> Result<List<Row>, NoMemory>
     ensures { IfOk result (λ rows. rows ≡ filter (λ row. list_any (same_row row) answers.now) found.now) }
@@ -50,6 +33,40 @@ fn inside(alloc: Global, guide: &Option<List<Row>>, found: List<Row>) -> Result<
     }
 }
 
+/// The answers of the block with this number.
+fn answers_of_block(
+    alloc: Global,
+    tables: &[List<Row>],
+    guided: &[bool],
+    number: usize,
+    guide: &Option<List<Row>>,
+    block: &Block,
+) -> Result<List<Row>, NoMemory>
+    ensures { IfOk result (λ rows. rows ≡ inside (guide_of guided.now number guide.now)
+        (full_of_block (rows_in tables.now) block.now)) }
+{
+    let found = full_of_block(alloc, tables, block)?;
+    if is_guided(guided, number) {
+        inside(alloc, guide, found)
+    } else {
+        Ok(found)
+    }
+}
+
+/// The rows of the left side that the right side hasn't.
+fn left_without(
+    alloc: Global,
+    left: &Option<List<Row>>,
+    right: &[Row],
+) -> Result<List<Row>, NoMemory>
+    ensures { IfOk result (λ rows. rows ≡ set_difference (unwrap_or left.now []) right.now) }
+{
+    match left {
+        Some(rows) => set_difference(alloc, rows.as_slice(), right),
+        None => Ok(List::new(alloc)),
+    }
+}
+
 /// The answers of a tree whose first block has this number.
 pub fn answers(
     alloc: Global,
@@ -63,21 +80,17 @@ pub fn answers(
     ensures { IfOk result (λ rows. rows ≡ answers (rows_in tables.now) guided.now first guide.now query.now) }
 {
     match &query.node {
-        QueryNode::Block(block) => {
-            let own = guide_of(alloc, guided, first, guide)?;
-            inside(alloc, &own, full_of_block(alloc, tables, block)?)
-        }
+        QueryNode::Block(block) => answers_of_block(alloc, tables, guided, first, guide, block),
         QueryNode::Union(left, right) => {
             let one = answers(alloc, tables, guided, first, guide, left)?;
             let next = number_after(left, first);
             set_union(one, answers(alloc, tables, guided, next, guide, right)?)
         }
         QueryNode::Except(left, right) => {
-            let one = answers(alloc, tables, guided, first, guide, left)?;
+            let own = Some(answers(alloc, tables, guided, first, guide, left)?);
             let next = number_after(left, first);
-            let own = Some(one.copy(alloc)?);
             let other = answers(alloc, tables, guided, next, &own, right)?;
-            set_difference(alloc, one, other.as_slice())
+            left_without(alloc, &own, other.as_slice())
         }
     }
 }

@@ -238,29 +238,39 @@ fn all_met(normal: &Normal, set: &[bool], bindings: &[(u16, Value)], zero: &Valu
     comparisons.iter().all(|comparison| is_met(normal, set, bindings, comparison, zero))
 }
 
-fn is_consistent(normal: &Normal, set: &[bool], bindings: &[(u16, Value)], zero: &Value) -> bool
-    requires { zero.now ≡ Value.Int (pos 0) }
+fn is_consistent(normal: &Normal, set: &[bool], bindings: &[(u16, Value)]) -> bool
     ensures { result ≡ is_consistent normal.now set.now bindings.now }
 {
-    let same = agrees(bindings, zero);
-    let met = all_met(normal, set, bindings, zero);
+    let zero = Value::Int(0);
+    let same = agrees(bindings, &zero);
+    let met = all_met(normal, set, bindings, &zero);
     // As above: `&&` would part the proof in cases.
     same & met
 }
 
-/// The values of some classes by their first bindings. `zero` stands where one has none.
-pub fn values_of(
-    alloc: Global,
-    bindings: &[(u16, Value)],
-    classes: &[u16],
-    zero: &Value,
-) -> Result<Row, NoMemory>
-    requires { zero.now ≡ Value.Int (pos 0) }
+/// A copy of the value of a class by its first binding, zero where it has none.
+fn copy_of_class(alloc: Global, bindings: &[(u16, Value)], class: u16) -> Result<Value, NoMemory>
+    ensures { IfOk result (λ value. value ≡ value_of bindings.now class) }
+{
+    match bindings {
+        [] => Ok(Value::Int(0)),
+        [first, rest @ ..] => {
+            if first.0 == class {
+                first.1.copy(alloc)
+            } else {
+                copy_of_class(alloc, rest, class)
+            }
+        }
+    }
+}
+
+/// The values of some classes by their first bindings, zero where one has none.
+pub fn values_of(alloc: Global, bindings: &[(u16, Value)], classes: &[u16]) -> Result<Row, NoMemory>
     ensures { IfOk result (λ row. row ≡ map (value_of bindings.now) classes.now) }
 {
     let mut row = List::new(alloc);
     for class in classes {
-        row.push(value_of(bindings, *class, zero).copy(alloc)?)?;
+        row.push(copy_of_class(alloc, bindings, *class)?)?;
     }
     Ok(row)
 }
@@ -333,16 +343,6 @@ fn starts(
     }
 }
 
-/// Whether there are answers that guide a block.
-fn is_guided(guide: &Option<List<Row>>) -> bool
-    ensures { result ≡ is_some guide.now }
-{
-    match guide {
-        None => false,
-        Some(_) => true,
-    }
-}
-
 /// The classes that are bound after some steps.
 pub fn classes_after(
     alloc: Global,
@@ -354,7 +354,7 @@ pub fn classes_after(
         (start_classes block.now.normal.now (is_some guide.now)) steps.now) }
     ensures len { IfOk result (λ set. length set ≡ block.now.normal.now.count) }
 {
-    let start = start_classes(alloc, block.normal, is_guided(guide))?;
+    let start = start_classes(alloc, block.normal, guide.is_some())?;
     bound_after(alloc, block.normal, block.accesses, start.as_slice(), steps)
 }
 
@@ -364,16 +364,14 @@ fn rows_on(
     set: &[bool],
     classes: &[u16],
     found: &[Bindings],
-    zero: &Value,
 ) -> Result<List<Row>, NoMemory>
-    requires { zero.now ≡ Value.Int (pos 0) }
     ensures { IfOk result (λ rows. rows ≡ map (λ w. map (value_of w) classes.now)
         (filter (is_consistent normal.now set.now) found.now)) }
 {
     let mut rows = List::new(alloc);
     for way in found {
-        if is_consistent(normal, set, way.as_slice(), zero) {
-            rows.push(values_of(alloc, way.as_slice(), classes, zero)?)?;
+        if is_consistent(normal, set, way.as_slice()) {
+            rows.push(values_of(alloc, way.as_slice(), classes)?)?;
         }
     }
     Ok(rows)
@@ -389,9 +387,8 @@ fn valued_rows(
     requires { length set.now < 65536 }
     ensures { IfOk result (λ rows. rows ≡ valued_rows normal.now set.now found.now) }
 {
-    let zero = Value::Int(0);
     let classes = classes_in(alloc, set)?;
-    let rows = rows_on(alloc, normal, set, &classes, found, &zero)?;
+    let rows = rows_on(alloc, normal, set, &classes, found)?;
     Ok(distinct_rows(rows))
 }
 

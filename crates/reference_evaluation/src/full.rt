@@ -6,7 +6,7 @@ ghost use Rattle.beas_core.specs.Order.{value_cmp};
 ghost use Rattle.beas_core.specs.Full.{choices, choice_value, comparison_holds, meets, same_value, sign_holds, set_union, set_difference, full_of, full_of_block};
 ghost use Rattle.reference_evaluation.specs.Tables.{rows_in};
 
-use crate::rows::{distinct_rows, rows_of, value_or};
+use crate::rows::{copy_of_value, distinct_rows, rows_of, value_or};
 use beas_core::{
     Atom, Block, Comparison, Duplicate, List, NoMemory, Operand, Place, Query, QueryNode, Row,
     Sign, Value, compare, compare_rows,
@@ -131,48 +131,45 @@ fn comparisons_hold(comparisons: &[Comparison], choice: &[Row], zero: &Value) ->
         .all(|comparison| comparison_holds(comparison, choice, zero))
 }
 
-fn meets(block: &Block, choice: &[Row], zero: &Value) -> bool
-    requires { zero.now ≡ Value.Int (pos 0) }
+fn meets(block: &Block, choice: &[Row]) -> bool
     ensures { result ≡ meets block.now choice.now }
 {
-    let equal = equalities_hold(block.equalities.as_slice(), choice, zero);
-    let fixed = constants_hold(block.constants.as_slice(), choice, zero);
-    let compared = comparisons_hold(block.comparisons.as_slice(), choice, zero);
+    let zero = Value::Int(0);
+    let equal = equalities_hold(block.equalities.as_slice(), choice, &zero);
+    let fixed = constants_hold(block.constants.as_slice(), choice, &zero);
+    let compared = comparisons_hold(block.comparisons.as_slice(), choice, &zero);
     // All are worked out before they are joined: `&&` would part the proof in cases.
     equal & fixed & compared
 }
 
-fn project_choice(
-    alloc: Global,
-    choice: &[Row],
-    output: &[Place],
-    zero: &Value,
-) -> Result<Row, NoMemory>
-    requires { zero.now ≡ Value.Int (pos 0) }
+fn copy_at(alloc: Global, choice: &[Row], place: Place) -> Result<Value, NoMemory>
+    ensures { IfOk result (λ value. value ≡ choice_value choice.now place) }
+{
+    match choice.get(place.atom as usize) {
+        Some(row) => copy_of_value(alloc, row.as_slice(), place.column),
+        None => Ok(Value::Int(0)),
+    }
+}
+
+fn project_choice(alloc: Global, choice: &[Row], output: &[Place]) -> Result<Row, NoMemory>
     ensures { IfOk result (λ row. row ≡ map (choice_value choice.now) output.now) }
 {
     let mut row = List::new(alloc);
     for place in output {
-        row.push(choice_value(choice, *place, zero).copy(alloc)?)?;
+        row.push(copy_at(alloc, choice, *place)?)?;
     }
     Ok(row)
 }
 
 /// The outputs of the choices that meet all conditions.
-fn outputs(
-    alloc: Global,
-    block: &Block,
-    all: &[List<Row>],
-    zero: &Value,
-) -> Result<List<Row>, NoMemory>
-    requires { zero.now ≡ Value.Int (pos 0) }
+fn outputs(alloc: Global, block: &Block, all: &[List<Row>]) -> Result<List<Row>, NoMemory>
     ensures { IfOk result (λ found. found ≡ map (λ choice. map (choice_value choice) block.now.output)
         (filter (meets block.now) all.now)) }
 {
     let mut found = List::new(alloc);
     for choice in all {
-        if meets(block, choice.as_slice(), zero) {
-            found.push(project_choice(alloc, choice.as_slice(), block.output.as_slice(), zero)?)?;
+        if meets(block, choice.as_slice()) {
+            found.push(project_choice(alloc, choice.as_slice(), block.output.as_slice())?)?;
         }
     }
     Ok(found)
@@ -187,9 +184,8 @@ pub fn full_of_block(
 ) -> Result<List<Row>, NoMemory>
     ensures { IfOk result (λ answer. answer ≡ full_of_block (rows_in tables.now) block.now) }
 {
-    let zero = Value::Int(0);
     let all = choices(alloc, tables, block.atoms.as_slice())?;
-    let found = outputs(alloc, block, all.as_slice(), &zero)?;
+    let found = outputs(alloc, block, all.as_slice())?;
     Ok(distinct_rows(found))
 }
 
@@ -205,11 +201,11 @@ pub fn set_union(left: List<Row>, right: List<Row>) -> Result<List<Row>, NoMemor
     Ok(distinct_rows(append(left, right)?))
 }
 
-pub fn set_difference(alloc: Global, left: List<Row>, right: &[Row]) -> Result<List<Row>, NoMemory>
-    ensures { IfOk result (λ rows. rows ≡ set_difference left right.now) }
+pub fn set_difference(alloc: Global, left: &[Row], right: &[Row]) -> Result<List<Row>, NoMemory>
+    ensures { IfOk result (λ rows. rows ≡ set_difference left.now right.now) }
 {
     let mut rows = List::new(alloc);
-    for row in left.as_slice() {
+    for row in left {
         if !has_row(right, row) {
             rows.push(row.copy(alloc)?)?;
         }
@@ -229,7 +225,8 @@ pub fn full_of(alloc: Global, tables: &[List<Row>], query: &Query) -> Result<Lis
         ),
         QueryNode::Except(left, right) => {
             let others = full_of(alloc, tables, right)?;
-            set_difference(alloc, full_of(alloc, tables, left)?, others.as_slice())
+            let rows = full_of(alloc, tables, left)?;
+            set_difference(alloc, rows.as_slice(), others.as_slice())
         }
     }
 }

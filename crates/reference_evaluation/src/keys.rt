@@ -29,13 +29,11 @@ fn key_of(
     classes: &[u16],
     key_classes: &[u16],
     valuation: &[Value],
-    zero: &Value,
 ) -> Result<Row, NoMemory>
-    requires { zero.now ≡ Value.Int (pos 0) }
     ensures { IfOk result (λ key. key ≡ map (value_of (zip classes.now valuation.now)) key_classes.now) }
 {
     let bindings = bindings_between(alloc, classes, valuation)?;
-    values_of(alloc, bindings.as_slice(), key_classes, zero)
+    values_of(alloc, bindings.as_slice(), key_classes)
 }
 
 fn keys_in(
@@ -43,15 +41,13 @@ fn keys_in(
     classes: &[u16],
     key_classes: &[u16],
     found: &[Row],
-    zero: &Value,
 ) -> Result<List<Row>, NoMemory>
-    requires { zero.now ≡ Value.Int (pos 0) }
     ensures { IfOk result (λ keys. keys
         ≡ map (λ valuation. map (value_of (zip classes.now valuation)) key_classes.now) found.now) }
 {
     let mut keys = List::new(alloc);
     for valuation in found {
-        keys.push(key_of(alloc, classes, key_classes, valuation.as_slice(), zero)?)?;
+        keys.push(key_of(alloc, classes, key_classes, valuation.as_slice())?)?;
     }
     Ok(keys)
 }
@@ -68,10 +64,9 @@ pub fn keys_for(
     ensures { IfOk result (λ keys. keys
         ≡ keys_for block.now.normal.now block.now.accesses.now step.now set.now found.now) }
 {
-    let zero = Value::Int(0);
     let key = key_columns(block.accesses, step.access);
     let key_classes = classes_at(alloc, block.normal, step.atom, key)?;
     let classes = classes_in(alloc, set)?;
-    let keys = keys_in(alloc, &classes, &key_classes, found, &zero)?;
+    let keys = keys_in(alloc, &classes, &key_classes, found)?;
     Ok(distinct_rows(keys))
 }

@@ -1,5 +1,5 @@
 // The probes of a derivation and of a query over tables, in the order in which they are made.
-ghost use Rattle.std.specs.Prelude.{◌≡◌, ◌<◌, ◌+◌, ◌++◌, ◌∷◌, [], ◌^◌, length, map, IfOk};
+ghost use Rattle.std.specs.Prelude.{◌≡◌, ◌<◌, ◌+◌, ◌++◌, ◌∷◌, [], ◌^◌, if◌then◌else◌, length, map, IfOk, None, OnOk};
 ghost use Rattle.beas_core.specs.Queries.{probes_in, query_probes};
 ghost use Rattle.beas_core.specs.Reads.{keys_after, probes, probes_after};
 ghost use Rattle.beas_core.specs.Trees.{Single, blocks_of};
@@ -7,13 +7,13 @@ ghost use Rattle.reference_coverage.specs.Tasks.{BlocksHaveFewPlaces};
 ghost use Rattle.reference_normal_form.specs.Few.{HasFewPlaces};
 ghost use Rattle.reference_evaluation.specs.Tables.{rows_in};
 
-use crate::answers::{answers, guide_of};
+use crate::answers::answers;
 use crate::bindings::{classes_after, valuations_of};
 use crate::block_on_tables::BlockOnTables;
 use crate::keys::keys_for;
 use crate::plans_on_tables::PlansOnTables;
 use beas_core::{Block, DStep, List, NoMemory, Query, QueryNode, Row};
-use reference_coverage::{append, number_after, steps_of};
+use reference_coverage::{is_guided, number_after, steps_of};
 use reference_normal_form::normal_of;
 use std::alloc::Global;
 use std::marker::Model;
@@ -66,15 +66,14 @@ fn keys_after(
     keys_for(alloc, block, step, set.as_slice(), found.as_slice())
 }
 
-// The probes of the step with this number.
-fn probes_of_keys(alloc: Global, step: usize, keys: List<Row>) -> Result<List<StepProbe>, NoMemory>
-    ensures { IfOk result (λ found. found ≡ map (λ key. record { step = step; key = key }) keys) }
+// Adds the probes of the step with this number.
+fn push_keys(found: &mut List<StepProbe>, step: usize, keys: List<Row>) -> Result<(), NoMemory>
+    ensures { OnOk result (found.new ≡ found.old ++ map (λ key. record { step = step; key = key }) keys) }
 {
-    let mut found = List::new(alloc);
     for key in keys.into_vec() {
         found.push(StepProbe { step, key })?;
     }
-    Ok(found)
+    Ok(())
 }
 
 fn one_more(alloc: Global, done: &[DStep], step: &DStep) -> Result<List<DStep>, NoMemory>
@@ -88,27 +87,26 @@ fn one_more(alloc: Global, done: &[DStep], step: &DStep) -> Result<List<DStep>, 
     Ok(more)
 }
 
-// The probes of further steps, after those that are done.
-fn probes_after(
+// Adds the probes of further steps, after those that are done.
+#[tactic(auto, using(std::proofs::Common::append_assoc))]
+fn push_after(
     alloc: Global,
+    found: &mut List<StepProbe>,
     block: &BlockOnTables,
     guide: &Option<List<Row>>,
     done: &[DStep],
     steps: &[DStep],
-) -> Result<List<StepProbe>, NoMemory>
-    ensures { IfOk result (λ found. found ≡ probes_after (rows_in block.now.tables.now) block.now.normal.now
+) -> Result<(), NoMemory>
+    ensures { OnOk result (found.new ≡ found.old ++ probes_after (rows_in block.now.tables.now) block.now.normal.now
         block.now.accesses.now guide.now done.now steps.now) }
 {
     match steps {
-        [] => Ok(List::new(alloc)),
+        [] => Ok(()),
         [first, rest @ ..] => {
             let keys = keys_after(alloc, block, guide, done, first)?;
-            let here = probes_of_keys(alloc, done.len(), keys)?;
+            push_keys(found, done.len(), keys)?;
             let more = one_more(alloc, done, first)?;
-            append(
-                here,
-                probes_after(alloc, block, guide, more.as_slice(), rest)?,
-            )
+            push_after(alloc, found, block, guide, more.as_slice(), rest)
         }
     }
 }
@@ -123,75 +121,96 @@ fn probes(
     ensures { IfOk result (λ found. found ≡ probes (rows_in block.now.tables.now) block.now.normal.now
         block.now.accesses.now guide.now steps.now) }
 {
-    probes_after(alloc, block, guide, &[], steps)
+    let mut found = List::new(alloc);
+    push_after(alloc, &mut found, block, guide, &[], steps)?;
+    Ok(found)
 }
 
-// Each probe with the number of its block.
-fn with_block(
+// The probes of a derivation, from the answers of its guide only where the block is guided.
+fn own_probes(
     alloc: Global,
+    block: &BlockOnTables,
+    is_guided: bool,
+    guide: &Option<List<Row>>,
+    steps: &[DStep],
+) -> Result<List<StepProbe>, NoMemory>
+    ensures { IfOk result (λ found. found ≡ probes (rows_in block.now.tables.now) block.now.normal.now
+        block.now.accesses.now (if is_guided then guide.now else None) steps.now) }
+{
+    if is_guided {
+        probes(alloc, block, guide, steps)
+    } else {
+        probes(alloc, block, &None, steps)
+    }
+}
+
+// Adds each probe with the number of its block.
+fn push_with_block(
+    all: &mut List<BlockProbe>,
     block: usize,
     found: List<StepProbe>,
-) -> Result<List<BlockProbe>, NoMemory>
-    ensures { IfOk result (λ all. all ≡ map (λ p. record { block = block; probe = p }) found) }
+) -> Result<(), NoMemory>
+    ensures { OnOk result (all.new ≡ all.old ++ map (λ p. record { block = block; probe = p }) found) }
 {
-    let mut all = List::new(alloc);
     for probe in found.into_vec() {
         all.push(BlockProbe { block, probe })?;
     }
-    Ok(all)
+    Ok(())
 }
 
-// The probes of the block with this number.
-fn probes_of_block(
+// Adds the probes of the block with this number.
+fn push_of_block(
     alloc: Global,
+    all: &mut List<BlockProbe>,
     over: &PlansOnTables,
     number: usize,
     guide: &Option<List<Row>>,
     block: &Block,
-) -> Result<List<BlockProbe>, NoMemory>
+) -> Result<(), NoMemory>
     requires { HasFewPlaces block.now }
-    ensures { IfOk result (λ found. found ≡ probes_in (rows_in over.now.tables.now) over.now.plans.accesses.now
+    ensures { OnOk result (all.new ≡ all.old ++ probes_in (rows_in over.now.tables.now) over.now.plans.accesses.now
         over.now.plans.guided.now over.now.plans.derivations.now number guide.now (Single block.now)) }
 {
     let normal = normal_of(alloc, block)?;
-    let own = guide_of(alloc, over.plans.guided, number, guide)?;
     let on_tables = BlockOnTables {
         tables: over.tables,
         normal: &normal,
         accesses: over.plans.accesses,
     };
     let steps = steps_of(over.plans.derivations, number);
-    with_block(alloc, number, probes(alloc, &on_tables, &own, steps)?)
+    let own = is_guided(over.plans.guided, number);
+    let found = own_probes(alloc, &on_tables, own, guide, steps)?;
+    push_with_block(all, number, found)
 }
 
-// The probes of a tree whose first block has this number: block by block, step by step, keys in order.
-fn probes_in(
+// Adds the probes of a tree whose first block has this number: block by block, step by step, keys in order.
+#[tactic(auto, using(std::proofs::Common::append_assoc))]
+fn push_probes(
     alloc: Global,
+    all: &mut List<BlockProbe>,
     over: &PlansOnTables,
     first: usize,
     guide: &Option<List<Row>>,
     query: &Query,
-) -> Result<List<BlockProbe>, NoMemory>
+) -> Result<(), NoMemory>
     requires numbers { first + length (blocks_of query.now) < 2 ^ 64 }
     requires few { BlocksHaveFewPlaces query.now }
-    ensures { IfOk result (λ found. found ≡ probes_in (rows_in over.now.tables.now) over.now.plans.accesses.now
+    ensures { OnOk result (all.new ≡ all.old ++ probes_in (rows_in over.now.tables.now) over.now.plans.accesses.now
         over.now.plans.guided.now over.now.plans.derivations.now first guide.now query.now) }
 {
     match &query.node {
-        QueryNode::Block(block) => probes_of_block(alloc, over, first, guide, block),
+        QueryNode::Block(block) => push_of_block(alloc, all, over, first, guide, block),
         QueryNode::Union(left, right) => {
-            let one = probes_in(alloc, over, first, guide, left)?;
+            push_probes(alloc, all, over, first, guide, left)?;
             let next = number_after(left, first);
-            let other = probes_in(alloc, over, next, guide, right)?;
-            Ok(append(one, other)?)
+            push_probes(alloc, all, over, next, guide, right)
         }
         QueryNode::Except(left, right) => {
-            let one = probes_in(alloc, over, first, guide, left)?;
+            push_probes(alloc, all, over, first, guide, left)?;
             let guided = over.plans.guided;
             let own = Some(answers(alloc, over.tables, guided, first, guide, left)?);
             let next = number_after(left, first);
-            let other = probes_in(alloc, over, next, &own, right)?;
-            Ok(append(one, other)?)
+            push_probes(alloc, all, over, next, &own, right)
         }
     }
 }
@@ -207,7 +226,9 @@ pub fn query_probes(
     ensures { IfOk result (λ found. found ≡ query_probes (rows_in over.now.tables.now) over.now.plans.accesses.now
         over.now.plans.guided.now over.now.plans.derivations.now query.now) }
 {
-    // Read for what its type tells: there are fewer than 2^64 flags, as `probes_in` asks of the blocks.
+    // Read for what its type tells: there are fewer than 2^64 flags, as `push_probes` asks of the blocks.
     let _count = over.plans.guided.len();
-    probes_in(alloc, over, 0, &None, query)
+    let mut all = List::new(alloc);
+    push_probes(alloc, &mut all, over, 0, &None, query)?;
+    Ok(all)
 }

@@ -4,4 +4,4 @@ use Rattle.std.specs.List.{filter, list_any}
 use Rattle.reference_evaluation.proofs.full.set_difference.Given as goal
 
 abbrev pub invariant-loop-row : goal.invariant-loop-row
-invariant-loop-row l = l.rows ≡ filter (λ row. not (list_any (same_row row) l.right)) (take l.row-index l.row-items)
+invariant-loop-row l = l.rows ≡ filter (λ row. not (list_any (same_row row) l.right)) (take l.row-index l.left)

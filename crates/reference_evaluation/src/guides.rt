@@ -1,7 +1,8 @@
 // What guided blocks find.
+use crate::plans_on_tables::PlansOnTables;
+use crate::probes::BlockProbe;
 use beas_core::{Access, ColumnId, List, Normal, Place, Row, Value, class_at};
 use reference_coverage::{Task, access_with, is_guided, steps_of};
-use reference_evaluation::{BlockProbe, PlansOnTables};
 
 /// How many blocks have a guide, and how many of them
 ///
@@ -130,14 +131,6 @@ fn guided_block(
     }
 }
 
-/// A block that has a guide and isn't guided.
-fn block_alone() -> GuidedBlocks {
-    GuidedBlocks {
-        alone: 1,
-        ..GuidedBlocks::none()
-    }
-}
-
 /// Those of a query with these blocks and these probes.
 pub fn guided_blocks(over: &PlansOnTables, tasks: &[Task], probes: &[BlockProbe]) -> GuidedBlocks {
     let mut found = GuidedBlocks::none();
@@ -145,7 +138,7 @@ pub fn guided_blocks(over: &PlansOnTables, tasks: &[Task], probes: &[BlockProbe]
         if is_guided(over.plans.guided, number) {
             found = found.with(guided_block(over, number, &task.normal, probes));
         } else if task.has_guide {
-            found = found.with(block_alone());
+            found.alone = found.alone.saturating_add(1);
         }
     }
     found

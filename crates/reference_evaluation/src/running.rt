@@ -3,10 +3,13 @@ ghost use Rattle.std.specs.Prelude.{◌≡◌, length};
 ghost use Rattle.beas_core.specs.Trees.{blocks_of};
 ghost use Rattle.reference_coverage.specs.Tasks.{BlocksHaveFewPlaces};
 
+use crate::answers::query_answers;
 use crate::guides::{GuidedBlocks, guided_blocks};
-use beas_core::{Answer, List, NoMemory, Query};
+use crate::plans_on_tables::PlansOnTables;
+use crate::probes::query_probes;
+use crate::reads::query_reads;
+use beas_core::{Answer, NoMemory, Query};
 use reference_coverage::{Task, block_tasks, blocks_have_few_places, query_bound};
-use reference_evaluation::{PlansOnTables, query_answers, query_probes, query_reads};
 use std::alloc::Global;
 
 /// What comes of a query by plans: its rows and reads; the announced number, nothing where that passes 2^128 - 1; and
@@ -16,6 +19,23 @@ pub struct Run {
     pub answer: Answer,
     pub bound: Option<u128>,
     pub guided: GuidedBlocks,
+}
+
+/// What the guided blocks find. Probes are made only where there is one.
+fn found_by_guides(
+    alloc: Global,
+    over: &PlansOnTables,
+    tasks: &[Task],
+    query: &Query,
+) -> Result<GuidedBlocks, NoMemory>
+    requires few { BlocksHaveFewPlaces query.now }
+    requires flags { length over.now.plans.guided.now ≡ length (blocks_of query.now) }
+{
+    if !over.plans.guided.iter().any(|is_guided| *is_guided) {
+        return Ok(guided_blocks(over, tasks, &[]));
+    }
+    let probes = query_probes(alloc, over, query)?;
+    Ok(guided_blocks(over, tasks, probes.as_slice()))
 }
 
 fn run_by(
@@ -28,15 +48,12 @@ fn run_by(
     requires flags { length over.now.plans.guided.now ≡ length (blocks_of query.now) }
 {
     let reads = query_reads(alloc, over, query)?;
+    let guided = found_by_guides(alloc, over, tasks, query)?;
     let rows = query_answers(alloc, over.tables, over.plans.guided, query)?;
-    let mut probes = List::new(alloc);
-    if over.plans.guided.iter().any(|is_guided| *is_guided) {
-        probes = query_probes(alloc, over, query)?;
-    }
     Ok(Run {
         answer: Answer { rows, reads },
         bound: query_bound(&over.plans, query),
-        guided: guided_blocks(over, tasks, probes.as_slice()),
+        guided,
     })
 }
 

@@ -1,5 +1,5 @@
 use Rattle.std.proofs.Common.{length}
-use Rattle.reference_queries.proofs.guides.+repeats.Given as goal
+use Rattle.reference_evaluation.proofs.guides.+repeats.Given as goal
 
 abbrev pub decreases-repeats : goal.decreases-repeats
 decreases-repeats l = length l.output.now
