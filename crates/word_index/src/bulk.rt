@@ -1,5 +1,6 @@
 // Many rows of values that come into and go out of an index over codes.
 ghost use Rattle.std.specs.Prelude.{◌≡◌, ◌≤◌, ◌<◌, ◌+◌, ◌^◌, ◌↔◌, ◌++◌, [], List, length, map, IsTrue, IfOk, OnOk, OnErr, if◌then◌else◌};
+ghost use Rattle.std.specs.List.Sorted.{IsPermutation};
 ghost use Rattle.beas_core.specs.declared.value.Value.{Value};
 ghost use Rattle.beas_core.specs.Groups.{Holds};
 ghost use Rattle.beas_core.specs.Shapes.{AccessIsWellFormed};
@@ -149,6 +150,50 @@ fn add_all(
     Ok(())
 }
 
+/// All rows, lent in the order of a constraint's tuples. It reads each row once.
+fn lend_for<'a, L: Ledger>(
+    alloc: Global,
+    access: &Access,
+    rows: &'a Rows,
+    steps: &mut Steps<L>,
+) -> Result<Vec<Lent<'a>>, NoMemory>
+    ensures rows { IfOk result (λ lent. IsPermutation (map (λ one. one.row.now) lent.items) rows.now) }
+    ensures few { IfOk result (λ lent. length lent.items < 2 ^ 32) }
+    ensures cost { OnOk result (steps.new ≡ steps.old + length rows.now) }
+    ensures at_most { steps.new ≤ steps.old + length rows.now }
+    ensures no_fewer { steps.old ≤ steps.new }
+{
+    let columns = joined_columns(alloc, access)?;
+    lend_in_order(alloc, rows, columns.as_slice(), steps)
+}
+
+/// The index of lent rows for a constraint, whether or not it holds over them. After an error it is let go by a call, whose
+/// proof is far shorter than that of a drop at the end of a scope.
+fn index_over(
+    alloc: Global,
+    codes: &mut Interner,
+    access: Access,
+    rows: &[Lent],
+) -> Result<AnyIndex, NoMemory>
+    requires distinct { AreDistinct codes.old }
+    requires form { AccessIsWellFormed 64 access }
+    requires few { length rows.now < 2 ^ 32 }
+    ensures kept { KeepsCodes codes.old codes.new }
+    ensures access { IfOk result (λ index. (index_in index).access ≡ access) }
+    ensures total { IfOk result (λ index. (index_in index).total ≡ length rows.now) }
+    ensures in_order { IfOk result (λ index. IsInOrderFor codes.new (index_in index)) }
+    ensures index { IfOk result (λ index. IsIndexOf (read_index codes.new (index_in index)) (map (λ lent. lent.row.now) rows.now)) }
+{
+    let mut index = AnyIndex::new(alloc, access, codes.hashing());
+    match add_all(alloc, codes, &mut index, rows) {
+        Ok(()) => Ok(index),
+        Err(why) => {
+            drop(index);
+            Err(why)
+        }
+    }
+}
+
 /// The index of these rows for a constraint, whether or not it holds over them. It reads each row once. The rows
 /// go in in the order of their tuples, so that each comes to the end of its group.
 pub fn index_of<L: Ledger>(
@@ -169,9 +214,6 @@ pub fn index_of<L: Ledger>(
     ensures at_most { steps.new ≤ steps.old + length rows.now }
     ensures no_fewer { steps.old ≤ steps.new }
 {
-    let columns = joined_columns(alloc, &access)?;
-    let lent = lend_in_order(alloc, rows, columns.as_slice(), steps)?;
-    let mut index = AnyIndex::new(alloc, access, codes.hashing());
-    add_all(alloc, codes, &mut index, lent.as_slice())?;
-    Ok(index)
+    let lent = lend_for(alloc, &access, rows, steps)?;
+    index_over(alloc, codes, access, lent.as_slice())
 }

@@ -147,6 +147,8 @@ impl Indexes for CodeIndexes {
     }
 
     fn drop_at(&mut self, place: usize) {
-        self.indexes.remove(place);
+        let index = self.indexes.remove(place);
+        // Let go by a call, whose proof is far shorter than that of a drop at the end of a scope.
+        drop(index);
     }
 }
