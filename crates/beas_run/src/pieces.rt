@@ -23,8 +23,8 @@ use version_store::Desk;
 /// The session of the pieces that name none.
 const UNNAMED: u32 = 0;
 
-/// Lets a report go. A function that calls this doesn't prove anew what that does to each kind of report.
-fn discard<T: Drop>(_report: T) {}
+/// Lets a value go. A function that calls this doesn't prove anew what that does to each kind of value.
+pub fn discard<T: Drop>(_value: T) {}
 
 /// Does what a session says.
 fn say<F: Files, L: Ledger>(
@@ -40,7 +40,10 @@ fn say<F: Files, L: Ledger>(
     ensures { IsTaken (Event.Said session statement) result desk.old desk.new steps.old steps.new
         (F.seen files.old) (F.seen files.new) }
 {
-    desk.event(alloc, files, &Event::Said { session, statement }, steps)
+    let event = Event::Said { session, statement };
+    let report = desk.event(alloc, files, &event, steps);
+    discard(event);
+    report
 }
 
 /// Goes on with a session's query.
@@ -56,7 +59,10 @@ fn step<F: Files, L: Ledger>(
         (F.seen files.old) (F.seen files.new) }
     ensures unread { files.new ≡ files.old }
 {
-    desk.event(alloc, files, &Event::Stepped { session }, steps)
+    let event = Event::Stepped { session };
+    let report = desk.event(alloc, files, &event, steps);
+    discard(event);
+    report
 }
 
 /// Whether an event has opened a query, by its report.
@@ -99,6 +105,7 @@ fn answer<F: Files, L: Ledger>(
     'probes: loop {
         let report = desk.event(alloc, files, &turn, steps);
         if !has_probed(&report) {
+            discard(turn);
             return report;
         }
         discard(report);

@@ -7,6 +7,7 @@ ghost use Rattle.session.specs.Statements.{StatementIsWellFormed, TreeIsWellForm
 ghost use Rattle.beas_run.specs.Plans.{plan_of_reading, query_plan, statement_plan, text_of};
 ghost use Rattle.beas_run.specs.Prices.{price_of, statement_price};
 
+use crate::pieces::discard;
 use crate::pricing::Unpriced;
 use beas_core::{Fail, NoMemory, Prepared, Refusal, Text};
 use desk_model::law_said_well;
@@ -29,7 +30,11 @@ pub fn planned(
     ensures other { IsErrOf result Unpriced.NotAQuery → price_of desk.now (reading_of tokens.now) ≡ None }
 {
     match read_piece(alloc, tokens) {
-        Ok(event) => event_planned(alloc, desk, tokens, &event),
+        Ok(event) => {
+            let plan = event_planned(alloc, desk, tokens, &event);
+            discard(event);
+            plan
+        }
         Err(Fail::Refused(why)) => Ok(Err(why)),
         Err(Fail::NoMemory) => Err(Unpriced::NoMemory),
     }
@@ -86,8 +91,9 @@ fn query_planned(
 {
     match desk.plan(alloc, tree) {
         Ok(prepared) => {
-            let text = plan_text(alloc, desk, &prepared)?;
-            Ok(Ok(text))
+            let text = plan_text(alloc, desk, &prepared);
+            discard(prepared);
+            Ok(Ok(text?))
         }
         Err(Fail::Refused(why)) => Ok(Err(why)),
         Err(Fail::NoMemory) => Err(NoMemory),

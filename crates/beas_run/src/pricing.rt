@@ -4,6 +4,7 @@ ghost use Rattle.piece_reader.specs.Sayings.{IsReadAs, reading_of};
 ghost use Rattle.session.specs.Statements.{StatementIsWellFormed};
 ghost use Rattle.beas_run.specs.Prices.{price_of, statement_price};
 
+use crate::pieces::discard;
 use beas_core::{Fail, NoMemory};
 use desk_model::law_said_well;
 use piece_reader::{Event, read_piece};
@@ -30,7 +31,11 @@ pub fn priced(alloc: Global, desk: &Desk, tokens: &[Token]) -> Result<Report, Un
     ensures other { IsErrOf result Unpriced.NotAQuery → price_of desk.now (reading_of tokens.now) ≡ None }
 {
     match read_piece(alloc, tokens) {
-        Ok(event) => event_priced(alloc, desk, tokens, &event),
+        Ok(event) => {
+            let price = event_priced(alloc, desk, tokens, &event);
+            discard(event);
+            price
+        }
         Err(Fail::Refused(why)) => Ok(Report::Refused { why }),
         Err(Fail::NoMemory) => Err(Unpriced::NoMemory),
     }

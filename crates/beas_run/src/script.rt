@@ -13,7 +13,7 @@ ghost use Rattle.beas_run.specs.Walks.{moment, Walked, WalkedBefore};
 
 use crate::audience::{Audience, Writer};
 use crate::ending::Ending;
-use crate::pieces::report_on;
+use crate::pieces::{discard, report_on};
 use beas_core::{Limits, List, Steps};
 use outside::{Files, Sink};
 use report::Report;
@@ -59,8 +59,15 @@ fn carry_out<A: Audience, F: Files, O: Sink, L: Ledger>(
 {
     let report = report_on(alloc, desk, tokens, files, steps)?;
     match audience.take(alloc, number, &report, out) {
-        Ok(()) => Ok(is_refusal(&report)),
-        Err(why) => Err(why),
+        Ok(()) => {
+            let refusal = is_refusal(&report);
+            discard(report);
+            Ok(refusal)
+        }
+        Err(why) => {
+            discard(report);
+            Err(why)
+        }
     }
 }
 
