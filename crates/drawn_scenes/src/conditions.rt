@@ -1,6 +1,6 @@
 // Drawn conditions, as they are spelled and as tests of a row.
 use crate::draws::Draws;
-use crate::tables::{COLUMNS, Fact, VALUES, column_name, push_literal};
+use crate::tables::{COLUMNS, Fact, VALUES, column_name, push_all, push_literal};
 use beas_core::{NoMemory, Sign, Text};
 use std::alloc::Global;
 
@@ -35,8 +35,7 @@ pub fn push_column(
     let place = draws.below((aliases.len().min(9) as u8).max(1));
     let alias = aliases.get(usize::from(place)).copied().unwrap_or("r");
     text.push_str(alias)?;
-    text.push_str(".")?;
-    text.push_str(column_name(column))
+    push_all(text, &[".", column_name(column)])
 }
 
 /// Adds a drawn condition on some atoms, and gives its test.

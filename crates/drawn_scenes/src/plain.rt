@@ -1,6 +1,6 @@
 // Updates by scans of a plain list of rows, and what is to be reported of them.
 use crate::conditions::Test;
-use crate::tables::Fact;
+use crate::tables::{Fact, text_of};
 use beas_core::{NoMemory, Text};
 use std::alloc::Global;
 
@@ -14,6 +14,14 @@ pub struct Rule {
     pub bound: usize,
 }
 
+/// Why a constraint isn't taken: its name is live, its limit is zero, or a group of so many tuples is above its limit.
+#[derive(Clone, Copy)]
+enum Fault {
+    NameIsLive,
+    NoLimit,
+    GroupAbove(usize),
+}
+
 /// The rows of all tables, and the live constraints in order of creation.
 #[derive(Drop)]
 pub struct Plain {
@@ -24,11 +32,15 @@ pub struct Plain {
 impl Rule {
     /// Whether two rows of its table have one key.
     fn joins(&self, left: &Fact, right: &Fact) -> bool {
-        let here = left.table == self.table && right.table == self.table;
-        here && self
-            .key
-            .iter()
-            .all(|column| left.at(*column) == right.at(*column))
+        if left.table != self.table || right.table != self.table {
+            return false;
+        }
+        for column in self.key.iter() {
+            if left.at(*column) != right.at(*column) {
+                return false;
+            }
+        }
+        true
     }
 
     /// The key and the fetched columns.
@@ -36,6 +48,23 @@ impl Rule {
         let mut columns = self.key.to_vec(alloc)?;
         columns.extend_from_slice(&self.fetched)?;
         Ok(columns)
+    }
+
+    /// The tuples of the rows that have the key of a row, in some columns.
+    fn tuples(
+        &self,
+        alloc: Global,
+        rows: &[Fact],
+        like: &Fact,
+        columns: &[u8],
+    ) -> Result<Vec<Vec<u8>>, NoMemory> {
+        let mut tuples = Vec::new(alloc);
+        for row in rows {
+            if self.joins(row, like) {
+                tuples.push(row.numbers(alloc, columns)?)?;
+            }
+        }
+        Ok(tuples)
     }
 
     /// The tuples of the rows that have the key of a row, each once, in order.
@@ -46,12 +75,7 @@ impl Rule {
         like: &Fact,
     ) -> Result<Vec<Vec<u8>>, NoMemory> {
         let columns = self.members(alloc)?;
-        let mut tuples = Vec::new(alloc);
-        for row in rows {
-            if self.joins(row, like) {
-                tuples.push(row.numbers(alloc, &columns)?)?;
-            }
-        }
+        let mut tuples = self.tuples(alloc, rows, like, &columns)?;
         tuples.sort_unstable();
         tuples.dedup();
         Ok(tuples)
@@ -66,6 +90,20 @@ impl Rule {
         Ok(why)
     }
 
+    /// What is reported of it where it isn't taken.
+    fn faulty_text(&self, alloc: Global, fault: Fault) -> Result<Text, NoMemory> {
+        match fault {
+            Fault::NameIsLive => text_of(alloc, &["refused 7 duplicate name ", self.name.as_str()]),
+            Fault::NoLimit => {
+                Text::from_str(alloc, "refused 10 limit 0 not between 1 and 4294967295")
+            }
+            Fault::GroupAbove(most) => Ok(Text::from_string(format!(in alloc;
+                "refused 11 greatest group {most} above limit {}",
+                self.bound
+            )?)),
+        }
+    }
+
     /// The number of tuples in its greatest group over some rows, which is the least limit that holds there.
     pub fn greatest(&self, alloc: Global, rows: &[Fact]) -> Result<usize, NoMemory> {
         let mut most = 0;
@@ -74,6 +112,21 @@ impl Rule {
         }
         Ok(most)
     }
+}
+
+/// What is reported of so many rows that were added or removed.
+fn changed_text(alloc: Global, rows: usize) -> Result<Text, NoMemory> {
+    Ok(Text::from_string(format!(in alloc; "ok {rows} rows")?))
+}
+
+/// Whether a row passes all tests.
+fn passes_all(row: &Fact, tests: &[Test]) -> bool {
+    for test in tests {
+        if !test.passes(row) {
+            return false;
+        }
+    }
+    true
 }
 
 impl Plain {
@@ -112,46 +165,44 @@ impl Plain {
                 return Ok(why);
             }
         }
-        Ok(Text::from_string(format!(in alloc; "ok {nth} rows")?))
+        changed_text(alloc, nth)
     }
 
     /// Removes the rows of a table that pass all tests, and gives the report.
     pub fn delete(&mut self, alloc: Global, table: u8, tests: &[Test]) -> Result<Text, NoMemory> {
         let before = self.rows.len();
-        self.rows.retain(|row| row.table != table || !tests.iter().all(|test| test.passes(row)));
-        let gone = before.saturating_sub(self.rows.len());
-        Ok(Text::from_string(format!(in alloc; "ok {gone} rows")?))
+        self.rows
+            .retain(|row| row.table != table || !passes_all(row, tests));
+        changed_text(alloc, before.saturating_sub(self.rows.len()))
     }
 
     fn is_live(&self, name: &str) -> bool {
-        self.rules.iter().any(|other| other.name.as_str() == name)
+        for rule in self.rules.iter() {
+            if rule.name.as_str() == name {
+                return true;
+            }
+        }
+        false
     }
 
-    /// What is reported of a constraint that isn't taken: a name that is live, a limit of zero, or a limit that is
-    /// below a group.
-    fn refusal_of_rule(&self, alloc: Global, rule: &Rule) -> Result<Option<String>, NoMemory> {
-        let name = rule.name.as_str();
-        let limit = rule.bound;
+    /// Why a constraint isn't taken, if it isn't.
+    fn fault_of(&self, alloc: Global, rule: &Rule) -> Result<Option<Fault>, NoMemory> {
         let most = rule.greatest(alloc, &self.rows)?;
-        if self.is_live(name) {
-            return Ok(Some(format!(in alloc; "refused 7 duplicate name {name}")?));
-        }
-        if limit == 0 {
-            let why = String::from_str(alloc, "refused 10 limit 0 not between 1 and 4294967295")?;
-            return Ok(Some(why));
-        }
-        if most > limit {
-            return Ok(Some(format!(in alloc;
-                "refused 11 greatest group {most} above limit {limit}"
-            )?));
-        }
-        Ok(None)
+        Ok(if self.is_live(rule.name.as_str()) {
+            Some(Fault::NameIsLive)
+        } else if rule.bound == 0 {
+            Some(Fault::NoLimit)
+        } else if most > rule.bound {
+            Some(Fault::GroupAbove(most))
+        } else {
+            None
+        })
     }
 
     /// Adds a constraint, and gives the report.
     pub fn create(&mut self, alloc: Global, rule: Rule) -> Result<Text, NoMemory> {
-        match self.refusal_of_rule(alloc, &rule)? {
-            Some(why) => Ok(Text::from_string(why)),
+        match self.fault_of(alloc, &rule)? {
+            Some(fault) => rule.faulty_text(alloc, fault),
             None => {
                 self.rules.push(rule)?;
                 Text::from_str(alloc, "ok")
@@ -163,11 +214,9 @@ impl Plain {
     pub fn drop_rule(&mut self, alloc: Global, name: &str) -> Result<Text, NoMemory> {
         let before = self.rules.len();
         self.rules.retain(|other| other.name.as_str() != name);
-        let report = if self.rules.len() < before {
-            String::from_str(alloc, "ok")?
-        } else {
-            format!(in alloc; "refused 25 unknown constraint {name}")?
-        };
-        Ok(Text::from_string(report))
+        if self.rules.len() < before {
+            return Text::from_str(alloc, "ok");
+        }
+        text_of(alloc, &["refused 25 unknown constraint ", name])
     }
 }

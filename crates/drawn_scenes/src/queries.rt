@@ -3,7 +3,7 @@ ghost use Rattle.std.specs.Prelude.{◌≤◌};
 
 use crate::conditions::{push_column, push_conditions};
 use crate::draws::Draws;
-use crate::tables::{TABLES, comma, table_name};
+use crate::tables::{TABLES, comma, push_all, table_name};
 use beas_core::{NoMemory, Text};
 use std::alloc::Global;
 
@@ -80,9 +80,8 @@ fn push_atoms(
 ) -> Result<(), NoMemory> {
     text.push_str(" FROM ")?;
     for (place, alias) in aliases.iter().enumerate() {
-        text.push_str(comma(place))?;
-        text.push_str(table_name(role.draw_table(draws)))?;
-        text.push_str(" ")?;
+        let table = table_name(role.draw_table(draws));
+        push_all(text, &[comma(place), table, " "])?;
         text.push_str(alias)?;
     }
     Ok(())

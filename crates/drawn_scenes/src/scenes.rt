@@ -1,15 +1,14 @@
 // Drawn scenes: a few rows and constraints.
 use crate::plain::Plain;
 use crate::tables::{Fact, TABLES};
-use crate::updates::{Batch, Twin};
-use beas_core::{List, NoMemory, Row};
+use crate::updates::Twin;
+use beas_core::{List, NoMemory, Row, Text};
 use std::alloc::Global;
 
 /// Adds 8 statements of INSERT.
-fn add_rows(alloc: Global, twin: &mut Twin, batch: &mut Batch) -> Result<(), NoMemory> {
+fn add_rows(alloc: Global, twin: &mut Twin, statements: &mut Vec<Text>) -> Result<(), NoMemory> {
     for _ in 0..8 {
-        let update = twin.insert(alloc)?;
-        batch.add(alloc, 0, &update)?;
+        statements.push(twin.insert(alloc)?.into_source())?;
     }
     Ok(())
 }
@@ -19,29 +18,33 @@ fn add_constraints(
     alloc: Global,
     twin: &mut Twin,
     with_key: bool,
-    batch: &mut Batch,
+    statements: &mut Vec<Text>,
 ) -> Result<(), NoMemory> {
     for number in 0..20 {
         let name = format!(in alloc; "k{number}")?;
         let update = twin.create(alloc, name, 16, 30, with_key)?;
-        batch.add(alloc, 0, &update)?;
+        statements.push(update.into_source())?;
     }
     Ok(())
 }
 
+/// Adds what `draw_scene` draws.
+fn add_scene(alloc: Global, twin: &mut Twin, statements: &mut Vec<Text>) -> Result<(), NoMemory> {
+    let with_key = twin.draws.below(8) > 0;
+    add_rows(alloc, twin, statements)?;
+    if with_key {
+        statements.push(twin.create_whole(alloc)?.into_source())?;
+    }
+    add_constraints(alloc, twin, with_key, statements)
+}
+
 /// Statements that add a few drawn rows and constraints to the tables of `creations`, some of which are refused. In
 /// most scenes a constraint without a key has all of r, and those on s and t have a key, so that a block over r guides
-/// one over s or t. Each statement is to be reported under the number 0.
-pub fn draw_scene(alloc: Global, twin: &mut Twin) -> Result<Batch, NoMemory> {
-    let mut batch = Batch::new(alloc);
-    let with_key = twin.draws.below(8) > 0;
-    add_rows(alloc, twin, &mut batch)?;
-    if with_key {
-        let update = twin.create_whole(alloc)?;
-        batch.add(alloc, 0, &update)?;
-    }
-    add_constraints(alloc, twin, with_key, &mut batch)?;
-    Ok(batch)
+/// one over s or t.
+pub fn draw_scene(alloc: Global, twin: &mut Twin) -> Result<Vec<Text>, NoMemory> {
+    let mut statements = Vec::new(alloc);
+    add_scene(alloc, twin, &mut statements)?;
+    Ok(statements)
 }
 
 /// The rows of a table.

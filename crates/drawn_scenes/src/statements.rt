@@ -19,7 +19,6 @@ use std::sync::ledger::Ledger;
 const LONGEST: usize = 16_777_216;
 
 /// The statement that some tokens spell.
-#[tactic(auto, using(desk_model::proofs::WellFormedFacts::parsed_well))]
 fn parse_well(alloc: Global, tokens: &[Token]) -> Result<Statement, Fail>
     requires { length tokens.now < 2 ^ 32 - 1 }
     ensures { IfOk result StatementIsWellFormed }
@@ -38,6 +37,54 @@ pub fn statement_of(alloc: Global, spelled: &str) -> Result<Statement, Fail>
     parse_well(alloc, tokens.as_slice())
 }
 
+/// Has a session carry out a statement.
+fn apply_to<L: Ledger>(
+    alloc: Global,
+    session: &mut Session,
+    files: &mut MemoryFiles,
+    statement: &Statement,
+    steps: &mut Steps<L>,
+) -> Result<Report, NoMemory>
+    requires { StatementIsWellFormed statement.now }
+{
+    session.apply(alloc, files, statement, steps)
+}
+
+/// Has a session carry out the statement that a text spells.
+fn carry_out<L: Ledger>(
+    alloc: Global,
+    session: &mut Session,
+    files: &mut MemoryFiles,
+    spelled: &str,
+    steps: &mut Steps<L>,
+) -> Result<Report, Fail> {
+    let statement = statement_of(alloc, spelled)?;
+    Ok(apply_to(alloc, session, files, &statement, steps)?)
+}
+
+/// Has a session carry out the statement that some tokens spell.
+fn carry_out_tokens<L: Ledger>(
+    alloc: Global,
+    session: &mut Session,
+    files: &mut MemoryFiles,
+    tokens: &[Token],
+    steps: &mut Steps<L>,
+) -> Result<Report, Fail>
+    requires { length tokens.now < 2 ^ 32 - 1 }
+{
+    let statement = parse_well(alloc, tokens)?;
+    Ok(apply_to(alloc, session, files, &statement, steps)?)
+}
+
+/// What is reported of a statement that was carried out, or refused as it was read.
+pub fn reported(outcome: Result<Report, Fail>) -> Result<Report, NoMemory> {
+    match outcome {
+        Ok(report) => Ok(report),
+        Err(Fail::Refused(why)) => Ok(Report::Refused { why }),
+        Err(Fail::NoMemory) => Err(NoMemory),
+    }
+}
+
 /// Carries out the statement that a text spells, which loads no file, and says what is reported of it.
 pub fn report_by<L: Ledger>(
     alloc: Global,
@@ -45,54 +92,98 @@ pub fn report_by<L: Ledger>(
     spelled: &str,
     steps: &mut Steps<L>,
 ) -> Result<Report, NoMemory> {
-    match statement_of(alloc, spelled) {
-        Ok(statement) => session.apply(alloc, &mut MemoryFiles::new(alloc), &statement, steps),
-        Err(Fail::Refused(why)) => Ok(Report::Refused { why }),
-        Err(Fail::NoMemory) => Err(NoMemory),
-    }
+    let mut files = MemoryFiles::new(alloc);
+    reported(carry_out(alloc, session, &mut files, spelled, steps))
 }
 
-/// Carries out the statement that some tokens spell, and says what is reported of it.
-fn report_of<L: Ledger>(
+/// Adds the lines of a report.
+pub fn push_report(
+    alloc: Global,
+    lines: &mut Text,
+    number: u32,
+    report: &Report,
+) -> Result<(), NoMemory> {
+    lines.push_str(text(alloc, number, report)?.as_str())
+}
+
+/// Carries out the statement that some tokens spell, and adds the lines of its report.
+fn push_report_of<L: Ledger>(
     alloc: Global,
     session: &mut Session,
     files: &mut MemoryFiles,
+    lines: &mut Text,
+    number: u32,
     tokens: &[Token],
     steps: &mut Steps<L>,
-) -> Result<Report, NoMemory>
+) -> Result<(), NoMemory>
     requires { length tokens.now < 2 ^ 32 - 1 }
 {
-    match parse_well(alloc, tokens) {
-        Ok(statement) => session.apply(alloc, files, &statement, steps),
-        Err(Fail::Refused(why)) => Ok(Report::Refused { why }),
-        Err(Fail::NoMemory) => Err(NoMemory),
-    }
+    let report = reported(carry_out_tokens(alloc, session, files, tokens, steps))?;
+    push_report(alloc, lines, number, &report)
 }
 
-/// Carries out the statements at these places, and gives the lines of their reports.
-fn reports_of<L: Ledger>(
+/// Carries out the statements at these places, and adds the lines of their reports.
+fn push_reports<L: Ledger>(
     alloc: Global,
     session: &mut Session,
     files: &mut MemoryFiles,
+    lines: &mut Text,
     tokens: &[Token],
     pieces: &[Piece],
     steps: &mut Steps<L>,
-) -> Result<Text, NoMemory>
+) -> Result<(), NoMemory>
     requires short { length tokens.now < 2 ^ 32 - 1 }
     requires within { All (λ p. (p.from < p.to) × (p.to ≤ length tokens.now)) pieces.now }
 {
-    let mut lines = Text::new(alloc);
     let mut number: u32 = 0;
     for piece in pieces {
-        let statement = &tokens[piece.from as usize..piece.to as usize];
-        let report = report_of(alloc, session, files, statement, steps)?;
         number = number.saturating_add(1);
-        lines.push_str(text(alloc, number, &report)?.as_str())?;
+        let statement = &tokens[piece.from as usize..piece.to as usize];
+        push_report_of(alloc, session, files, lines, number, statement, steps)?;
     }
-    Ok(lines)
+    Ok(())
+}
+
+/// The same of the statements of a script, whose tokens these are.
+fn push_pieces<L: Ledger>(
+    alloc: Global,
+    session: &mut Session,
+    files: &mut MemoryFiles,
+    lines: &mut Text,
+    tokens: &List<Token>,
+    steps: &mut Steps<L>,
+) -> Result<(), NoMemory>
+    requires { length tokens.now < 2 ^ 32 - 1 }
+{
+    let pieces = split(alloc, tokens)?;
+    push_reports(
+        alloc,
+        session,
+        files,
+        lines,
+        tokens.as_slice(),
+        pieces.as_slice(),
+        steps,
+    )
+}
+
+/// The same of a script's text.
+fn push_script<L: Ledger>(
+    alloc: Global,
+    session: &mut Session,
+    files: &mut MemoryFiles,
+    lines: &mut Text,
+    script: &str,
+    steps: &mut Steps<L>,
+) -> Result<(), NoMemory>
+    requires { length script.now ≤ 16777216 }
+{
+    let tokens = lex(alloc, script)?;
+    push_pieces(alloc, session, files, lines, &tokens, steps)
 }
 
 /// Carries out the statements of a script that may load files, and gives the lines of their reports, numbered from 1.
+/// There are none where the script has more than 16,777,216 bytes.
 pub fn reports_over<L: Ledger>(
     alloc: Global,
     session: &mut Session,
@@ -100,19 +191,11 @@ pub fn reports_over<L: Ledger>(
     script: &str,
     steps: &mut Steps<L>,
 ) -> Result<Text, NoMemory> {
-    if script.len() > LONGEST {
-        return Ok(Text::new(alloc));
+    let mut lines = Text::new(alloc);
+    if script.len() <= LONGEST {
+        push_script(alloc, session, files, &mut lines, script, steps)?;
     }
-    let tokens = lex(alloc, script)?;
-    let pieces = split(alloc, &tokens)?;
-    reports_of(
-        alloc,
-        session,
-        files,
-        tokens.as_slice(),
-        pieces.as_slice(),
-        steps,
-    )
+    Ok(lines)
 }
 
 /// The same of a script that loads none.
@@ -125,12 +208,38 @@ pub fn reports<L: Ledger>(
     reports_over(alloc, session, &mut MemoryFiles::new(alloc), script, steps)
 }
 
-/// Statements that make the tables and add drawn rows and constraints.
-fn scene_of(alloc: Global, twin: &mut Twin) -> Result<Text, NoMemory> {
+/// Carries out statements that load no file, and gives the lines of their reports, numbered from 1.
+pub fn reports_of<L: Ledger>(
+    alloc: Global,
+    session: &mut Session,
+    statements: &[Text],
+    steps: &mut Steps<L>,
+) -> Result<Text, NoMemory> {
+    let script = script_of(alloc, statements)?;
+    reports(alloc, session, script.as_str(), steps)
+}
+
+/// Has a session make the tables of `creations`.
+fn make_tables<L: Ledger>(
+    alloc: Global,
+    session: &mut Session,
+    steps: &mut Steps<L>,
+) -> Result<(), NoMemory> {
     let statements = creations(alloc, Shape::narrow())?;
-    let mut script = script_of(alloc, &statements)?;
-    script.push_str(draw_scene(alloc, twin)?.script.as_str())?;
-    Ok(script)
+    reports_of(alloc, session, &statements, steps)?;
+    Ok(())
+}
+
+/// Has a session with these tables add the rows and constraints of a drawn scene.
+fn add_scene<L: Ledger>(
+    alloc: Global,
+    session: &mut Session,
+    twin: &mut Twin,
+    steps: &mut Steps<L>,
+) -> Result<(), NoMemory> {
+    let statements = draw_scene(alloc, twin)?;
+    reports_of(alloc, session, &statements, steps)?;
+    Ok(())
 }
 
 /// Has a session without tables make those of `creations` with the rows and constraints of a drawn scene, and gives the
@@ -141,7 +250,7 @@ pub fn fill_scene<L: Ledger>(
     twin: &mut Twin,
     steps: &mut Steps<L>,
 ) -> Result<Vec<List<Row>>, NoMemory> {
-    let script = scene_of(alloc, twin)?;
-    reports(alloc, session, script.as_str(), steps)?;
+    make_tables(alloc, session, steps)?;
+    add_scene(alloc, session, twin, steps)?;
     tables_of(alloc, &twin.plain)
 }

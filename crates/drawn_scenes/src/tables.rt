@@ -106,6 +106,26 @@ pub fn push_literal(
     }
 }
 
+/// Adds texts, one after the other.
+pub fn push_all(text: &mut Text, parts: &[&str]) -> Result<(), NoMemory> {
+    for part in parts {
+        text.push_str(part)?;
+    }
+    Ok(())
+}
+
+/// The text that some texts make, one after the other.
+pub fn text_of(alloc: Global, parts: &[&str]) -> Result<Text, NoMemory> {
+    let mut text = Text::new(alloc);
+    push_all(&mut text, parts)?;
+    Ok(text)
+}
+
+/// Adds a number.
+pub fn push_number(alloc: Global, text: &mut Text, number: usize) -> Result<(), NoMemory> {
+    text.push_str(format!(in alloc; "{number}")?.as_str())
+}
+
 /// What stands before an item of a list.
 pub fn comma(place: usize) -> &'static str {
     if place > 0 { ", " } else { "" }
@@ -115,8 +135,7 @@ pub fn comma(place: usize) -> &'static str {
 pub fn push_columns(text: &mut Text, columns: &[u8]) -> Result<(), NoMemory> {
     text.push_str("(")?;
     for (place, column) in columns.iter().enumerate() {
-        text.push_str(comma(place))?;
-        text.push_str(column_name(*column))?;
+        push_all(text, &[comma(place), column_name(*column)])?;
     }
     text.push_str(")")
 }
@@ -145,9 +164,9 @@ impl Shape {
 pub fn push_creation(text: &mut Text, shape: Shape) -> Result<(), NoMemory> {
     text.push_str("(")?;
     for column in 0..shape.columns {
-        text.push_str(comma(usize::from(column)))?;
-        text.push_str(column_name(column))?;
-        text.push_str(if is_integer(column) { " INT" } else { " TEXT" })?;
+        let kind = if is_integer(column) { " INT" } else { " TEXT" };
+        let parts = &[comma(usize::from(column)), column_name(column), kind];
+        push_all(text, parts)?;
     }
     text.push_str(")")
 }

@@ -2,8 +2,11 @@
 use crate::conditions::push_conditions;
 use crate::draws::Draws;
 use crate::plain::{Plain, Rule};
-use crate::tables::{Fact, Shape, TABLES, comma, push_columns, push_creation, table_name};
-use beas_core::{Duplicate, NoMemory, Text};
+use crate::tables::{
+    Fact, Shape, TABLES, comma, push_all, push_columns, push_creation, push_number, table_name,
+    text_of,
+};
+use beas_core::{NoMemory, Text};
 use std::alloc::Global;
 
 /// A statement, and what is to be reported of it.
@@ -21,24 +24,26 @@ pub struct Twin {
     pub shape: Shape,
 }
 
-/// Statements, each by itself and as a script, with the lines that are to be reported of them, and how many are
-/// refused.
+/// Statements, with the lines that are to be reported of them, and how many are refused.
 #[derive(Drop)]
 pub struct Batch {
     pub statements: Vec<Text>,
-    pub script: Text,
     pub wanted: Text,
     pub refused: u32,
+}
+
+/// The statement that creates a table without rows.
+fn table_creation(alloc: Global, table: u8, shape: Shape) -> Result<Text, NoMemory> {
+    let mut source = text_of(alloc, &["CREATE TABLE ", table_name(table), " "])?;
+    push_creation(&mut source, shape)?;
+    Ok(source)
 }
 
 /// The statements that create the tables r, s and t without rows.
 pub fn creations(alloc: Global, shape: Shape) -> Result<Vec<Text>, NoMemory> {
     let mut statements = Vec::new(alloc);
     for table in 0..TABLES {
-        let create = format!(in alloc; "CREATE TABLE {} ", table_name(table))?;
-        let mut source = Text::from_string(create);
-        push_creation(&mut source, shape)?;
-        statements.push(source)?;
+        statements.push(table_creation(alloc, table, shape)?)?;
     }
     Ok(statements)
 }
@@ -47,8 +52,7 @@ pub fn creations(alloc: Global, shape: Shape) -> Result<Vec<Text>, NoMemory> {
 pub fn script_of(alloc: Global, statements: &[Text]) -> Result<Text, NoMemory> {
     let mut script = Text::new(alloc);
     for statement in statements {
-        script.push_str(statement.as_str())?;
-        script.push_str(";")?;
+        push_all(&mut script, &[statement.as_str(), ";"])?;
     }
     Ok(script)
 }
@@ -74,16 +78,44 @@ fn whole_rule(alloc: Global) -> Result<Rule, NoMemory> {
     })
 }
 
+/// Adds the statement that creates a constraint.
+fn push_rule(alloc: Global, source: &mut Text, rule: &Rule) -> Result<(), NoMemory> {
+    push_all(source, &["CREATE ACCESS ", rule.name.as_str(), " ON "])?;
+    push_all(source, &[table_name(rule.table), " "])?;
+    push_columns(source, &rule.key)?;
+    source.push_str(" FETCH ")?;
+    push_columns(source, &rule.fetched)?;
+    source.push_str(" LIMIT ")?;
+    push_number(alloc, source, rule.bound)
+}
+
 /// The statement that creates a constraint.
 fn creation_of(alloc: Global, rule: &Rule) -> Result<Text, NoMemory> {
-    let name = rule.name.as_str();
-    let on = format!(in alloc; "CREATE ACCESS {name} ON {} ", table_name(rule.table))?;
-    let mut source = Text::from_string(on);
-    push_columns(&mut source, &rule.key)?;
-    source.push_str(" FETCH ")?;
-    push_columns(&mut source, &rule.fetched)?;
-    source.push_str(format!(in alloc; " LIMIT {}", rule.bound)?.as_str())?;
+    let mut source = Text::new(alloc);
+    push_rule(alloc, &mut source, rule)?;
     Ok(source)
+}
+
+/// Adds the literals of rows.
+fn push_rows(
+    alloc: Global,
+    source: &mut Text,
+    rows: &[Fact],
+    shape: Shape,
+) -> Result<(), NoMemory> {
+    let columns = all_columns(alloc, shape)?;
+    for (place, row) in rows.iter().enumerate() {
+        source.push_str(comma(place))?;
+        row.push_tuple(alloc, source, &columns)?;
+    }
+    Ok(())
+}
+
+impl Update {
+    /// The statement.
+    pub fn into_source(self) -> Text {
+        self.source
+    }
 }
 
 impl Batch {
@@ -91,23 +123,24 @@ impl Batch {
     pub fn new(alloc: Global) -> Batch {
         Batch {
             statements: Vec::new(alloc),
-            script: Text::new(alloc),
             wanted: Text::new(alloc),
             refused: 0,
         }
     }
 
+    /// Adds the line of a report under this number.
+    fn add_report(&mut self, alloc: Global, number: u32, report: &str) -> Result<(), NoMemory> {
+        let is_refused = report.starts_with("refused");
+        self.refused = self.refused.saturating_add(u32::from(is_refused));
+        push_number(alloc, &mut self.wanted, number as usize)?;
+        push_all(&mut self.wanted, &[" ", report, "\n"])
+    }
+
     /// Adds an update as the statement with this number in the lines of reports.
-    pub fn add(&mut self, alloc: Global, number: u32, update: &Update) -> Result<(), NoMemory> {
-        let report = update.report.as_str();
-        self.statements.push(update.source.copy(alloc)?)?;
-        self.refused = self
-            .refused
-            .saturating_add(u32::from(report.starts_with("refused")));
-        self.script.push_str(update.source.as_str())?;
-        self.script.push_str(";")?;
-        self.wanted
-            .push_str(format!(in alloc; "{number} {report}\n")?.as_str())
+    pub fn add(&mut self, alloc: Global, number: u32, update: Update) -> Result<(), NoMemory> {
+        self.add_report(alloc, number, update.report.as_str())?;
+        self.statements.push(update.source)?;
+        Ok(())
     }
 }
 
@@ -129,6 +162,15 @@ impl Twin {
         }
     }
 
+    /// One to three drawn rows of a table.
+    fn draw_rows(&mut self, alloc: Global, table: u8) -> Result<Vec<Fact>, NoMemory> {
+        let mut rows = Vec::new(alloc);
+        for _ in 0..self.draws.below(3) + 1 {
+            rows.push(Fact::draw(&mut self.draws, table, self.shape))?;
+        }
+        Ok(rows)
+    }
+
     /// Adds one to three drawn rows to a table, all or none, with their literals to a text. It gives the report.
     fn insert_drawn(
         &mut self,
@@ -136,22 +178,15 @@ impl Twin {
         table: u8,
         source: &mut Text,
     ) -> Result<Text, NoMemory> {
-        let mut rows = Vec::new(alloc);
-        let columns = all_columns(alloc, self.shape)?;
-        for place in 0..self.draws.below(3) + 1 {
-            let row = Fact::draw(&mut self.draws, table, self.shape);
-            source.push_str(comma(usize::from(place)))?;
-            row.push_tuple(alloc, source, &columns)?;
-            rows.push(row)?;
-        }
+        let rows = self.draw_rows(alloc, table)?;
+        push_rows(alloc, source, &rows, self.shape)?;
         self.plain.insert(alloc, &rows)
     }
 
     /// Adds one to three drawn rows to a table, all or none.
     pub fn insert(&mut self, alloc: Global) -> Result<Update, NoMemory> {
         let table = self.draws.below(TABLES);
-        let into = format!(in alloc; "INSERT INTO {} VALUES ", table_name(table))?;
-        let mut source = Text::from_string(into);
+        let mut source = text_of(alloc, &["INSERT INTO ", table_name(table), " VALUES "])?;
         let report = self.insert_drawn(alloc, table, &mut source)?;
         Ok(Update { source, report })
     }
@@ -172,8 +207,7 @@ impl Twin {
     /// Removes the rows of a table that meet drawn conditions.
     fn delete(&mut self, alloc: Global) -> Result<Update, NoMemory> {
         let table = self.draws.below(TABLES);
-        let from = format!(in alloc; "DELETE FROM {}", table_name(table))?;
-        let mut source = Text::from_string(from);
+        let mut source = text_of(alloc, &["DELETE FROM ", table_name(table)])?;
         let report = self.delete_drawn(alloc, table, &mut source)?;
         Ok(Update { source, report })
     }
@@ -183,7 +217,7 @@ impl Twin {
         let mut columns = Vec::new(alloc);
         for _ in 0..turns {
             let column = self.draws.below(self.shape.columns.max(1));
-            if !columns.iter().any(|other| *other == column) {
+            if !columns.contains(&column) {
                 columns.push(column)?;
             }
         }
@@ -238,12 +272,17 @@ impl Twin {
         self.create_rule(alloc, rule)
     }
 
-    /// Drops a constraint by its name.
+    /// Drops the constraint with a name.
+    fn drop_named(&mut self, alloc: Global, name: &str) -> Result<Update, NoMemory> {
+        let source = text_of(alloc, &["DROP ACCESS ", name])?;
+        let report = self.plain.drop_rule(alloc, name)?;
+        Ok(Update { source, report })
+    }
+
+    /// Drops a constraint by a drawn name.
     fn drop_rule(&mut self, alloc: Global) -> Result<Update, NoMemory> {
         let name = self.draw_name(alloc)?;
-        let source = Text::from_string(format!(in alloc; "DROP ACCESS {name}")?);
-        let report = self.plain.drop_rule(alloc, name.as_str())?;
-        Ok(Update { source, report })
+        self.drop_named(alloc, name.as_str())
     }
 
     /// Carries out one drawn update, which may be refused.
@@ -263,8 +302,7 @@ impl Twin {
     pub fn batch(&mut self, alloc: Global, count: u32) -> Result<Batch, NoMemory> {
         let mut batch = Batch::new(alloc);
         for nth in 0..count {
-            let update = self.next(alloc)?;
-            batch.add(alloc, nth.saturating_add(1), &update)?;
+            batch.add(alloc, nth.saturating_add(1), self.next(alloc)?)?;
         }
         Ok(batch)
     }
