@@ -39,6 +39,27 @@ impl Tally {
             ..self
         }
     }
+
+    /// This with what came of a query more.
+    fn with_outcome(self, outcome: Result<Turned, Fail>) -> Result<Tally, NoMemory> {
+        match outcome {
+            Ok(turned) => Ok(self.with(turned)),
+            Err(Fail::Refused(_)) => Ok(self.with_refused()),
+            Err(Fail::NoMemory) => Err(NoMemory),
+        }
+    }
+}
+
+/// Tries a drawn query over a session.
+fn try_query<L: Ledger>(
+    alloc: Global,
+    session: &Session,
+    draws: &mut Draws,
+    before: Tally,
+    steps: &mut Steps<L>,
+) -> Result<Tally, NoMemory> {
+    let query = draw_query(alloc, draws)?;
+    before.with_outcome(turned_query(alloc, session, query.as_str(), steps))
 }
 
 /// Tries drawn queries over a session.
@@ -51,12 +72,7 @@ fn try_queries<L: Ledger>(
 ) -> Result<Tally, NoMemory> {
     let mut tally = before;
     for _ in 0..QUERIES {
-        let query = draw_query(alloc, draws)?;
-        tally = match turned_query(alloc, session, query.as_str(), steps) {
-            Ok(turned) => tally.with(turned),
-            Err(Fail::Refused(_)) => tally.with_refused(),
-            Err(Fail::NoMemory) => return Err(NoMemory),
-        };
+        tally = try_query(alloc, session, draws, tally, steps)?;
     }
     Ok(tally)
 }

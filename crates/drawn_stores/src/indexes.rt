@@ -1,9 +1,9 @@
 // The groups that indexes give, compared with those of a plain list of rows.
-ghost use Rattle.std.specs.Prelude.{◌≡◌, ◌<◌, IsTrue};
+ghost use Rattle.std.specs.Prelude.{◌≡◌, ◌<◌, IsTrue, IfOk, IfSome};
 ghost use Rattle.beas_core.specs.Groups.{has_column, member_columns};
 ghost use Rattle.beas_core.specs.Derivations.{is_live};
 
-use beas_core::{Access, AccessPort, ColumnId, Hits, Name, NoMemory, Steps};
+use beas_core::{Access, AccessId, AccessPort, ColumnId, Hits, Name, NoMemory, Steps};
 use catalogue::Catalogue;
 use drawn_scenes::{Fact, Plain, Rule, value};
 use std::alloc::Global;
@@ -30,6 +30,27 @@ fn is_member(access: &Access, column: ColumnId) -> bool
     is_among(access.key.as_slice(), column) || is_among(access.fetched.as_slice(), column)
 }
 
+/// Whether a tuple that an index gave has this number's value in a column.
+fn is_value<P: AccessPort>(
+    alloc: Global,
+    port: &P,
+    hits: &Hits,
+    i: u32,
+    column: u8,
+    number: u8,
+) -> Result<bool, NoMemory>
+    requires live { IsTrue (is_live (P.accesses port.now) hits.now.access) }
+    requires stands { P.stands port.now hits.now }
+    requires member { i < hits.now.len }
+{
+    let id = ColumnId(u16::from(column));
+    if !is_member(port.access(hits.access()), id) {
+        return Ok(false);
+    }
+    let wanted = value(alloc, column, number)?;
+    Ok(*port.value(hits, i, id) == wanted)
+}
+
 /// Whether a tuple that an index gave has these numbers' values in some columns.
 fn is_tuple<P: AccessPort>(
     alloc: Global,
@@ -43,11 +64,8 @@ fn is_tuple<P: AccessPort>(
     requires stands { P.stands port.now hits.now }
     requires member { i < hits.now.len }
 {
-    let access = port.access(hits.access());
     for (column, number) in columns.iter().zip(numbers) {
-        let id = ColumnId(u16::from(*column));
-        let wanted = value(alloc, *column, *number)?;
-        if !is_member(access, id) || *port.value(hits, i, id) != wanted {
+        if !is_value(alloc, port, hits, i, *column, *number)? {
             return Ok(false);
         }
     }
@@ -77,6 +95,57 @@ fn is_group<P: AccessPort>(
     Ok(hits.len() as usize == group.len())
 }
 
+/// The live constraint with a rule's name, if there is one.
+fn access_of(
+    alloc: Global,
+    catalogue: &Catalogue,
+    rule: &Rule,
+) -> Result<Option<AccessId>, NoMemory>
+    ensures { IfOk result (λ found. IfSome found (λ id. IsTrue (is_live catalogue.now.accesses id))) }
+{
+    match Name::of(alloc, rule.name.as_str())? {
+        Some(name) => Ok(catalogue.access_named(&name)),
+        None => Ok(None),
+    }
+}
+
+/// Whether what an index gave for a row's key is the group that the plain list has.
+fn is_group_of<P: AccessPort>(
+    alloc: Global,
+    port: &P,
+    hits: &Hits,
+    rule: &Rule,
+    rows: &[Fact],
+    row: &Fact,
+) -> Result<bool, NoMemory>
+    requires live { IsTrue (is_live (P.accesses port.now) hits.now.access) }
+    requires stands { P.stands port.now hits.now }
+{
+    let group = rule.group(alloc, rows, row)?;
+    let columns = rule.members(alloc)?;
+    is_group(alloc, port, hits, &columns, &group)
+}
+
+/// Whether the index of a live constraint gives for a row's key the group that the plain list has.
+fn gives_group<P: AccessPort, L: Ledger>(
+    alloc: Global,
+    port: &P,
+    id: AccessId,
+    rule: &Rule,
+    rows: &[Fact],
+    row: &Fact,
+    steps: &mut Steps<L>,
+) -> Result<bool, NoMemory>
+    requires { IsTrue (is_live (P.accesses port.now) id) }
+{
+    let key = row.values(alloc, &rule.key)?;
+    if port.access(id).key.len() != key.len() {
+        return Ok(false);
+    }
+    let hits = port.probe(id, key.as_slice(), steps);
+    is_group_of(alloc, port, &hits, rule, rows, row)
+}
+
 /// Whether the index of a constraint gives for a row's key the group that the plain list has.
 fn has_group<P: AccessPort, L: Ledger>(
     alloc: Global,
@@ -89,19 +158,10 @@ fn has_group<P: AccessPort, L: Ledger>(
 ) -> Result<bool, NoMemory>
     requires { P.accesses port.now ≡ catalogue.now.accesses }
 {
-    let Some(name) = Name::of(alloc, rule.name.as_str())? else {
-        return Ok(false);
-    };
-    let Some(id) = catalogue.access_named(&name) else {
-        return Ok(false);
-    };
-    let key = row.values(alloc, &rule.key)?;
-    if port.access(id).key.len() != key.len() {
-        return Ok(false);
+    match access_of(alloc, catalogue, rule)? {
+        Some(id) => gives_group(alloc, port, id, rule, rows, row, steps),
+        None => Ok(false),
     }
-    let hits = port.probe(id, key.as_slice(), steps);
-    let group = rule.group(alloc, rows, row)?;
-    is_group(alloc, port, &hits, &rule.members(alloc)?, &group)
 }
 
 /// Asks a constraint's index for the key of each row of any table, which its own may not have.

@@ -5,24 +5,40 @@ ghost use Rattle.catalogue.specs.Queries.{BlockIsOver};
 ghost use Rattle.session.specs.Statements.{StatementIsWellFormed, TuplesAreFew};
 
 use beas_core::{
-    Block, Column, Duplicate, Fail, Limits, List, Name, NoMemory, Refusal, Row, Steps, Text,
+    AccessSpec, Block, Column, Duplicate, Fail, Limits, List, Name, NoMemory, Refusal, Row, Steps,
+    Text,
 };
 use binder::{bind_delete, bind_rows};
-use drawn_scenes::statement_of;
-use report::{Report, text};
+use drawn_scenes::{push_report, reported, statement_of};
+use report::Report;
 use sql_text::{Cond, Literal, Statement};
 use std::alloc::Global;
 use std::sync::ledger::Ledger;
 use update_guard::Guarded;
 
+fn copy_columns(alloc: Global, columns: &[Column]) -> Result<List<Column>, NoMemory>
+    ensures { IfOk result (λ copy. copy ≡ columns.now) }
+{
+    let mut copy = List::new(alloc);
+    for column in columns {
+        copy.push(Column {
+            name: column.name.copy(alloc)?,
+            kind: column.kind,
+        })?;
+    }
+    Ok(copy)
+}
+
 fn create_table(
     alloc: Global,
     store: &mut Guarded,
-    name: Name,
-    columns: List<Column>,
+    name: &Name,
+    columns: &List<Column>,
 ) -> Result<Report, Fail>
-    requires { 1 ≤ length columns }
+    requires { 1 ≤ length columns.now }
 {
+    let columns = copy_columns(alloc, columns.as_slice())?;
+    let name = name.copy(alloc)?;
     store.create_table(alloc, &Limits::standard(), name, columns)?;
     Ok(Report::Done)
 }
@@ -82,7 +98,24 @@ fn delete<L: Ledger>(
     Ok(delete_rows(store, &filter, steps))
 }
 
-/// Carries out an update of rows or constraints. Any other statement is refused.
+fn create_access<L: Ledger>(
+    alloc: Global,
+    store: &mut Guarded,
+    spec: &AccessSpec,
+    steps: &mut Steps<L>,
+) -> Result<Report, Fail>
+    requires { 1 ≤ length spec.now.fetched }
+{
+    store.create_access(alloc, &Limits::standard(), spec, steps)?;
+    Ok(Report::Done)
+}
+
+fn drop_access(alloc: Global, store: &mut Guarded, name: &Name) -> Result<Report, Fail> {
+    store.drop_access(alloc, name)?;
+    Ok(Report::Done)
+}
+
+/// Carries out an update. Any other statement is refused.
 fn carry_out<L: Ledger>(
     alloc: Global,
     store: &mut Guarded,
@@ -92,14 +125,9 @@ fn carry_out<L: Ledger>(
     requires { StatementIsWellFormed statement.now }
 {
     match statement {
-        Statement::CreateAccess { spec } => {
-            store.create_access(alloc, &Limits::standard(), spec, steps)?;
-            Ok(Report::Done)
-        }
-        Statement::DropAccess { name } => {
-            store.drop_access(alloc, name)?;
-            Ok(Report::Done)
-        }
+        Statement::CreateTable { name, columns } => create_table(alloc, store, name, columns),
+        Statement::CreateAccess { spec } => create_access(alloc, store, spec, steps),
+        Statement::DropAccess { name } => drop_access(alloc, store, name),
         Statement::Insert { table, rows } => insert(alloc, store, table, rows),
         Statement::Delete { table, conditions } => delete(alloc, store, table, conditions, steps),
         _ => Err(Fail::Refused(Refusal::Syntax)),
@@ -112,23 +140,37 @@ fn outcome_of<L: Ledger>(
     spelled: &str,
     steps: &mut Steps<L>,
 ) -> Result<Report, Fail> {
-    match statement_of(alloc, spelled)? {
-        Statement::CreateTable { name, columns } => create_table(alloc, store, name, columns),
-        statement => carry_out(alloc, store, &statement, steps),
-    }
+    let statement = statement_of(alloc, spelled)?;
+    carry_out(alloc, store, &statement, steps)
 }
 
-fn report_of<L: Ledger>(
+/// Carries out an update, and adds the lines of its report.
+fn push_report_of<L: Ledger>(
     alloc: Global,
     store: &mut Guarded,
+    lines: &mut Text,
+    number: u32,
     spelled: &str,
     steps: &mut Steps<L>,
-) -> Result<Report, NoMemory> {
-    match outcome_of(alloc, store, spelled, steps) {
-        Ok(report) => Ok(report),
-        Err(Fail::Refused(why)) => Ok(Report::Refused { why }),
-        Err(Fail::NoMemory) => Err(NoMemory),
+) -> Result<(), NoMemory> {
+    let report = reported(outcome_of(alloc, store, spelled, steps))?;
+    push_report(alloc, lines, number, &report)
+}
+
+/// Carries out updates, and adds the lines of their reports.
+fn push_reports<L: Ledger>(
+    alloc: Global,
+    store: &mut Guarded,
+    lines: &mut Text,
+    statements: &[Text],
+    steps: &mut Steps<L>,
+) -> Result<(), NoMemory> {
+    let mut number: u32 = 0;
+    for statement in statements {
+        number = number.saturating_add(1);
+        push_report_of(alloc, store, lines, number, statement.as_str(), steps)?;
     }
+    Ok(())
 }
 
 /// Carries out updates, and gives the lines of their reports, numbered from 1.
@@ -139,11 +181,6 @@ pub fn reports_by<L: Ledger>(
     steps: &mut Steps<L>,
 ) -> Result<Text, NoMemory> {
     let mut lines = Text::new(alloc);
-    let mut number: u32 = 0;
-    for statement in statements {
-        let report = report_of(alloc, store, statement.as_str(), steps)?;
-        number = number.saturating_add(1);
-        lines.push_str(text(alloc, number, &report)?.as_str())?;
-    }
+    push_reports(alloc, store, &mut lines, statements, steps)?;
     Ok(lines)
 }

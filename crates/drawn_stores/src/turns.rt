@@ -61,6 +61,38 @@ fn are_same(left: &Answer, right: &Answer) -> bool {
     left.rows == right.rows && left.reads == right.reads
 }
 
+/// What a cursor gives, and whether it is what the executor gave.
+fn turned_beside<P: AccessPort, L: Ledger>(
+    alloc: Global,
+    port: &P,
+    prepared: Prepared,
+    executed: &Answer,
+    steps: &mut Steps<L>,
+) -> Result<Turned, NoMemory>
+    requires { Fits (P.accesses port.now) (P.rows port.now) prepared }
+{
+    let (answer, probes) = turn_by_turn(alloc, port, prepared, steps)?;
+    Ok(Turned {
+        probes,
+        rows: answer.rows.len(),
+        reads: answer.reads,
+        agrees: are_same(&answer, executed),
+    })
+}
+
+/// What a cursor and the executor give of a query.
+fn turned_prepared<P: AccessPort, L: Ledger>(
+    alloc: Global,
+    port: &P,
+    prepared: Prepared,
+    steps: &mut Steps<L>,
+) -> Result<Turned, NoMemory>
+    requires { Fits (P.accesses port.now) (P.rows port.now) prepared }
+{
+    let executed = execute(alloc, port, &prepared, steps)?;
+    turned_beside(alloc, port, prepared, &executed, steps)
+}
+
 /// What a cursor and the executor give of the query that a text spells, over the store of a session.
 pub fn turned_query<L: Ledger>(
     alloc: Global,
@@ -68,14 +100,6 @@ pub fn turned_query<L: Ledger>(
     spelled: &str,
     steps: &mut Steps<L>,
 ) -> Result<Turned, Fail> {
-    let guarded = &session.guarded;
     let prepared = announced_query(alloc, session, spelled)?;
-    let executed = execute(alloc, guarded, &prepared, steps)?;
-    let (answer, probes) = turn_by_turn(alloc, guarded, prepared, steps)?;
-    Ok(Turned {
-        probes,
-        rows: answer.rows.len(),
-        reads: answer.reads,
-        agrees: are_same(&answer, &executed),
-    })
+    Ok(turned_prepared(alloc, &session.guarded, prepared, steps)?)
 }

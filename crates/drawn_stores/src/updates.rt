@@ -2,7 +2,7 @@
 use crate::indexes::{Found, differing_groups};
 use crate::stores::reports_by;
 use beas_core::{Limits, NoMemory, Steps};
-use drawn_scenes::{Batch, Plain, Shape, Twin, creations, out_of_memory, reports, script_of};
+use drawn_scenes::{Batch, Plain, Shape, Twin, creations, out_of_memory, reports_of};
 use session::Session;
 use std::alloc::Global;
 use std::io;
@@ -38,6 +38,28 @@ impl Tally {
     }
 }
 
+/// Has a session carry out a batch. True where what it reports isn't what is wanted.
+fn session_differs<L: Ledger>(
+    alloc: Global,
+    session: &mut Session,
+    batch: &Batch,
+    steps: &mut Steps<L>,
+) -> Result<bool, NoMemory> {
+    let said = reports_of(alloc, session, &batch.statements, steps)?;
+    Ok(said.as_str() != batch.wanted.as_str())
+}
+
+/// The same of a store of plain indexes.
+fn plain_differs<L: Ledger>(
+    alloc: Global,
+    plain: &mut Guarded,
+    batch: &Batch,
+    steps: &mut Steps<L>,
+) -> Result<bool, NoMemory> {
+    let said = reports_by(alloc, plain, &batch.statements, steps)?;
+    Ok(said.as_str() != batch.wanted.as_str())
+}
+
 /// Has a session carry out a batch, and asks each of its indexes for each group.
 fn try_session<L: Ledger>(
     alloc: Global,
@@ -46,10 +68,9 @@ fn try_session<L: Ledger>(
     rows: &Plain,
     steps: &mut Steps<L>,
 ) -> Result<Found, NoMemory> {
-    let said = reports(alloc, session, batch.script.as_str(), steps)?;
     let found = Found {
         asked: 0,
-        differing: u32::from(said.as_str() != batch.wanted.as_str()),
+        differing: u32::from(session_differs(alloc, session, batch, steps)?),
     };
     let store = &session.guarded;
     differing_groups(alloc, &store.catalogue, store, rows, found, steps)
@@ -64,14 +85,26 @@ fn try_plain<L: Ledger>(
     before: Found,
     steps: &mut Steps<L>,
 ) -> Result<Found, NoMemory> {
-    let said = reports_by(alloc, plain, &batch.statements, steps)?;
-    let is_other = said.as_str() != batch.wanted.as_str();
+    let is_other = plain_differs(alloc, plain, batch, steps)?;
     let found = Found {
         asked: before.asked,
         differing: before.differing.saturating_add(u32::from(is_other)),
     };
     let store = &*plain;
     differing_groups(alloc, &store.catalogue, store, rows, found, steps)
+}
+
+/// Has both stores carry out a batch.
+fn try_both<L: Ledger>(
+    alloc: Global,
+    session: &mut Session,
+    plain: &mut Guarded,
+    batch: &Batch,
+    rows: &Plain,
+    steps: &mut Steps<L>,
+) -> Result<Found, NoMemory> {
+    let found = try_session(alloc, session, batch, rows, steps)?;
+    try_plain(alloc, plain, batch, rows, found, steps)
 }
 
 /// Carries out a batch of drawn updates on both stores.
@@ -83,8 +116,7 @@ fn try_batch<L: Ledger>(
     steps: &mut Steps<L>,
 ) -> Result<(u32, Found), NoMemory> {
     let batch = twin.batch(alloc, BATCH)?;
-    let found = try_session(alloc, session, &batch, &twin.plain, steps)?;
-    let found = try_plain(alloc, plain, &batch, &twin.plain, found, steps)?;
+    let found = try_both(alloc, session, plain, &batch, &twin.plain, steps)?;
     Ok((batch.refused, found))
 }
 
@@ -97,10 +129,26 @@ fn create_tables<L: Ledger>(
     steps: &mut Steps<L>,
 ) -> Result<(), NoMemory> {
     let statements = creations(alloc, shape)?;
-    let script = script_of(alloc, &statements)?;
-    reports(alloc, session, script.as_str(), steps)?;
+    reports_of(alloc, session, &statements, steps)?;
     reports_by(alloc, plain, &statements, steps)?;
     Ok(())
+}
+
+/// Carries out so many updates that a twin draws on both stores.
+fn try_batches<L: Ledger>(
+    alloc: Global,
+    session: &mut Session,
+    plain: &mut Guarded,
+    twin: &mut Twin,
+    count: u32,
+    steps: &mut Steps<L>,
+) -> Result<Tally, NoMemory> {
+    let mut tally = Tally::none();
+    for _ in 0..count / BATCH {
+        let (refused, found) = try_batch(alloc, session, plain, twin, steps)?;
+        tally = tally.with(refused, found);
+    }
+    Ok(tally)
 }
 
 /// Carries out so many drawn updates of tables of some shape on both stores, which have no tables yet.
@@ -113,13 +161,8 @@ fn try_drawn<L: Ledger>(
     steps: &mut Steps<L>,
 ) -> Result<Tally, NoMemory> {
     create_tables(alloc, session, plain, shape, steps)?;
-    let mut tally = Tally::none();
     let mut twin = Twin::shaped(alloc, 1, shape);
-    for _ in 0..count / BATCH {
-        let (refused, found) = try_batch(alloc, session, plain, &mut twin, steps)?;
-        tally = tally.with(refused, found);
-    }
-    Ok(tally)
+    try_batches(alloc, session, plain, &mut twin, count, steps)
 }
 
 /// The same by a session and a store that are made for it.
