@@ -27,5 +27,7 @@ pub fn announced_query(alloc: Global, session: &Session, spelled: &str) -> Resul
     ensures { IfOk result (Fits session.now.guarded.catalogue.accesses (rows_at (database_in session.now.guarded))) }
 {
     let statement = statement_of(alloc, spelled)?;
-    announced(alloc, session, &statement)
+    let outcome = announced(alloc, session, &statement);
+    drop(statement);
+    outcome
 }

@@ -26,5 +26,7 @@ pub fn bound_query(alloc: Global, catalogue: &Catalogue, spelled: &str) -> Resul
     ensures { IfOk result QueryIsWellFormed }
 {
     let statement = statement_of(alloc, spelled)?;
-    bound(alloc, catalogue, &statement)
+    let outcome = bound(alloc, catalogue, &statement);
+    drop(statement);
+    outcome
 }

@@ -44,13 +44,14 @@ fn apply_to<L: Ledger>(
     files: &mut MemoryFiles,
     statement: &Statement,
     steps: &mut Steps<L>,
-) -> Result<Report, NoMemory>
+) -> Result<Report, Fail>
     requires { StatementIsWellFormed statement.now }
 {
-    session.apply(alloc, files, statement, steps)
+    Ok(session.apply(alloc, files, statement, steps)?)
 }
 
-/// Has a session carry out the statement that a text spells.
+/// Has a session carry out the statement that a text spells. The statement goes by `drop`, here and elsewhere: a value of
+/// many kinds that goes at the end of its block makes a long proof.
 fn carry_out<L: Ledger>(
     alloc: Global,
     session: &mut Session,
@@ -59,7 +60,9 @@ fn carry_out<L: Ledger>(
     steps: &mut Steps<L>,
 ) -> Result<Report, Fail> {
     let statement = statement_of(alloc, spelled)?;
-    Ok(apply_to(alloc, session, files, &statement, steps)?)
+    let outcome = apply_to(alloc, session, files, &statement, steps);
+    drop(statement);
+    outcome
 }
 
 /// Has a session carry out the statement that some tokens spell.
@@ -73,7 +76,9 @@ fn carry_out_tokens<L: Ledger>(
     requires { length tokens.now < 2 ^ 32 - 1 }
 {
     let statement = parse_well(alloc, tokens)?;
-    Ok(apply_to(alloc, session, files, &statement, steps)?)
+    let outcome = apply_to(alloc, session, files, &statement, steps);
+    drop(statement);
+    outcome
 }
 
 /// What is reported of a statement that was carried out, or refused as it was read.
@@ -119,7 +124,9 @@ fn push_report_of<L: Ledger>(
     requires { length tokens.now < 2 ^ 32 - 1 }
 {
     let report = reported(carry_out_tokens(alloc, session, files, tokens, steps))?;
-    push_report(alloc, lines, number, &report)
+    let pushed = push_report(alloc, lines, number, &report);
+    drop(report);
+    pushed
 }
 
 /// Carries out the statements at these places, and adds the lines of their reports.
