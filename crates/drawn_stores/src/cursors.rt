@@ -41,13 +41,27 @@ impl Tally {
     }
 
     /// This with what came of a query more.
-    fn with_outcome(self, outcome: Result<Turned, Fail>) -> Result<Tally, NoMemory> {
+    fn with_outcome(self, outcome: &Result<Turned, Fail>) -> Result<Tally, NoMemory> {
         match outcome {
-            Ok(turned) => Ok(self.with(turned)),
+            Ok(turned) => Ok(self.with(*turned)),
             Err(Fail::Refused(_)) => Ok(self.with_refused()),
             Err(Fail::NoMemory) => Err(NoMemory),
         }
     }
+}
+
+/// Tries a query over a session.
+fn try_spelled<L: Ledger>(
+    alloc: Global,
+    session: &Session,
+    spelled: &str,
+    before: Tally,
+    steps: &mut Steps<L>,
+) -> Result<Tally, NoMemory> {
+    let outcome = turned_query(alloc, session, spelled, steps);
+    let tally = before.with_outcome(&outcome);
+    drop(outcome);
+    tally
 }
 
 /// Tries a drawn query over a session.
@@ -59,7 +73,7 @@ fn try_query<L: Ledger>(
     steps: &mut Steps<L>,
 ) -> Result<Tally, NoMemory> {
     let query = draw_query(alloc, draws)?;
-    before.with_outcome(turned_query(alloc, session, query.as_str(), steps))
+    try_spelled(alloc, session, query.as_str(), before, steps)
 }
 
 /// Tries drawn queries over a session.

@@ -19,12 +19,25 @@ fn told(alloc: Global, turned: Turned) -> Result<String, NoMemory> {
 }
 
 /// What came of a query, told in words.
-fn told_outcome(alloc: Global, outcome: Result<Turned, Fail>) -> Result<String, NoMemory> {
+fn told_outcome(alloc: Global, outcome: &Result<Turned, Fail>) -> Result<String, NoMemory> {
     match outcome {
-        Ok(turned) => told(alloc, turned),
+        Ok(turned) => told(alloc, *turned),
         Err(Fail::Refused(why)) => Ok(format!(in alloc; "refused {}", why.number())?),
         Err(Fail::NoMemory) => Err(NoMemory),
     }
+}
+
+/// What came of the query that a text spells, told in words.
+fn told_of<L: Ledger>(
+    alloc: Global,
+    session: &Session,
+    spelled: &str,
+    steps: &mut Steps<L>,
+) -> Result<String, NoMemory> {
+    let outcome = turned_query(alloc, session, spelled, steps);
+    let told = told_outcome(alloc, &outcome);
+    drop(outcome);
+    told
 }
 
 /// Adds the line of a query.
@@ -35,8 +48,7 @@ fn push_line<L: Ledger>(
     spelled: &str,
     steps: &mut Steps<L>,
 ) -> Result<(), NoMemory> {
-    let outcome = turned_query(alloc, session, spelled, steps);
-    lines.push_str(told_outcome(alloc, outcome)?.as_str())?;
+    lines.push_str(told_of(alloc, session, spelled, steps)?.as_str())?;
     lines.push_str("\n")
 }
 

@@ -134,6 +134,8 @@ fn carry_out<L: Ledger>(
     }
 }
 
+/// What comes of an update. The statement goes by `drop`, here and elsewhere: a value of many kinds that goes at the end
+/// of its block makes a long proof.
 fn outcome_of<L: Ledger>(
     alloc: Global,
     store: &mut Guarded,
@@ -141,7 +143,9 @@ fn outcome_of<L: Ledger>(
     steps: &mut Steps<L>,
 ) -> Result<Report, Fail> {
     let statement = statement_of(alloc, spelled)?;
-    carry_out(alloc, store, &statement, steps)
+    let outcome = carry_out(alloc, store, &statement, steps);
+    drop(statement);
+    outcome
 }
 
 /// Carries out an update, and adds the lines of its report.
@@ -154,7 +158,9 @@ fn push_report_of<L: Ledger>(
     steps: &mut Steps<L>,
 ) -> Result<(), NoMemory> {
     let report = reported(outcome_of(alloc, store, spelled, steps))?;
-    push_report(alloc, lines, number, &report)
+    let pushed = push_report(alloc, lines, number, &report);
+    drop(report);
+    pushed
 }
 
 /// Carries out updates, and adds the lines of their reports.

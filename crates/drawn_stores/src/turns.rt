@@ -52,8 +52,13 @@ fn turn_by_turn<P: AccessPort, L: Ledger>(
     requires { Fits (P.accesses port.now) (P.rows port.now) prepared }
 {
     let mut cursor = Cursor::begin(alloc, prepared)?;
-    let probes = count_probes(alloc, port, &mut cursor, steps)?;
-    Ok((cursor.finish(), probes))
+    match count_probes(alloc, port, &mut cursor, steps) {
+        Ok(probes) => Ok((cursor.finish(), probes)),
+        Err(why) => {
+            drop(cursor);
+            Err(why)
+        }
+    }
 }
 
 /// Whether two answers have the same rows and reads.
