@@ -1,6 +1,7 @@
 pub mod Digits
 pub mod Loops
 pub mod Openings
+pub mod InParts
 pub mod Fronts
 pub mod SpelledIsRead
 pub mod QueryIsRead

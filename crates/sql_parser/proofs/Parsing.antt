@@ -1,6 +1,6 @@
 -- What is read is the one statement that the tokens spell.
 use Rattle.std.proofs.Common.{◌≡◌, ◌≤◌, Bool, true, false, List, [], ◌∷◌, Option, Some, None, Result, Ok, Err, refl, sym, ap, subst, ◌∙◌}
-use Rattle.std.specs.Prelude.{nat_lt, IfOk, IsErrOf}
+use Rattle.std.specs.Prelude.{if◌then◌else◌, nat_lt, IfOk, IsErrOf}
 use Rattle.std.proofs.lemmas.List.{append-nil}
 use Rattle.std.proofs.lemmas.Bool.{false≢true, ltb-false, ltb-true, le-ltb, lt-ltb}
 use Rattle.sql_text.specs.declared.tree.Statement.{Statement}
@@ -114,13 +114,20 @@ end-parsed : (tokens : List Symbol) (s : Statement) → nat_lt 32 (depth tokens)
     ≡ with_distinct s
 end-parsed tokens s d e = fair-parsed tokens d ∙ ap to_the_end e
 
-pub lone-parsed : (tokens : List Symbol) (s : Statement) → nat_lt 32 (depth tokens) ≡ false → read_statement tokens ≡ Some (s, []) → lacks_distinct s ≡ true
+lone-parsed : (tokens : List Symbol) (s : Statement) → nat_lt 32 (depth tokens) ≡ false → read_statement tokens ≡ Some (s, []) → lacks_distinct s ≡ true
     → found_reading tokens ≡ Err refusal.NeedsDistinct
 lone-parsed tokens s d e l = end-parsed tokens s d e ∙ (rw l refl)
 
-pub whole-parsed : (tokens : List Symbol) (s : Statement) → nat_lt 32 (depth tokens) ≡ false → read_statement tokens ≡ Some (s, []) → lacks_distinct s ≡ false
+whole-parsed : (tokens : List Symbol) (s : Statement) → nat_lt 32 (depth tokens) ≡ false → read_statement tokens ≡ Some (s, []) → lacks_distinct s ≡ false
     → found_reading tokens ≡ Ok s
 whole-parsed tokens s d e l = end-parsed tokens s d e ∙ (rw l refl)
+
+-- what is answered of a statement
+pub answer-parsed : (tokens : List Symbol) (s : Statement) (b : Bool) → nat_lt 32 (depth tokens) ≡ false → read_statement tokens ≡ Some (s, [])
+    → b ≡ lacks_distinct s → (answer : Result Statement Fail) → answer ≡ (if b then Err (Refused refusal.NeedsDistinct) else Ok s)
+    → Gives answer (found_reading tokens)
+answer-parsed tokens s true d e l answer h = rw h (lone-parsed tokens s d e (sym l))
+answer-parsed tokens s false d e l answer h = rw h (whole-parsed tokens s d e (sym l))
 
 -- ---- it is a reading by the grammar
 

@@ -4,6 +4,7 @@ use Rattle.std.specs.Prelude.{◌≡◌, ℕ, zero, suc, ◌&&◌, if◌then◌e
 use Rattle.beas_core.specs.declared.schema.ColType.{ColType}
 use Rattle.beas_core.specs.declared.schema.ColType.TheVariants.{Integer, Words as Texts}
 use Rattle.beas_core.specs.declared.schema.Column.{Column}
+use Rattle.beas_core.specs.declared.query.Sign.{Sign}
 use Rattle.token_reader.specs.declared.reader.ReadError.{ReadError}
 use Rattle.token_reader.specs.declared.reader.ReadError.TheVariants as errors
 use Rattle.sql_parser.specs.declared.blocks.Head.{Head}
@@ -111,6 +112,14 @@ read_side tokens =
     if starts_id tokens then (read_ref tokens >>= λ p. Some (Placed p.0, p.1))
     else (read_literal tokens >>= λ p. Some (Fixed p.0, p.1))
 
+-- the two ends of a range
+unfoldable pub read_ends : List Symbol → Option ((Side × Side) × List Symbol)
+read_ends tokens = do
+  (low, rest) ← read_side tokens
+  rest ← expect AND rest
+  (high, rest) ← read_side rest
+  Some ((low, high), rest)
+
 -- after BETWEEN: the value is what was read before it
 unfoldable pub read_range : Side → List Symbol → Option (Cond × List Symbol)
 read_range (Placed value) tokens = do
@@ -119,6 +128,12 @@ read_range (Placed value) tokens = do
   (high, rest) ← read_side rest
   Some (Between value low high, rest)
 read_range (Fixed value) tokens = None
+
+unfoldable pub read_sign_and_side : List Symbol → Option ((Sign × Side) × List Symbol)
+read_sign_and_side tokens = do
+  (sign, rest) ← read_sign tokens
+  (right, rest) ← read_side rest
+  Some ((sign, right), rest)
 
 unfoldable pub read_comparison : Side → List Symbol → Option (Cond × List Symbol)
 read_comparison left tokens = do
@@ -279,6 +294,30 @@ read_create_table tokens = do
   (name, rest) ← read_id tokens
   (columns, rest) ← read_columns rest
   Some (CreateTable name columns, rest)
+
+unfoldable pub read_access_names : List Symbol → Option ((List ℕ × List ℕ) × List Symbol)
+read_access_names tokens = do
+  (name, rest) ← read_id tokens
+  rest ← expect ON rest
+  (table, rest) ← read_id rest
+  Some ((name, table), rest)
+
+unfoldable pub read_key_and_fetched : List Symbol → Option ((List (List ℕ) × List (List ℕ)) × List Symbol)
+read_key_and_fetched tokens = do
+  (key, rest) ← read_key tokens
+  (fetched, rest) ← read_fetched rest
+  Some ((key, fetched), rest)
+
+unfoldable pub read_limit : List Symbol → Option (List ℕ × List Symbol)
+read_limit tokens = do
+  rest ← expect LIMIT tokens
+  read_number rest
+
+unfoldable pub read_access_shape : List Symbol → Option (((List (List ℕ) × List (List ℕ)) × List ℕ) × List Symbol)
+read_access_shape tokens = do
+  (columns, rest) ← read_key_and_fetched tokens
+  (limit, rest) ← read_limit rest
+  Some ((columns, limit), rest)
 
 unfoldable pub read_create_access : List Symbol → Option (Statement × List Symbol)
 read_create_access tokens = do

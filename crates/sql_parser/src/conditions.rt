@@ -1,10 +1,11 @@
 // Conditions. Parentheses around them leave no trace.
-ghost use Rattle.std.specs.Prelude.{◌≡◌, ◌∷◌, [], ◌++◌, codes, length};
+ghost use Rattle.std.specs.Prelude.{◌≡◌, ◌&&◌, ◌∷◌, [], ◌++◌, codes, length};
 ghost use Rattle.token_reader.specs.Reading.{GivesWithRest, starts_id, sign_of, read_sign};
+ghost use Rattle.sql_text.specs.Grammar.{is_literal};
 ghost use Rattle.sql_parser.specs.Alone.{alone};
-ghost use Rattle.sql_parser.specs.Reading.{Adds, after, then_close, read_side, read_range, read_comparison, read_simple, read_condition, read_conditions, read_all_conditions, read_where};
+ghost use Rattle.sql_parser.specs.Reading.{Adds, after, then_close, read_side, read_ends, read_range, read_sign_and_side, read_comparison, read_simple, read_condition, read_conditions, read_all_conditions, read_where};
 
-use crate::parts::{Part, column_after};
+use crate::parts::{Part, column_after, unless};
 use beas_core::{List, Sign};
 use sql_text::{Cond, Literal, Side};
 use std::alloc::Global;
@@ -22,8 +23,18 @@ fn side(reader: &mut Reader, alloc: Global) -> Result<Side, ReadError>
     Ok(Side::Fixed(literal))
 }
 
+/// Reads the two ends of a range.
+#[tactic(auto, unfolding(crate::specs::Reading::read_ends))]
+fn ends(reader: &mut Reader, alloc: Global) -> Result<(Side, Side), ReadError>
+    ensures { GivesWithRest result reader.new (read_ends reader.old) }
+{
+    let low = side(reader, alloc)?;
+    reader.want_word("and")?;
+    let high = side(reader, alloc)?;
+    Ok((low, high))
+}
+
 /// Reads what stands after BETWEEN, and adds the condition.
-#[tactic(auto, unfolding(crate::specs::Reading::read_range, crate::specs::Reading::after))]
 #[inline(never)]
 fn range(
     reader: &mut Reader,
@@ -37,15 +48,37 @@ fn range(
     let Side::Column(value) = value else {
         return Err(ReadError::Syntax);
     };
-    let low = side(reader, alloc)?;
-    reader.want_word("and")?;
-    let high = side(reader, alloc)?;
+    let (low, high) = ends(reader, alloc)?;
     found.push(Cond::Between { value, low, high })?;
     Ok(())
 }
 
+/// Reads the sign and the right side of a comparison.
+#[tactic(auto, unfolding(crate::specs::Reading::read_sign_and_side))]
+fn sign_and_side(reader: &mut Reader, alloc: Global) -> Result<(Sign, Side), ReadError>
+    ensures { GivesWithRest result reader.new (read_sign_and_side reader.old) }
+{
+    let sign = reader.sign()?;
+    let right = side(reader, alloc)?;
+    Ok((sign, right))
+}
+
+fn are_literals(left: &Side, right: &Side) -> bool
+    ensures { result ≡ (is_literal left.now && is_literal right.now) }
+{
+    is_literal(left) && is_literal(right)
+}
+
+fn is_literal(side: &Side) -> bool
+    ensures { result ≡ is_literal side.now }
+{
+    match side {
+        Side::Fixed(_) => true,
+        Side::Column(_) => false,
+    }
+}
+
 /// Reads the sign and the right side of a comparison, and adds it.
-#[tactic(auto, unfolding(crate::specs::Reading::read_comparison, crate::specs::Reading::after))]
 fn comparison(
     reader: &mut Reader,
     alloc: Global,
@@ -55,14 +88,10 @@ fn comparison(
     ensures { Adds result found.new reader.new
         (after found.old (alone (read_comparison left reader.old))) }
 {
-    let sign = reader.sign()?;
-    let right = side(reader, alloc)?;
-    if let Side::Fixed(_) = &left
-        && let Side::Fixed(_) = &right
-    {
-        return Err(ReadError::Syntax);
-    }
-    found.push(Cond::Compare { left, sign, right })?;
+    let (sign, right) = sign_and_side(reader, alloc)?;
+    let is_wrong = are_literals(&left, &right);
+    let condition = unless(is_wrong, Cond::Compare { left, sign, right })?;
+    found.push(condition)?;
     Ok(())
 }
 

@@ -1,5 +1,5 @@
 // The small parts of statements, and lists of them.
-ghost use Rattle.std.specs.Prelude.{◌≡◌, List, Option, ◌∷◌, [], codes, length};
+ghost use Rattle.std.specs.Prelude.{◌≡◌, if◌then◌else◌, List, Option, ◌∷◌, [], Ok, Err, codes, length};
 ghost use Rattle.token_reader.specs.Reading.{GivesWithRest, read_id, starts_quoted};
 ghost use Rattle.sql_parser.specs.Reading.{read_commas, read_list, read_column, read_kind, read_signed, read_literal, read_tuple, read_ref, read_ref_after, read_maybe_ids, then_close};
 ghost use Rattle.sql_text.specs.Symbols.{Symbol};
@@ -35,6 +35,16 @@ pub fn commas<T: Part>(reader: &mut Reader, alloc: Global) -> Result<Items<T>, R
         }
     }
     Err(ReadError::Syntax)
+}
+
+/// What was read, unless something is wrong with it.
+pub fn unless<T: Drop>(is_wrong: bool, found: T) -> Result<T, ReadError>
+    ensures { result ≡ (if is_wrong then Err ReadError.Syntax else Ok found) }
+{
+    if is_wrong {
+        return Err(ReadError::Syntax);
+    }
+    Ok(found)
 }
 
 impl Part for Name {

@@ -1,13 +1,13 @@
 // Statements.
 ghost use Rattle.std.specs.Prelude.{◌≡◌, if◌then◌else◌, length};
 ghost use Rattle.token_reader.specs.Reading.{GivesWithRest, begins_with, after_all, has_group};
-ghost use Rattle.sql_parser.specs.Reading.{Adds, after, then_close, read_columns, read_key, read_fetched, read_create_table, read_create_access, read_drop_access, read_load, read_insert, read_delete, read_pairs, read_group, read_discover, read_explain, read_scan_ok, read_specialise, read_select, read_selection, words_of, read_opened, read_first, read_statement};
+ghost use Rattle.sql_parser.specs.Reading.{Adds, after, then_close, read_columns, read_key, read_fetched, read_create_table, read_access_names, read_key_and_fetched, read_limit, read_access_shape, read_create_access, read_drop_access, read_load, read_insert, read_delete, read_pairs, read_group, read_discover, read_explain, read_scan_ok, read_specialise, read_select, read_selection, words_of, read_opened, read_first, read_statement};
 
 use crate::conditions::where_conditions;
 use crate::groups::grouped;
 use crate::parts::{commas, maybe_names};
 use crate::queries::{block_term, query};
-use beas_core::{AccessSpec, Column, List, Name};
+use beas_core::{AccessSpec, Column, List, Name, Text};
 use sql_text::{Literal, Statement};
 use std::alloc::Global;
 use token_reader::{ReadError, Reader};
@@ -52,17 +52,55 @@ fn create_table(reader: &mut Reader, alloc: Global) -> Result<Statement, ReadErr
     Ok(Statement::CreateTable { name, columns })
 }
 
-#[tactic(auto, unfolding(crate::specs::Reading::read_create_access))]
-fn create_access(reader: &mut Reader, alloc: Global) -> Result<Statement, ReadError>
-    ensures { GivesWithRest result reader.new (read_create_access reader.old) }
+/// Reads the names of a constraint and of its table.
+#[tactic(auto, unfolding(crate::specs::Reading::read_access_names))]
+fn access_names(reader: &mut Reader, alloc: Global) -> Result<(Name, Name), ReadError>
+    ensures { GivesWithRest result reader.new (read_access_names reader.old) }
 {
     let name = reader.name(alloc)?;
     reader.want_word("on")?;
     let table = reader.name(alloc)?;
+    Ok((name, table))
+}
+
+#[tactic(auto, unfolding(crate::specs::Reading::read_limit))]
+fn limit(reader: &mut Reader, alloc: Global) -> Result<Text, ReadError>
+    ensures { GivesWithRest result reader.new (read_limit reader.old) }
+{
+    reader.want_word("limit")?;
+    reader.number(alloc)
+}
+
+#[tactic(auto, unfolding(crate::specs::Reading::read_key_and_fetched))]
+fn key_and_fetched(
+    reader: &mut Reader,
+    alloc: Global,
+) -> Result<(List<Name>, List<Name>), ReadError>
+    ensures { GivesWithRest result reader.new (read_key_and_fetched reader.old) }
+{
     let key = key(reader, alloc)?;
     let fetched = fetch_list(reader, alloc)?;
-    reader.want_word("limit")?;
-    let limit = reader.number(alloc)?;
+    Ok((key, fetched))
+}
+
+/// Reads what stands after the names of a constraint: its key and what it fetches, and its limit.
+#[tactic(auto, unfolding(crate::specs::Reading::read_access_shape))]
+fn access_shape(
+    reader: &mut Reader,
+    alloc: Global,
+) -> Result<((List<Name>, List<Name>), Text), ReadError>
+    ensures { GivesWithRest result reader.new (read_access_shape reader.old) }
+{
+    let columns = key_and_fetched(reader, alloc)?;
+    let limit = limit(reader, alloc)?;
+    Ok((columns, limit))
+}
+
+fn create_access(reader: &mut Reader, alloc: Global) -> Result<Statement, ReadError>
+    ensures { GivesWithRest result reader.new (read_create_access reader.old) }
+{
+    let (name, table) = access_names(reader, alloc)?;
+    let ((key, fetched), limit) = access_shape(reader, alloc)?;
     let spec = AccessSpec {
         name,
         table,

@@ -1,5 +1,5 @@
 // All of the tokens of a piece.
-ghost use Rattle.std.specs.Prelude.{◌≡◌, [], IfOk, IsErrOf};
+ghost use Rattle.std.specs.Prelude.{◌≡◌, if◌then◌else◌, [], Ok, Err, IfOk, IsErrOf};
 ghost use Rattle.beas_core.specs.declared.refusal.Refusal.{Refusal};
 ghost use Rattle.beas_core.specs.Results.{Gives};
 ghost use Rattle.sql_text.specs.Grammar.{wants_distinct};
@@ -10,6 +10,7 @@ ghost use Rattle.sql_parser.specs.Reading.{read_statement};
 ghost use Rattle.token_reader.specs.Reading.{has_group};
 
 use crate::nesting::group_unless_too_deep;
+use crate::parts::unless;
 use crate::statements::statement;
 use beas_core::{Fail, Refusal};
 use sql_text::{SelectNode, SelectTree, Statement};
@@ -26,10 +27,7 @@ fn all_of(tokens: &[Token], alloc: Global, is_grouped: bool) -> Result<Statement
 {
     let mut reader = Reader::new(tokens);
     let found = statement(&mut reader, alloc, is_grouped)?;
-    if reader.tokens_left() > 0 {
-        return Err(ReadError::Syntax);
-    }
-    Ok(found)
+    unless(reader.tokens_left() > 0, found)
 }
 
 fn is_plain_block(tree: &SelectTree) -> bool
@@ -62,6 +60,16 @@ fn lacks_distinct(statement: &Statement) -> bool
     }
 }
 
+/// The statement, unless it lacks its DISTINCT. It takes any type, since the drop of a statement is long.
+fn unless_lone<T: Drop>(lacks_distinct: bool, statement: T) -> Result<T, Fail>
+    ensures { result ≡ (if lacks_distinct then Err (Fail.Refused Refusal.NeedsDistinct) else Ok statement) }
+{
+    if lacks_distinct {
+        return Err(Fail::Refused(Refusal::NeedsDistinct));
+    }
+    Ok(statement)
+}
+
 /// Reads the tokens of a piece, unless memory runs out.
 fn reading(alloc: Global, tokens: &[Token]) -> Result<Statement, Fail>
     ensures { Gives result (found_reading (symbols tokens.now)) }
@@ -69,15 +77,11 @@ fn reading(alloc: Global, tokens: &[Token]) -> Result<Statement, Fail>
     let Some(is_grouped) = group_unless_too_deep(tokens) else {
         return Err(Fail::Refused(Refusal::TooDeep));
     };
-    let statement = match all_of(tokens, alloc, is_grouped) {
-        Ok(statement) => statement,
-        Err(ReadError::Syntax) => return Err(Fail::Refused(Refusal::Syntax)),
-        Err(ReadError::NoMemory) => return Err(Fail::NoMemory),
-    };
-    if lacks_distinct(&statement) {
-        return Err(Fail::Refused(Refusal::NeedsDistinct));
+    match all_of(tokens, alloc, is_grouped) {
+        Ok(statement) => unless_lone(lacks_distinct(&statement), statement),
+        Err(ReadError::Syntax) => Err(Fail::Refused(Refusal::Syntax)),
+        Err(ReadError::NoMemory) => Err(Fail::NoMemory),
     }
-    Ok(statement)
 }
 
 /// The statement that the tokens of a piece spell. They are refused, in this order, where they are nested deeper
