@@ -13,12 +13,13 @@ ghost use Rattle.catalogue.specs.Queries.{BlockIsOver};
 ghost use Rattle.session.specs.Announced.{announcement};
 ghost use Rattle.session.specs.Applying.{settings_in};
 ghost use Rattle.session.specs.Carrying.{CarriesOut};
-ghost use Rattle.session.specs.Effects.{grouped_effect, groups_effect, reads_in};
+ghost use Rattle.session.specs.Effects.{grouped_effect, groups_effect, reads_in, unless};
 ghost use Rattle.session.specs.Grouping.{HasOutputs, first_block, fold_in, grouping_refusal, groups_over, in_brackets, is_text, is_text_sum, is_ungrouped, item_name, kind_at, text_sum_refusal, ungrouped_refusal};
 ghost use Rattle.session.specs.Statements.{GroupedIsWellFormed};
 ghost use Rattle.session.specs.Stores.{database_in};
 ghost use Rattle.session.specs.Turns.{IsWithin};
 
+use crate::letting_go::discard;
 use crate::queries::{answer, plan_shown, prepared_over};
 use crate::settings::Settings;
 use crate::specialising::first_block;
@@ -319,11 +320,10 @@ fn answer_groups<L: Ledger>(
     ensures no_fewer { steps.old ≤ steps.new }
 {
     let answer = answer(alloc, store, prepared, steps)?;
-    let rows = groups_over(alloc, &answer.rows, keys, items)?;
-    Ok(Groups {
-        rows,
-        reads: answer.reads,
-    })
+    let reads = answer.reads;
+    let rows = groups_over(alloc, &answer.rows, keys, items);
+    discard(answer);
+    Ok(Groups { rows: rows?, reads })
 }
 
 /// The report of a grouped statement that is announced.
@@ -355,6 +355,32 @@ fn groups_report<L: Ledger>(
     })
 }
 
+/// The report of a grouped statement that is announced, unless its items can't be grouped by its keys.
+fn report_if_grouped<L: Ledger>(
+    alloc: Global,
+    store: &Store,
+    explain: bool,
+    keys: usize,
+    items: &List<GroupItem>,
+    prepared: &Prepared,
+    steps: &mut Steps<L>,
+) -> Result<Report, Fail>
+    requires plan { PlanFits store.now.catalogue.accesses prepared.now }
+    requires fits { Fits store.now.catalogue.accesses (rows_at (database_in store.now)) prepared.now }
+    requires over { BlockIsOver store.now.catalogue (first_block prepared.now.query) }
+    requires outputs { HasOutputs keys (length items.now) prepared.now.query }
+    ensures carried { CarriesOut
+        (unless
+        (grouping_refusal (schema_of (database_in store.now)) (first_block prepared.now.query) keys items.now)
+        (database_in store.now)
+        (groups_effect explain (database_in store.now) keys items.now prepared.now))
+        (database_in store.now) result (database_in store.now) steps.old steps.new }
+    ensures within { IfOk result IsWithin }
+{
+    refuse_grouping(alloc, store, keys, items, prepared)?;
+    groups_report(alloc, store, explain, keys, items, prepared, steps)
+}
+
 /// A grouped statement: its keys and the columns of its items are a query, whose answer is cut into groups.
 pub fn grouped<L: Ledger>(
     alloc: Global,
@@ -372,14 +398,16 @@ pub fn grouped<L: Ledger>(
     ensures within { IfOk result IsWithin }
 {
     let prepared = inner_query(alloc, store, settings, items, keys, inner)?;
-    refuse_grouping(alloc, store, keys.len(), items, &prepared)?;
-    groups_report(
+    let keys = keys.len();
+    let report = report_if_grouped(
         alloc,
         store,
         settings.explain,
-        keys.len(),
+        keys,
         items,
         &prepared,
         steps,
-    )
+    );
+    discard(prepared);
+    report
 }

@@ -4,6 +4,7 @@
 mod changes;
 mod discovery;
 mod grouping;
+mod letting_go;
 mod loading;
 mod queries;
 mod scanning;

@@ -6,6 +6,7 @@ ghost use Rattle.beas_core.specs.Types.{TableRows};
 ghost use Rattle.beas_core.specs.Results.{Gives};
 ghost use Rattle.catalogue.specs.Database.{rows_at, schema_of};
 ghost use Rattle.catalogue.specs.Queries.{QueryIsOver, RowsAreWide};
+ghost use Rattle.report.specs.declared.reports.Report.TheVariants.{Answered};
 ghost use Rattle.report.specs.Plans.{plan_text};
 ghost use Rattle.session.specs.Stores.{database_in};
 ghost use Rattle.session.specs.Announced.{announcement, binding, within_budget};
@@ -15,9 +16,10 @@ ghost use Rattle.session.specs.Effects.{answer_effect, explain_effect, plan_show
 ghost use Rattle.session.specs.Statements.{TreeIsWellFormed};
 ghost use Rattle.session.specs.Turns.{IsWithin};
 
+use crate::letting_go::discard;
 use crate::settings::Settings;
 use crate::stored::Store;
-use beas_core::{Answer, Duplicate, Fail, NoMemory, Prepared, Refusal, Steps, Text};
+use beas_core::{Answer, Duplicate, Fail, List, Name, NoMemory, Prepared, Refusal, Steps, Text};
 use binder::bind;
 use catalogue::Catalogue;
 use cursor_executor::{Cursor, Turn};
@@ -33,10 +35,11 @@ fn refuse_above(budget: Option<u64>, prepared: Prepared) -> Result<Prepared, Ref
     ensures { result ≡ within_budget budget prepared }
 {
     match budget {
-        Some(budget) if prepared.bound > u128::from(budget) => Err(Refusal::OverBudget {
-            bound: prepared.bound,
-            budget,
-        }),
+        Some(budget) if prepared.bound > u128::from(budget) => {
+            let bound = prepared.bound;
+            discard(prepared);
+            Err(Refusal::OverBudget { bound, budget })
+        }
         _ => Ok(prepared),
     }
 }
@@ -138,10 +141,50 @@ fn answer_by_cursor<L: Ledger>(
 {
     let mut cursor = Cursor::begin(alloc, prepared)?;
     'probes: loop {
-        match cursor.advance(alloc, store, steps)? {
-            Turn::Probed => {}
-            Turn::Done => return Ok(cursor.finish()),
+        match cursor.advance(alloc, store, steps) {
+            Ok(Turn::Probed) => {}
+            Ok(Turn::Done) => return Ok(cursor.finish()),
+            Err(NoMemory) => {
+                discard(cursor);
+                return Err(NoMemory);
+            }
         }
+    }
+}
+
+/// What the report of a query says above its rows.
+#[derive(Drop)]
+struct Heading {
+    plan: Text,
+    header: List<Name>,
+}
+
+/// The plan lines of a query, where they are wanted, and its header.
+fn heading_of(
+    alloc: Global,
+    store: &Store,
+    explain: bool,
+    prepared: &Prepared,
+) -> Result<Heading, NoMemory>
+    requires { PlanFits store.now.catalogue.accesses prepared.now }
+    ensures plan { IfOk result (λ heading. heading.plan ≡ plan_shown explain (database_in store.now) prepared.now) }
+    ensures header { IfOk result (λ heading. heading.header ≡ prepared.now.header) }
+{
+    let plan = plan_shown(alloc, store, prepared, explain)?;
+    let header = prepared.header.copy(alloc)?;
+    Ok(Heading { plan, header })
+}
+
+/// The report of an answer.
+fn answered(bound: u128, heading: Heading, answer: Answer) -> Report
+    ensures { result ≡ Answered bound heading.plan heading.header answer.rows answer.reads }
+{
+    Report::Answered {
+        bound,
+        plan: heading.plan,
+        header: heading.header,
+        rows: answer.rows,
+        reads: answer.reads,
     }
 }
 
@@ -160,16 +203,12 @@ fn answer_report<L: Ledger>(
     ensures within { IfOk result IsWithin }
 {
     let bound = prepared.bound;
-    let plan = plan_shown(alloc, store, &prepared, explain)?;
-    let header = prepared.header.copy(alloc)?;
+    let Ok(heading) = heading_of(alloc, store, explain, &prepared) else {
+        discard(prepared);
+        return Err(Fail::NoMemory);
+    };
     let answer = answer_by_cursor(alloc, store, prepared, steps)?;
-    Ok(Report::Answered {
-        bound,
-        plan,
-        header,
-        rows: answer.rows,
-        reads: answer.reads,
-    })
+    Ok(answered(bound, heading, answer))
 }
 
 /// A query, announced and then answered from the indexes of the constraints.
@@ -203,9 +242,8 @@ pub fn explain(
     ensures within { IfOk result IsWithin }
 {
     let prepared = prepared_over(alloc, store, settings, tree)?;
-    let plan = plan_lines(alloc, store, &prepared)?;
-    Ok(Report::Explained {
-        bound: prepared.bound,
-        plan,
-    })
+    let bound = prepared.bound;
+    let plan = plan_lines(alloc, store, &prepared);
+    discard(prepared);
+    Ok(Report::Explained { bound, plan: plan? })
 }

@@ -18,9 +18,10 @@ ghost use Rattle.session.specs.Statements.{TreeIsWellFormed};
 ghost use Rattle.session.specs.Stores.{database_in};
 ghost use Rattle.session.specs.Turns.{IsWithin};
 
+use crate::letting_go::discard;
 use crate::settings::Settings;
 use crate::stored::Store;
-use beas_core::{Answer, Fail, Limits, List, NoMemory, Query, Refusal, Steps, Text};
+use beas_core::{Answer, Fail, Limits, List, Name, NoMemory, Query, Refusal, Steps, Text};
 use binder::bind;
 use catalogue::Catalogue;
 use partial_plan::{ScanPlan, scan_execute, scan_prepare};
@@ -35,10 +36,11 @@ fn refuse_above(budget: Option<u64>, plan: ScanPlan) -> Result<ScanPlan, Refusal
     ensures { result ≡ scans_within_budget budget plan }
 {
     match budget {
-        Some(budget) if plan.bound > u128::from(budget) => Err(Refusal::OverBudget {
-            bound: plan.bound,
-            budget,
-        }),
+        Some(budget) if plan.bound > u128::from(budget) => {
+            let bound = plan.bound;
+            discard(plan);
+            Err(Refusal::OverBudget { bound, budget })
+        }
         _ => Ok(plan),
     }
 }
@@ -141,6 +143,49 @@ fn scanned_answer<L: Ledger>(
     scan_execute(alloc, store, &store.rows, plan, steps)
 }
 
+/// The plan lines of a query whose tables are scanned, and its answer.
+#[derive(Drop)]
+struct Scanned {
+    lines: Text,
+    answer: Answer,
+}
+
+/// What the report of a query says whose tables are scanned.
+fn scanned_with_lines<L: Ledger>(
+    alloc: Global,
+    store: &Store,
+    explain: bool,
+    plan: &ScanPlan,
+    steps: &mut Steps<L>,
+) -> Result<Scanned, NoMemory>
+    requires { ScanPlanFits store.now.catalogue.accesses (rows_at (database_in store.now)) store.now.rows plan.now }
+    ensures lines { IfOk result (λ scanned. scanned.lines ≡ scans_shown explain (database_in store.now) plan.now) }
+    ensures rows { IfOk result (λ scanned. scanned.answer.rows
+        ≡ full_of (rows_at (database_in store.now)) plan.now.prepared.query) }
+    ensures reads { IfOk result (λ scanned. scanned.answer.reads ≡ scan_reads_in (database_in store.now) plan.now) }
+    ensures within { IfOk result (λ scanned. scanned.answer.reads ≤ plan.now.bound) }
+    ensures cost { OnOk result (steps.new ≡ steps.old + scan_reads_in (database_in store.now) plan.now) }
+    ensures at_most { steps.new ≤ steps.old + scan_reads_in (database_in store.now) plan.now }
+    ensures no_fewer { steps.old ≤ steps.new }
+{
+    let lines = scans_shown(alloc, store, plan, explain)?;
+    let answer = scanned_answer(alloc, store, plan, steps)?;
+    Ok(Scanned { lines, answer })
+}
+
+/// The header of a query that is run. All else of its plan is let go.
+fn header_of(plan: ScanPlan) -> List<Name>
+    ensures { result ≡ plan.prepared.header }
+{
+    discard(plan.scans);
+    let prepared = plan.prepared;
+    discard(prepared.query);
+    discard(prepared.normals);
+    discard(prepared.derivations);
+    discard(prepared.guided);
+    prepared.header
+}
+
 /// The report of a query that is announced with scans.
 fn scanned_report<L: Ledger>(
     alloc: Global,
@@ -154,14 +199,15 @@ fn scanned_report<L: Ledger>(
         (database_in store.now) result (database_in store.now) steps.old steps.new }
     ensures within { IfOk result IsWithin }
 {
-    let lines = scans_shown(alloc, store, &plan, explain)?;
-    let answer = scanned_answer(alloc, store, &plan, steps)?;
-    let bound = plan.bound;
-    let prepared = plan.prepared;
+    let Ok(scanned) = scanned_with_lines(alloc, store, explain, &plan, steps) else {
+        discard(plan);
+        return Err(Fail::NoMemory);
+    };
+    let answer = scanned.answer;
     Ok(Report::Answered {
-        bound,
-        plan: lines,
-        header: prepared.header,
+        bound: plan.bound,
+        plan: scanned.lines,
+        header: header_of(plan),
         rows: answer.rows,
         reads: answer.reads,
     })

@@ -15,6 +15,7 @@ ghost use Rattle.session.specs.Stores.{database_in};
 ghost use Rattle.session.specs.Turns.{IsWithin};
 
 use crate::discovery::name_at;
+use crate::letting_go::discard;
 use crate::stored::Store;
 use beas_core::{Block, Fail, Limits, List, Name, NoMemory, Place, Query, QueryNode};
 use binder::bind;
@@ -143,6 +144,15 @@ pub fn specialise_block(
 {
     let query = bound_query(alloc, store, limits, tree)?;
     let block = first_block(&query);
-    let places = wanted_places(alloc, store, block)?;
-    Ok(places_report(alloc, store, block, &places)?)
+    let places = match wanted_places(alloc, store, block) {
+        Ok(places) => places,
+        Err(why) => {
+            discard(query);
+            return Err(why);
+        }
+    };
+    let report = places_report(alloc, store, block, &places);
+    discard(places);
+    discard(query);
+    Ok(report?)
 }

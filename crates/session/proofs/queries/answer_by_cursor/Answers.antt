@@ -13,44 +13,44 @@ advance-requires-clause-agrees g c = λ going. c.probes.invariant.agrees
 
 pub probes-preserved : goal.probes-preserved
 probes-preserved g c =
-    goes_on _ _ _ _ _ c.probes.invariant _ _ c.advance.ensures.prepared (probed_by _ _ _ _ _ _ c.in_ok-advance.ensures.turn c.in-Probed.is)
+    goes_on _ _ _ _ _ c.probes.invariant _ _ c.advance.ensures.prepared (probed_by _ _ _ _ _ _ c.in-Ok-Probed.ensures.turn c.in-Ok-Probed.field-0-is)
 
 pub probes-smaller : goal.probes-smaller
 probes-smaller g c =
-    fewer_left _ _ _ _ _ c.probes.invariant _ _ c.advance.ensures.prepared (probed_by _ _ _ _ _ _ c.in_ok-advance.ensures.turn c.in-Probed.is)
+    fewer_left _ _ _ _ _ c.probes.invariant _ _ c.advance.ensures.prepared (probed_by _ _ _ _ _ _ c.in-Ok-Probed.ensures.turn c.in-Ok-Probed.field-0-is)
 
 pub finish-requires : goal.finish-requires
 finish-requires g c =
-    has_answer _ _ _ _ _ c.probes.invariant _ _ c.advance.ensures.prepared (done_by _ _ _ _ _ _ c.in_ok-advance.ensures.turn c.in-Done.is)
+    has_answer _ _ _ _ _ c.probes.invariant _ _ c.advance.ensures.prepared (done_by _ _ _ _ _ _ c.in-Ok-Done.ensures.turn c.in-Ok-Done.field-0-is)
 
-pub returns-in-Done-clause-rows : goal.returns-in-Done-clause-rows
-returns-in-Done-clause-rows g c =
+pub returns-in-Ok-Done-clause-rows : goal.returns-in-Ok-Done-clause-rows
+returns-in-Ok-Done-clause-rows g c =
     same_rows _ _ _ c.finish.ensures.rows
-    (answer_is _ _ _ _ _ c.probes.invariant _ _ c.advance.ensures.prepared (done_by _ _ _ _ _ _ c.in_ok-advance.ensures.turn c.in-Done.is))
+    (answer_is _ _ _ _ _ c.probes.invariant _ _ c.advance.ensures.prepared (done_by _ _ _ _ _ _ c.in-Ok-Done.ensures.turn c.in-Ok-Done.field-0-is))
 
-pub returns-in-Done-clause-reads : goal.returns-in-Done-clause-reads
-returns-in-Done-clause-reads g c =
+pub returns-in-Ok-Done-clause-reads : goal.returns-in-Ok-Done-clause-reads
+returns-in-Ok-Done-clause-reads g c =
     c.finish.ensures.reads
-    ∙ reads_are _ _ _ _ _ c.probes.invariant _ _ c.advance.ensures.prepared (done_by _ _ _ _ _ _ c.in_ok-advance.ensures.turn c.in-Done.is)
+    ∙ reads_are _ _ _ _ _ c.probes.invariant _ _ c.advance.ensures.prepared (done_by _ _ _ _ _ _ c.in-Ok-Done.ensures.turn c.in-Ok-Done.field-0-is)
 
-pub returns-in-Done-clause-cost : goal.returns-in-Done-clause-cost
-returns-in-Done-clause-cost g c =
-    all_counted _ _ _ _ _ c.probes.invariant _ _ c.advance.ensures.prepared (done_by _ _ _ _ _ _ c.in_ok-advance.ensures.turn c.in-Done.is)
+pub returns-in-Ok-Done-clause-cost : goal.returns-in-Ok-Done-clause-cost
+returns-in-Ok-Done-clause-cost g c =
+    all_counted _ _ _ _ _ c.probes.invariant _ _ c.advance.ensures.prepared (done_by _ _ _ _ _ _ c.in-Ok-Done.ensures.turn c.in-Ok-Done.field-0-is)
 
-pub returns-in-Done-clause-at_most : goal.returns-in-Done-clause-at_most
-returns-in-Done-clause-at_most g c =
-    at_most_counted _ _ _ _ _ c.probes.invariant _ _ c.advance.ensures.prepared (done_by _ _ _ _ _ _ c.in_ok-advance.ensures.turn c.in-Done.is)
+pub returns-in-Ok-Done-clause-at_most : goal.returns-in-Ok-Done-clause-at_most
+returns-in-Ok-Done-clause-at_most g c =
+    at_most_counted _ _ _ _ _ c.probes.invariant _ _ c.advance.ensures.prepared (done_by _ _ _ _ _ _ c.in-Ok-Done.ensures.turn c.in-Ok-Done.field-0-is)
 
-pub returns-in-Done-clause-no_fewer : goal.returns-in-Done-clause-no_fewer
-returns-in-Done-clause-no_fewer g c =
-    no_fewer_counted _ _ _ _ _ c.probes.invariant _ _ c.advance.ensures.prepared (done_by _ _ _ _ _ _ c.in_ok-advance.ensures.turn c.in-Done.is)
+pub returns-in-Ok-Done-clause-no_fewer : goal.returns-in-Ok-Done-clause-no_fewer
+returns-in-Ok-Done-clause-no_fewer g c =
+    no_fewer_counted _ _ _ _ _ c.probes.invariant _ _ c.advance.ensures.prepared (done_by _ _ _ _ _ _ c.in-Ok-Done.ensures.turn c.in-Ok-Done.field-0-is)
 
-pub returns-in-Done-clause-within : goal.returns-in-Done-clause-within
-returns-in-Done-clause-within g c =
-    within_bound _ _ _ _ _ c.probes.invariant _ _ c.finish.ensures.reads c.in_ok-advance.ensures.bound
+pub returns-in-Ok-Done-clause-within : goal.returns-in-Ok-Done-clause-within
+returns-in-Ok-Done-clause-within g c =
+    within_bound _ _ _ _ _ c.probes.invariant _ _ c.finish.ensures.reads c.in-Ok-Done.ensures.bound
 
-pub returns-in_err-advance-clause-at_most : goal.returns-in_err-advance-clause-at_most
-returns-in_err-advance-clause-at_most g c = spent_within _ _ _ _ _ c.probes.invariant _ c.in_err-advance.ensures.spent
+pub returns-in-Err-clause-at_most : goal.returns-in-Err-clause-at_most
+returns-in-Err-clause-at_most g c = spent_within _ _ _ _ _ c.probes.invariant _ c.in-Err.ensures.spent
 
-pub returns-in_err-advance-clause-no_fewer : goal.returns-in_err-advance-clause-no_fewer
-returns-in_err-advance-clause-no_fewer g c = spent_more _ _ _ _ _ c.probes.invariant _ c.in_err-advance.ensures.spent
+pub returns-in-Err-clause-no_fewer : goal.returns-in-Err-clause-no_fewer
+returns-in-Err-clause-no_fewer g c = spent_more _ _ _ _ _ c.probes.invariant _ c.in-Err.ensures.spent
