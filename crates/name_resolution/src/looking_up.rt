@@ -1,5 +1,5 @@
 // Looks the names of blocks up.
-ghost use Rattle.std.specs.Prelude.{◌≡◌, ◌++◌, ◌≤◌, IfOk, OnOk, map, length, if◌then◌else◌, filter_map};
+ghost use Rattle.std.specs.Prelude.{◌≡◌, ◌++◌, ◌∷◌, ◌≤◌, [], IfOk, OnOk, map, length, if◌then◌else◌, filter_map};
 ghost use Rattle.std.specs.List.{flat_map};
 ghost use Rattle.name_resolution.specs.Binding.{blocks_of};
 ghost use Rattle.name_resolution.specs.LookedUp.{atom_of, looked_up, output_kinds, column_of};
@@ -85,6 +85,19 @@ fn meanings_of(
     Ok(meanings)
 }
 
+/// Adds a condition with what its sides stand for.
+fn push_condition(
+    alloc: Global,
+    names: &Names,
+    all: &mut List<Condition>,
+    cond: &Cond,
+) -> Result<(), NoMemory>
+    ensures { OnOk result (all.new ≡ all.old ++ condition (told_by names.now) cond.now ∷ []) }
+{
+    let bound = names.condition(alloc, cond)?;
+    all.push(bound)
+}
+
 /// Conditions with what their sides stand for. No name is refused here.
 pub fn conditions_of(
     alloc: Global,
@@ -95,7 +108,7 @@ pub fn conditions_of(
 {
     let mut all = List::from_vec(Vec::with_capacity(alloc, conditions.len())?);
     for condition in conditions {
-        all.push(names.condition(alloc, condition)?)?;
+        push_condition(alloc, names, &mut all, condition)?;
     }
     Ok(all)
 }
@@ -175,14 +188,24 @@ pub fn look_up(alloc: Global, catalogue: &Catalogue, block: &BlockTree) -> Resul
     let items = block.from_items.as_slice();
     let names = names_of_block(alloc, catalogue, items)?;
     let meanings = meanings_of(alloc, &names, block.items.as_slice())?;
+    let bound = conditions_of(alloc, &names, block.conditions.as_slice());
+    // Let go by calls, whose proofs are far shorter than those of the drops at the end of a scope.
+    drop(names);
+    let conditions = bound?;
     let kinds = output_kinds(alloc, catalogue, block, meanings.as_slice())?;
-    let conditions = conditions_of(alloc, &names, block.conditions.as_slice())?;
-    let atoms = atoms_of(alloc, catalogue, items)?;
-    Ok(LookedUp {
-        atoms,
-        star: block.star,
-        items: meanings,
-        kinds,
-        conditions,
-    })
+    match atoms_of(alloc, catalogue, items) {
+        Ok(atoms) => Ok(LookedUp {
+            atoms,
+            star: block.star,
+            items: meanings,
+            kinds,
+            conditions,
+        }),
+        Err(NoMemory) => {
+            drop(meanings);
+            drop(kinds);
+            drop(conditions);
+            Err(Fail::NoMemory)
+        }
+    }
 }

@@ -2,6 +2,7 @@
 ghost use Rattle.std.specs.List.{list_any};
 ghost use Rattle.std.specs.Prelude.{◌≡◌, Some, None, IfOk, bytes_eq, map};
 ghost use Rattle.sql_text.specs.declared.tree.ColumnRef.{ColumnRef};
+ghost use Rattle.name_resolution.specs.declared.meaning.Condition.TheVariants.{Between};
 ghost use Rattle.name_resolution.specs.LookedUp.{atom_of};
 ghost use Rattle.name_resolution.specs.Meanings.{side_meaning, columns_named, condition, meaning, named_by, sources};
 ghost use Rattle.beas_core.specs.Results.{IsRefusedAs};
@@ -187,21 +188,55 @@ impl<'a> Names<'a> {
         }
     }
 
+    /// What the sides of a BETWEEN stand for. What is let go early is let go by a call, whose proof is far shorter than that
+    /// of the drops at the end of a scope.
+    fn between(
+        &self,
+        alloc: Global,
+        value: &ColumnRef,
+        low: &Side,
+        high: &Side,
+    ) -> Result<Condition, NoMemory>
+        ensures { IfOk result (λ bound. bound ≡ Between (told_by self.now value.now)
+            (side_meaning (told_by self.now) low.now) (side_meaning (told_by self.now) high.now)) }
+    {
+        let value = self.meaning(alloc, value)?;
+        match self.side(alloc, low) {
+            Ok(low) => match self.side(alloc, high) {
+                Ok(high) => Ok(Condition::Between { value, low, high }),
+                Err(why) => {
+                    drop(value);
+                    drop(low);
+                    Err(why)
+                }
+            },
+            Err(why) => {
+                drop(value);
+                Err(why)
+            }
+        }
+    }
+
     /// A condition with what its sides stand for.
     pub fn condition(&self, alloc: Global, cond: &Cond) -> Result<Condition, NoMemory>
         ensures { IfOk result (λ bound. bound ≡ condition (told_by self.now) cond.now) }
     {
         match cond {
-            Cond::Compare { left, sign, right } => Ok(Condition::Compare {
-                left: self.side(alloc, left)?,
-                sign: *sign,
-                right: self.side(alloc, right)?,
-            }),
-            Cond::Between { value, low, high } => Ok(Condition::Between {
-                value: self.meaning(alloc, value)?,
-                low: self.side(alloc, low)?,
-                high: self.side(alloc, high)?,
-            }),
+            Cond::Compare { left, sign, right } => {
+                let left = self.side(alloc, left)?;
+                match self.side(alloc, right) {
+                    Ok(right) => Ok(Condition::Compare {
+                        left,
+                        sign: *sign,
+                        right,
+                    }),
+                    Err(why) => {
+                        drop(left);
+                        Err(why)
+                    }
+                }
+            }
+            Cond::Between { value, low, high } => self.between(alloc, value, low, high),
         }
     }
 }

@@ -123,6 +123,8 @@ pub fn scope_of<'a>(
     let mut scope = Scope::new(alloc);
     for (atom, item) in items.iter().enumerate() {
         if scope.atoms.contains_key(item.alias.as_str()) {
+            // A call that lets it go is proved in far less time than drops at both ways out.
+            drop(scope);
             return Err(Fail::Refused(Refusal::DuplicateName {
                 name: item.alias.copy(alloc)?,
             }));
