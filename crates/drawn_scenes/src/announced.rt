@@ -2,7 +2,6 @@
 ghost use Rattle.std.specs.Prelude.{IfOk};
 ghost use Rattle.beas_core.specs.Fits.{Fits};
 ghost use Rattle.catalogue.specs.Database.{rows_at};
-ghost use Rattle.session.specs.Statements.{StatementIsWellFormed};
 ghost use Rattle.session.specs.Stores.{database_in};
 
 use crate::statements::statement_of;
@@ -11,23 +10,15 @@ use session::Session;
 use sql_text::Statement;
 use std::alloc::Global;
 
-/// A query as a session announces it. A statement that is none is refused as 1.
-fn announced(alloc: Global, session: &Session, statement: &Statement) -> Result<Prepared, Fail>
-    requires { StatementIsWellFormed statement.now }
-    ensures { IfOk result (Fits session.now.guarded.catalogue.accesses (rows_at (database_in session.now.guarded))) }
-{
-    match statement {
-        Statement::Select { tree } => session.announce(alloc, tree),
-        _ => Err(Fail::Refused(Refusal::Syntax)),
-    }
-}
-
 /// The query that a text spells, as a session announces it. A statement that is none is refused as 1.
 pub fn announced_query(alloc: Global, session: &Session, spelled: &str) -> Result<Prepared, Fail>
     ensures { IfOk result (Fits session.now.guarded.catalogue.accesses (rows_at (database_in session.now.guarded))) }
 {
     let statement = statement_of(alloc, spelled)?;
-    let outcome = announced(alloc, session, &statement);
+    let outcome = match &statement {
+        Statement::Select { tree } => session.announce(alloc, tree),
+        _ => Err(Fail::Refused(Refusal::Syntax)),
+    };
     drop(statement);
     outcome
 }

@@ -1,7 +1,6 @@
 // Queries over the tables that there are.
 ghost use Rattle.std.specs.Prelude.{IfOk};
 ghost use Rattle.beas_core.specs.Shapes.{QueryIsWellFormed};
-ghost use Rattle.session.specs.Statements.{StatementIsWellFormed};
 
 use crate::statements::statement_of;
 use beas_core::{Fail, Limits, Query, Refusal};
@@ -10,23 +9,15 @@ use catalogue::Catalogue;
 use sql_text::Statement;
 use std::alloc::Global;
 
-/// A query over the tables of a catalogue. A statement that is none is refused as 1.
-fn bound(alloc: Global, catalogue: &Catalogue, statement: &Statement) -> Result<Query, Fail>
-    requires { StatementIsWellFormed statement.now }
-    ensures { IfOk result QueryIsWellFormed }
-{
-    match statement {
-        Statement::Select { tree } => bind(alloc, catalogue, &Limits::standard(), tree),
-        _ => Err(Fail::Refused(Refusal::Syntax)),
-    }
-}
-
 /// The query that a text spells, over the tables of a catalogue. A statement that is none is refused as 1.
 pub fn bound_query(alloc: Global, catalogue: &Catalogue, spelled: &str) -> Result<Query, Fail>
     ensures { IfOk result QueryIsWellFormed }
 {
     let statement = statement_of(alloc, spelled)?;
-    let outcome = bound(alloc, catalogue, &statement);
+    let outcome = match &statement {
+        Statement::Select { tree } => bind(alloc, catalogue, &Limits::standard(), tree),
+        _ => Err(Fail::Refused(Refusal::Syntax)),
+    };
     drop(statement);
     outcome
 }

@@ -50,23 +50,6 @@ impl Rule {
         Ok(columns)
     }
 
-    /// The tuples of the rows that have the key of a row, in some columns.
-    fn tuples(
-        &self,
-        alloc: Global,
-        rows: &[Fact],
-        like: &Fact,
-        columns: &[u8],
-    ) -> Result<Vec<Vec<u8>>, NoMemory> {
-        let mut tuples = Vec::new(alloc);
-        for row in rows {
-            if self.joins(row, like) {
-                tuples.push(row.numbers(alloc, columns)?)?;
-            }
-        }
-        Ok(tuples)
-    }
-
     /// The tuples of the rows that have the key of a row, each once, in order.
     pub fn group(
         &self,
@@ -75,7 +58,12 @@ impl Rule {
         like: &Fact,
     ) -> Result<Vec<Vec<u8>>, NoMemory> {
         let columns = self.members(alloc)?;
-        let mut tuples = self.tuples(alloc, rows, like, &columns)?;
+        let mut tuples = Vec::new(alloc);
+        for row in rows {
+            if self.joins(row, like) {
+                tuples.push(row.numbers(alloc, &columns)?)?;
+            }
+        }
         tuples.sort_unstable();
         tuples.dedup();
         Ok(tuples)

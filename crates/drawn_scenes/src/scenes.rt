@@ -8,7 +8,7 @@ use std::alloc::Global;
 /// Adds 8 statements of INSERT.
 fn add_rows(alloc: Global, twin: &mut Twin, statements: &mut Vec<Text>) -> Result<(), NoMemory> {
     for _ in 0..8 {
-        statements.push(twin.insert(alloc)?.into_source())?;
+        statements.push(twin.insert(alloc)?.source)?;
     }
     Ok(())
 }
@@ -23,7 +23,7 @@ fn add_constraints(
     for number in 0..20 {
         let name = format!(in alloc; "k{number}")?;
         let update = twin.create(alloc, name, 16, 30, with_key)?;
-        statements.push(update.into_source())?;
+        statements.push(update.source)?;
     }
     Ok(())
 }
@@ -33,7 +33,7 @@ fn add_scene(alloc: Global, twin: &mut Twin, statements: &mut Vec<Text>) -> Resu
     let with_key = twin.draws.below(8) > 0;
     add_rows(alloc, twin, statements)?;
     if with_key {
-        statements.push(twin.create_whole(alloc)?.into_source())?;
+        statements.push(twin.create_whole(alloc)?.source)?;
     }
     add_constraints(alloc, twin, with_key, statements)
 }

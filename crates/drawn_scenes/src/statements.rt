@@ -37,54 +37,23 @@ pub fn statement_of(alloc: Global, spelled: &str) -> Result<Statement, Fail>
     parse_well(alloc, tokens.as_slice())
 }
 
-/// Has a session carry out a statement.
-fn apply_to<L: Ledger>(
+/// Has a session carry out a statement that was read, and says what is reported of it. The statement goes by `drop`, here
+/// and elsewhere: a value of many kinds that goes at the end of its block makes a long proof.
+fn report_of<L: Ledger>(
     alloc: Global,
     session: &mut Session,
     files: &mut MemoryFiles,
-    statement: &Statement,
+    read: Result<Statement, Fail>,
     steps: &mut Steps<L>,
-) -> Result<Report, Fail>
-    requires { StatementIsWellFormed statement.now }
+) -> Result<Report, NoMemory>
+    requires { IfOk read StatementIsWellFormed }
 {
-    Ok(session.apply(alloc, files, statement, steps)?)
-}
-
-/// Has a session carry out the statement that a text spells. The statement goes by `drop`, here and elsewhere: a value of
-/// many kinds that goes at the end of its block makes a long proof.
-fn carry_out<L: Ledger>(
-    alloc: Global,
-    session: &mut Session,
-    files: &mut MemoryFiles,
-    spelled: &str,
-    steps: &mut Steps<L>,
-) -> Result<Report, Fail> {
-    let statement = statement_of(alloc, spelled)?;
-    let outcome = apply_to(alloc, session, files, &statement, steps);
-    drop(statement);
-    outcome
-}
-
-/// Has a session carry out the statement that some tokens spell.
-fn carry_out_tokens<L: Ledger>(
-    alloc: Global,
-    session: &mut Session,
-    files: &mut MemoryFiles,
-    tokens: &[Token],
-    steps: &mut Steps<L>,
-) -> Result<Report, Fail>
-    requires { length tokens.now < 2 ^ 32 - 1 }
-{
-    let statement = parse_well(alloc, tokens)?;
-    let outcome = apply_to(alloc, session, files, &statement, steps);
-    drop(statement);
-    outcome
-}
-
-/// What is reported of a statement that was carried out, or refused as it was read.
-pub fn reported(outcome: Result<Report, Fail>) -> Result<Report, NoMemory> {
-    match outcome {
-        Ok(report) => Ok(report),
+    match read {
+        Ok(statement) => {
+            let report = session.apply(alloc, files, &statement, steps);
+            drop(statement);
+            report
+        }
         Err(Fail::Refused(why)) => Ok(Report::Refused { why }),
         Err(Fail::NoMemory) => Err(NoMemory),
     }
@@ -98,7 +67,22 @@ pub fn report_by<L: Ledger>(
     steps: &mut Steps<L>,
 ) -> Result<Report, NoMemory> {
     let mut files = MemoryFiles::new(alloc);
-    reported(carry_out(alloc, session, &mut files, spelled, steps))
+    report_of(
+        alloc,
+        session,
+        &mut files,
+        statement_of(alloc, spelled),
+        steps,
+    )
+}
+
+/// What is reported of a statement that was carried out, or refused as it was read.
+pub fn reported(outcome: Result<Report, Fail>) -> Result<Report, NoMemory> {
+    match outcome {
+        Ok(report) => Ok(report),
+        Err(Fail::Refused(why)) => Ok(Report::Refused { why }),
+        Err(Fail::NoMemory) => Err(NoMemory),
+    }
 }
 
 /// Adds the lines of a report.
@@ -123,7 +107,7 @@ fn push_report_of<L: Ledger>(
 ) -> Result<(), NoMemory>
     requires { length tokens.now < 2 ^ 32 - 1 }
 {
-    let report = reported(carry_out_tokens(alloc, session, files, tokens, steps))?;
+    let report = report_of(alloc, session, files, parse_well(alloc, tokens), steps)?;
     let pushed = push_report(alloc, lines, number, &report);
     drop(report);
     pushed
@@ -151,30 +135,7 @@ fn push_reports<L: Ledger>(
     Ok(())
 }
 
-/// The same of the statements of a script, whose tokens these are.
-fn push_pieces<L: Ledger>(
-    alloc: Global,
-    session: &mut Session,
-    files: &mut MemoryFiles,
-    lines: &mut Text,
-    tokens: &List<Token>,
-    steps: &mut Steps<L>,
-) -> Result<(), NoMemory>
-    requires { length tokens.now < 2 ^ 32 - 1 }
-{
-    let pieces = split(alloc, tokens)?;
-    push_reports(
-        alloc,
-        session,
-        files,
-        lines,
-        tokens.as_slice(),
-        pieces.as_slice(),
-        steps,
-    )
-}
-
-/// The same of a script's text.
+/// The same of the statements of a script.
 fn push_script<L: Ledger>(
     alloc: Global,
     session: &mut Session,
@@ -186,7 +147,16 @@ fn push_script<L: Ledger>(
     requires { length script.now ≤ 16777216 }
 {
     let tokens = lex(alloc, script)?;
-    push_pieces(alloc, session, files, lines, &tokens, steps)
+    let pieces = split(alloc, &tokens)?;
+    push_reports(
+        alloc,
+        session,
+        files,
+        lines,
+        tokens.as_slice(),
+        pieces.as_slice(),
+        steps,
+    )
 }
 
 /// Carries out the statements of a script that may load files, and gives the lines of their reports, numbered from 1.
@@ -226,29 +196,6 @@ pub fn reports_of<L: Ledger>(
     reports(alloc, session, script.as_str(), steps)
 }
 
-/// Has a session make the tables of `creations`.
-fn make_tables<L: Ledger>(
-    alloc: Global,
-    session: &mut Session,
-    steps: &mut Steps<L>,
-) -> Result<(), NoMemory> {
-    let statements = creations(alloc, Shape::narrow())?;
-    reports_of(alloc, session, &statements, steps)?;
-    Ok(())
-}
-
-/// Has a session with these tables add the rows and constraints of a drawn scene.
-fn add_scene<L: Ledger>(
-    alloc: Global,
-    session: &mut Session,
-    twin: &mut Twin,
-    steps: &mut Steps<L>,
-) -> Result<(), NoMemory> {
-    let statements = draw_scene(alloc, twin)?;
-    reports_of(alloc, session, &statements, steps)?;
-    Ok(())
-}
-
 /// Has a session without tables make those of `creations` with the rows and constraints of a drawn scene, and gives the
 /// rows of each table.
 pub fn fill_scene<L: Ledger>(
@@ -257,7 +204,7 @@ pub fn fill_scene<L: Ledger>(
     twin: &mut Twin,
     steps: &mut Steps<L>,
 ) -> Result<Vec<List<Row>>, NoMemory> {
-    make_tables(alloc, session, steps)?;
-    add_scene(alloc, session, twin, steps)?;
+    reports_of(alloc, session, &creations(alloc, Shape::narrow())?, steps)?;
+    reports_of(alloc, session, &draw_scene(alloc, twin)?, steps)?;
     tables_of(alloc, &twin.plain)
 }

@@ -19,18 +19,6 @@ pub trait Trial: Copy {
     ) -> Result<Self, NoMemory>;
 }
 
-/// Tries a session without tables, which gets the scene that a twin draws.
-fn with_twin<T: Trial, L: Ledger>(
-    alloc: Global,
-    session: &mut Session,
-    twin: &mut Twin,
-    before: T,
-    steps: &mut Steps<L>,
-) -> Result<T, NoMemory> {
-    let tables = fill_scene(alloc, session, twin, steps)?;
-    before.with_session(alloc, session, twin, &tables, steps)
-}
-
 /// Tries a session without tables, which gets the scene that a seed gives.
 fn with_scene<T: Trial, L: Ledger>(
     alloc: Global,
@@ -40,7 +28,8 @@ fn with_scene<T: Trial, L: Ledger>(
     steps: &mut Steps<L>,
 ) -> Result<T, NoMemory> {
     let mut twin = Twin::new(alloc, seed);
-    with_twin(alloc, session, &mut twin, before, steps)
+    let tables = fill_scene(alloc, session, &mut twin, steps)?;
+    before.with_session(alloc, session, &mut twin, &tables, steps)
 }
 
 /// The same by a session that is made for it.

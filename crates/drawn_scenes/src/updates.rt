@@ -12,7 +12,7 @@ use std::alloc::Global;
 /// A statement, and what is to be reported of it.
 #[derive(Drop)]
 pub struct Update {
-    source: Text,
+    pub source: Text,
     report: Text,
 }
 
@@ -109,13 +109,6 @@ fn push_rows(
         row.push_tuple(alloc, source, &columns)?;
     }
     Ok(())
-}
-
-impl Update {
-    /// The statement.
-    pub fn into_source(self) -> Text {
-        self.source
-    }
 }
 
 impl Batch {
@@ -272,17 +265,12 @@ impl Twin {
         self.create_rule(alloc, rule)
     }
 
-    /// Drops the constraint with a name.
-    fn drop_named(&mut self, alloc: Global, name: &str) -> Result<Update, NoMemory> {
-        let source = text_of(alloc, &["DROP ACCESS ", name])?;
-        let report = self.plain.drop_rule(alloc, name)?;
-        Ok(Update { source, report })
-    }
-
     /// Drops a constraint by a drawn name.
     fn drop_rule(&mut self, alloc: Global) -> Result<Update, NoMemory> {
         let name = self.draw_name(alloc)?;
-        self.drop_named(alloc, name.as_str())
+        let source = text_of(alloc, &["DROP ACCESS ", name.as_str()])?;
+        let report = self.plain.drop_rule(alloc, name.as_str())?;
+        Ok(Update { source, report })
     }
 
     /// Carries out one drawn update, which may be refused.
