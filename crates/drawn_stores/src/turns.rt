@@ -94,8 +94,13 @@ fn turned_prepared<P: AccessPort, L: Ledger>(
 ) -> Result<Turned, NoMemory>
     requires { Fits (P.accesses port.now) (P.rows port.now) prepared }
 {
-    let executed = execute(alloc, port, &prepared, steps)?;
-    turned_beside(alloc, port, prepared, &executed, steps)
+    match execute(alloc, port, &prepared, steps) {
+        Ok(executed) => turned_beside(alloc, port, prepared, &executed, steps),
+        Err(why) => {
+            drop(prepared);
+            Err(why)
+        }
+    }
 }
 
 /// What a cursor and the executor give of the query that a text spells, over the store of a session.
