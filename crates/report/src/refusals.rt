@@ -1,5 +1,5 @@
 // What a report says of a refusal.
-ghost use Rattle.std.specs.Prelude.{◌≡◌, IfOk};
+ghost use Rattle.std.specs.Prelude.{◌≡◌, ◌++◌, codes, decimal, IfOk};
 ghost use Rattle.beas_core.specs.declared.refusal.Refusal.TheVariants as refusal;
 ghost use Rattle.report.specs.Texts.{counted_text, refusal_text};
 
@@ -14,6 +14,7 @@ use beas_core::Refusal::{
     UnknownColumn, UnknownTable, Unreadable, WrongType, WrongWidth,
 };
 use beas_core::{Counted, Name, NoMemory, Refusal, Row, Text};
+use itoa::Integer;
 use sql_tokens::push_quoted;
 use std::alloc::Global;
 
@@ -22,57 +23,179 @@ pub fn refusal_text(alloc: Global, why: &Refusal) -> Result<Text, NoMemory>
     ensures { IfOk result (λ text. text ≡ refusal_text why.now) }
 {
     match why {
-        Syntax => text!(in alloc; "syntax"),
-        TooDeep => text!(in alloc; "nesting deeper than 32"),
-        TableExists { name } => text!(in alloc; "table {} exists", name.as_str()),
-        UnknownTable { name } => text!(in alloc; "unknown table {}", name.as_str()),
+        Syntax => words(alloc, "syntax"),
+        TooDeep => words(alloc, "nesting deeper than 32"),
+        TableExists { name } => around_name(alloc, "table ", name, " exists"),
+        UnknownTable { name } => before_name(alloc, "unknown table ", name),
         UnknownColumn { table, column } => column_text(alloc, table, column),
-        Ambiguous { column } => text!(in alloc; "ambiguous column {}", column.as_str()),
-        DuplicateName { name } => text!(in alloc; "duplicate name {}", name.as_str()),
-        MixedTypes { block, condition } =>
-            text!(in alloc; "type mismatch in block {} condition {}", Decimal(*block), Decimal(*condition)),
-        WrongType { row, column } =>
-            text!(in alloc; "type mismatch in row {} column {}", Decimal(*row), column.as_str()),
-        ShapeMismatch { block } => text!(in alloc; "shape mismatch at block {}", Decimal(*block)),
-        BadLimit { digits } =>
-            text!(in alloc; "limit {} not between 1 and 4294967295", digits.as_str()),
-        AlreadyBroken { needed, bound } =>
-            text!(in alloc; "greatest group {} above limit {}", Decimal(*needed), Decimal(*bound)),
+        Ambiguous { column } => before_name(alloc, "ambiguous column ", column),
+        DuplicateName { name } => before_name(alloc, "duplicate name ", name),
+        MixedTypes { block, condition } => before_numbers(
+            alloc,
+            "type mismatch in block ",
+            *block,
+            " condition ",
+            *condition,
+        ),
+        WrongType { row, column } => type_text(alloc, *row, column),
+        ShapeMismatch { block } => shape_text(alloc, *block),
+        BadLimit { digits } => around_text(
+            alloc,
+            "limit ",
+            digits,
+            " not between 1 and 4294967295",
+        ),
+        AlreadyBroken { needed, bound } => before_numbers(
+            alloc,
+            "greatest group ",
+            *needed,
+            " above limit ",
+            *bound,
+        ),
         BreaksBound { row, access, key } => breaks_text(alloc, *row, access, key),
-        WrongWidth { row, found, wanted } =>
-            text!(in alloc; "row {} has {} values, {} wanted", Decimal(*row), Decimal(*found), Decimal(*wanted)),
+        WrongWidth { row, found, wanted } => width_text(
+            alloc,
+            "row ",
+            *row,
+            *found,
+            " values, ",
+            *wanted,
+        ),
         NumberRange { negative, digits } => range_text(alloc, *negative, digits),
         Unreadable { file } => unreadable_text(alloc, file),
-        BadField { nth, column } =>
-            text!(in alloc; "record {} column {} bad field", Decimal(*nth), column.as_str()),
-        RecordWidth { nth, found, wanted } =>
-            text!(in alloc; "record {} has {} fields, {} wanted", Decimal(*nth), Decimal(*found), Decimal(*wanted)),
-        HeaderMismatch => text!(in alloc; "header mismatch"),
+        BadField { nth, column } => field_text(alloc, *nth, column),
+        RecordWidth { nth, found, wanted } => width_text(
+            alloc,
+            "record ",
+            *nth,
+            *found,
+            " fields, ",
+            *wanted,
+        ),
+        HeaderMismatch => words(alloc, "header mismatch"),
         NotCovered {
             block,
             atom,
             column,
         } => reason_text(alloc, *block, *atom, column),
-        TooLarge => text!(in alloc; "bound past 128 bits"),
-        OverBudget { bound, budget } =>
-            text!(in alloc; "bound {} above budget {}", Decimal(*bound), Decimal(*budget)),
-        TooMany { what, limit } =>
-            text!(in alloc; "too many {}, limit {}", counted_words(*what), Decimal(*limit)),
-        NeedsDistinct => text!(in alloc; "DISTINCT wanted"),
-        FileTooLong { limit } => text!(in alloc; "file longer than {} bytes", Decimal(*limit)),
-        UnknownAccess { name } => text!(in alloc; "unknown constraint {}", name.as_str()),
-        TextTooLong { limit } => text!(in alloc; "text longer than {} bytes", Decimal(*limit)),
-        NotGrouped { column } => text!(in alloc; "column {} not grouped", column.as_str()),
-        SumOfText { column } => text!(in alloc; "sum of text column {}", column.as_str()),
-        TooManyCandidates { found } =>
-            text!(in alloc; "{} candidate columns, limit 16", Decimal(*found)),
-        BadSession { digits } =>
-            text!(in alloc; "session {} not between 1 and 64", digits.as_str()),
-        SessionBusy { session } =>
-            text!(in alloc; "session {} has an open query", Decimal(*session)),
-        SessionIdle { session } =>
-            text!(in alloc; "session {} has no open query", Decimal(*session)),
+        TooLarge => words(alloc, "bound past 128 bits"),
+        OverBudget { bound, budget } => before_numbers(
+            alloc,
+            "bound ",
+            *bound,
+            " above budget ",
+            *budget,
+        ),
+        TooMany { what, limit } => many_text(alloc, *what, *limit),
+        NeedsDistinct => words(alloc, "DISTINCT wanted"),
+        FileTooLong { limit } => around_number(alloc, "file longer than ", *limit, " bytes"),
+        UnknownAccess { name } => before_name(alloc, "unknown constraint ", name),
+        TextTooLong { limit } => around_number(alloc, "text longer than ", *limit, " bytes"),
+        NotGrouped { column } => around_name(alloc, "column ", column, " not grouped"),
+        SumOfText { column } => before_name(alloc, "sum of text column ", column),
+        TooManyCandidates { found } => candidates_text(alloc, *found),
+        BadSession { digits } => around_text(alloc, "session ", digits, " not between 1 and 64"),
+        SessionBusy { session } => around_number(alloc, "session ", *session, " has an open query"),
+        SessionIdle { session } => around_number(alloc, "session ", *session, " has no open query"),
     }
+}
+
+/// These words alone.
+fn words(alloc: Global, words: &str) -> Result<Text, NoMemory>
+    ensures { IfOk result (λ text. text ≡ words.now) }
+{
+    Text::from_str(alloc, words)
+}
+
+/// Words, and a name after them.
+fn before_name(alloc: Global, front: &str, name: &Name) -> Result<Text, NoMemory>
+    ensures { IfOk result (λ text. text ≡ front.now ++ name.now) }
+{
+    text!(in alloc; "{}{}", front, name.as_str())
+}
+
+/// A name between words.
+fn around_name(alloc: Global, front: &str, name: &Name, back: &str) -> Result<Text, NoMemory>
+    ensures { IfOk result (λ text. text ≡ front.now ++ (name.now ++ back.now)) }
+{
+    text!(in alloc; "{}{}{}", front, name.as_str(), back)
+}
+
+/// A text between words.
+fn around_text(alloc: Global, front: &str, content: &Text, back: &str) -> Result<Text, NoMemory>
+    ensures { IfOk result (λ text. text ≡ front.now ++ (content.now ++ back.now)) }
+{
+    text!(in alloc; "{}{}{}", front, content.as_str(), back)
+}
+
+/// A number between words.
+fn around_number<I: Integer>(
+    alloc: Global,
+    front: &str,
+    number: I,
+    back: &str,
+) -> Result<Text, NoMemory>
+    ensures { IfOk result (λ text. text ≡ front.now ++ (I.text number ++ back.now)) }
+{
+    text!(in alloc; "{}{}{}", front, Decimal(number), back)
+}
+
+/// Two numbers, each after words.
+fn before_numbers<I: Integer, J: Integer>(
+    alloc: Global,
+    front: &str,
+    first: I,
+    middle: &str,
+    second: J,
+) -> Result<Text, NoMemory>
+    ensures { IfOk result (λ text. text ≡ front.now ++ (I.text first ++ (middle.now ++ J.text second))) }
+{
+    text!(in alloc; "{}{}{}{}", front, Decimal(first), middle, Decimal(second))
+}
+
+/// Of a row or a record that has too many or too few of something.
+fn width_text(
+    alloc: Global,
+    front: &str,
+    nth: u32,
+    found: u32,
+    middle: &str,
+    wanted: u32,
+) -> Result<Text, NoMemory>
+    ensures { IfOk result (λ text. text ≡ front.now ++ (decimal nth ++ (codes " has " ++ (decimal found
+        ++ (middle.now ++ (decimal wanted ++ codes " wanted")))))) }
+{
+    text!(in alloc; "{}{} has {}{}{} wanted", front, Decimal(nth), Decimal(found), middle, Decimal(wanted))
+}
+
+fn type_text(alloc: Global, row: u32, column: &Name) -> Result<Text, NoMemory>
+    ensures { IfOk result (λ text. text ≡ refusal_text (refusal.WrongType row column.now)) }
+{
+    text!(in alloc; "type mismatch in row {} column {}", Decimal(row), column.as_str())
+}
+
+fn shape_text(alloc: Global, block: u32) -> Result<Text, NoMemory>
+    ensures { IfOk result (λ text. text ≡ refusal_text (refusal.ShapeMismatch block)) }
+{
+    text!(in alloc; "shape mismatch at block {}", Decimal(block))
+}
+
+fn field_text(alloc: Global, nth: u32, column: &Name) -> Result<Text, NoMemory>
+    ensures { IfOk result (λ text. text ≡ refusal_text (refusal.BadField nth column.now)) }
+{
+    text!(in alloc; "record {} column {} bad field", Decimal(nth), column.as_str())
+}
+
+fn many_text(alloc: Global, what: Counted, limit: u64) -> Result<Text, NoMemory>
+    ensures { IfOk result (λ text. text ≡ refusal_text (refusal.TooMany what limit)) }
+{
+    text!(in alloc; "too many {}, limit {}", counted_words(what), Decimal(limit))
+}
+
+fn candidates_text(alloc: Global, found: u32) -> Result<Text, NoMemory>
+    ensures { IfOk result (λ text. text ≡ refusal_text (refusal.TooManyCandidates found)) }
+{
+    text!(in alloc; "{} candidate columns, limit 16", Decimal(found))
 }
 
 fn column_text(alloc: Global, table: &Option<Name>, column: &Name) -> Result<Text, NoMemory>

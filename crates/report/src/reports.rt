@@ -1,7 +1,7 @@
 // The report of a statement, and its lines.
 ghost use Rattle.std.specs.Prelude.{◌≡◌, [], ◌++◌, length, map, IfOk, OnOk};
 ghost use Rattle.std.specs.List.{flat_map};
-ghost use Rattle.report.specs.declared.reports.Report.TheVariants.{Answered, Explained, Grouped, Specialised};
+ghost use Rattle.report.specs.declared.reports.Report.TheVariants.{Answered, Explained, Grouped, Pairs, Refused, Specialised};
 ghost use Rattle.report.specs.Reports.{bound_text, counts_text, pair_line, place_line, records_text, report_text};
 
 use crate::decimal::Decimal;
@@ -86,10 +86,7 @@ pub fn text(alloc: Global, number: u32, report: &Report) -> Result<Text, NoMemor
         Report::Done => text!(in alloc; "{k} ok\n"),
         Report::Changed { rows } => text!(in alloc; "{k} ok {} rows\n", Decimal(*rows)),
         Report::Greatest { most } => text!(in alloc; "{k} max {}\n", Decimal(*most)),
-        Report::Pairs { found } => {
-            let pairs = pairs_text(alloc, number, found)?;
-            text!(in alloc; "{}{k} ok {} pairs\n", pairs.as_str(), Decimal(found.len()))
-        }
+        Report::Pairs { found } => found_text(alloc, number, found),
         Report::Explained { bound, plan } => explained_text(alloc, number, *bound, plan),
         Report::Answered {
             bound,
@@ -109,11 +106,28 @@ pub fn text(alloc: Global, number: u32, report: &Report) -> Result<Text, NoMemor
         Report::Opened { session, bound } =>
             text!(in alloc; "{k} open {} bound {}\n", Decimal(*session), Decimal(*bound)),
         Report::Probed { session } => text!(in alloc; "{k} probed {}\n", Decimal(*session)),
-        Report::Refused { why } => {
-            let said = refusal_text(alloc, why)?;
-            text!(in alloc; "{k} refused {} {}\n", Decimal(why.number()), said.as_str())
-        }
+        Report::Refused { why } => refused_text(alloc, number, why),
     }
+}
+
+/// The line of a statement that was not carried out.
+#[tactic(auto, unfolding(crate::specs::Reports::report_text))]
+fn refused_text(alloc: Global, number: u32, why: &Refusal) -> Result<Text, NoMemory>
+    ensures { IfOk result (λ text. text ≡ report_text number (Refused why.now)) }
+{
+    let k = Decimal(number);
+    let said = refusal_text(alloc, why)?;
+    text!(in alloc; "{k} refused {} {}\n", Decimal(why.number()), said.as_str())
+}
+
+/// The lines of pairs of columns.
+#[tactic(auto, unfolding(crate::specs::Reports::report_text))]
+fn found_text(alloc: Global, number: u32, found: &List<(Name, Name, u32)>) -> Result<Text, NoMemory>
+    ensures { IfOk result (λ text. text ≡ report_text number (Pairs found.now)) }
+{
+    let k = Decimal(number);
+    let pairs = pairs_text(alloc, number, found)?;
+    text!(in alloc; "{}{k} ok {} pairs\n", pairs.as_str(), Decimal(found.len()))
 }
 
 /// The lines of a query that isn't run.
