@@ -8,42 +8,48 @@ use std::alloc::Global;
 /// So many columns has each table.
 const COLUMNS: u8 = 4;
 
-/// Some columns in order, each of which is taken once in so many turns.
-fn draw_columns(alloc: Global, draws: &mut Draws, turns: u8) -> Result<Vec<u8>, NoMemory>
+/// Adds some columns in order, each of which is taken once in so many turns.
+fn draw_columns(columns: &mut Vec<u8>, draws: &mut Draws, turns: u8) -> Result<(), NoMemory>
     requires { 1 ≤ turns }
 {
-    let mut columns = Vec::new(alloc);
     for column in 0..COLUMNS {
         if draws.below(turns) == 0 {
             columns.push(column)?;
         }
     }
-    Ok(columns)
+    Ok(())
 }
 
-/// A constraint without a limit, named by a number.
-fn draw_rule(alloc: Global, draws: &mut Draws, number: u32) -> Result<Rule, NoMemory> {
+/// A constraint without columns and limit on a drawn table, named by a number.
+fn draw_named(alloc: Global, draws: &mut Draws, number: u32) -> Result<Rule, NoMemory> {
     Ok(Rule {
         name: format!(in alloc; "k{number}")?,
         table: draws.below(TABLES),
-        key: draw_columns(alloc, draws, 4)?,
-        fetched: draw_columns(alloc, draws, 2)?,
+        key: Vec::new(alloc),
+        fetched: Vec::new(alloc),
         bound: 0,
     })
 }
 
-fn names_of(alloc: Global, columns: &[u8]) -> Result<List<Name>, NoMemory> {
-    let mut names = List::new(alloc);
+/// A constraint without a limit, named by a number.
+fn draw_rule(alloc: Global, draws: &mut Draws, number: u32) -> Result<Rule, NoMemory> {
+    let mut rule = draw_named(alloc, draws, number)?;
+    draw_columns(&mut rule.key, draws, 4)?;
+    draw_columns(&mut rule.fetched, draws, 2)?;
+    Ok(rule)
+}
+
+fn push_names(alloc: Global, names: &mut List<Name>, columns: &[u8]) -> Result<(), NoMemory> {
     for column in columns {
         if let Some(name) = Name::of(alloc, column_name(*column))? {
             names.push(name)?;
         }
     }
-    Ok(names)
+    Ok(())
 }
 
-/// A constraint as the store is asked to make it.
-fn spec_of(alloc: Global, rule: &Rule, limit: usize) -> Result<Option<AccessSpec>, NoMemory> {
+/// A constraint with the names of a drawn one, without columns and limit.
+fn named_spec(alloc: Global, rule: &Rule) -> Result<Option<AccessSpec>, NoMemory> {
     let Some(name) = Name::of(alloc, rule.name.as_str())? else {
         return Ok(None);
     };
@@ -53,10 +59,51 @@ fn spec_of(alloc: Global, rule: &Rule, limit: usize) -> Result<Option<AccessSpec
     Ok(Some(AccessSpec {
         name,
         table,
-        key: names_of(alloc, &rule.key)?,
-        fetched: names_of(alloc, &rule.fetched)?,
-        limit: Text::from_string(format!(in alloc; "{limit}")?),
+        key: List::new(alloc),
+        fetched: List::new(alloc),
+        limit: Text::new(alloc),
     }))
+}
+
+/// Adds the columns of a drawn constraint, and a limit.
+fn fill_spec(
+    alloc: Global,
+    spec: &mut AccessSpec,
+    rule: &Rule,
+    limit: usize,
+) -> Result<(), NoMemory> {
+    push_names(alloc, &mut spec.key, &rule.key)?;
+    push_names(alloc, &mut spec.fetched, &rule.fetched)?;
+    spec.limit.push_str(format!(in alloc; "{limit}")?.as_str())
+}
+
+/// Adds a constraint as the store is asked to make it.
+fn push_spec(
+    alloc: Global,
+    specs: &mut List<AccessSpec>,
+    rule: &Rule,
+    limit: usize,
+) -> Result<(), NoMemory> {
+    match named_spec(alloc, rule)? {
+        Some(mut spec) => {
+            fill_spec(alloc, &mut spec, rule, limit)?;
+            specs.push(spec)
+        }
+        None => Ok(()),
+    }
+}
+
+/// Adds a drawn constraint, named by a number.
+fn push_drawn(
+    alloc: Global,
+    specs: &mut List<AccessSpec>,
+    twin: &mut Twin,
+    number: u32,
+) -> Result<(), NoMemory> {
+    let rule = draw_rule(alloc, &mut twin.draws, number)?;
+    let most = rule.greatest(alloc, &twin.plain.rows)?;
+    let limit = most.saturating_add(usize::from(twin.draws.below(3)));
+    push_spec(alloc, specs, &rule, limit)
 }
 
 /// So many drawn constraints, named by the numbers from `first` on. Each has its greatest group as its limit, or up to
@@ -69,13 +116,12 @@ pub fn draw_constraints(
 ) -> Result<List<AccessSpec>, NoMemory> {
     let mut specs = List::new(alloc);
     for place in 0..count {
-        let number = first.saturating_add(u32::from(place));
-        let rule = draw_rule(alloc, &mut twin.draws, number)?;
-        let most = rule.greatest(alloc, &twin.plain.rows)?;
-        let limit = most.saturating_add(usize::from(twin.draws.below(3)));
-        if let Some(spec) = spec_of(alloc, &rule, limit)? {
-            specs.push(spec)?;
-        }
+        push_drawn(
+            alloc,
+            &mut specs,
+            twin,
+            first.saturating_add(u32::from(place)),
+        )?;
     }
     Ok(specs)
 }

@@ -1,7 +1,7 @@
 // Whether a query of one block is covered, by the layer of coverage and by the reference programs.
 ghost use Rattle.beas_core.specs.Shapes.{QueryIsWellFormed};
 
-use beas_core::{Access, Fail, List, NotCovered, Query, QueryNode};
+use beas_core::{Access, List, NoMemory, NotCovered, Query, QueryNode};
 use coverage_check::check;
 use reference_evaluation::Planned;
 use std::alloc::Global;
@@ -29,7 +29,7 @@ pub fn is_agreed(
     accesses: &List<Access>,
     query: &Query,
     planned: &Planned,
-) -> Result<bool, Fail>
+) -> Result<bool, NoMemory>
     requires { QueryIsWellFormed query.now }
 {
     let QueryNode::Block(block) = &query.node else {

@@ -8,7 +8,7 @@ use crate::announced::{is_canonical, is_prepared_so, is_refused_so};
 use crate::constraints::draw_constraints;
 use crate::outcomes::outcome_of;
 use crate::tallies::{BUDGET, Tally};
-use beas_core::{AccessSpec, Fail, List, NoMemory, Prepared, Row, Steps};
+use beas_core::{AccessSpec, Fail, List, NoMemory, Prepared, Query, Row, Steps};
 use drawn_scenes::{
     Trial, Twin, announced_query, bound_query, draw_query, out_of_memory, try_scenes,
 };
@@ -57,11 +57,58 @@ fn executed<L: Ledger>(
     })
 }
 
-/// What the reference programs plan for the query that a text spells, over the constraints as they are.
-fn planned_query(alloc: Global, guarded: &Store, spelled: &str) -> Result<Planned, Fail> {
-    let query = bound_query(alloc, &guarded.catalogue, spelled)?;
+/// What came of a query that isn't announced. It takes the refusal, since each function that lets one go is dear to
+/// prove.
+fn failed(why: Fail, wanted: &Planned) -> Result<Tally, NoMemory> {
+    match why {
+        Fail::Refused(why) => Ok(Tally::refused(is_refused_so(&why, wanted, BUDGET))),
+        Fail::NoMemory => Err(NoMemory),
+    }
+}
+
+/// Tries a query that the reference programs plan so.
+fn try_planned<L: Ledger>(
+    alloc: Global,
+    session: &mut Session,
+    specs: &[AccessSpec],
+    tables: &[List<Row>],
+    spelled: &str,
+    wanted: &Planned,
+    steps: &mut Steps<L>,
+) -> Result<Tally, NoMemory> {
+    match announced_query(alloc, session, spelled) {
+        Ok(prepared) => {
+            let guarded = &mut session.guarded;
+            executed(alloc, guarded, specs, tables, &prepared, wanted, steps)
+        }
+        Err(why) => failed(why, wanted),
+    }
+}
+
+/// What the reference programs plan for a query, over the constraints as they are.
+fn planned_by(alloc: Global, guarded: &Store, query: &Query) -> Result<Option<Planned>, NoMemory> {
     let accesses = guarded.catalogue.accesses().as_slice();
-    Ok(plan_query(alloc, accesses, &query)?)
+    Ok(Some(plan_query(alloc, accesses, query)?))
+}
+
+/// The plans of a text that spells no query: none.
+fn unplanned(why: Fail) -> Result<Option<Planned>, NoMemory> {
+    match why {
+        Fail::Refused(_) => Ok(None),
+        Fail::NoMemory => Err(NoMemory),
+    }
+}
+
+/// The same for the query that a text spells, and nothing where it spells none.
+fn planned_query(
+    alloc: Global,
+    guarded: &Store,
+    spelled: &str,
+) -> Result<Option<Planned>, NoMemory> {
+    match bound_query(alloc, &guarded.catalogue, spelled) {
+        Ok(query) => planned_by(alloc, guarded, &query),
+        Err(why) => unplanned(why),
+    }
 }
 
 fn try_query<L: Ledger>(
@@ -71,15 +118,10 @@ fn try_query<L: Ledger>(
     tables: &[List<Row>],
     spelled: &str,
     steps: &mut Steps<L>,
-) -> Result<Tally, Fail> {
-    let wanted = planned_query(alloc, &session.guarded, spelled)?;
-    match announced_query(alloc, session, spelled) {
-        Ok(prepared) => {
-            let guarded = &mut session.guarded;
-            Ok(executed(alloc, guarded, specs, tables, &prepared, &wanted, steps)?)
-        }
-        Err(Fail::Refused(why)) => Ok(Tally::refused(is_refused_so(&why, &wanted, BUDGET))),
-        Err(Fail::NoMemory) => Err(Fail::NoMemory),
+) -> Result<Tally, NoMemory> {
+    match planned_query(alloc, &session.guarded, spelled)? {
+        Some(wanted) => try_planned(alloc, session, specs, tables, spelled, &wanted, steps),
+        None => Ok(Tally::refused(false)),
     }
 }
 
@@ -96,11 +138,7 @@ fn try_with<L: Ledger>(
 ) -> Result<Tally, NoMemory> {
     let count = twin.draws.below(6).saturating_sub(2);
     let specs = draw_constraints(alloc, twin, first, count)?;
-    match try_query(alloc, session, specs.as_slice(), tables, spelled, steps) {
-        Ok(tally) => Ok(tally),
-        Err(Fail::Refused(_)) => Ok(Tally::refused(false)),
-        Err(Fail::NoMemory) => Err(NoMemory),
-    }
+    try_query(alloc, session, specs.as_slice(), tables, spelled, steps)
 }
 
 /// Tries drawn queries over a session with these rows.

@@ -1,6 +1,6 @@
 // Drawn queries over small drawn tables.
 use crate::answers::{Scene, Wanted, wanted_of};
-use beas_core::{Fail, List, NoMemory, Row, Steps, Text};
+use beas_core::{List, NoMemory, Row, Steps, Text};
 use drawn_scenes::{Draws, Trial, Twin, draw_query, out_of_memory, reports, try_scenes};
 use full_meaning::plain_store;
 use reference_evaluation::GuidedBlocks;
@@ -9,6 +9,7 @@ use session::{Session, Store};
 use std::alloc::Global;
 use std::io;
 use std::sync::ledger::Ledger;
+use update_guard::Guarded;
 
 /// So many queries are drawn for one session.
 const QUERIES: u32 = 25;
@@ -69,23 +70,6 @@ impl Tally {
     }
 }
 
-/// What is to be reported of a query. One that the reference programs don't agree on is refused as 1.
-fn wanted_report<L: Ledger>(
-    alloc: Global,
-    scene: Scene<'_>,
-    spelled: &str,
-    steps: &mut Steps<L>,
-) -> Result<Wanted, NoMemory> {
-    match wanted_of(alloc, scene, spelled, BUDGET, steps) {
-        Ok(wanted) => Ok(wanted),
-        Err(Fail::Refused(why)) => Ok(Wanted {
-            report: Report::Refused { why },
-            guided: GuidedBlocks::none(),
-        }),
-        Err(Fail::NoMemory) => Err(NoMemory),
-    }
-}
-
 /// Queries as a script, with what is to be reported of them.
 #[derive(Drop)]
 struct Queries {
@@ -95,19 +79,40 @@ struct Queries {
 }
 
 impl Queries {
+    /// No queries, of which this is to be reported.
+    fn none(alloc: Global, wanted: Text, tally: Tally) -> Queries {
+        Queries {
+            script: Text::new(alloc),
+            wanted,
+            tally,
+        }
+    }
+
+    /// Adds the report of a query that is the statement with this number. It takes the report, since each function that
+    /// lets one go is dear to prove.
+    fn add_wanted(&mut self, alloc: Global, number: u32, wanted: Wanted) -> Result<(), NoMemory> {
+        self.add_lent(alloc, number, &wanted)
+    }
+
+    fn add_lent(&mut self, alloc: Global, number: u32, wanted: &Wanted) -> Result<(), NoMemory> {
+        self.tally = self.tally.with(wanted);
+        let report = text(alloc, number, &wanted.report)?;
+        self.wanted.push_str(report.as_str())
+    }
+
     /// Adds a query as the statement with this number.
-    fn add(
+    fn add<L: Ledger>(
         &mut self,
         alloc: Global,
         number: u32,
-        query: &Text,
-        wanted: &Wanted,
+        scene: Scene<'_>,
+        query: &str,
+        steps: &mut Steps<L>,
     ) -> Result<(), NoMemory> {
-        self.tally = self.tally.with(wanted);
-        self.script.push_str(query.as_str())?;
+        self.script.push_str(query)?;
         self.script.push_str(";")?;
-        let report = text(alloc, number, &wanted.report)?;
-        self.wanted.push_str(report.as_str())
+        let wanted = wanted_of(alloc, scene, query, BUDGET, steps)?;
+        self.add_wanted(alloc, number, wanted)
     }
 
     /// Adds a drawn query.
@@ -120,8 +125,7 @@ impl Queries {
         steps: &mut Steps<L>,
     ) -> Result<(), NoMemory> {
         let query = draw_query(alloc, draws)?;
-        let wanted = wanted_report(alloc, scene, query.as_str(), steps)?;
-        self.add(alloc, number, &query, &wanted)
+        self.add(alloc, number, scene, query.as_str(), steps)
     }
 }
 
@@ -133,11 +137,7 @@ fn draw_queries<L: Ledger>(
     tally: Tally,
     steps: &mut Steps<L>,
 ) -> Result<Queries, NoMemory> {
-    let mut queries = Queries {
-        script: Text::new(alloc),
-        wanted: Text::new(alloc),
-        tally,
-    };
+    let mut queries = Queries::none(alloc, Text::new(alloc), tally);
     for nth in 1..=QUERIES {
         queries.draw(alloc, nth, scene, draws, steps)?;
     }
@@ -155,6 +155,30 @@ fn are_answered<L: Ledger>(
     Ok(said.as_str() == queries.wanted.as_str())
 }
 
+/// Drawn queries over a store and a plain one with the same rows.
+fn queries_beside<L: Ledger>(
+    alloc: Global,
+    store: &Store,
+    plain: &Guarded,
+    draws: &mut Draws,
+    tables: &[List<Row>],
+    tally: Tally,
+    steps: &mut Steps<L>,
+) -> Result<Queries, NoMemory> {
+    let scene = Scene {
+        catalogue: &store.catalogue,
+        plain,
+        tables,
+    };
+    draw_queries(alloc, scene, draws, tally, steps)
+}
+
+/// No queries, where a store can't be made anew.
+fn queries_over_none(alloc: Global, tally: Tally) -> Result<Queries, NoMemory> {
+    let wanted = Text::from_str(alloc, "a store that is made anew")?;
+    Ok(Queries::none(alloc, wanted, tally))
+}
+
 /// Drawn queries over the rows that a session has. Where its store can't be made anew there are none.
 fn queries_over<L: Ledger>(
     alloc: Global,
@@ -166,20 +190,11 @@ fn queries_over<L: Ledger>(
 ) -> Result<Queries, NoMemory> {
     match plain_store(alloc, &store.catalogue, store.rows.as_slice(), steps)? {
         Some(plain) => {
-            let scene = Scene {
-                catalogue: &store.catalogue,
-                plain: &plain,
-                tables,
-            };
-            let queries = draw_queries(alloc, scene, draws, tally, steps);
+            let queries = queries_beside(alloc, store, &plain, draws, tables, tally, steps);
             plain.discard();
             queries
         }
-        None => Ok(Queries {
-            script: Text::new(alloc),
-            wanted: Text::from_str(alloc, "a store that is made anew")?,
-            tally,
-        }),
+        None => queries_over_none(alloc, tally),
     }
 }
 
