@@ -1,6 +1,6 @@
 -- A prepared query that fits a store fits it with one constraint more.
 use Rattle.std.proofs.Common.{◌≡◌, List, [], ◌∷◌, ◌++◌, ap, sym, subst}
-use Rattle.std.specs.Prelude.{Contains}
+use Rattle.std.specs.Prelude.{Contains, Result, Ok, Err, OnOk, OnErr}
 use Rattle.beas_core.specs.declared.schema.Access.{Access}
 use Rattle.beas_core.specs.declared.plan.Prepared.{Prepared}
 use Rattle.beas_core.specs.Types.{TableRows}
@@ -41,3 +41,9 @@ module _ (old new : Store) (prepared : Prepared) (fits : FitsStore old prepared)
       let within = keeps access (ap (λ (db : Database). db.accesses) e) in
       let kept = keeps_more few many (ids_once new.catalogue sound) within prepared.derivations (prepared_is_live few prepared fits.plan) in
       subst (λ (r : TableRows). Fits many r prepared) (sym (ap rows_at e)) (stays_fit few many before before prepared kept (rows_kept before prepared.query) fits)
+
+  -- after a constraint was made, or not
+  pub fits_after : {A E : Type 0} (made : Result A E) (access : Access) → SchemaIsSound new.catalogue
+      → OnOk made (database_in new ≡ with_access (database_in old) access) → OnErr made (database_in new ≡ database_in old) → FitsStore new prepared
+  fits_after (Ok _) access sound longer same = fits_with_access access sound longer
+  fits_after (Err _) access sound longer same = fits_the_same same

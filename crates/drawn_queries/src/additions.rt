@@ -3,10 +3,19 @@ ghost use Rattle.beas_core.specs.Fits.{Fits};
 ghost use Rattle.catalogue.specs.Database.{rows_at};
 ghost use Rattle.session.specs.Stores.{database_in};
 
-use beas_core::{AccessSpec, Fail, Limits, NoMemory, Prepared, Steps};
+use beas_core::{AccessId, AccessSpec, Fail, Limits, NoMemory, Prepared, Steps};
 use session::Store;
 use std::alloc::Global;
 use std::sync::ledger::Ledger;
+
+/// Whether a constraint was made. It takes the refusal, since each function that lets one go is dear to prove.
+fn is_made(made: Result<AccessId, Fail>) -> Result<bool, NoMemory> {
+    match made {
+        Ok(_) => Ok(true),
+        Err(Fail::Refused(_)) => Ok(false),
+        Err(Fail::NoMemory) => Err(NoMemory),
+    }
+}
 
 /// Makes a constraint where it fetches a column and holds, and says whether it does. A prepared query that fitted the
 /// store before fits it after.
@@ -26,11 +35,7 @@ fn add_constraint<L: Ledger>(
     let made = guarded.create_access(alloc, &Limits::standard(), spec, steps);
     // Read for what it tells: no two constraints have one id.
     let _accesses = guarded.catalogue.accesses();
-    match made {
-        Ok(_) => Ok(true),
-        Err(Fail::Refused(_)) => Ok(false),
-        Err(Fail::NoMemory) => Err(NoMemory),
-    }
+    is_made(made)
 }
 
 /// Makes constraints, and says how many were made. A prepared query that fitted the store before fits it after.

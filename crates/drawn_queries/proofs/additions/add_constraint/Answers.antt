@@ -1,11 +1,12 @@
 use Rattle.catalogue.specs.Database.{schema_of}
 use Rattle.catalogue.specs.Refusing.{new_access}
 use Rattle.session.specs.Stores.{database_in}
-use Rattle.drawn_queries.proofs.StoreFacts.{fits_with_access}
+use Rattle.drawn_queries.proofs.StoreFacts.{fits_after}
 use Rattle.drawn_queries.proofs.additions.add_constraint.Goals as goal
 
-pub returns-in-Ok : goal.returns-in-Ok
-returns-in-Ok g c =
+pub returns : goal.returns
+returns g c =
     let old = c.args.guarded.now in
-    fits_with_access old c.create_access-made.new.self c.args.prepared.now c.requires (new_access (schema_of (database_in old)) c.args.spec.now)
-    c.accesses-accesses.ensures.sound c.in-Ok.ensures.ok
+    fits_after old c.create_access-made.new.self c.args.prepared.now c.requires c.create_access-made.result
+    (new_access (schema_of (database_in old)) c.args.spec.now)
+    c.accesses-accesses.ensures.sound c.create_access-made.ensures.ok c.create_access-made.ensures.err
