@@ -1,7 +1,7 @@
 //! Laws over the definitions. Each is the contract of a function that works nothing out.
 //!
 //! - `answers`, `bounds`, `classes`, `coverage`, `order`: what plans, numbers and answers are;
-//! - `printing`, `texts`: what a printed statement is read as;
+//! - `printing`: what a printed statement is read as;
 //! - `groups`, `scans`: what grouped statements and SCAN OK mean;
 //! - `files`: a report names a file as one that can't be read exactly where the load of this file failed;
 //! - `sessions`: what a session is made of;
@@ -19,7 +19,6 @@ mod printing;
 mod scans;
 mod sessions;
 mod steady;
-mod texts;
 
 pub use answers::{law_answer, law_guided, law_step};
 pub use bounds::{law_block_bound, law_bound, law_more_answers};
@@ -35,4 +34,3 @@ pub use printing::law_printed;
 pub use scans::{law_covered_alone, law_sizes_alone};
 pub use sessions::session_fields;
 pub use steady::run_steady;
-pub use texts::canonical;

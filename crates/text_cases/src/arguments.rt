@@ -10,13 +10,16 @@ const LONG: u32 = 70_000;
 
 // A word as it is spelled.
 fn word_of(alloc: Global, spelled: &str) -> Result<String, NoMemory> {
-    let mut word = String::new(alloc);
     if spelled == "*" {
-        for _ in 0..LONG {
-            word.push_str("a")?;
-        }
-    } else {
-        word.push_str(spelled)?;
+        return long_word(alloc);
+    }
+    Ok(String::from_str(alloc, spelled)?)
+}
+
+fn long_word(alloc: Global) -> Result<String, NoMemory> {
+    let mut word = String::new(alloc);
+    for _ in 0..LONG {
+        word.push_str("a")?;
     }
     Ok(word)
 }
@@ -47,30 +50,46 @@ fn options_text(alloc: Global, budget: Option<u64>, explain: bool) -> Result<Str
     }
 }
 
+fn script_text(
+    alloc: Global,
+    path: &str,
+    budget: Option<u64>,
+    explain: bool,
+) -> Result<String, NoMemory> {
+    let path = path_text(alloc, path)?;
+    let options = options_text(alloc, budget, explain)?;
+    Ok(format!(in alloc; "script {path}{options}")?)
+}
+
+fn demo_text(
+    alloc: Global,
+    seed: u32,
+    budget: Option<u64>,
+    explain: bool,
+) -> Result<String, NoMemory> {
+    let options = options_text(alloc, budget, explain)?;
+    Ok(format!(in alloc; "demo {seed}{options}")?)
+}
+
+fn args_text(alloc: Global, args: &Args) -> Result<String, NoMemory> {
+    match args {
+        Args::Script {
+            path,
+            budget,
+            explain,
+        } => script_text(alloc, path.as_str(), *budget, *explain),
+        Args::Demo {
+            seed,
+            budget,
+            explain,
+        } => demo_text(alloc, *seed, *budget, *explain),
+    }
+}
+
 fn answer_to_words(alloc: Global, line: &str) -> Result<String, NoMemory> {
     let words = words_of(alloc, line)?;
     match args(alloc, words.as_slice()) {
-        Ok(
-            Args::Script {
-                path,
-                budget,
-                explain,
-            },
-        ) => {
-            let path = path_text(alloc, path.as_str())?;
-            let options = options_text(alloc, budget, explain)?;
-            Ok(format!(in alloc; "script {path}{options}")?)
-        }
-        Ok(
-            Args::Demo {
-                seed,
-                budget,
-                explain,
-            },
-        ) => {
-            let options = options_text(alloc, budget, explain)?;
-            Ok(format!(in alloc; "demo {seed}{options}")?)
-        }
+        Ok(found) => args_text(alloc, &found),
         Err(Usage::Refused) => Ok(String::from_str(alloc, "refused")?),
         Err(Usage::NoMemory) => Err(NoMemory),
     }
@@ -86,10 +105,14 @@ fn answer_to_seed(alloc: Global, line: &str) -> Result<String, NoMemory> {
     let digits = line.get(1..).unwrap_or("");
     let seed = digits.parse::<u32>().unwrap_or(0);
     let text = demo(alloc, seed)?;
-    let bytes = text.as_str().as_bytes();
-    let length = bytes.len();
-    let sum = checksum(bytes);
-    let seventh = text.as_str().lines().nth(6).unwrap_or("");
+    demonstration_text(alloc, text.as_str())
+}
+
+// The length and the checksum of a demonstration, and how its seventh statement begins.
+fn demonstration_text(alloc: Global, text: &str) -> Result<String, NoMemory> {
+    let length = text.len();
+    let sum = checksum(text.as_bytes());
+    let seventh = text.lines().nth(6).unwrap_or("");
     let start = seventh.get(..60).unwrap_or(seventh);
     Ok(format!(in alloc; "{length} bytes, checksum {sum}: {start}")?)
 }

@@ -9,6 +9,16 @@ pub struct Case {
     pub wanted: String,
 }
 
+impl Case {
+    /// No text, of which nothing is wanted.
+    fn empty(alloc: Global) -> Case {
+        Case {
+            text: String::new(alloc),
+            wanted: String::new(alloc),
+        }
+    }
+}
+
 // The character with a number of base 16.
 fn character(digits: &str) -> Option<char> {
     let mut number = 0_u32;
@@ -38,33 +48,42 @@ fn add_bracketed(text: &mut String, spelled: &str) -> Result<(), NoMemory> {
     }
 }
 
+// Adds what stands between two opening brackets.
+fn add_part(text: &mut String, part: &str) -> Result<(), NoMemory> {
+    match part.split_once(']') {
+        Some((spelled, after)) => {
+            add_bracketed(text, spelled)?;
+            Ok(text.push_str(after)?)
+        }
+        None => Ok(text.push_str(part)?),
+    }
+}
+
 // Adds a line of a case, below those that stand there.
 fn add_line(text: &mut String, line: &str) -> Result<(), NoMemory> {
     if !text.is_empty() {
         text.push('\n')?;
     }
     for part in line.split('[') {
-        match part.split_once(']') {
-            Some((spelled, after)) => {
-                add_bracketed(text, spelled)?;
-                text.push_str(after)?;
-            }
-            None => text.push_str(part)?,
-        }
+        add_part(text, part)?;
     }
     Ok(())
 }
 
-fn case_of(alloc: Global, part: &str) -> Result<Case, NoMemory> {
-    let mut text = String::new(alloc);
-    let mut wanted = String::new(alloc);
-    for line in part.lines() {
-        match line.strip_prefix("> ") {
-            Some(line) => add_line(&mut wanted, line)?,
-            None => add_line(&mut text, line)?,
-        }
+// Adds a line to the text of a case, or to what is wanted for it.
+fn add_to_case(case: &mut Case, line: &str) -> Result<(), NoMemory> {
+    match line.strip_prefix("> ") {
+        Some(line) => add_line(&mut case.wanted, line),
+        None => add_line(&mut case.text, line),
     }
-    Ok(Case { text, wanted })
+}
+
+fn case_of(alloc: Global, part: &str) -> Result<Case, NoMemory> {
+    let mut case = Case::empty(alloc);
+    for line in part.lines() {
+        add_to_case(&mut case, line)?;
+    }
+    Ok(case)
 }
 
 /// The cases of a file, in order.
@@ -78,22 +97,25 @@ pub fn cases_of(alloc: Global, file: &str) -> Result<Vec<Case>, NoMemory> {
     Ok(cases)
 }
 
-fn add_case(cases: &mut Vec<Case>, text: String, wanted: String) -> Result<(), NoMemory> {
-    cases.push(Case { text, wanted })?;
-    Ok(())
+// A word as a name, which it is not.
+fn refused_case(alloc: Global, word: &str) -> Result<Case, NoMemory> {
+    let text = format!(in alloc; "DROP ACCESS {word}")?;
+    let wanted = String::from_str(alloc, "refused: no statement")?;
+    Ok(Case { text, wanted })
 }
 
-// Adds the cases of a word: itself as a name, and the word with `_` after it.
+// A word with `_` after it as a name.
+fn longer_case(alloc: Global, word: &str) -> Result<Case, NoMemory> {
+    let text = format!(in alloc; "DROP ACCESS {word}_")?;
+    let wanted = text.clone()?;
+    Ok(Case { text, wanted })
+}
+
+// Adds both cases of a word.
 fn add_word(alloc: Global, cases: &mut Vec<Case>, word: &str) -> Result<(), NoMemory> {
-    let text = format!(in alloc; "DROP ACCESS {word}")?;
-    let longer = format!(in alloc; "{text}_")?;
-    let same = longer.clone()?;
-    add_case(
-        cases,
-        text,
-        String::from_str(alloc, "refused: no statement")?,
-    )?;
-    add_case(cases, longer, same)
+    cases.push(refused_case(alloc, word)?)?;
+    cases.push(longer_case(alloc, word)?)?;
+    Ok(())
 }
 
 /// Two cases for each line of a file, which is a word that is no name.

@@ -6,18 +6,20 @@ use std::alloc::Global;
 /// The greatest length of a text that is written whole.
 const SHORT: usize = 40;
 
-/// A number, or a text in quotes, of which a long one is given by its length.
+/// A number or a text.
 fn value_text(alloc: Global, value: &Value) -> Result<String, NoMemory> {
     match value {
         Value::Int(number) => Ok(format!(in alloc; "{number}")?),
-        Value::Str(text) => {
-            let text = text.as_str();
-            if text.len() > SHORT {
-                Ok(format!(in alloc; "<{} bytes>", text.len())?)
-            } else {
-                Ok(format!(in alloc; "{text:?}")?)
-            }
-        }
+        Value::Str(text) => text_or_length(alloc, text.as_str()),
+    }
+}
+
+/// A text in quotes, or its length where it is long.
+fn text_or_length(alloc: Global, text: &str) -> Result<String, NoMemory> {
+    if text.len() > SHORT {
+        Ok(format!(in alloc; "<{} bytes>", text.len())?)
+    } else {
+        Ok(format!(in alloc; "{text:?}")?)
     }
 }
 
@@ -56,6 +58,14 @@ fn refusal_text(alloc: Global, why: &Refusal) -> Result<String, NoMemory> {
     }
 }
 
+/// Why there are no rows. It takes the refusal, since each function that lets one go is dear to prove.
+fn fail_text(alloc: Global, why: Fail) -> Result<String, NoMemory> {
+    match why {
+        Fail::Refused(why) => refusal_text(alloc, &why),
+        Fail::NoMemory => Err(NoMemory),
+    }
+}
+
 /// The rows of a file, or why it is refused.
 pub fn answer(alloc: Global, bytes: &[u8], columns: &List<Column>) -> Result<String, NoMemory> {
     if bytes.len() > 1_000_000 {
@@ -63,7 +73,6 @@ pub fn answer(alloc: Global, bytes: &[u8], columns: &List<Column>) -> Result<Str
     }
     match rows_of(alloc, bytes, columns, &Limits::standard()) {
         Ok(rows) => rows_text(alloc, &rows),
-        Err(Fail::Refused(why)) => refusal_text(alloc, &why),
-        Err(Fail::NoMemory) => Err(NoMemory),
+        Err(why) => fail_text(alloc, why),
     }
 }

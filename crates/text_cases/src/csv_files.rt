@@ -19,16 +19,20 @@ fn add(
     Ok(())
 }
 
+/// The names and types of the columns that a letter stands for.
+fn named(letter: u8) -> &'static [(&'static str, ColType)] {
+    match letter {
+        b'p' => &[("name", ColType::Words), ("age", ColType::Integer)],
+        b'n' => &[("n", ColType::Integer)],
+        _ => &[("name", ColType::Words)],
+    }
+}
+
 /// The columns that a letter stands for.
 fn columns_of(alloc: Global, letter: u8) -> Result<List<Column>, NoMemory> {
     let mut columns = List::new(alloc);
-    match letter {
-        b'p' => {
-            add(alloc, &mut columns, "name", ColType::Words)?;
-            add(alloc, &mut columns, "age", ColType::Integer)?;
-        }
-        b'n' => add(alloc, &mut columns, "n", ColType::Integer)?,
-        _ => add(alloc, &mut columns, "name", ColType::Words)?,
+    for (name, kind) in named(letter) {
+        add(alloc, &mut columns, name, *kind)?;
     }
     Ok(columns)
 }

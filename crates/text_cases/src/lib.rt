@@ -2,7 +2,9 @@
 //!
 //! `try_csv`, `try_arguments` and `try_streams` print what comes of each case of a file, where each line is a case, and
 //! one that begins with `#` is a comment. `try_spellings` prints how many cases of each file of a folder were as
-//! wanted, and what came of those that weren't. It promises nothing but safety.
+//! wanted, and what came of those that weren't. `canonical` is what statements are read as. It promises nothing but
+//! safety, and of `canonical` that a text comes of a statement that its source spells, and a refusal of one that spells
+//! none.
 //!
 //! - `try_csv`: a line has a letter for the table's columns, a space, and the bytes of a CSV file. `p` is (name TEXT,
 //!   age INTEGER), `n` is (n INTEGER) and `t` is (name TEXT). In the bytes `\n`, `\r` and `\\` stand for one byte,
@@ -50,6 +52,7 @@ mod reads;
 mod spelled_bytes;
 mod spellings;
 mod streams;
+mod texts;
 mod tokens;
 mod writes;
 
@@ -57,3 +60,4 @@ pub use arguments::try_arguments;
 pub use csv_files::try_csv;
 pub use spellings::try_spellings;
 pub use streams::try_streams;
+pub use texts::canonical;

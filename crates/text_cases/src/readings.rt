@@ -1,6 +1,6 @@
 // What texts are read as, in words.
+use crate::texts::canonical;
 use beas_core::{Fail, Name, NoMemory};
-use beas_laws::canonical;
 use sql_tokens::{Piece, Token, lex, split};
 use std::alloc::Global;
 
@@ -17,11 +17,16 @@ fn words_of_number(number: u32) -> &'static str {
     }
 }
 
-fn refusal_words(why: &Fail) -> Result<&'static str, NoMemory> {
+// It takes the refusal, since each function that lets one go is dear to prove.
+fn refusal_words(why: Fail) -> Result<&'static str, NoMemory> {
     match why {
         Fail::Refused(why) => Ok(words_of_number(why.number())),
         Fail::NoMemory => Err(NoMemory),
     }
+}
+
+fn refusal_text(alloc: Global, why: Fail) -> Result<String, NoMemory> {
+    Ok(String::from_str(alloc, refusal_words(why)?)?)
 }
 
 // The canonical text of the statement that a text spells, or its refusal. No text here is too long.
@@ -31,20 +36,26 @@ fn canonical_in(alloc: Global, text: &str) -> Result<String, NoMemory> {
     }
     match canonical(alloc, text) {
         Ok(text) => Ok(String::from_str(alloc, text.as_str())?),
-        Err(why) => Ok(String::from_str(alloc, refusal_words(&why)?)?),
+        Err(why) => refusal_text(alloc, why),
     }
+}
+
+// Adds what a canonical text is read as where it isn't itself.
+fn add_reading(alloc: Global, words: &mut String) -> Result<(), NoMemory> {
+    let again = canonical_in(alloc, words.as_str())?;
+    if again.as_str() != words.as_str() {
+        words.push_str("\nwhich is read as\n")?;
+        words.push_str(again.as_str())?;
+    }
+    Ok(())
 }
 
 /// The canonical text of the statement that a text spells, with what that is read as where it isn't itself; or the
 /// refusal.
 pub fn statement_in(alloc: Global, text: &str) -> Result<String, NoMemory> {
-    let words = canonical_in(alloc, text)?;
-    if words.as_str().starts_with("refused") {
-        return Ok(words);
-    }
-    let again = canonical_in(alloc, words.as_str())?;
-    if again.as_str() != words.as_str() {
-        return Ok(format!(in alloc; "{words}\nwhich is read as\n{again}")?);
+    let mut words = canonical_in(alloc, text)?;
+    if !words.as_str().starts_with("refused") {
+        add_reading(alloc, &mut words)?;
     }
     Ok(words)
 }
@@ -69,26 +80,34 @@ fn piece_text<'a>(script: &'a str, tokens: &[Token], piece: Piece) -> &'a str {
     }
 }
 
+// The canonical text or the refusal of these pieces of a script, one a line.
+fn piece_lines(
+    alloc: Global,
+    script: &str,
+    tokens: &[Token],
+    pieces: &[Piece],
+) -> Result<String, NoMemory> {
+    let mut lines = Vec::new(alloc);
+    for piece in pieces {
+        lines.push(statement_in(alloc, piece_text(script, tokens, *piece))?)?;
+    }
+    lines_or_nothing(alloc, lines.as_slice())
+}
+
 /// The canonical text or the refusal of each piece of a script, one a line.
 pub fn pieces_in(alloc: Global, script: &str) -> Result<String, NoMemory> {
     if script.len() > LONGEST {
         return Err(NoMemory);
     }
     let tokens = lex(alloc, script)?;
-    let mut lines = Vec::new(alloc);
-    for piece in split(alloc, &tokens)?.as_slice() {
-        let text = piece_text(script, tokens.as_slice(), *piece);
-        lines.push(statement_in(alloc, text)?)?;
-    }
-    lines_or_nothing(alloc, lines.as_slice())
+    let pieces = split(alloc, &tokens)?;
+    piece_lines(alloc, script, tokens.as_slice(), pieces.as_slice())
 }
 
 /// The name that a text spells.
 pub fn name_in(alloc: Global, text: &str) -> Result<String, NoMemory> {
-    let mut words = String::new(alloc);
     match Name::of(alloc, text)? {
-        Some(name) => words.push_str(name.as_str())?,
-        None => words.push_str("no name")?,
+        Some(name) => Ok(String::from_str(alloc, name.as_str())?),
+        None => Ok(String::from_str(alloc, "no name")?),
     }
-    Ok(words)
 }

@@ -3,9 +3,8 @@ use crate::cases::{Case, cases_of, reserved_cases};
 use crate::readings::{name_in, pieces_in, statement_in};
 use crate::tokens::{cuts_in, tokens_in};
 use beas_core::NoMemory;
-use drawn_scenes::{out_of_memory, text_in};
 use std::alloc::Global;
-use std::io;
+use std::{fs, io};
 
 /// The files of cases.
 const FILES: [&str; 8] = [
@@ -18,6 +17,11 @@ const FILES: [&str; 8] = [
     "tokens",
     "cuts",
 ];
+
+/// The error of cases that run out of memory.
+fn out_of_memory(_: NoMemory) -> io::Error {
+    io::Error::from(io::ErrorKind::OutOfMemory)
+}
 
 /// The cases of a file with this name.
 fn cases_in(alloc: Global, file: &str, text: &str) -> Result<Vec<Case>, NoMemory> {
@@ -48,17 +52,23 @@ fn try_case(rt: &HostRuntime, file: &str, case: &Case) -> io::Result<bool> {
     Ok(is_as_wanted)
 }
 
-/// Tries all cases of a file.
-fn try_file(rt: &HostRuntime, folder: &str, file: &str) -> io::Result<()> {
-    let text = text_in(rt, folder, file)?;
-    let cases = cases_in(rt.alloc(), file, text.as_str()).map_err(out_of_memory)?;
+/// Tries these cases of a file, and says how many went well.
+fn try_cases(rt: &HostRuntime, file: &str, cases: &[Case]) -> io::Result<()> {
     let mut well = 0_usize;
-    for case in cases.iter() {
+    for case in cases {
         if try_case(rt, file, case)? {
             well = well.saturating_add(1);
         }
     }
     println!(rt; "{file}: {well} of {} as wanted", cases.len())
+}
+
+/// Tries all cases of a file.
+fn try_file(rt: &HostRuntime, folder: &str, file: &str) -> io::Result<()> {
+    let path = format!(in rt.alloc(); "{folder}/{file}")?;
+    let text = fs::read_to_string(rt, path.as_str())?;
+    let cases = cases_in(rt.alloc(), file, text.as_str()).map_err(out_of_memory)?;
+    try_cases(rt, file, &cases)
 }
 
 /// Tries the cases of all files of a folder.

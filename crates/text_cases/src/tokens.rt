@@ -1,7 +1,7 @@
 // The tokens of a script and where its pieces are cut, in words.
 use crate::readings::{LONGEST, lines_or_nothing};
 use beas_core::NoMemory;
-use sql_tokens::{Token, TokenKind, lex, split};
+use sql_tokens::{Piece, Token, TokenKind, lex, split};
 use std::alloc::Global;
 
 fn kind_word(kind: TokenKind) -> &'static str {
@@ -17,12 +17,25 @@ fn kind_word(kind: TokenKind) -> &'static str {
 // The kind of a token, the places of its bytes, and its text unless that is empty.
 fn token_line(alloc: Global, token: &Token) -> Result<String, NoMemory> {
     let kind = kind_word(token.kind);
-    let places = format!(in alloc; "{kind} {}..{}", token.from, token.to)?;
     let text = token.text.as_str();
-    if text.is_empty() {
-        return Ok(places);
+    let space = if text.is_empty() { "" } else { " " };
+    Ok(format!(in alloc; "{kind} {}..{}{space}{text}", token.from, token.to)?)
+}
+
+fn token_lines(alloc: Global, tokens: &[Token]) -> Result<String, NoMemory> {
+    let mut lines = Vec::new(alloc);
+    for token in tokens {
+        lines.push(token_line(alloc, token)?)?;
     }
-    Ok(format!(in alloc; "{places} {text}")?)
+    lines_or_nothing(alloc, lines.as_slice())
+}
+
+fn piece_lines(alloc: Global, pieces: &[Piece]) -> Result<String, NoMemory> {
+    let mut lines = Vec::new(alloc);
+    for piece in pieces {
+        lines.push(format!(in alloc; "{}..{}", piece.from, piece.to)?)?;
+    }
+    lines_or_nothing(alloc, lines.as_slice())
 }
 
 /// The tokens of a script, one a line.
@@ -30,11 +43,7 @@ pub fn tokens_in(alloc: Global, script: &str) -> Result<String, NoMemory> {
     if script.len() > LONGEST {
         return Err(NoMemory);
     }
-    let mut lines = Vec::new(alloc);
-    for token in lex(alloc, script)?.as_slice() {
-        lines.push(token_line(alloc, token)?)?;
-    }
-    lines_or_nothing(alloc, lines.as_slice())
+    token_lines(alloc, lex(alloc, script)?.as_slice())
 }
 
 /// The places of the pieces of a script among its tokens, one piece a line.
@@ -43,9 +52,5 @@ pub fn cuts_in(alloc: Global, script: &str) -> Result<String, NoMemory> {
         return Err(NoMemory);
     }
     let tokens = lex(alloc, script)?;
-    let mut lines = Vec::new(alloc);
-    for piece in split(alloc, &tokens)?.as_slice() {
-        lines.push(format!(in alloc; "{}..{}", piece.from, piece.to)?)?;
-    }
-    lines_or_nothing(alloc, lines.as_slice())
+    piece_lines(alloc, split(alloc, &tokens)?.as_slice())
 }
