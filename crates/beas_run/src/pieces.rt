@@ -23,9 +23,6 @@ use version_store::Desk;
 /// The session of the pieces that name none.
 const UNNAMED: u32 = 0;
 
-/// Lets a value go. A function that calls this doesn't prove anew what that does to each kind of value.
-pub fn discard<T: Drop>(_value: T) {}
-
 /// Does what a session says.
 fn say<F: Files, L: Ledger>(
     alloc: Global,
@@ -42,7 +39,7 @@ fn say<F: Files, L: Ledger>(
 {
     let event = Event::Said { session, statement };
     let report = desk.event(alloc, files, &event, steps);
-    discard(event);
+    drop(event);
     report
 }
 
@@ -61,7 +58,7 @@ fn step<F: Files, L: Ledger>(
 {
     let event = Event::Stepped { session };
     let report = desk.event(alloc, files, &event, steps);
-    discard(event);
+    drop(event);
     report
 }
 
@@ -105,10 +102,10 @@ fn answer<F: Files, L: Ledger>(
     'probes: loop {
         let report = desk.event(alloc, files, &turn, steps);
         if !has_probed(&report) {
-            discard(turn);
+            drop(turn);
             return report;
         }
-        discard(report);
+        drop(report);
     }
 }
 
@@ -133,7 +130,7 @@ fn carry_out_statement<F: Files, L: Ledger>(
 {
     let report = say(alloc, desk, UNNAMED, statement, files, steps)?;
     if is_opened(&report) {
-        discard(report);
+        drop(report);
         answer(alloc, desk, files, steps)
     } else {
         Ok(report)

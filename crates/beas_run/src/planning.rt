@@ -7,7 +7,6 @@ ghost use Rattle.session.specs.Statements.{StatementIsWellFormed, TreeIsWellForm
 ghost use Rattle.beas_run.specs.Plans.{plan_of_reading, query_plan, statement_plan, text_of};
 ghost use Rattle.beas_run.specs.Prices.{price_of, statement_price};
 
-use crate::pieces::discard;
 use crate::pricing::Unpriced;
 use beas_core::{Fail, NoMemory, Prepared, Refusal, Text};
 use desk_model::law_said_well;
@@ -32,7 +31,7 @@ pub fn planned(
     match read_piece(alloc, tokens) {
         Ok(event) => {
             let plan = event_planned(alloc, desk, tokens, &event);
-            discard(event);
+            drop(event);
             plan
         }
         Err(Fail::Refused(why)) => Ok(Err(why)),
@@ -92,7 +91,7 @@ fn query_planned(
     match desk.plan(alloc, tree) {
         Ok(prepared) => {
             let text = plan_text(alloc, desk, &prepared);
-            discard(prepared);
+            drop(prepared);
             Ok(Ok(text?))
         }
         Err(Fail::Refused(why)) => Ok(Err(why)),

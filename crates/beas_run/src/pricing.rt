@@ -4,7 +4,6 @@ ghost use Rattle.piece_reader.specs.Sayings.{IsReadAs, reading_of};
 ghost use Rattle.session.specs.Statements.{StatementIsWellFormed};
 ghost use Rattle.beas_run.specs.Prices.{price_of, statement_price};
 
-use crate::pieces::discard;
 use beas_core::{Fail, NoMemory};
 use desk_model::law_said_well;
 use piece_reader::{Event, read_piece};
@@ -33,7 +32,7 @@ pub fn priced(alloc: Global, desk: &Desk, tokens: &[Token]) -> Result<Report, Un
     match read_piece(alloc, tokens) {
         Ok(event) => {
             let price = event_priced(alloc, desk, tokens, &event);
-            discard(event);
+            drop(event);
             price
         }
         Err(Fail::Refused(why)) => Ok(Report::Refused { why }),

@@ -13,7 +13,7 @@ ghost use Rattle.beas_run.specs.Walks.{moment, Walked, WalkedBefore};
 
 use crate::audience::{Audience, Writer};
 use crate::ending::Ending;
-use crate::pieces::{discard, report_on};
+use crate::pieces::report_on;
 use beas_core::{Limits, List, Steps};
 use outside::{Files, Sink};
 use report::Report;
@@ -61,11 +61,11 @@ fn carry_out<A: Audience, F: Files, O: Sink, L: Ledger>(
     match audience.take(alloc, number, &report, out) {
         Ok(()) => {
             let refusal = is_refusal(&report);
-            discard(report);
+            drop(report);
             Ok(refusal)
         }
         Err(why) => {
-            discard(report);
+            drop(report);
             Err(why)
         }
     }

@@ -13,7 +13,6 @@ ghost use Rattle.session.specs.Statements.{TuplesAreFew};
 ghost use Rattle.session.specs.Ties.{LoadIsShort};
 ghost use Rattle.session.specs.Turns.{IsWithin};
 
-use crate::letting_go::discard;
 use crate::loading::{LoadOutcome, load_file};
 use crate::stored::{Store, columns_of, known_table};
 use beas_core::{
@@ -205,6 +204,6 @@ pub fn delete<L: Ledger>(
 {
     let filter = filter_of(alloc, store, limits, table, conditions)?;
     let rows = store.delete(&filter, steps);
-    discard(filter);
+    drop(filter);
     Ok(Report::Changed { rows })
 }

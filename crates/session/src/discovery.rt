@@ -7,7 +7,6 @@ ghost use Rattle.session.specs.Carrying.{CarriesOut};
 ghost use Rattle.session.specs.Effects.{discover_group_effect, discover_pairs_effect, greatest_effect, limit_or_refusal, name_at, named_pairs, resolution};
 ghost use Rattle.session.specs.Turns.{IsWithin};
 
-use crate::letting_go::discard;
 use crate::stored::{Store, columns_of, known_table, rows_of_table};
 use beas_core::{
     Column, ColumnId, Duplicate, Fail, List, Name, NoMemory, Refusal, Steps, TableId, Text,
@@ -134,6 +133,6 @@ pub fn discover_pairs<L: Ledger>(
     let rows = rows_of_table(store, id);
     let pairs = pairs_within(alloc, rows, columns.len() as u16, limit, steps)?;
     let found = named_pairs(alloc, columns, pairs.as_slice());
-    discard(pairs);
+    drop(pairs);
     Ok(Report::Pairs { found: found? })
 }

@@ -19,7 +19,6 @@ ghost use Rattle.session.specs.Statements.{GroupedIsWellFormed};
 ghost use Rattle.session.specs.Stores.{database_in};
 ghost use Rattle.session.specs.Turns.{IsWithin};
 
-use crate::letting_go::discard;
 use crate::queries::{answer, plan_shown, prepared_over};
 use crate::settings::Settings;
 use crate::specialising::first_block;
@@ -322,7 +321,7 @@ fn answer_groups<L: Ledger>(
     let answer = answer(alloc, store, prepared, steps)?;
     let reads = answer.reads;
     let rows = groups_over(alloc, &answer.rows, keys, items);
-    discard(answer);
+    drop(answer);
     Ok(Groups { rows: rows?, reads })
 }
 
@@ -408,6 +407,6 @@ pub fn grouped<L: Ledger>(
         &prepared,
         steps,
     );
-    discard(prepared);
+    drop(prepared);
     report
 }

@@ -4,7 +4,6 @@
 mod changes;
 mod discovery;
 mod grouping;
-mod letting_go;
 mod loading;
 mod queries;
 mod scanning;

@@ -16,7 +16,6 @@ ghost use Rattle.session.specs.Effects.{answer_effect, explain_effect, plan_show
 ghost use Rattle.session.specs.Statements.{TreeIsWellFormed};
 ghost use Rattle.session.specs.Turns.{IsWithin};
 
-use crate::letting_go::discard;
 use crate::settings::Settings;
 use crate::stored::Store;
 use beas_core::{Answer, Duplicate, Fail, List, Name, NoMemory, Prepared, Refusal, Steps, Text};
@@ -37,7 +36,7 @@ fn refuse_above(budget: Option<u64>, prepared: Prepared) -> Result<Prepared, Ref
     match budget {
         Some(budget) if prepared.bound > u128::from(budget) => {
             let bound = prepared.bound;
-            discard(prepared);
+            drop(prepared);
             Err(Refusal::OverBudget { bound, budget })
         }
         _ => Ok(prepared),
@@ -145,7 +144,7 @@ fn answer_by_cursor<L: Ledger>(
             Ok(Turn::Probed) => {}
             Ok(Turn::Done) => return Ok(cursor.finish()),
             Err(NoMemory) => {
-                discard(cursor);
+                drop(cursor);
                 return Err(NoMemory);
             }
         }
@@ -204,7 +203,7 @@ fn answer_report<L: Ledger>(
 {
     let bound = prepared.bound;
     let Ok(heading) = heading_of(alloc, store, explain, &prepared) else {
-        discard(prepared);
+        drop(prepared);
         return Err(Fail::NoMemory);
     };
     let answer = answer_by_cursor(alloc, store, prepared, steps)?;
@@ -244,6 +243,6 @@ pub fn explain(
     let prepared = prepared_over(alloc, store, settings, tree)?;
     let bound = prepared.bound;
     let plan = plan_lines(alloc, store, &prepared);
-    discard(prepared);
+    drop(prepared);
     Ok(Report::Explained { bound, plan: plan? })
 }

@@ -18,7 +18,6 @@ ghost use Rattle.session.specs.Statements.{TreeIsWellFormed};
 ghost use Rattle.session.specs.Stores.{database_in};
 ghost use Rattle.session.specs.Turns.{IsWithin};
 
-use crate::letting_go::discard;
 use crate::settings::Settings;
 use crate::stored::Store;
 use beas_core::{Answer, Fail, Limits, List, Name, NoMemory, Query, Refusal, Steps, Text};
@@ -38,7 +37,7 @@ fn refuse_above(budget: Option<u64>, plan: ScanPlan) -> Result<ScanPlan, Refusal
     match budget {
         Some(budget) if plan.bound > u128::from(budget) => {
             let bound = plan.bound;
-            discard(plan);
+            drop(plan);
             Err(Refusal::OverBudget { bound, budget })
         }
         _ => Ok(plan),
@@ -177,12 +176,12 @@ fn scanned_with_lines<L: Ledger>(
 fn header_of(plan: ScanPlan) -> List<Name>
     ensures { result ≡ plan.prepared.header }
 {
-    discard(plan.scans);
+    drop(plan.scans);
     let prepared = plan.prepared;
-    discard(prepared.query);
-    discard(prepared.normals);
-    discard(prepared.derivations);
-    discard(prepared.guided);
+    drop(prepared.query);
+    drop(prepared.normals);
+    drop(prepared.derivations);
+    drop(prepared.guided);
     prepared.header
 }
 
@@ -200,7 +199,7 @@ fn scanned_report<L: Ledger>(
     ensures within { IfOk result IsWithin }
 {
     let Ok(scanned) = scanned_with_lines(alloc, store, explain, &plan, steps) else {
-        discard(plan);
+        drop(plan);
         return Err(Fail::NoMemory);
     };
     let answer = scanned.answer;

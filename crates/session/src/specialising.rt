@@ -15,7 +15,6 @@ ghost use Rattle.session.specs.Stores.{database_in};
 ghost use Rattle.session.specs.Turns.{IsWithin};
 
 use crate::discovery::name_at;
-use crate::letting_go::discard;
 use crate::stored::Store;
 use beas_core::{Block, Fail, Limits, List, Name, NoMemory, Place, Query, QueryNode};
 use binder::bind;
@@ -147,12 +146,12 @@ pub fn specialise_block(
     let places = match wanted_places(alloc, store, block) {
         Ok(places) => places,
         Err(why) => {
-            discard(query);
+            drop(query);
             return Err(why);
         }
     };
     let report = places_report(alloc, store, block, &places);
-    discard(places);
-    discard(query);
+    drop(places);
+    drop(query);
     Ok(report?)
 }
