@@ -1,5 +1,5 @@
 // What is announced of a query: for each block its normal form and derivation, and the greatest number of reads.
-ghost use Rattle.std.specs.Prelude.{◌≡◌, ◌<◌, ◌≤◌, ◌+◌, ◌++◌, ◌^◌, All, Err, IfErr, IfOk, MatchResult, None, Ok, Some, length, map, option_map};
+ghost use Rattle.std.specs.Prelude.{◌≡◌, ◌<◌, ◌≤◌, ◌+◌, ◌++◌, ◌∷◌, ◌^◌, [], All, Err, IfErr, IfOk, OnOk, MatchResult, None, Ok, Some, length, map, option_map};
 ghost use Rattle.beas_core.specs.declared.refusal.Refusal.TheVariants.{TooLarge};
 ghost use Rattle.beas_core.specs.declared.schema.Access.{Access};
 ghost use Rattle.beas_core.specs.Classes.{normal_of};
@@ -237,10 +237,68 @@ fn plan_block(
         ≡ task_steps (task_at catalogue.now.accesses at.entry)) }
 {
     let normal = normalise(alloc, at.block)?;
-    match plan_among(alloc, catalogue, at, &normal)? {
-        Ok(plan) => Ok((normal, plan)),
-        Err(why) => Err(Fail::Refused(not_covered(alloc, catalogue, number, at, why)?)),
+    // Let go by calls, whose proofs are far shorter than those of the drops at the end of a scope.
+    match plan_among(alloc, catalogue, at, &normal) {
+        Ok(Ok(plan)) => Ok((normal, plan)),
+        Ok(Err(why)) => {
+            drop(normal);
+            Err(Fail::Refused(not_covered(alloc, catalogue, number, at, why)?))
+        }
+        Err(NoMemory) => {
+            drop(normal);
+            Err(Fail::NoMemory)
+        }
     }
+}
+
+// No plans, with room for so many.
+fn room_for(alloc: Global, count: usize) -> Result<Plans, NoMemory>
+    ensures normals { IfOk result (λ plans. plans.normals ≡ []) }
+    ensures guided { IfOk result (λ plans. plans.guided ≡ []) }
+    ensures derivations { IfOk result (λ plans. plans.derivations ≡ []) }
+{
+    let normals = List::from_vec(Vec::with_capacity(alloc, count)?);
+    let derivations = List::from_vec(Vec::with_capacity(alloc, count)?);
+    let guided = List::from_vec(Vec::with_capacity(alloc, count)?);
+    Ok(Plans {
+        normals,
+        derivations,
+        guided,
+    })
+}
+
+fn push_plan(plans: &mut Plans, normal: Normal, plan: TaskPlan) -> Result<(), NoMemory>
+    ensures normals { OnOk result (plans.new.normals ≡ plans.old.normals ++ normal ∷ []) }
+    ensures guided { OnOk result (plans.new.guided ≡ plans.old.guided ++ plan.guided ∷ []) }
+    ensures derivations { OnOk result (plans.new.derivations ≡ plans.old.derivations ++ plan.derivation ∷ []) }
+{
+    plans.normals.push(normal)?;
+    plans.derivations.push(plan.derivation)?;
+    plans.guided.push(plan.guided)
+}
+
+// Adds the plan of the block with this number, counted from 1.
+fn plan_next(
+    alloc: Global,
+    catalogue: &Catalogue,
+    number: u32,
+    at: BlockAt<'_>,
+    plans: &mut Plans,
+) -> Result<(), Fail>
+    requires shape { BlockIsWellFormed at.block.now }
+    requires over { BlockIsOver catalogue.now at.block.now }
+    requires ids { EachIdOnce (catalogue.now.accesses ++ at.extra.now) }
+    ensures refused { IsRefusedAs result (option_map
+        (not_covered catalogue.now number at.entry.block.now)
+        (task_reason (task_at catalogue.now.accesses at.entry))) }
+    ensures normals { OnOk result (plans.new.normals ≡ plans.old.normals ++ normal_of at.entry.block.now ∷ []) }
+    ensures guided { OnOk result (plans.new.guided
+        ≡ plans.old.guided ++ is_guided_task (task_at catalogue.now.accesses at.entry) ∷ []) }
+    ensures derivations { OnOk result (map (λ d. Some d.steps) plans.new.derivations
+        ≡ map (λ d. Some d.steps) plans.old.derivations ++ task_steps (task_at catalogue.now.accesses at.entry) ∷ []) }
+{
+    let (normal, plan) = plan_block(alloc, catalogue, number, at)?;
+    Ok(push_plan(plans, normal, plan)?)
 }
 
 fn plan_blocks(alloc: Global, catalogue: &Catalogue, blocks: &[BlockAt<'_>]) -> Result<Plans, Fail>
@@ -257,16 +315,9 @@ fn plan_blocks(alloc: Global, catalogue: &Catalogue, blocks: &[BlockAt<'_>]) -> 
     ensures derivations { IfOk result (λ plans. map (λ d. Some d.steps) plans.derivations
         ≡ map task_steps (map (task_at catalogue.now.accesses) blocks.now)) }
 {
-    let mut plans = Plans {
-        normals: List::from_vec(Vec::with_capacity(alloc, blocks.len())?),
-        derivations: List::from_vec(Vec::with_capacity(alloc, blocks.len())?),
-        guided: List::from_vec(Vec::with_capacity(alloc, blocks.len())?),
-    };
+    let mut plans = room_for(alloc, blocks.len())?;
     for (place, at) in blocks.iter().enumerate() {
-        let (normal, plan) = plan_block(alloc, catalogue, place as u32 + 1, *at)?;
-        plans.normals.push(normal)?;
-        plans.derivations.push(plan.derivation)?;
-        plans.guided.push(plan.guided)?;
+        plan_next(alloc, catalogue, place as u32 + 1, *at, &mut plans)?;
     }
     Ok(plans)
 }
