@@ -1,4 +1,4 @@
-"""The scenes, queries and updates of the crate drawn_scenes, drawn anew, for the second program.
+"""The scenes, queries and updates of the crate drawn_tables, drawn anew, for the second program.
 
 Tables, r, s and t, have four columns of which two are integers and two are texts there; here all values are numbers from 0 to 5, which
 compare as those do."""

@@ -2,10 +2,8 @@
 ghost use Rattle.std.specs.Prelude.{◌-◌, ◌<◌, ◌≤◌, ◌^◌, length, All, IfOk};
 ghost use Rattle.session.specs.Statements.{StatementIsWellFormed};
 
-use crate::scenes::{draw_scene, tables_of};
-use crate::tables::Shape;
-use crate::updates::{Twin, creations, script_of};
 use beas_core::{Fail, List, NoMemory, Refusal, Row, Steps, Text};
+use drawn_tables::{Shape, Twin, creations, draw_scene, script_of, tables_of};
 use outside::MemoryFiles;
 use report::{Report, text};
 use session::Session;

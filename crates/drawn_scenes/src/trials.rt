@@ -1,7 +1,7 @@
 // What is tried over sessions with drawn scenes.
 use crate::statements::fill_scene;
-use crate::updates::Twin;
 use beas_core::{Limits, List, NoMemory, Row, Steps};
+use drawn_tables::Twin;
 use session::Session;
 use std::alloc::Global;
 use std::sync::ledger::Ledger;
