@@ -43,8 +43,17 @@ fn is_refused_as(report: &Report, why: &Refusal) -> bool {
     }
 }
 
-/// Whether the report of a query agrees with `evaluate`: it has the same rows, if it is of an answer, and it is a
-/// refusal where the query can't be bound.
+/// Whether the report of a query agrees with what `evaluate` gives: it has the same rows, if it is of an answer, and it
+/// is a refusal where the query can't be bound.
+fn agrees_with(report: &Report, given: &Result<List<Row>, Fail>) -> Result<bool, NoMemory> {
+    match given {
+        Ok(rows) => Ok(has_rows(report, rows)),
+        Err(Fail::Refused(why)) => Ok(is_refused_as(report, why)),
+        Err(Fail::NoMemory) => Err(NoMemory),
+    }
+}
+
+/// Whether the report of a query agrees with `evaluate`.
 fn agrees<L: Ledger>(
     alloc: Global,
     plain: &Guarded,
@@ -52,11 +61,10 @@ fn agrees<L: Ledger>(
     report: &Report,
     steps: &mut Steps<L>,
 ) -> Result<bool, NoMemory> {
-    match rows_of(alloc, plain, spelled, steps) {
-        Ok(rows) => Ok(has_rows(report, &rows)),
-        Err(Fail::Refused(why)) => Ok(is_refused_as(report, &why)),
-        Err(Fail::NoMemory) => Err(NoMemory),
-    }
+    let given = rows_of(alloc, plain, spelled, steps);
+    let agrees = agrees_with(report, &given);
+    drop(given);
+    agrees
 }
 
 impl Lines {
@@ -91,7 +99,9 @@ impl Lines {
         steps: &mut Steps<L>,
     ) -> Result<(), NoMemory> {
         let report = report_by(alloc, session, spelled, steps)?;
-        self.add_report(alloc, plain, number, spelled, &report, steps)
+        let added = self.add_report(alloc, plain, number, spelled, &report, steps);
+        drop(report);
+        added
     }
 }
 
@@ -145,7 +155,9 @@ fn run_script<L: Ledger>(
     steps: &mut Steps<L>,
 ) -> io::Result<()> {
     let mut files = files_in(rt, folder)?;
-    reports_over(rt.alloc(), session, &mut files, script, steps).map_err(out_of_memory)?;
+    let said = reports_over(rt.alloc(), session, &mut files, script, steps);
+    drop(files);
+    said.map_err(out_of_memory)?;
     Ok(())
 }
 

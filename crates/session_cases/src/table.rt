@@ -28,11 +28,13 @@ fn rows_of(alloc: Global, words: &str) -> Result<List<Row>, NoMemory> {
 
 /// What comes of a change.
 fn ending(outcome: Result<(), Fail>) -> Result<&'static str, NoMemory> {
-    match outcome {
+    let ending = match &outcome {
         Ok(()) => Ok("ok"),
         Err(Fail::Refused(_)) => Ok("refused"),
         Err(Fail::NoMemory) => Err(NoMemory),
-    }
+    };
+    drop(outcome);
+    ending
 }
 
 fn number_in(row: &Row) -> i64 {
