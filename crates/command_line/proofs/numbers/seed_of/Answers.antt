@@ -1,8 +1,8 @@
 use Rattle.std.proofs.Common.{◌-◌, ◌^◌, ◌∙◌, refl, sym, ap}
 use Rattle.std.specs.Char.{is_ascii_digit}
 use Rattle.std.specs.List.{list_all}
-use Rattle.command_words.proofs.Decimals.{number_read}
-use Rattle.command_words.proofs.numbers.seed_of.Goals as goal
+use Rattle.command_line.proofs.Decimals.{number_read}
+use Rattle.command_line.proofs.numbers.seed_of.Goals as goal
 
 pub returns : goal.returns
 returns c =

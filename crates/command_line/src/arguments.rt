@@ -1,9 +1,9 @@
-// What the words may ask for, and why they may fail to.
-ghost use Rattle.command_words.specs.declared.arguments.Usage.TheVariants.{NoMemory};
+// What the arguments may ask for, and why they may fail to.
+ghost use Rattle.command_line.specs.declared.arguments.Usage.TheVariants.{NoMemory};
 ghost use Rattle.clap.specs.Values.{kind_of};
 ghost use Rattle.clap.specs.declared.error.kind.ErrorKind.TheVariants.{OutOfMemory};
 ghost use Rattle.std.specs.Prelude.{◌≡◌, ◌↔◌};
-ghost use Rattle.command_words.specs.Words.{usage_line};
+ghost use Rattle.command_line.specs.Arguments.{usage_line};
 
 use beas_core::{NoMemory, Text};
 use clap::error::{Error, ErrorKind};
@@ -26,14 +26,14 @@ pub enum Args {
     },
 }
 
-/// The line that says how the words are to be written.
+/// The line that says how the arguments are to be written.
 pub fn usage_line() -> &'static str
     ensures { result.now ≡ usage_line }
 {
     "usage: beas SCRIPT [--budget N] [--explain] or beas --demo SEED [--budget N] [--explain]\n"
 }
 
-/// Why no run is known: the words ask for none, or the call ran out of memory.
+/// Why no run is known: the arguments ask for none, or the call ran out of memory.
 #[derive(Clone, Copy, Debug, PartialEq, Eq)]
 pub enum Usage {
     Refused,
@@ -56,7 +56,7 @@ impl From<AllocError> for Usage {
     }
 }
 
-// A request for help is refused like a word that is unknown.
+// A request for help is refused like an argument that is unknown.
 impl From<Error> for Usage {
     ghost from_gives = { λ why e. e ≡ NoMemory ↔ kind_of why ≡ OutOfMemory };
 

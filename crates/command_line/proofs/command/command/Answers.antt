@@ -1,8 +1,8 @@
 use Rattle.std.proofs.Common.{◌≡◌, ◌∙◌, ap₂, codes, rules}
 use Rattle.clap.specs.Simple.{app_of, new_app, with_rule}
 use Rattle.clap.specs.Walk.{rule_of}
-use Rattle.command_words.specs.Words.{beas, flag_rule, nameless, option_rule, script_rule}
-use Rattle.command_words.proofs.command.command.Goals as goal
+use Rattle.command_line.specs.Arguments.{beas, flag_rule, nameless, option_rule, script_rule}
+use Rattle.command_line.proofs.command.command.Goals as goal
 
 pub returns : goal.returns
 unfolding beas

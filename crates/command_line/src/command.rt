@@ -1,7 +1,7 @@
-// The command that the words are read by.
+// The command that the arguments are read by.
 ghost use Rattle.clap.specs.Simple.{app_of};
 ghost use Rattle.std.specs.Prelude.{◌≡◌, IfOk};
-ghost use Rattle.command_words.specs.Words.{beas};
+ghost use Rattle.command_line.specs.Arguments.{beas};
 
 use beas_core::NoMemory;
 use clap::{Arg, ArgAction, Command};

@@ -2,7 +2,7 @@ use Rattle.std.proofs.Common.{rules, tests}
 use Rattle.std.specs.Char.{is_ascii_digit}
 use Rattle.std.proofs.lemmas.Iterator.{YieldsList-from_slice}
 use Rattle.std.proofs.lemmas.Iterator.Search.{all_from_yields_List}
-use Rattle.command_words.proofs.numbers.all_digits.Goals as goal
+use Rattle.command_line.proofs.numbers.all_digits.Goals as goal
 
 pub returns : goal.returns
 returns c =

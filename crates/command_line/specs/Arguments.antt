@@ -1,7 +1,7 @@
--- Which run the words after the program's name ask for.
---     beas              the command, over clap's own words for a simple command
---     args_of words     the run, or None where the words are refused
---     usage_line        the line that says how the words are to be written
+-- Which run the arguments after the program's name ask for.
+--     beas                  the command, over clap's own words for a simple command
+--     args_of arguments     the run, or None where the arguments are refused
+--     usage_line            the line that says how the arguments are to be written
 use Rattle.std.specs.Prelude.{◌-◌, ◌^◌, ℕ, Bool, true, false, List, [], ◌∷◌, codes, find, Option, Some, None, option_and_then, option_map}
 use Rattle.std.specs.Str.{bytes_eq}
 use Rattle.beas_core.specs.Spelling.{number_within}
@@ -12,10 +12,10 @@ use Rattle.clap.specs.Simple.{App, matches_of, new_app, new_rule, on_top, with_r
 use Rattle.clap.specs.Walk.{Row, Rule, Text, first_of}
 use Rattle.clap.specs.declared.parser.matches.ValueSource.{ValueSource}
 use Rattle.clap.specs.declared.parser.matches.ValueSource.TheVariants.{CommandLine, DefaultValue}
-use Rattle.command_words.specs.declared.arguments.Args.{Args}
-use Rattle.command_words.specs.declared.arguments.Args.TheVariants.{Script, Demo}
+use Rattle.command_line.specs.declared.arguments.Args.{Args}
+use Rattle.command_line.specs.declared.arguments.Args.TheVariants.{Script, Demo}
 
--- a word that stands alone
+-- an argument that stands alone
 abbrev pub script_rule : Rule
 script_rule = new_rule (codes "SCRIPT")
 
@@ -39,14 +39,14 @@ abbrev pub number_given : ℕ → Option Text → Option (Option ℕ)
 number_given greatest None = Some None
 number_given greatest (Some text) = option_map (λ n. Some n) (number_within 0 greatest text)
 
-abbrev pub is_from_words : Option ValueSource → Bool
-is_from_words None = false
-is_from_words (Some DefaultValue) = false
-is_from_words (Some CommandLine) = true
+abbrev pub is_from_arguments : Option ValueSource → Bool
+is_from_arguments None = false
+is_from_arguments (Some DefaultValue) = false
+is_from_arguments (Some CommandLine) = true
 
--- whether a flag is among the words, and its value no default
+-- whether a flag is among the arguments, and its value no default
 abbrev pub is_given : Text → List Row → Bool
-is_given id rows = is_from_words (option_and_then (λ r. r.source) (find (λ r. bytes_eq r.id id) rows))
+is_given id rows = is_from_arguments (option_and_then (λ r. r.source) (find (λ r. bytes_eq r.id id) rows))
 
 -- a script or a demonstration is asked for, and not both
 abbrev pub run_asked : Option Text → Option Text → Option ℕ → Bool → Option Args
@@ -68,8 +68,8 @@ unless_faulty [] asked = asked
 unless_faulty (fault ∷ faults) asked = None
 
 unfoldable pub args_of : List Text → Option Args
-args_of words = unless_faulty (fault_of beas words) (args_in (matches_of beas words))
+args_of arguments = unless_faulty (fault_of beas arguments) (args_in (matches_of beas arguments))
 
--- how the words are to be written
+-- how the arguments are to be written
 abbrev pub usage_line : List ℕ
 usage_line = codes "usage: beas SCRIPT [--budget N] [--explain] or beas --demo SEED [--budget N] [--explain]\n"

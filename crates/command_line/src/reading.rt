@@ -1,8 +1,8 @@
-// The reading of the words.
+// The reading of the arguments.
 ghost use Rattle.clap.specs.Walk.{first_of, rows_of};
 ghost use Rattle.clap.specs.Matches.{found_of};
 ghost use Rattle.std.specs.Prelude.{◌≡◌, None, Some, IfOk, ◌-◌, ◌^◌, map, option_map, string_bytes};
-ghost use Rattle.command_words.specs.Words.{args_in, args_of, is_from_words, is_given, number_given, run_asked};
+ghost use Rattle.command_line.specs.Arguments.{args_in, args_of, is_from_arguments, is_given, number_given, run_asked};
 
 use crate::arguments::{Args, Usage};
 use crate::command::command;
@@ -12,7 +12,7 @@ use clap::ArgMatches;
 use clap::parser::ValueSource;
 use std::alloc::Global;
 
-/// The run that the words after the program's name ask for. A request for help asks for none.
+/// The run that `words`, the arguments after the program's name, ask for. A request for help asks for none.
 pub fn args(alloc: Global, words: &[String]) -> Result<Args, Usage>
     ensures taken { IfOk result (λ args. args_of (map string_bytes words.now) ≡ Some args) }
     ensures refused { result ≡ Err Usage.Refused → args_of (map string_bytes words.now) ≡ None }
@@ -76,22 +76,22 @@ fn budget_given(value: Option<&str>) -> Option<Option<u64>>
     }
 }
 
-/// The value that the words give an argument.
+/// The value that is given for an argument of the command.
 fn value_of<'a>(matches: &ArgMatches<'a>, name: &str) -> Option<&'a str>
     ensures { option_map (λ s. s.now) result ≡ first_of name.now (rows_of (found_of matches.now)) }
 {
     matches.get_str(name)
 }
 
-/// Whether a flag is among the words.
+/// Whether a flag is among the arguments.
 fn is_given(matches: &ArgMatches<'_>, name: &str) -> bool
     ensures { result ≡ is_given name.now (rows_of (found_of matches.now)) }
 {
-    is_from_words(matches.value_source(name))
+    is_from_arguments(matches.value_source(name))
 }
 
-fn is_from_words(source: Option<ValueSource>) -> bool
-    ensures { result ≡ is_from_words source }
+fn is_from_arguments(source: Option<ValueSource>) -> bool
+    ensures { result ≡ is_from_arguments source }
 {
     match source {
         Some(ValueSource::CommandLine) => true,

@@ -3,8 +3,8 @@ use Rattle.std.proofs.lemmas.Result.{IfOk-weaker}
 use Rattle.clap.specs.Matches.{found_of}
 use Rattle.clap.specs.Simple.{app_of}
 use Rattle.clap.specs.Walk.{rows_of}
-use Rattle.command_words.proofs.Parsed.{args_of-failed, args_of-parsed, refused-other}
-use Rattle.command_words.proofs.reading.args.Goals as goal
+use Rattle.command_line.proofs.Parsed.{args_of-failed, args_of-parsed, refused-other}
+use Rattle.command_line.proofs.reading.args.Goals as goal
 
 pub returns-in_err-matches-clause-refused : goal.returns-in_err-matches-clause-refused
 returns-in_err-matches-clause-refused c =

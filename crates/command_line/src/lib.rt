@@ -1,4 +1,4 @@
-//! The words after the program's name: which run they ask for, and the line that says how they are to be written.
+//! The arguments after the program's name: which run they ask for, and the line that says how they are to be written.
 #![tactic(auto)]
 
 mod arguments;
