@@ -1,5 +1,5 @@
 -- What an index tells of one row, and what a probe finds.
-use Rattle.std.proofs.Common.{◌≡◌, ◌≤◌, ◌<◌, ◌+◌, ◌*◌, ◌/◌, ◌%◌, ◌-◌, ℕ, zero, suc, Bool, true, false, cond, ◌⊎◌, inl, inr, List, [], ◌∷◌, ◌++◌, length, take, drop, get_or, refl, ap, sym, ◌∙◌, subst, arith}
+use Rattle.std.proofs.Common.{◌≡◌, ◌≤◌, ◌<◌, ◌+◌, ◌-◌, ℕ, zero, suc, Bool, true, false, cond, ◌⊎◌, inl, inr, List, [], ◌∷◌, ◌++◌, length, take, drop, get_or, refl, ap, sym, ◌∙◌, subst, arith}
 use Rattle.std.specs.Prelude.{nat_eq, max, Option, Some, None, Result, Ok, Err, MatchResult, is_ok, is_some, nat_lt, slice_get, IsTrue, ◌↔◌}
 use borrow.Author.Tests.{ltb-true, ltb-false}
 use Rattle.std.proofs.lemmas.Bool.{lt-ltb}
@@ -22,7 +22,8 @@ use Rattle.beas_core.proofs.Groups.{same_row_itself, group_push_own, Holds-push}
 use Rattle.access_index.specs.declared.tally.Tally.{Tally}
 use Rattle.access_index.specs.Hashing.{hash_of}
 use Rattle.access_index.specs.Buckets.{tuples_in, count_in, is_key, IsGap, IsStored, IsBucket, IsBest, IsGroupLen, counts_in, group_len}
-use Rattle.access_index.specs.Index.{Index, IsIndexOf, WouldHold, tallies, tuple_of, key_of}
+use Rattle.access_index.specs.declared.start.GroupStart.{GroupStart}
+use Rattle.access_index.specs.Index.{Index, IsIndexOf, WouldHold, tallies, tuple_of, key_of, start_at}
 use Rattle.access_index.proofs.Storing.{bucket_at, count_at, entries_sum}
 use Rattle.access_index.proofs.Indexing.{own, take_tuple, group_tuples, group_in_order}
 
@@ -202,9 +203,6 @@ group_found ts us w v key own_key from len e f g within members =
     )
 
 -- places, and what lies there
-pub place_parts : (i from : ℕ) → from < 4294967296 → ((i * 4294967296 + from) / 4294967296 ≡ i) × ((i * 4294967296 + from) % 4294967296 ≡ from)
-place_parts i from l = (omega arith, omega arith)
-
 pub at_place : {X : Type 0} (xs : List X) (i : ℕ) (x d : X) → slice_get xs i ≡ Some x → get_or xs i d ≡ x
 at_place [] i x d e = cc
 at_place (y ∷ ys) zero x d e = cc
@@ -224,24 +222,20 @@ pub none_from : {X : Type 0} (o : Option X) → false ≡ is_some o → o ≡ No
 none_from None e = refl
 none_from (Some x) e = cc
 
-module _ (buckets : List (List Tally)) (index from len : ℕ) (ts : List Tally) (found : Found) (small : from < 4294967296)
-    (there : slice_get buckets index ≡ Some ts)
-    (place_is : found.place ≡ index * 4294967296 + from) (len_is : found.len ≡ len) where
-  lying : drop (found.place % 4294967296) (tuples_in (get_or buckets (found.place / 4294967296) [])) ≡ tuples_in (drop from ts)
+module _ (buckets : List (List Tally)) (index from len : ℕ) (ts : List Tally) (found : Found) (there : slice_get buckets index ≡ Some ts)
+    (start_is : start_at found.place ≡ record { bucket = index; from = from }) (len_is : found.len ≡ len) where
+  lying : drop (start_at found.place).from (tuples_in (get_or buckets (start_at found.place).bucket [])) ≡ tuples_in (drop from ts)
   lying =
-      let p = place_parts index from small in
-      ap (λ n. drop (n % 4294967296) (tuples_in (get_or buckets (n / 4294967296) []))) place_is
-      ∙ ap (λ n. drop n (tuples_in (get_or buckets ((index * 4294967296 + from) / 4294967296) []))) p.1
-      ∙ ap (λ n. drop from (tuples_in (get_or buckets n []))) p.0
+      ap (λ (start : GroupStart). drop start.from (tuples_in (get_or buckets start.bucket []))) start_is
       ∙ ap (λ us. drop from (tuples_in us)) (at_place buckets index ts [] there) ∙ tuples_drop from ts
 
-  pub members_are : take found.len (drop (found.place % 4294967296) (tuples_in (get_or buckets (found.place / 4294967296) [])))
+  pub members_are : take found.len (drop (start_at found.place).from (tuples_in (get_or buckets (start_at found.place).bucket [])))
       ≡ tuples_in (take len (drop from ts))
-  members_are = ap (λ n. take n (drop (found.place % 4294967296) (tuples_in (get_or buckets (found.place / 4294967296) [])))) len_is ∙ ap (take len) lying
+  members_are = ap (λ n. take n (drop (start_at found.place).from (tuples_in (get_or buckets (start_at found.place).bucket [])))) len_is ∙ ap (take len) lying
       ∙ tuples_take len (drop from ts)
 
   pub members_len : from + len ≤ length ts → found.len ≡ length
-      (take found.len (drop (found.place % 4294967296) (tuples_in (get_or buckets (found.place / 4294967296) []))))
+      (take found.len (drop (start_at found.place).from (tuples_in (get_or buckets (start_at found.place).bucket []))))
   members_len within =
       omega (
         arith,
@@ -253,7 +247,8 @@ module _ (buckets : List (List Tally)) (index from len : ℕ) (ts : List Tally) 
         length-drop from ts,
       )
 
-  pub members_stand : from + len ≤ length ts → found.len ≤ length (drop (found.place % 4294967296) (tuples_in (get_or buckets (found.place / 4294967296) [])))
+  pub members_stand : from + len ≤ length ts
+      → found.len ≤ length (drop (start_at found.place).from (tuples_in (get_or buckets (start_at found.place).bucket [])))
   members_stand within = omega (arith, within, len_is, ap length lying, length-map (drop from ts) (λ (t : Tally). t.tuple), length-drop from ts)
 
 pub probed : (access : Access) (n total : ℕ) (entries : List (ℕ × List Tally)) (stored : IsStored n (length access.key) entries total)
@@ -265,16 +260,16 @@ probed access n total entries stored rows key ts is e =
     ∙ ap tuples_in (sym (own access n total entries stored rows key) ∙ is.tallies_are key) ∙ group_tuples access rows key
 
 -- a tuple of a probe
-pub member_at : (buckets : List (List Tally)) (found : Found) (ts : List Tally) (i : ℕ) (d : Tally) → slice_get buckets (found.place / 4294967296) ≡ Some ts
+pub member_at : (buckets : List (List Tally)) (found : Found) (ts : List Tally) (i : ℕ) (d : Tally) → slice_get buckets (start_at found.place).bucket ≡ Some ts
     → i < found.len
-    → (found.place % 4294967296) + i < length ts
-    → get_or (take found.len (drop (found.place % 4294967296) (tuples_in (get_or buckets (found.place / 4294967296) [])))) i []
-    ≡ (get_or ts ((found.place % 4294967296) + i) d).tuple
+    → (start_at found.place).from + i < length ts
+    → get_or (take found.len (drop (start_at found.place).from (tuples_in (get_or buckets (start_at found.place).bucket [])))) i []
+    ≡ (get_or ts ((start_at found.place).from + i) d).tuple
 member_at buckets found ts i d there l within =
-    get_or-take found.len (drop (found.place % 4294967296) (tuples_in (get_or buckets (found.place / 4294967296) []))) i [] l
-    ∙ get_or-drop (found.place % 4294967296) (tuples_in (get_or buckets (found.place / 4294967296) [])) i []
-    ∙ ap (λ us. get_or (tuples_in us) ((found.place % 4294967296) + i) []) (at_place buckets (found.place / 4294967296) ts [] there)
-    ∙ get_or-map (λ (t : Tally). t.tuple) ts ((found.place % 4294967296) + i) d [] within
+    get_or-take found.len (drop (start_at found.place).from (tuples_in (get_or buckets (start_at found.place).bucket []))) i [] l
+    ∙ get_or-drop (start_at found.place).from (tuples_in (get_or buckets (start_at found.place).bucket [])) i []
+    ∙ ap (λ us. get_or (tuples_in us) ((start_at found.place).from + i) []) (at_place buckets (start_at found.place).bucket ts [] there)
+    ∙ get_or-map (λ (t : Tally). t.tuple) ts ((start_at found.place).from + i) d [] within
 
 pub bucket_at_place : (n w : ℕ) (entries : List (ℕ × List Tally)) (i : ℕ) (ts : List Tally) → AllByRecursion (λ e. IsBucket n w e.0 e.1) entries
     → slice_get (values_of entries) i ≡ Some ts → (h : ℕ) × IsBucket n w h ts
@@ -348,17 +343,17 @@ found_len w ts key x from len e within members = (
   omega (arith, within),
 )
 
-pub stand_within : (buckets : List (List Tally)) (found : Found) (ts : List Tally) (i : ℕ) → slice_get buckets (found.place / 4294967296) ≡ Some ts
+pub stand_within : (buckets : List (List Tally)) (found : Found) (ts : List Tally) (i : ℕ) → slice_get buckets (start_at found.place).bucket ≡ Some ts
     → i < found.len
-    → found.len ≤ length (drop (found.place % 4294967296) (tuples_in (get_or buckets (found.place / 4294967296) [])))
-    → (found.place % 4294967296) + i < length ts
+    → found.len ≤ length (drop (start_at found.place).from (tuples_in (get_or buckets (start_at found.place).bucket [])))
+    → (start_at found.place).from + i < length ts
 stand_within buckets found ts i there l stands =
     omega (
       arith,
       l,
       stands,
-      length-drop (found.place % 4294967296) (tuples_in (get_or buckets (found.place / 4294967296) [])),
-      ap (λ us. length (tuples_in us)) (at_place buckets (found.place / 4294967296) ts [] there),
+      length-drop (start_at found.place).from (tuples_in (get_or buckets (start_at found.place).bucket [])),
+      ap (λ us. length (tuples_in us)) (at_place buckets (start_at found.place).bucket ts [] there),
       length-map ts (λ (t : Tally). t.tuple),
     )
 

@@ -3,7 +3,7 @@ use Rattle.std.specs.Prelude.{ℕ, pos, unsigned_abs, fold, List, Option, None, 
 use Rattle.beas_core.specs.declared.value.Value.{Value}
 use Rattle.beas_core.specs.declared.value.Value.TheVariants.{Int, Str}
 use Rattle.seeded_hash.specs.declared.hasher.TheConstants.{FIXED_FACTOR}
-use Rattle.seeded_hash.specs.Words.{mixed}
+use Rattle.seeded_hash.specs.Mixing.{mixed}
 
 abbrev pub with_value : ℕ → Value → ℕ
 with_value state (Int n) = mixed FIXED_FACTOR state (unsigned_abs n)

@@ -2,6 +2,7 @@
 --     index_of access rows key      the group of this key in the rows, each tuple with the number of rows that have it
 --     IsIndexOf index rows          an index gives for each key what the rows give, and knows how many rows there are
 --     WouldHold index row           the row's tuple is there, or its group has fewer members than the bound
+--     start_at place                where a group begins, by the place that hits keep
 --     members_at index found        the tuples that hits stand for
 --     stands_at index found         hits stand for tuples of this index as it is
 use Rattle.std.specs.Prelude.{◌≡◌, ◌<◌, ◌≤◌, ◌/◌, ◌%◌, ◌^◌, ◌⊎◌, ℕ, List, [], length, map, filter, take, drop, flat_map, count_by, slice_index_or}
@@ -10,6 +11,7 @@ use Rattle.beas_core.specs.declared.value.Value.{Value}
 use Rattle.beas_core.specs.declared.schema.Access.{Access}
 use Rattle.beas_core.specs.Found.{Found}
 use Rattle.beas_core.specs.Groups.{project, same_row, group_of, member_columns}
+use Rattle.access_index.specs.declared.start.GroupStart.{GroupStart}
 use Rattle.access_index.specs.declared.tally.Tally.{Tally}
 use Rattle.access_index.specs.Buckets.{tuples_in, is_key}
 
@@ -52,12 +54,16 @@ WouldHold index row =
     Contains (tuples_in (tallies index (key_of index.access row))) (tuple_of index.access row)
     ⊎ (length (tallies index (key_of index.access row)) < index.access.bound)
 
--- a place is 2 to the 32 times the number of a bucket, and how far it is from the bucket's front
-abbrev pub tuples_from : Index → ℕ → List (List Value)
-tuples_from index place = drop (place % 2 ^ 32) (tuples_in (slice_index_or index.buckets (place / 2 ^ 32) []))
+-- a place is 2 to the 32 times the number of the bucket, plus how far from its front the group begins
+abbrev pub start_at : ℕ → GroupStart
+start_at place = record { bucket = place / 2 ^ 32; from = place % 2 ^ 32 }
+
+-- the tuples of a bucket from where a group begins
+abbrev pub tuples_from : Index → GroupStart → List (List Value)
+tuples_from index start = drop start.from (tuples_in (slice_index_or index.buckets start.bucket []))
 
 abbrev pub members_at : Index → Found → List (List Value)
-members_at index found = take found.len (tuples_from index found.place)
+members_at index found = take found.len (tuples_from index (start_at found.place))
 
 abbrev pub stands_at : Index → Found → Type 0
-stands_at index found = found.len ≤ length (tuples_from index found.place)
+stands_at index found = found.len ≤ length (tuples_from index (start_at found.place))

@@ -9,6 +9,7 @@ ghost use Rattle.access_index.specs.Index.{IsIndexOf, WouldHold, members_at, sta
 
 use crate::bucket::{Bucket, count_down, count_up, front, group_in, of_one, search};
 use crate::lending::{Lent, lend_in_order, lend_new_in_order};
+use crate::start::GroupStart;
 use crate::values::{Given, Picked, hash_values};
 use beas_core::{Access, AccessId, ColumnId, Hits, List, NoMemory, Row, Steps, Value};
 use indexmap::IndexMap;
@@ -147,6 +148,13 @@ impl AccessIndex {
         Ok(())
     }
 
+    /// Recalls that an index is of fewer than 2^32 rows. The call is there for its clause and changes nothing.
+    fn recall_few_rows(&self)
+        ensures { self.now.total < 2 ^ 32 }
+    {
+        let _total = self.total;
+    }
+
     /// The constraint. It takes no memory.
     pub fn access(&self) -> &Access
         ensures { result.now ≡ self.now.access }
@@ -159,8 +167,8 @@ impl AccessIndex {
         ensures { (rows : List (List Value)) → IsIndexOf self.now rows
             → result ≡ greatest rows self.now.access.key self.now.access.fetched }
     {
-        // Read for what its type tells: there are fewer than 2^32 rows, and so fewer tuples in each bucket.
-        let _in_range = self.total;
+        // Each bucket has fewer than 2^32 tuples, as there are fewer rows.
+        self.recall_few_rows();
         let mut best = 0;
         for i in 0..self.buckets.len() {
             best = greatest_in(&self.buckets[i], self.access.key.len()).max(best);
@@ -347,17 +355,19 @@ impl AccessIndex {
         ensures stands { stands_at self.now result }
         ensures cost { steps.new ≡ steps.old + max 1 result.len }
     {
-        // Read for what its type tells: there are fewer than 2^32 rows, and so fewer buckets and fewer tuples in each,
-        // whose two numbers fit one place of 64 bits.
-        let _in_range = self.total;
+        // The bucket and the position in it each fit 32 bits, as there are fewer than 2^32 rows.
+        self.recall_few_rows();
         let wanted = Given { values: key };
         let index = match self.buckets.get_index_of(&hash_values(&wanted)) {
             Some(index) => index,
             None => return Hits::counted(id, 0, 0, steps),
         };
         let group = group_in(&self.buckets[index], &wanted, self.access.key.len());
-        let place = index as u64 * 0x1_0000_0000 + group.from as u64;
-        Hits::counted(id, place, group.len as u32, steps)
+        let start = GroupStart {
+            bucket: index as u32,
+            from: group.from as u32,
+        };
+        Hits::counted(id, start.pack(), group.len as u32, steps)
     }
 
     /// A column of a tuple that a probe found and counted, while the index is as it was. It takes no memory.
@@ -368,8 +378,9 @@ impl AccessIndex {
         ensures { result.now
             ≡ value_in (member_columns self.now.access) (slice_index_or (members_at self.now hits.now) i []) column }
     {
-        let bucket = &self.buckets[(hits.place() / 0x1_0000_0000) as usize];
-        let at = (hits.place() % 0x1_0000_0000) as usize + i as usize;
+        let start = GroupStart::unpack(hits.place());
+        let bucket = &self.buckets[start.bucket as usize];
+        let at = start.from as usize + i as usize;
         value_of(
             self.columns.as_slice(),
             bucket.get(at).tuple.as_slice(),

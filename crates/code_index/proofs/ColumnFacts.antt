@@ -8,23 +8,23 @@ use Rattle.std.proofs.lemmas.List.Quantifiers.{position-Some}
 use Rattle.std.proofs.lemmas.List.Sums.{fails_before_first}
 use Rattle.beas_core.specs.declared.schema.ColumnId.{ColumnId}
 use Rattle.beas_core.specs.Groups.{has_column}
-use Rattle.code_index.specs.Reading.{word_in}
+use Rattle.code_index.specs.Reading.{code_in}
 use Rattle.code_index.proofs.Members.{members_long, in_key, in_fetched}
 
 -- a column's code in a tuple is the one at its first place
-word_at : (columns : List ColumnId) (tuple : List ℕ) (column : ColumnId) (at : ℕ) (d : ColumnId) → length tuple ≡ length columns → at < length columns
+code_at : (columns : List ColumnId) (tuple : List ℕ) (column : ColumnId) (at : ℕ) (d : ColumnId) → length tuple ≡ length columns → at < length columns
     → ((get_or columns at d).0 == column.0) ≡ true → ((k : ℕ) → k < at → ((get_or columns k d).0 == column.0) ≡ false)
-    → word_in columns tuple column ≡ get_or tuple at 0
-word_at [] tuple column at d w l hit misses = absurd (omega (arith, l))
-word_at (c ∷ columns) [] column at d w l hit misses = absurd (omega (arith, w))
-word_at (c ∷ columns) (x ∷ tuple) column zero d w l hit misses = ap (λ b. cond b x (word_in columns tuple column)) hit
-word_at (c ∷ columns) (x ∷ tuple) column (suc at) d w l hit misses =
-    ap (λ b. cond b x (word_in columns tuple column)) (misses zero (omega arith))
-    ∙ word_at columns tuple column at d (omega arith) (omega arith) hit (λ k h. misses (suc k) (omega arith))
+    → code_in columns tuple column ≡ get_or tuple at 0
+code_at [] tuple column at d w l hit misses = absurd (omega (arith, l))
+code_at (c ∷ columns) [] column at d w l hit misses = absurd (omega (arith, w))
+code_at (c ∷ columns) (x ∷ tuple) column zero d w l hit misses = ap (λ b. cond b x (code_in columns tuple column)) hit
+code_at (c ∷ columns) (x ∷ tuple) column (suc at) d w l hit misses =
+    ap (λ b. cond b x (code_in columns tuple column)) (misses zero (omega arith))
+    ∙ code_at columns tuple column at d (omega arith) (omega arith) hit (λ k h. misses (suc k) (omega arith))
 
 pub record IsPlace (columns : List ColumnId) (column : ColumnId) (at : ℕ) : Type 0 where
   pub within : at < length columns
-  pub code : (tuple : List ℕ) → length tuple ≡ length columns → word_in columns tuple column ≡ get_or tuple at 0
+  pub code : (tuple : List ℕ) → length tuple ≡ length columns → code_in columns tuple column ≡ get_or tuple at 0
 
 -- columns among which it has no place
 missed : (columns : List ColumnId) (column : ColumnId) (k : ℕ) (d : ColumnId) → None ≡ position (λ (c : ColumnId). c.0 == column.0) columns → k < length columns
@@ -59,7 +59,7 @@ place_in_key key fetched column at e =
     record {
       within = within;
       code = λ tuple w.
-          word_at (key ++ fetched) tuple column at d w within (same_in_key key fetched column at d p.0 ∙ p.1)
+          code_at (key ++ fetched) tuple column at d w within (same_in_key key fetched column at d p.0 ∙ p.1)
           (λ k h. same_in_key key fetched column k d (omega (arith, h, p.0)) ∙ p.2 k h);
     }
 
@@ -73,7 +73,7 @@ place_after_key key fetched column at none e =
     record {
       within = within;
       code = λ tuple w.
-          word_at (key ++ fetched) tuple column (length key + at) d w within
+          code_at (key ++ fetched) tuple column (length key + at) d w within
           (same_after_key key fetched column (length key + at) d (omega arith) ∙ ap (λ n. (get_or fetched n d).0 == column.0) back ∙ p.1)
           (λ k h. missed_before key fetched column at k d none p.2 h);
     }

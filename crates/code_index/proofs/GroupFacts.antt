@@ -19,7 +19,7 @@ use Rattle.access_index.proofs.Places.{tuple_place}
 use Rattle.access_index.proofs.Counting.{raised, lowered, put_in, taken_out}
 use Rattle.labelled_list.specs.declared.coded.Coded.{Coded}
 use Rattle.code_index.specs.Codes.{AreDistinct}
-use Rattle.code_index.specs.Reading.{read, read_tally, read_group, AllKnown, AllWordsKnown}
+use Rattle.code_index.specs.Reading.{read, read_tally, read_group, AllKnown, AllCodesKnown}
 use Rattle.code_index.proofs.ReadFacts.{read_tells}
 
 module _ (codes : List Value) where
@@ -79,30 +79,38 @@ module _ (codes : List Value) where
         (taken_out (read_group codes g) i t (read codes (get_or g i d).codes) o a within (ap (λ x. x.tuple) at) (ap (λ x. x.count) at ∙ one))
 
   -- a tuple put in where it was missing
-  pub group_put : (g : List Coded) (i : ℕ) (words : List ℕ) → IsInOrder row_cmp (tuples_in (read_group codes g)) → AllCounted (read_group codes g)
-      → IsGap (read_group codes g) (read codes words) i
-      → IsOneMore (read_group codes g) (read_group codes (insert g i (record { codes = words; count = 1 }))) (read codes words)
-  group_put g i words o a gap =
-      subst (λ ts. IsOneMore (read_group codes g) ts (read codes words)) (sym (read_insert g i (record { codes = words; count = 1 })))
-      (put_in (read_group codes g) i (read codes words) o a gap)
+  pub group_put : (g : List Coded) (i : ℕ) (tuple_codes : List ℕ) → IsInOrder row_cmp (tuples_in (read_group codes g)) → AllCounted (read_group codes g)
+      → IsGap (read_group codes g) (read codes tuple_codes) i
+      → IsOneMore (read_group codes g) (read_group codes (insert g i (record { codes = tuple_codes; count = 1 }))) (read codes tuple_codes)
+  group_put g i tuple_codes o a gap =
+      subst (λ ts. IsOneMore (read_group codes g) ts (read codes tuple_codes)) (sym (read_insert g i (record { codes = tuple_codes; count = 1 })))
+      (put_in (read_group codes g) i (read codes tuple_codes) o a gap)
 
   -- a tuple that no member has
-  module _ (distinct : AreDistinct codes) (words : List ℕ) (known : AllKnown codes words) where
-    pub uncounted : (g : List Coded) → AllWordsKnown codes g → AllByRecursion (λ c. c.codes ≢ words) g → count_in (read_group codes g) (read codes words) ≡ 0
+  module _ (distinct : AreDistinct codes) (tuple_codes : List ℕ) (known : AllKnown codes tuple_codes) where
+    pub uncounted : (g : List Coded) → AllCodesKnown codes g
+        → AllByRecursion (λ c. c.codes ≢ tuple_codes) g → count_in (read_group codes g) (read codes tuple_codes) ≡ 0
     uncounted [] k a = refl
     uncounted (c ∷ g) k a =
-        omega (arith, sum_by-cons (count_for (read codes words)) (read_tally codes c) (read_group codes g), here (same_row (read codes c.codes) (read codes words)) refl, uncounted g k.1 a.1)
+        omega (
+          arith,
+          sum_by-cons (count_for (read codes tuple_codes)) (read_tally codes c) (read_group codes g),
+          here (same_row (read codes c.codes) (read codes tuple_codes)) refl,
+          uncounted g k.1 a.1,
+        )
       where
-        here : (b : Bool) → same_row (read codes c.codes) (read codes words) ≡ b → count_for (read codes words) (read_tally codes c) ≡ 0
-        here true e = absurd (a.0 (read_tells codes distinct c.codes words k.0 known (same_row_true (read codes c.codes) (read codes words) e)))
+        here : (b : Bool) → same_row (read codes c.codes) (read codes tuple_codes) ≡ b → count_for (read codes tuple_codes) (read_tally codes c) ≡ 0
+        here true e = absurd (a.0 (read_tells codes distinct c.codes tuple_codes k.0 known (same_row_true (read codes c.codes) (read codes tuple_codes) e)))
         here false e = ap (λ b. cond b c.count 0) e
 
-    pub lacks : (g : List Coded) → AllWordsKnown codes g → AllByRecursion (λ c. c.codes ≢ words) g → Has (tuples_in (read_group codes g)) (read codes words) → ⊥
+    pub lacks : (g : List Coded) → AllCodesKnown codes g
+        → AllByRecursion (λ c. c.codes ≢ tuple_codes) g → Has (tuples_in (read_group codes g)) (read codes tuple_codes) → ⊥
     lacks [] k a h = h
-    lacks (c ∷ g) k a (inl e) = a.0 (read_tells codes distinct c.codes words k.0 known (sym e))
+    lacks (c ∷ g) k a (inl e) = a.0 (read_tells codes distinct c.codes tuple_codes k.0 known (sym e))
     lacks (c ∷ g) k a (inr h) = lacks g k.1 a.1 h
 
-    pub has : (g : List Coded) (i : ℕ) (d : Coded) → i < length g → (get_or g i d).codes ≡ words → Has (tuples_in (read_group codes g)) (read codes words)
+    pub has : (g : List Coded) (i : ℕ) (d : Coded) → i < length g → (get_or g i d).codes ≡ tuple_codes
+        → Has (tuples_in (read_group codes g)) (read codes tuple_codes)
     has [] i d l e = absurd (omega (arith, l))
     has (c ∷ g) zero d l e = inl (ap (read codes) (sym e))
     has (c ∷ g) (suc i) d l e = inr (has g i d (omega arith) e)
@@ -154,14 +162,14 @@ not_in_gap x ts at gap k d l e = elim (before_or_not k at) [
   | inr a ↦ not_before_itself x (ap (row_cmp x) (sym e) ∙ gap.after k d a l)
 ]
 
-none_has : (codes : List Value) (words : List ℕ) (g : List Coded)
-    → ((k : ℕ) (d : Tally) → k < length (read_group codes g) → (get_or (read_group codes g) k d).tuple ≡ read codes words → ⊥)
-    → AllByRecursion (λ (c : Coded). c.codes ≢ words) g
-none_has codes words [] f = tt
-none_has codes words (c ∷ g) f =
-    (λ e. f 0 (read_tally codes c) (omega arith) (ap (read codes) e), none_has codes words g (λ k d l e. f (suc k) d (omega (arith, l)) e))
+none_has : (codes : List Value) (tuple_codes : List ℕ) (g : List Coded)
+    → ((k : ℕ) (d : Tally) → k < length (read_group codes g) → (get_or (read_group codes g) k d).tuple ≡ read codes tuple_codes → ⊥)
+    → AllByRecursion (λ (c : Coded). c.codes ≢ tuple_codes) g
+none_has codes tuple_codes [] f = tt
+none_has codes tuple_codes (c ∷ g) f =
+    (λ e. f 0 (read_tally codes c) (omega arith) (ap (read codes) e), none_has codes tuple_codes g (λ k d l e. f (suc k) d (omega (arith, l)) e))
 
 -- where a tuple would go in, no tuple has its codes
-pub gap_lacks : (codes : List Value) (words : List ℕ) (g : List Coded) (at : ℕ) → IsGap (read_group codes g) (read codes words) at
-    → AllByRecursion (λ (c : Coded). c.codes ≢ words) g
-gap_lacks codes words g at gap = none_has codes words g (not_in_gap (read codes words) (read_group codes g) at gap)
+pub gap_lacks : (codes : List Value) (tuple_codes : List ℕ) (g : List Coded) (at : ℕ) → IsGap (read_group codes g) (read codes tuple_codes) at
+    → AllByRecursion (λ (c : Coded). c.codes ≢ tuple_codes) g
+gap_lacks codes tuple_codes g at gap = none_has codes tuple_codes g (not_in_gap (read codes tuple_codes) (read_group codes g) at gap)

@@ -9,39 +9,39 @@ use Rattle.beas_core.specs.declared.value.Value.TheVariants.{Int}
 use Rattle.beas_core.specs.Groups.{member_columns}
 use Rattle.labelled_list.specs.declared.coded.Coded.{Coded}
 use Rattle.code_index.specs.Codes.{same_value, extended, value_of, AreDistinct}
-use Rattle.code_index.specs.Reading.{IsStored, KeepsCodes, read, read_group, read_entries, AllKnown, AllWordsKnown}
+use Rattle.code_index.specs.Reading.{IsStored, KeepsCodes, read, read_group, read_entries, AllKnown, AllCodesKnown}
 
 module _ (codes tail : List Value) where
   value_stays : (w : ℕ) → w < length codes → value_of (codes ++ tail) w ≡ value_of codes w
   value_stays w l = get_or_append_left codes tail (Int (pos 0)) w l
 
-  known_stays : (ws : List ℕ) → AllKnown codes ws → AllKnown (codes ++ tail) ws
+  known_stays : (tuple : List ℕ) → AllKnown codes tuple → AllKnown (codes ++ tail) tuple
   known_stays [] k = tt
-  known_stays (w ∷ ws) k = (omega (arith, k.0, length-append codes tail), known_stays ws k.1)
+  known_stays (w ∷ tuple) k = (omega (arith, k.0, length-append codes tail), known_stays tuple k.1)
 
-  read_stays : (ws : List ℕ) → AllKnown codes ws → read (codes ++ tail) ws ≡ read codes ws
+  read_stays : (tuple : List ℕ) → AllKnown codes tuple → read (codes ++ tail) tuple ≡ read codes tuple
   read_stays [] k = refl
-  read_stays (w ∷ ws) k = let first = value_stays w k.0 in let rest = read_stays ws k.1 in λ i. first i ∷ rest i
+  read_stays (w ∷ tuple) k = let first = value_stays w k.0 in let rest = read_stays tuple k.1 in λ i. first i ∷ rest i
 
   keys_stay : (es : List (List ℕ × List Coded)) → AllByRecursion (λ e. AllKnown codes e.0) es → AllByRecursion (λ e. AllKnown (codes ++ tail) e.0) es
   keys_stay [] k = tt
   keys_stay (e ∷ es) k = (known_stays e.0 k.0, keys_stay es k.1)
 
-  words_stay : (g : List Coded) → AllWordsKnown codes g → AllWordsKnown (codes ++ tail) g
-  words_stay [] k = tt
-  words_stay (c ∷ g) k = (known_stays c.codes k.0, words_stay g k.1)
+  tuples_stay : (g : List Coded) → AllCodesKnown codes g → AllCodesKnown (codes ++ tail) g
+  tuples_stay [] k = tt
+  tuples_stay (c ∷ g) k = (known_stays c.codes k.0, tuples_stay g k.1)
 
-  groups_stay : (es : List (List ℕ × List Coded)) → AllByRecursion (λ e. AllWordsKnown codes e.1) es
-      → AllByRecursion (λ e. AllWordsKnown (codes ++ tail) e.1) es
+  groups_stay : (es : List (List ℕ × List Coded)) → AllByRecursion (λ e. AllCodesKnown codes e.1) es
+      → AllByRecursion (λ e. AllCodesKnown (codes ++ tail) e.1) es
   groups_stay [] k = tt
-  groups_stay (e ∷ es) k = (words_stay e.1 k.0, groups_stay es k.1)
+  groups_stay (e ∷ es) k = (tuples_stay e.1 k.0, groups_stay es k.1)
 
-  group_read : (g : List Coded) → AllWordsKnown codes g → read_group (codes ++ tail) g ≡ read_group codes g
+  group_read : (g : List Coded) → AllCodesKnown codes g → read_group (codes ++ tail) g ≡ read_group codes g
   group_read [] k = refl
   group_read (c ∷ g) k =
       let first = read_stays c.codes k.0 in let rest = group_read g k.1 in λ i. record { tuple = first i; count = c.count } ∷ rest i
 
-  entries_read : (es : List (List ℕ × List Coded)) → AllByRecursion (λ e. AllKnown codes e.0) es → AllByRecursion (λ e. AllWordsKnown codes e.1) es
+  entries_read : (es : List (List ℕ × List Coded)) → AllByRecursion (λ e. AllKnown codes e.0) es → AllByRecursion (λ e. AllCodesKnown codes e.1) es
       → read_entries (codes ++ tail) es ≡ read_entries codes es
   entries_read [] k g = refl
   entries_read (e ∷ es) k g =
@@ -51,7 +51,7 @@ module _ (codes tail : List Value) where
 
   kept : AreDistinct (codes ++ tail) → KeepsCodes codes (codes ++ tail)
   kept distinct = record {
-    words = λ ws k. (known_stays ws k, read_stays ws k);
+    tuples = λ tuple k. (known_stays tuple k, read_stays tuple k);
     in_order = λ index o. record {
       distinct = distinct;
       keys = keys_stay index.groups o.keys;
@@ -64,7 +64,7 @@ module _ (codes tail : List Value) where
   }
 
 pub kept_codes : (codes : List Value) → KeepsCodes codes codes
-kept_codes codes = record { words = λ ws k. (k, refl); in_order = λ index o. o; same = λ index o. refl }
+kept_codes codes = record { tuples = λ tuple k. (k, refl); in_order = λ index o. o; same = λ index o. refl }
 
 -- after a value is interned
 pub kept_extended : (codes : List Value) (value : Value) → AreDistinct (extended codes value) → KeepsCodes codes (extended codes value)

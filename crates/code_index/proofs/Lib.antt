@@ -16,4 +16,4 @@ pub mod Removing
 pub mod SpellingFacts
 pub mod Steps
 pub mod Storing
-pub mod WordFacts
+pub mod TupleFacts

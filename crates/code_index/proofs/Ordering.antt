@@ -18,7 +18,7 @@ use Rattle.code_index.proofs.Storing.{found_bucket, bucket_within}
 use Rattle.access_index.specs.Index.{IsIndexOf}
 use Rattle.labelled_list.specs.declared.coded.Coded.{Coded}
 use Rattle.code_index.specs.Codes.{value_of, AreDistinct}
-use Rattle.code_index.specs.Reading.{WordIndex, IsInOrderFor, IsOrdered, IsGroup, Spells, read, read_tally, read_index, read_group, read_entries, row_code, pick, AllKnown, AllWordsKnown}
+use Rattle.code_index.specs.Reading.{CodeIndex, IsInOrderFor, IsOrdered, IsGroup, Spells, read, read_tally, read_index, read_group, read_entries, row_code, pick, AllKnown, AllCodesKnown}
 use Rattle.code_index.proofs.Changing.{IsAdded, index_added, index_removed, added_to, added_new, removed_from, removed_whole}
 use Rattle.code_index.proofs.ReadFacts.{lookup_read, set_read, swap_read, distinct_read}
 
@@ -50,61 +50,61 @@ read_append : (codes : List Value) (a b : List Entry) → read_entries codes (a 
 read_append codes [] b = refl
 read_append codes (e ∷ a) b = ap (λ es. (read codes e.0, read_group codes e.1) ∷ es) (read_append codes a b)
 
-known_front : (codes : List Value) (words : List ℕ) (a b : List ColumnId) → AllKnown codes (pick (a ++ b) words) → AllKnown codes (pick a words)
-known_front codes words [] b k = tt
-known_front codes words (c ∷ a) b k = (k.0, known_front codes words a b k.1)
+known_front : (codes : List Value) (row_codes : List ℕ) (a b : List ColumnId) → AllKnown codes (pick (a ++ b) row_codes) → AllKnown codes (pick a row_codes)
+known_front codes row_codes [] b k = tt
+known_front codes row_codes (c ∷ a) b k = (k.0, known_front codes row_codes a b k.1)
 
-read_front : (codes : List Value) (words : List ℕ) (a b : List ColumnId)
-    → read codes (pick (a ++ b) words) ≡ read codes (pick a words) ++ read codes (pick b words)
-read_front codes words [] b = refl
-read_front codes words (c ∷ a) b = ap (λ vs. slice_value c ∷ vs) (read_front codes words a b)
+read_front : (codes : List Value) (row_codes : List ℕ) (a b : List ColumnId)
+    → read codes (pick (a ++ b) row_codes) ≡ read codes (pick a row_codes) ++ read codes (pick b row_codes)
+read_front codes row_codes [] b = refl
+read_front codes row_codes (c ∷ a) b = ap (λ vs. slice_value c ∷ vs) (read_front codes row_codes a b)
   where
     slice_value : ColumnId → Value
-    slice_value d = value_of codes (row_code words d)
+    slice_value d = value_of codes (row_code row_codes d)
 
-length_read : (codes : List Value) (words : List ℕ) (a : List ColumnId) → length (read codes (pick a words)) ≡ length a
-length_read codes words [] = refl
-length_read codes words (c ∷ a) = ap suc (length_read codes words a)
+length_read : (codes : List Value) (row_codes : List ℕ) (a : List ColumnId) → length (read codes (pick a row_codes)) ≡ length a
+length_read codes row_codes [] = refl
+length_read codes row_codes (c ∷ a) = ap suc (length_read codes row_codes a)
 
-pub read_key : (codes : List Value) (words : List ℕ) (access : Access)
-    → take (length access.key) (read codes (pick (member_columns access) words)) ≡ read codes (pick access.key words)
-read_key codes words access =
-    ap (take (length access.key)) (read_front codes words access.key access.fetched)
-    ∙ take_at (read codes (pick access.key words)) (read codes (pick access.fetched words)) (length access.key) (length_read codes words access.key)
+pub read_key : (codes : List Value) (row_codes : List ℕ) (access : Access)
+    → take (length access.key) (read codes (pick (member_columns access) row_codes)) ≡ read codes (pick access.key row_codes)
+read_key codes row_codes access =
+    ap (take (length access.key)) (read_front codes row_codes access.key access.fetched)
+    ∙ take_at (read codes (pick access.key row_codes)) (read codes (pick access.fetched row_codes)) (length access.key) (length_read codes row_codes access.key)
 
-pub key_known : (codes : List Value) (words : List ℕ) (access : Access) → AllKnown codes (pick (member_columns access) words)
-    → AllKnown codes (pick access.key words)
-key_known codes words access k = known_front codes words access.key access.fetched k
+pub key_known : (codes : List Value) (row_codes : List ℕ) (access : Access) → AllKnown codes (pick (member_columns access) row_codes)
+    → AllKnown codes (pick access.key row_codes)
+key_known codes row_codes access k = known_front codes row_codes access.key access.fetched k
 
-module _ (access : Access) (codes : List Value) (total : ℕ) (few many : List Entry) (words : List ℕ) where
+module _ (access : Access) (codes : List Value) (total : ℕ) (few many : List Entry) (row_codes : List ℕ) where
   abbrev key : List ℕ
-  key = pick access.key words
+  key = pick access.key row_codes
 
   abbrev tuple : List ℕ
-  tuple = pick (member_columns access) words
+  tuple = pick (member_columns access) row_codes
 
   abbrev n : ℕ
   n = length (member_columns access)
 
-  abbrev pub few_index : WordIndex
+  abbrev pub few_index : CodeIndex
   few_index = record { access = access; total = total; groups = few }
 
-  abbrev pub many_index : WordIndex
+  abbrev pub many_index : CodeIndex
   many_index = record { access = access; total = total + 1; groups = many }
 
   pub record IsMore : Type 0 where
     pub few_in_order : IsInOrderFor codes few_index
     pub many_in_order : IsInOrderFor codes many_index
-    pub added : (row : List Value) (front back : List (List Value)) → Spells codes (member_columns access) words row
+    pub added : (row : List Value) (front back : List (List Value)) → Spells codes (member_columns access) row_codes row
         → IsIndexOf (read_index codes few_index) (front ++ back) → IsIndexOf (read_index codes many_index) (front ++ row ∷ back)
-    pub removed : (row : List Value) (front back : List (List Value)) → Spells codes (member_columns access) words row
+    pub removed : (row : List Value) (front back : List (List Value)) → Spells codes (member_columns access) row_codes row
         → IsIndexOf (read_index codes many_index) (front ++ row ∷ back) → IsIndexOf (read_index codes few_index) (front ++ back)
 
   wide : n ≡ length (read codes tuple)
-  wide = sym (length_read codes words (member_columns access))
+  wide = sym (length_read codes row_codes (member_columns access))
 
-  of_values : AreDistinct codes → AllByRecursion (λ e. AllKnown codes e.0) few → AllByRecursion (λ e. AllWordsKnown codes e.1) few
-      → AllByRecursion (λ e. AllKnown codes e.0) many → AllByRecursion (λ e. AllWordsKnown codes e.1) many
+  of_values : AreDistinct codes → AllByRecursion (λ e. AllKnown codes e.0) few → AllByRecursion (λ e. AllCodesKnown codes e.1) few
+      → AllByRecursion (λ e. AllKnown codes e.0) many → AllByRecursion (λ e. AllCodesKnown codes e.1) many
       → IsAdded access n total (read_entries codes few) (read_entries codes many) (read codes tuple) → IsMore
   of_values d fk fg mk mg a = record {
     few_in_order = record { distinct = d; keys = fk; known = fg; stored = a.few_stored };
@@ -115,41 +115,43 @@ module _ (access : Access) (codes : List Value) (total : ℕ) (few many : List E
 
   pub more_to : IsInOrderFor codes few_index → AllKnown codes tuple → (less more : List Coded) → lookup (pointwise nat_eq key) few ≡ Some less
       → many ≡ set_value (pointwise nat_eq key) few more → IsDistinct (pointwise nat_eq) (keys_of many)
-      → IsOneMore (read_group codes less) (read_group codes more) (read codes tuple) → AllWordsKnown codes more → IsMore
-  more_to o known less more found is unique m words_known =
-      let k = key_known codes words access known in
+      → IsOneMore (read_group codes less) (read_group codes more) (read codes tuple) → AllCodesKnown codes more → IsMore
+  more_to o known less more found is unique m tuples_known =
+      let k = key_known codes row_codes access known in
       let keys = subst (AllByRecursion (λ e. AllKnown codes e.0)) (sym is)
       (all_set_value (λ e. AllKnown codes e.0) (pointwise nat_eq key) few more (λ e h. h) o.keys) in
-      let groups = subst (AllByRecursion (λ e. AllWordsKnown codes e.1)) (sym is)
-      (all_set_value (λ e. AllWordsKnown codes e.1) (pointwise nat_eq key) few more (λ e h. words_known) o.known) in
+      let groups = subst (AllByRecursion (λ e. AllCodesKnown codes e.1)) (sym is)
+      (all_set_value (λ e. AllCodesKnown codes e.1) (pointwise nat_eq key) few more (λ e h. tuples_known) o.known) in
       of_values o.distinct o.keys o.known keys groups
-      (added_to access n total (read_entries codes few) (read_entries codes many) (read codes tuple) (read codes key) wide (sym (read_key codes words access))
+      (added_to access n total (read_entries codes few) (read_entries codes many) (read codes tuple) (read codes key) wide
+      (sym (read_key codes row_codes access))
       (read_group codes less) (read_group codes more) o.stored
       (lookup_read codes o.distinct key k few o.keys ∙ ap (λ r. option_map (read_group codes) r) found)
       (ap (read_entries codes) is ∙ set_read codes o.distinct key k few more o.keys) (distinct_read codes o.distinct many keys unique) m)
 
   pub more_new : IsInOrderFor codes few_index → AllKnown codes tuple → (more : List Coded) → many ≡ few ++ (key, more) ∷ []
-      → IsDistinct (pointwise nat_eq) (keys_of many) → IsOneMore [] (read_group codes more) (read codes tuple) → AllWordsKnown codes more → IsMore
-  more_new o known more is unique m words_known =
-      let k = key_known codes words access known in
+      → IsDistinct (pointwise nat_eq) (keys_of many) → IsOneMore [] (read_group codes more) (read codes tuple) → AllCodesKnown codes more → IsMore
+  more_new o known more is unique m tuples_known =
+      let k = key_known codes row_codes access known in
       let keys = subst (AllByRecursion (λ e. AllKnown codes e.0)) (sym is)
       (all_append (λ (e : Entry). AllKnown codes e.0) few ((key, more) ∷ []) o.keys (k, tt)) in
-      let groups = subst (AllByRecursion (λ e. AllWordsKnown codes e.1)) (sym is)
-      (all_append (λ (e : Entry). AllWordsKnown codes e.1) few ((key, more) ∷ []) o.known (words_known, tt)) in
+      let groups = subst (AllByRecursion (λ e. AllCodesKnown codes e.1)) (sym is)
+      (all_append (λ (e : Entry). AllCodesKnown codes e.1) few ((key, more) ∷ []) o.known (tuples_known, tt)) in
       of_values o.distinct o.keys o.known keys groups
-      (added_new access n total (read_entries codes few) (read_entries codes many) (read codes tuple) (read codes key) wide (sym (read_key codes words access))
+      (added_new access n total (read_entries codes few) (read_entries codes many) (read codes tuple) (read codes key) wide
+      (sym (read_key codes row_codes access))
       (read_group codes more) o.stored
       (ap (read_entries codes) is ∙ read_append codes few ((key, more) ∷ []))
       (distinct_read codes o.distinct many keys unique) m)
 
   pub less_from : IsInOrderFor codes many_index → AllKnown codes key → (less more : List Coded) → lookup (pointwise nat_eq key) many ≡ Some more
       → few ≡ set_value (pointwise nat_eq key) many less → IsDistinct (pointwise nat_eq) (keys_of few)
-      → IsOneMore (read_group codes less) (read_group codes more) (read codes tuple) → AllWordsKnown codes less → 0 < length less → IsMore
-  less_from o k less more found is unique m words_known some =
+      → IsOneMore (read_group codes less) (read_group codes more) (read codes tuple) → AllCodesKnown codes less → 0 < length less → IsMore
+  less_from o k less more found is unique m tuples_known some =
       let keys = subst (AllByRecursion (λ e. AllKnown codes e.0)) (sym is)
       (all_set_value (λ e. AllKnown codes e.0) (pointwise nat_eq key) many less (λ e h. h) o.keys) in
-      let groups = subst (AllByRecursion (λ e. AllWordsKnown codes e.1)) (sym is)
-      (all_set_value (λ e. AllWordsKnown codes e.1) (pointwise nat_eq key) many less (λ e h. words_known) o.known) in
+      let groups = subst (AllByRecursion (λ e. AllCodesKnown codes e.1)) (sym is)
+      (all_set_value (λ e. AllCodesKnown codes e.1) (pointwise nat_eq key) many less (λ e h. tuples_known) o.known) in
       of_values o.distinct keys groups o.keys o.known
       (removed_from access n total (read_entries codes few) (read_entries codes many) (read codes tuple) (read codes key)
       (read_group codes less) (read_group codes more) o.stored
@@ -163,20 +165,20 @@ module _ (access : Access) (codes : List Value) (total : ℕ) (few many : List E
   less_whole o k more found is unique m =
       let keys = subst (AllByRecursion (λ e. AllKnown codes e.0)) (sym is)
       (all_swap_remove (λ e. AllKnown codes e.0) (pointwise nat_eq key) many o.keys) in
-      let groups = subst (AllByRecursion (λ e. AllWordsKnown codes e.1)) (sym is)
-      (all_swap_remove (λ e. AllWordsKnown codes e.1) (pointwise nat_eq key) many o.known) in
+      let groups = subst (AllByRecursion (λ e. AllCodesKnown codes e.1)) (sym is)
+      (all_swap_remove (λ e. AllCodesKnown codes e.1) (pointwise nat_eq key) many o.known) in
       of_values o.distinct keys groups o.keys o.known
       (removed_whole access n total (read_entries codes few) (read_entries codes many) (read codes tuple) (read codes key) (read_group codes more) o.stored
       (lookup_read codes o.distinct key k many o.keys ∙ ap (λ r. option_map (read_group codes) r) found)
       (ap (read_entries codes) is ∙ swap_read codes o.distinct key k many o.keys) (distinct_read codes o.distinct few keys unique) m)
 
-found_known : (codes : List Value) (test : List ℕ → Bool) (es : List Entry) (g : List Coded) → AllByRecursion (λ e. AllWordsKnown codes e.1) es
-    → lookup test es ≡ Some g → AllWordsKnown codes g
+found_known : (codes : List Value) (test : List ℕ → Bool) (es : List Entry) (g : List Coded) → AllByRecursion (λ e. AllCodesKnown codes e.1) es
+    → lookup test es ≡ Some g → AllCodesKnown codes g
 found_known codes test [] g a e = cc
 found_known codes test (x ∷ es) g a e = by (test x.0) e (found_known codes test es g a.1)
   where
-    by : (b : Bool) → cond b (Some x.1) (lookup test es) ≡ Some g → (lookup test es ≡ Some g → AllWordsKnown codes g) → AllWordsKnown codes g
-    by true h rest = let same : x.1 ≡ g = cc in subst (AllWordsKnown codes) same a.0
+    by : (b : Bool) → cond b (Some x.1) (lookup test es) ≡ Some g → (lookup test es ≡ Some g → AllCodesKnown codes g) → AllCodesKnown codes g
+    by true h rest = let same : x.1 ≡ g = cc in subst (AllCodesKnown codes) same a.0
     by false h rest = rest h
 
 found_key : (codes : List Value) (key : List ℕ) (es : List Entry) (g : List Coded) → AllByRecursion (λ e. AllKnown codes e.0) es
@@ -196,7 +198,7 @@ module _ (access : Access) (codes : List Value) (total : ℕ) (es : List Entry) 
   pub known_key : AllKnown codes key
   known_key = found_key codes key es g o.keys found
 
-  pub known_group : AllWordsKnown codes g
+  pub known_group : AllCodesKnown codes g
   known_group = found_known codes (pointwise nat_eq key) es g o.known found
 
   pub found_read : lookup (same_row (read codes key)) (read_entries codes es) ≡ Some (read_group codes g)

@@ -53,41 +53,41 @@ all_coded_at codes (v ∷ values) zero d a l = a.0
 all_coded_at codes (v ∷ values) (suc i) d a l = all_coded_at codes values i d a.1 (omega arith)
 
 -- the values of known codes have these codes
-pub read_coded : (codes : List Value) (words : List ℕ) → AllKnown codes words → AllHaveCodes codes (read codes words)
+pub read_coded : (codes : List Value) (tuple : List ℕ) → AllKnown codes tuple → AllHaveCodes codes (read codes tuple)
 read_coded codes [] k = tt
-read_coded codes (w ∷ words) k = (record { code = w; is = record { known = k.0; same = refl } }, read_coded codes words k.1)
+read_coded codes (w ∷ tuple) k = (record { code = w; is = record { known = k.0; same = refl } }, read_coded codes tuple k.1)
 
 -- codes that are right in each column
-pub spelled : (codes : List Value) (words : List ℕ) (row : List Value) (columns : List ColumnId)
-    → ((j : ℕ) (d : ColumnId) → j < length columns → IsCodeIn codes words row (get_or columns j d)) → Spells codes columns words row
-spelled codes words row [] h = record { known = tt; same = refl }
-spelled codes words row (c ∷ columns) h =
+pub spelled : (codes : List Value) (row_codes : List ℕ) (row : List Value) (columns : List ColumnId)
+    → ((j : ℕ) (d : ColumnId) → j < length columns → IsCodeIn codes row_codes row (get_or columns j d)) → Spells codes columns row_codes row
+spelled codes row_codes row [] h = record { known = tt; same = refl }
+spelled codes row_codes row (c ∷ columns) h =
     let first = h zero c (omega arith) in
-    let rest = spelled codes words row columns (λ j d l. h (suc j) d (omega arith)) in
+    let rest = spelled codes row_codes row columns (λ j d l. h (suc j) d (omega arith)) in
     record { known = (first.known, rest.known); same = λ i. first.same i ∷ rest.same i }
 
 -- a code is written to its column
-pub written : (codes : List Value) (words : List ℕ) (row : List Value) (column c : ColumnId) (code : ℕ) → column.0 < length words
-    → IsCodeOf codes code (value_at row column) → (c.0 ≢ column.0 → IsCodeIn codes words row c) → IsCodeIn codes (set words column.0 code) row c
-written codes words row column c code l new old = by (cases_eq c.0 column.0)
+pub written : (codes : List Value) (row_codes : List ℕ) (row : List Value) (column c : ColumnId) (code : ℕ) → column.0 < length row_codes
+    → IsCodeOf codes code (value_at row column) → (c.0 ≢ column.0 → IsCodeIn codes row_codes row c) → IsCodeIn codes (set row_codes column.0 code) row c
+written codes row_codes row column c code l new old = by (cases_eq c.0 column.0)
   where
-    by : (c.0 ≡ column.0) ⊎ (c.0 ≢ column.0) → IsCodeIn codes (set words column.0 code) row c
+    by : (c.0 ≡ column.0) ⊎ (c.0 ≢ column.0) → IsCodeIn codes (set row_codes column.0 code) row c
     by (inl e) =
-        let word : get_or (set words column.0 code) c.0 0 ≡ code = ap (λ i. get_or (set words column.0 code) i 0) e
-        ∙ get_or-set_same words column.0 code 0 l in
+        let code_there : get_or (set row_codes column.0 code) c.0 0 ≡ code = ap (λ i. get_or (set row_codes column.0 code) i 0) e
+        ∙ get_or-set_same row_codes column.0 code 0 l in
         let value : value_at row c ≡ value_at row column = ap (λ i. get_or row i (Int (pos 0))) e in
-        subst (λ v. IsCodeOf codes (get_or (set words column.0 code) c.0 0) v) (sym value)
-        (subst (λ w. IsCodeOf codes w (value_at row column)) (sym word) new)
+        subst (λ v. IsCodeOf codes (get_or (set row_codes column.0 code) c.0 0) v) (sym value)
+        (subst (λ w. IsCodeOf codes w (value_at row column)) (sym code_there) new)
     by (inr n) =
-        subst (λ w. IsCodeOf codes w (value_at row c)) (sym (get_or-set_other words column.0 c.0 code 0 n)) (old n)
+        subst (λ w. IsCodeOf codes w (value_at row c)) (sym (get_or-set_other row_codes column.0 c.0 code 0 n)) (old n)
 
 -- and all columns up to this one are right
-pub written_next : (codes : List Value) (words : List ℕ) (row : List Value) (columns : List ColumnId) (i : ℕ) (column : ColumnId) (code : ℕ)
-    → i < length columns → column ≡ get_or columns i column → column.0 < length words → IsCodeOf codes code (value_at row column)
-    → ((j : ℕ) (d : ColumnId) → j < i → IsCodeIn codes words row (get_or columns j d))
-    → (j : ℕ) (d : ColumnId) → j < i + 1 → IsCodeIn codes (set words column.0 code) row (get_or columns j d)
-written_next codes words row columns i column code within is l new old j d m =
-    written codes words row column (get_or columns j d) code l new (λ n. old j d (by n (cases_eq j i)))
+pub written_next : (codes : List Value) (row_codes : List ℕ) (row : List Value) (columns : List ColumnId) (i : ℕ) (column : ColumnId) (code : ℕ)
+    → i < length columns → column ≡ get_or columns i column → column.0 < length row_codes → IsCodeOf codes code (value_at row column)
+    → ((j : ℕ) (d : ColumnId) → j < i → IsCodeIn codes row_codes row (get_or columns j d))
+    → (j : ℕ) (d : ColumnId) → j < i + 1 → IsCodeIn codes (set row_codes column.0 code) row (get_or columns j d)
+written_next codes row_codes row columns i column code within is l new old j d m =
+    written codes row_codes row column (get_or columns j d) code l new (λ n. old j d (by n (cases_eq j i)))
   where
     by : (get_or columns j d).0 ≢ column.0 → (j ≡ i) ⊎ (j ≢ i) → j < i
     by n (inl e) = absurd (n (ap (λ (c : ColumnId). c.0) (ap (λ k. get_or columns k d) e ∙ get_or_default columns i d column within ∙ sym is)))
@@ -100,38 +100,38 @@ narrow access form = All-append (λ (c : ColumnId). c.0 < 64) access.key access.
 -- codes stay codes when an interner grows
 pub code_stays : (codes more : List Value) → KeepsCodes codes more → (code : ℕ) (value : Value) → IsCodeOf codes code value → IsCodeOf more code value
 code_stays codes more k code value h =
-    let w = k.words (code ∷ []) (h.known, tt) in
+    let w = k.tuples (code ∷ []) (h.known, tt) in
     record { known = w.0.0; same = ap (λ xs. get_or xs 0 value) w.1 ∙ h.same }
 
 pub kept_twice : (codes middle more : List Value) → KeepsCodes codes middle → KeepsCodes middle more → KeepsCodes codes more
 kept_twice codes middle more k l = record {
-  words = λ ws h. let first = k.words ws h in let then = l.words ws first.0 in (then.0, then.1 ∙ first.1);
+  tuples = λ tuple h. let first = k.tuples tuple h in let then = l.tuples tuple first.0 in (then.0, then.1 ∙ first.1);
   in_order = λ index o. l.in_order index (k.in_order index o);
   same = λ index o. l.same index (k.in_order index o) ∙ k.same index o;
 }
 
 -- codes that are right at each place
-pub coded : (codes values : List Value) (words : List ℕ) → length values ≤ length words
-    → ((j : ℕ) → j < length values → IsCodeOf codes (get_or words j 0) (get_or values j (Int (pos 0)))) → AreCodesOf codes (take (length values) words) values
-coded codes [] words l h = record { known = tt; same = refl }
+pub coded : (codes values : List Value) (tuple : List ℕ) → length values ≤ length tuple
+    → ((j : ℕ) → j < length values → IsCodeOf codes (get_or tuple j 0) (get_or values j (Int (pos 0)))) → AreCodesOf codes (take (length values) tuple) values
+coded codes [] tuple l h = record { known = tt; same = refl }
 coded codes (v ∷ values) [] l h = absurd (omega (arith, l))
-coded codes (v ∷ values) (w ∷ words) l h =
+coded codes (v ∷ values) (w ∷ tuple) l h =
     let first = h zero (omega arith) in
-    let rest = coded codes values words (omega (arith, l)) (λ j m. h (suc j) (omega arith)) in
+    let rest = coded codes values tuple (omega (arith, l)) (λ j m. h (suc j) (omega arith)) in
     record { known = (first.known, rest.known); same = λ i. first.same i ∷ rest.same i }
 
 -- one place more
-pub coded_next : (codes values : List Value) (words : List ℕ) (i code : ℕ) → i < length words → IsCodeOf codes code (get_or values i (Int (pos 0)))
-    → ((j : ℕ) → j < i → IsCodeOf codes (get_or words j 0) (get_or values j (Int (pos 0))))
-    → (j : ℕ) → j < i + 1 → IsCodeOf codes (get_or (set words i code) j 0) (get_or values j (Int (pos 0)))
-coded_next codes values words i code l new old j m = by (cases_eq j i)
+pub coded_next : (codes values : List Value) (tuple : List ℕ) (i code : ℕ) → i < length tuple → IsCodeOf codes code (get_or values i (Int (pos 0)))
+    → ((j : ℕ) → j < i → IsCodeOf codes (get_or tuple j 0) (get_or values j (Int (pos 0))))
+    → (j : ℕ) → j < i + 1 → IsCodeOf codes (get_or (set tuple i code) j 0) (get_or values j (Int (pos 0)))
+coded_next codes values tuple i code l new old j m = by (cases_eq j i)
   where
-    by : (j ≡ i) ⊎ (j ≢ i) → IsCodeOf codes (get_or (set words i code) j 0) (get_or values j (Int (pos 0)))
+    by : (j ≡ i) ⊎ (j ≢ i) → IsCodeOf codes (get_or (set tuple i code) j 0) (get_or values j (Int (pos 0)))
     by (inl e) =
-        subst (λ k. IsCodeOf codes (get_or (set words i code) k 0) (get_or values k (Int (pos 0)))) (sym e)
-        (subst (λ w. IsCodeOf codes w (get_or values i (Int (pos 0)))) (sym (get_or-set_same words i code 0 l)) new)
+        subst (λ k. IsCodeOf codes (get_or (set tuple i code) k 0) (get_or values k (Int (pos 0)))) (sym e)
+        (subst (λ w. IsCodeOf codes w (get_or values i (Int (pos 0)))) (sym (get_or-set_same tuple i code 0 l)) new)
     by (inr n) =
-        subst (λ w. IsCodeOf codes w (get_or values j (Int (pos 0)))) (sym (get_or-set_other words i j code 0 n)) (old j (omega (arith, m, n)))
+        subst (λ w. IsCodeOf codes w (get_or values j (Int (pos 0)))) (sym (get_or-set_other tuple i j code 0 n)) (old j (omega (arith, m, n)))
 
 below : (n : ℕ) (columns : List ColumnId) → All (λ c. c.0 < n) columns → (q : ℕ) → list_any (λ x. q == x) (map (λ c. c.0) columns) ≡ true → q < n
 below n [] h q e = cc

@@ -19,7 +19,7 @@ use Rattle.access_index.specs.Index.{IsIndexOf, WouldHold, tallies, tuple_of, ke
 use Rattle.access_index.proofs.Indexing.{take_tuple, group_tuples}
 use Rattle.labelled_list.specs.declared.coded.Coded.{Coded}
 use Rattle.code_index.specs.Codes.{value_of}
-use Rattle.code_index.specs.Reading.{WordIndex, IsInOrderFor, IsGroup, Spells, read, read_index, read_group, read_entries, pick, AllKnown, AllWordsKnown, is_keyed, words_in}
+use Rattle.code_index.specs.Reading.{CodeIndex, IsInOrderFor, IsGroup, Spells, read, read_index, read_group, read_entries, pick, AllKnown, AllCodesKnown, is_keyed, codes_in}
 use Rattle.code_index.specs.Taking.{HasRoom, CountsWhere, HoldsWhere}
 use Rattle.code_index.proofs.Holding.{holds_iff}
 use Rattle.code_index.proofs.Keys.{row_same}
@@ -40,64 +40,66 @@ set_same test (x ∷ es) g f = by (test x.0) f (set_same test es g)
     by true h rest = let same : x.1 ≡ g = cc in ap (λ gs. (x.0, gs) ∷ es) (sym same)
     by false h rest = ap (λ gs. x ∷ gs) (rest h)
 
-module _ (access : Access) (codes : List Value) (total : ℕ) (es new : List Entry) (words : List ℕ) (self : WordIndex) where
-  abbrev inside : WordIndex
+module _ (access : Access) (codes : List Value) (total : ℕ) (es new : List Entry) (row_codes : List ℕ) (self : CodeIndex) where
+  abbrev inside : CodeIndex
   inside = record { access = access; total = total; groups = es }
 
   -- a row was counted
   pub record Taken : Type 0 where
     pub in_order : IsInOrderFor codes (record { access = access; total = total + 1; groups = new })
-    pub ok : (row : List Value) (front back : List (List Value)) → Spells codes (member_columns self.access) words row
+    pub ok : (row : List Value) (front back : List (List Value)) → Spells codes (member_columns self.access) row_codes row
         → IsIndexOf (read_index codes self) (front ++ back)
         → IsIndexOf (read_index codes (record { access = access; total = total + 1; groups = new })) (front ++ row ∷ back)
 
-  module _ (view : inside ≡ self) (in_order : IsInOrderFor codes self) (known : AllKnown codes (pick (member_columns self.access) words))
-      (key : List ℕ) (key_is : key ≡ pick access.key words) where
+  module _ (view : inside ≡ self) (in_order : IsInOrderFor codes self) (known : AllKnown codes (pick (member_columns self.access) row_codes))
+      (key : List ℕ) (key_is : key ≡ pick access.key row_codes) where
     o : IsInOrderFor codes inside
     o = subst (IsInOrderFor codes) (sym view) in_order
 
-    k : AllKnown codes (pick (member_columns access) words)
-    k = subst (λ (s : WordIndex). AllKnown codes (pick (member_columns s.access) words)) (sym view) known
+    k : AllKnown codes (pick (member_columns access) row_codes)
+    k = subst (λ (s : CodeIndex). AllKnown codes (pick (member_columns s.access) row_codes)) (sym view) known
 
-    taken : IsMore access codes total es new words → Taken
+    taken : IsMore access codes total es new row_codes → Taken
     taken m = record {
       in_order = m.many_in_order;
-      ok = subst (λ (s : WordIndex). (row : List Value) (front back : List (List Value)) → Spells codes (member_columns s.access) words row
+      ok = subst (λ (s : CodeIndex). (row : List Value) (front back : List (List Value)) → Spells codes (member_columns s.access) row_codes row
           → IsIndexOf (read_index codes s) (front ++ back)
           → IsIndexOf (read_index codes (record { access = access; total = total + 1; groups = new })) (front ++ row ∷ back)) view m.added;
     }
 
     pub take_found : (g more : List Coded) → lookup (pointwise nat_eq key) es ≡ Some g → new ≡ set_value (pointwise nat_eq key) es more
-        → IsDistinct (pointwise nat_eq) (keys_of new) → IsOneMore (read_group codes g) (read_group codes more) (read codes (pick (member_columns access) words))
-        → AllWordsKnown codes more → Taken
+        → IsDistinct (pointwise nat_eq) (keys_of new)
+        → IsOneMore (read_group codes g) (read_group codes more) (read codes (pick (member_columns access) row_codes))
+        → AllCodesKnown codes more → Taken
     take_found g more found is unique m wk =
-        taken (more_to access codes total es new words o k g more
+        taken (more_to access codes total es new row_codes o k g more
         (ap (λ j. lookup (pointwise nat_eq j) es) (sym key_is) ∙ found) (is ∙ ap (λ j. set_value (pointwise nat_eq j) es more) key_is) unique m wk)
 
-    pub take_new : (g : List Coded) → g ≡ record { codes = pick (member_columns access) words; count = 1 } ∷ [] → new ≡ es ++ (key, g) ∷ []
+    pub take_new : (g : List Coded) → g ≡ record { codes = pick (member_columns access) row_codes; count = 1 } ∷ [] → new ≡ es ++ (key, g) ∷ []
         → IsDistinct (pointwise nat_eq) (keys_of new) → Taken
     take_new g g_is is unique =
-        let tuple = pick (member_columns access) words in
+        let tuple = pick (member_columns access) row_codes in
         let one : List Coded = record { codes = tuple; count = 1 } ∷ [] in
-        taken (more_new access codes total es new words o k one
-        (is ∙ ap (λ j. es ++ (j, g) ∷ []) key_is ∙ ap (λ h. es ++ (pick access.key words, h) ∷ []) g_is) unique
+        taken (more_new access codes total es new row_codes o k one
+        (is ∙ ap (λ j. es ++ (j, g) ∷ []) key_is ∙ ap (λ h. es ++ (pick access.key row_codes, h) ∷ []) g_is) unique
         (group_put codes [] 0 tuple tt tt
         (record { within = omega arith; before = λ i d l. absurd (omega (arith, l)); after = λ i d h l. absurd (omega (arith, l)) })) (k, tt))
 
 -- what is there of the row's tuple
-module _ (access : Access) (codes : List Value) (total : ℕ) (es : List Entry) (words : List ℕ)
-    (o : IsInOrderFor codes (record { access = access; total = total; groups = es })) (row : List Value) (s : Spells codes (member_columns access) words row) where
+module _ (access : Access) (codes : List Value) (total : ℕ) (es : List Entry) (row_codes : List ℕ)
+    (o : IsInOrderFor codes (record { access = access; total = total; groups = es })) (row : List Value)
+    (s : Spells codes (member_columns access) row_codes row) where
   abbrev ws : List ℕ
-  ws = pick access.key words
+  ws = pick access.key row_codes
 
   abbrev own_tuple : List ℕ
-  own_tuple = pick (member_columns access) words
+  own_tuple = pick (member_columns access) row_codes
 
   key_in : AllKnown codes ws
-  key_in = key_known codes words access s.known
+  key_in = key_known codes row_codes access s.known
 
   pub own_key : key_of access row ≡ read codes ws
-  own_key = sym (take_tuple access row) ∙ ap (take (length access.key)) (sym s.same) ∙ read_key codes words access
+  own_key = sym (take_tuple access row) ∙ ap (take (length access.key)) (sym s.same) ∙ read_key codes row_codes access
 
   whole : (w : ℕ) (key : List Value) (ts : List Tally) → AllTuplesPass (is_keyed w key) ts → filter (is_key w key) ts ≡ ts
   whole w key [] a = refl
@@ -167,7 +169,7 @@ module _ (access : Access) (codes : List Value) (total : ℕ) (es : List Entry) 
       (Has-from_contains (tuples_in (tallies (read_index codes (record { access = access; total = total; groups = es })) (key_of access row))) (tuple_of access row) c)))
   is_not g f a l (inr s) = omega (arith, l, s, ap length (group_tallies g f), length_group codes g)
 
-  pub judged : (g : List Coded) → lookup (pointwise nat_eq ws) es ≡ Some g → (answer : Bool) → HasRoom answer access words g
+  pub judged : (g : List Coded) → lookup (pointwise nat_eq ws) es ≡ Some g → (answer : Bool) → HasRoom answer access row_codes g
       → IsTrue answer ↔ WouldHold (read_index codes (record { access = access; total = total; groups = es })) row
   judged g f true (inl l) = (λ t. room_left g f l, λ would. refl)
   judged g f true (inr m) =
@@ -184,36 +186,36 @@ module _ (access : Access) (codes : List Value) (total : ℕ) (es : List Entry) 
       back (inr l) = iff.1 (omega (arith, l, ap length (no_tallies f)))
 
 -- what is told of a row by the group of its key
-module _ (access : Access) (codes : List Value) (total : ℕ) (es : List Entry) (words : List ℕ) (self : WordIndex)
+module _ (access : Access) (codes : List Value) (total : ℕ) (es : List Entry) (row_codes : List ℕ) (self : CodeIndex)
     (view : record { access = access; total = total; groups = es } ≡ self) (in_order : IsInOrderFor codes self)
-    (key : List ℕ) (key_is : key ≡ pick access.key words) where
-  abbrev Tells : Bool → WordIndex → Type 0
-  Tells answer index = (row : List Value) → Spells codes (member_columns index.access) words row → IsTrue answer ↔ WouldHold (read_index codes index) row
+    (key : List ℕ) (key_is : key ≡ pick access.key row_codes) where
+  abbrev Tells : Bool → CodeIndex → Type 0
+  Tells answer index = (row : List Value) → Spells codes (member_columns index.access) row_codes row → IsTrue answer ↔ WouldHold (read_index codes index) row
 
-  holds_where : (answer : Bool) → Tells answer self → HoldsWhere answer codes words self
+  holds_where : (answer : Bool) → Tells answer self → HoldsWhere answer codes row_codes self
   holds_where answer tells row rows s is h = holds_iff (read_index codes self) row answer (tells row s) rows is h
 
-  pub found_tells : (g : List Coded) → lookup (pointwise nat_eq key) es ≡ Some g → (answer : Bool) → HasRoom answer access words g → Tells answer self
+  pub found_tells : (g : List Coded) → lookup (pointwise nat_eq key) es ≡ Some g → (answer : Bool) → HasRoom answer access row_codes g → Tells answer self
   found_tells g f answer room =
-      subst (Tells answer) view (λ row s. judged access codes total es words (subst (IsInOrderFor codes) (sym view) in_order) row s g
+      subst (Tells answer) view (λ row s. judged access codes total es row_codes (subst (IsInOrderFor codes) (sym view) in_order) row s g
       (ap (λ j. lookup (pointwise nat_eq j) es) (sym key_is) ∙ f) answer room)
 
   pub new_tells : lookup (pointwise nat_eq key) es ≡ None → (answer : Bool) → (IsTrue answer ↔ (0 < access.bound)) → Tells answer self
   new_tells f answer iff =
-      subst (Tells answer) view (λ row s. of_nothing access codes total es words (subst (IsInOrderFor codes) (sym view) in_order) row s
+      subst (Tells answer) view (λ row s. of_nothing access codes total es row_codes (subst (IsInOrderFor codes) (sym view) in_order) row s
       (ap (λ j. lookup (pointwise nat_eq j) es) (sym key_is) ∙ f) answer iff)
 
-  pub found_holds : (g : List Coded) → lookup (pointwise nat_eq key) es ≡ Some g → (answer : Bool) → HasRoom answer access words g
-      → HoldsWhere answer codes words self
+  pub found_holds : (g : List Coded) → lookup (pointwise nat_eq key) es ≡ Some g → (answer : Bool) → HasRoom answer access row_codes g
+      → HoldsWhere answer codes row_codes self
   found_holds g f answer room = holds_where answer (found_tells g f answer room)
 
   pub new_holds : lookup (pointwise nat_eq key) es ≡ None → (answer : Bool) → (IsTrue answer ↔ (0 < access.bound))
-      → HoldsWhere answer codes words self
+      → HoldsWhere answer codes row_codes self
   new_holds f answer iff = holds_where answer (new_tells f answer iff)
 
 -- an index that is left as it is
-pub left_alone : (codes : List Value) (words : List ℕ) (old new : WordIndex) → new ≡ old → CountsWhere false codes words old new
-left_alone codes words old new e row front back s is = subst (λ (x : WordIndex). IsIndexOf (read_index codes x) (front ++ back)) (sym e) is
+pub left_alone : (codes : List Value) (row_codes : List ℕ) (old new : CodeIndex) → new ≡ old → CountsWhere false codes row_codes old new
+left_alone codes row_codes old new e row front back s is = subst (λ (x : CodeIndex). IsIndexOf (read_index codes x) (front ++ back)) (sym e) is
 
 -- the group of a key
 module _ (access : Access) (codes : List Value) (total : ℕ) (es : List Entry) (key : List ℕ)
@@ -224,7 +226,7 @@ module _ (access : Access) (codes : List Value) (total : ℕ) (es : List Entry) 
       ap (λ b. cond b (t ∷ filter (is_key w k) ts) (filter (is_key w k) ts)) (row_same (take w t.tuple) k (sym (same_row_true k (take w t.tuple) a.0)))
       ∙ ap (λ us. t ∷ us) (all_of w k ts a.1)
 
-  tuples_read : (g : List Coded) → tuples_in (read_group codes g) ≡ map (read codes) (words_in g)
+  tuples_read : (g : List Coded) → tuples_in (read_group codes g) ≡ map (read codes) (codes_in g)
   tuples_read [] = refl
   tuples_read (c ∷ g) = ap (λ xs. read codes c.codes ∷ xs) (tuples_read g)
 
@@ -238,7 +240,7 @@ module _ (access : Access) (codes : List Value) (total : ℕ) (es : List Entry) 
 
   module _ (rows : List (List Value)) (is : IsIndexOf (read_index codes (record { access = access; total = total; groups = es })) rows) where
     pub found_group : (g : List Coded) → lookup (pointwise nat_eq key) es ≡ Some g
-        → map (read codes) (words_in g) ≡ group_of rows access (read codes key)
+        → map (read codes) (codes_in g) ≡ group_of rows access (read codes key)
     found_group g f =
         sym (tuples_read g)
         ∙ ap tuples_in (sym (own_tallies ∙ ap (filter (is_key (length access.key) (read codes key))) (key_bucket (Some g) f)
@@ -251,22 +253,22 @@ module _ (access : Access) (codes : List Value) (total : ℕ) (es : List Entry) 
         ∙ ap tuples_in (sym (is.tallies_are (read codes key)) ∙ own_tallies ∙ ap (filter (is_key (length access.key) (read codes key))) (key_bucket None f))
 
 -- a row fewer
-module _ (access : Access) (total : ℕ) (es new : List Entry) (words : List ℕ) (self : WordIndex) where
-  abbrev now : WordIndex
+module _ (access : Access) (total : ℕ) (es new : List Entry) (row_codes : List ℕ) (self : CodeIndex) where
+  abbrev now : CodeIndex
   now = record { access = access; total = total - 1; groups = new }
 
   pub record Left (codes : List Value) : Type 0 where
     pub in_order : IsInOrderFor codes now
-    pub rest : (row : List Value) (front back : List (List Value)) → Spells codes (member_columns self.access) words row
+    pub rest : (row : List Value) (front back : List (List Value)) → Spells codes (member_columns self.access) row_codes row
         → IsIndexOf (read_index codes self) (front ++ row ∷ back) → IsIndexOf (read_index codes now) (front ++ back)
 
-  module _ (view : record { access = access; total = total; groups = es } ≡ self) (some : 1 ≤ total) (key : List ℕ) (key_is : key ≡ pick access.key words)
+  module _ (view : record { access = access; total = total; groups = es } ≡ self) (some : 1 ≤ total) (key : List ℕ) (key_is : key ≡ pick access.key row_codes)
       (g : List Coded) (found : lookup (pointwise nat_eq key) es ≡ Some g)
       (codes : List Value) (in_order : IsInOrderFor codes self) where
     one : total ≡ (total - 1) + 1
     one = omega arith
 
-    abbrev old : WordIndex
+    abbrev old : CodeIndex
     old = record { access = access; total = (total - 1) + 1; groups = es }
 
     same_old : old ≡ self
@@ -275,26 +277,29 @@ module _ (access : Access) (total : ℕ) (es new : List Entry) (words : List ℕ
     p : IsInOrderFor codes old
     p = subst (IsInOrderFor codes) (sym same_old) in_order
 
-    found_there : lookup (pointwise nat_eq (pick access.key words)) es ≡ Some g
+    found_there : lookup (pointwise nat_eq (pick access.key row_codes)) es ≡ Some g
     found_there = ap (λ j. lookup (pointwise nat_eq j) es) (sym key_is) ∙ found
 
-    left : IsMore access codes (total - 1) new es words → Left codes
+    left : IsMore access codes (total - 1) new es row_codes → Left codes
     left m = record {
       in_order = m.few_in_order;
-      rest = subst (λ (s : WordIndex). (row : List Value) (front back : List (List Value)) → Spells codes (member_columns s.access) words row
+      rest = subst (λ (s : CodeIndex). (row : List Value) (front back : List (List Value)) → Spells codes (member_columns s.access) row_codes row
           → IsIndexOf (read_index codes s) (front ++ row ∷ back) → IsIndexOf (read_index codes now) (front ++ back)) same_old m.removed;
     }
 
     pub left_in : (less : List Coded) → new ≡ set_value (pointwise nat_eq key) es less → IsDistinct (pointwise nat_eq) (keys_of new)
-        → IsOneMore (read_group codes less) (read_group codes g) (read codes (pick (member_columns access) words)) → AllWordsKnown codes less → 0 < length less → Left codes
+        → IsOneMore (read_group codes less) (read_group codes g) (read codes (pick (member_columns access) row_codes))
+        → AllCodesKnown codes less → 0 < length less → Left codes
     left_in less is unique m wk l =
-        left (less_from access codes (total - 1) new es words p (known_key access codes ((total - 1) + 1) es (pick access.key words) p g found_there) less g found_there
+        left (less_from access codes (total - 1) new es row_codes p
+        (known_key access codes ((total - 1) + 1) es (pick access.key row_codes) p g found_there) less g found_there
         (is ∙ ap (λ j. set_value (pointwise nat_eq j) es less) key_is) unique m wk l)
 
     pub left_whole : new ≡ swap_remove_entry (pointwise nat_eq key) es → IsDistinct (pointwise nat_eq) (keys_of new)
-        → IsOneMore [] (read_group codes g) (read codes (pick (member_columns access) words)) → Left codes
+        → IsOneMore [] (read_group codes g) (read codes (pick (member_columns access) row_codes)) → Left codes
     left_whole is unique m =
-        left (less_whole access codes (total - 1) new es words p (known_key access codes ((total - 1) + 1) es (pick access.key words) p g found_there) g found_there
+        left (less_whole access codes (total - 1) new es row_codes p
+        (known_key access codes ((total - 1) + 1) es (pick access.key row_codes) p g found_there) g found_there
         (is ∙ ap (λ j. swap_remove_entry (pointwise nat_eq j) es) key_is) unique m)
 
 -- what holds of the group at a place

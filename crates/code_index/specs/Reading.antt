@@ -1,13 +1,13 @@
 -- Indexes over codes, and the values that an interner gives these codes.
---     read codes words              the values of some codes, by the list of an interner's values
---     row_code words column         the code of a row in a column, 0 where it has none
---     pick columns words            the codes of a row in some columns
---     AllKnown codes words          each of the codes is one that the interner gave
---     Spells codes columns words row      the row's values in these columns are those of the codes
+--     read codes tuple              the values of some codes, by the list of an interner's values
+--     row_code row_codes column     the code of a row in a column, 0 where it has none
+--     pick columns row_codes        the codes of a row in some columns
+--     AllKnown codes tuple          each of the codes is one that the interner gave
+--     Spells codes columns row_codes row        the row's values in these columns are those of the codes
 --     read_tally codes coded, read_group codes group, read_entry codes entry, read_entries codes entries
 --                                   a tuple of codes with its count, a group, a group under its key and a list of these, as values
---     AllWordsKnown codes group     the codes of each tuple are ones that the interner gave
---     WordIndex                     what contracts see of an index over codes
+--     AllCodesKnown codes group     the codes of each tuple are ones that the interner gave
+--     CodeIndex                     what contracts see of an index over codes
 --     read_index codes index        the index of values that an index over codes stands for
 --     is_keyed key_width key tuple  a tuple has a key
 --     IsGroup width key_width key tallies         what holds of the group of a key: in the order of values, none of them counted 0 times
@@ -15,8 +15,8 @@
 --     IsInOrderFor codes index      the codes of the index are the interner's, and each group stands in the order of their values
 --     IsOrdered index               it is in order for some interner
 --     KeepsCodes codes more         what was coded by one interner means the same by another one
---     words_in group, words_at index place        the tuples of a group, and of the group at a place
---     word_in columns tuple column  a column's code in a tuple over these columns
+--     codes_in group, codes_at index place        the tuples of a group, and of the group at a place
+--     code_in columns tuple column  a column's code in a tuple over these columns
 use Rattle.std.specs.Prelude.{◌≡◌, ◌<◌, if◌then◌else◌, ◌==◌, ℕ, Bool, List, [], ◌∷◌, length, map, take, sum_by, slice_index_or}
 use Rattle.std.specs.List.{AllByRecursion, IsDistinct}
 use Rattle.std.specs.Map.{keys_of, values_of}
@@ -33,20 +33,20 @@ use Rattle.access_index.specs.Index.{Index}
 use Rattle.labelled_list.specs.declared.coded.Coded.{Coded}
 
 abbrev pub read : List Value → List ℕ → List Value
-read codes words = map (value_of codes) words
+read codes tuple = map (value_of codes) tuple
 
 abbrev pub row_code : List ℕ → ColumnId → ℕ
-row_code words column = slice_index_or words column.0 0
+row_code row_codes column = slice_index_or row_codes column.0 0
 
 abbrev pub pick : List ColumnId → List ℕ → List ℕ
-pick columns words = map (row_code words) columns
+pick columns row_codes = map (row_code row_codes) columns
 
 abbrev pub AllKnown : List Value → List ℕ → Type 0
-AllKnown codes words = AllByRecursion (λ w. w < length codes) words
+AllKnown codes tuple = AllByRecursion (λ code. code < length codes) tuple
 
-pub record Spells (codes : List Value) (columns : List ColumnId) (words : List ℕ) (row : List Value) : Type 0 where
-  pub known : AllKnown codes (pick columns words)
-  pub same : read codes (pick columns words) ≡ project columns row
+pub record Spells (codes : List Value) (columns : List ColumnId) (row_codes : List ℕ) (row : List Value) : Type 0 where
+  pub known : AllKnown codes (pick columns row_codes)
+  pub same : read codes (pick columns row_codes) ≡ project columns row
 
 abbrev pub read_tally : List Value → Coded → Tally
 read_tally codes coded = record { tuple = read codes coded.codes; count = coded.count }
@@ -60,11 +60,11 @@ read_entry codes entry = (read codes entry.0, read_group codes entry.1)
 abbrev pub read_entries : List Value → List (List ℕ × List Coded) → List (List Value × List Tally)
 read_entries codes entries = map (read_entry codes) entries
 
-abbrev pub AllWordsKnown : List Value → List Coded → Type 0
-AllWordsKnown codes group = AllByRecursion (λ c. AllKnown codes c.codes) group
+abbrev pub AllCodesKnown : List Value → List Coded → Type 0
+AllCodesKnown codes group = AllByRecursion (λ c. AllKnown codes c.codes) group
 
 -- what contracts see of an index over codes
-pub record WordIndex : Type 0 where
+pub record CodeIndex : Type 0 where
   -- its constraint
   pub access : Access
   -- how many rows it is of
@@ -72,7 +72,7 @@ pub record WordIndex : Type 0 where
   -- its groups: a key, and the tuples with this key, each with the number of rows that have it
   pub groups : List (List ℕ × List Coded)
 
-abbrev pub read_index : List Value → WordIndex → Index
+abbrev pub read_index : List Value → CodeIndex → Index
 read_index codes index = record { access = index.access; total = index.total; buckets = values_of (read_entries codes index.groups) }
 
 -- a tuple has this key
@@ -92,32 +92,32 @@ pub record IsStored (width key_width : ℕ) (entries : List (List Value × List 
   pub buckets : AllByRecursion (λ e. IsGroup width key_width e.0 e.1) entries
   pub total_is : total ≡ sum_by (λ e. counts_in e.1) entries
 
-pub record IsInOrderFor (codes : List Value) (index : WordIndex) : Type 0 where
+pub record IsInOrderFor (codes : List Value) (index : CodeIndex) : Type 0 where
   pub distinct : AreDistinct codes
   pub keys : AllByRecursion (λ e. AllKnown codes e.0) index.groups
-  pub known : AllByRecursion (λ e. AllWordsKnown codes e.1) index.groups
+  pub known : AllByRecursion (λ e. AllCodesKnown codes e.1) index.groups
   pub stored : IsStored (length (member_columns index.access)) (length index.access.key) (read_entries codes index.groups) index.total
 
 -- some interner for which it is in order
-pub record IsOrdered (index : WordIndex) : Type 0 where
+pub record IsOrdered (index : CodeIndex) : Type 0 where
   pub codes : List Value
   pub in_order : IsInOrderFor codes index
 
 -- an interner that has grown: what is in order stays so and means the same
 pub record KeepsCodes (codes more : List Value) : Type 0 where
-  pub words : (words : List ℕ) → AllKnown codes words → AllKnown more words × (read more words ≡ read codes words)
-  pub in_order : (index : WordIndex) → IsInOrderFor codes index → IsInOrderFor more index
-  pub same : (index : WordIndex) → IsInOrderFor codes index → read_index more index ≡ read_index codes index
+  pub tuples : (tuple : List ℕ) → AllKnown codes tuple → AllKnown more tuple × (read more tuple ≡ read codes tuple)
+  pub in_order : (index : CodeIndex) → IsInOrderFor codes index → IsInOrderFor more index
+  pub same : (index : CodeIndex) → IsInOrderFor codes index → read_index more index ≡ read_index codes index
 
 -- the tuples of the group at a place
-abbrev pub words_in : List Coded → List (List ℕ)
-words_in group = map (λ c. c.codes) group
+abbrev pub codes_in : List Coded → List (List ℕ)
+codes_in group = map (λ c. c.codes) group
 
-abbrev pub words_at : WordIndex → ℕ → List (List ℕ)
-words_at index place = words_in (slice_index_or (values_of index.groups) place [])
+abbrev pub codes_at : CodeIndex → ℕ → List (List ℕ)
+codes_at index place = codes_in (slice_index_or (values_of index.groups) place [])
 
 -- a column's code in a tuple over these columns, the first where a column stands twice
-abbrev pub word_in : List ColumnId → List ℕ → ColumnId → ℕ
-word_in [] tuple column = 0
-word_in (c ∷ columns) [] column = 0
-word_in (c ∷ columns) (w ∷ tuple) column = if c.0 == column.0 then w else word_in columns tuple column
+abbrev pub code_in : List ColumnId → List ℕ → ColumnId → ℕ
+code_in [] tuple column = 0
+code_in (c ∷ columns) [] column = 0
+code_in (c ∷ columns) (code ∷ tuple) column = if c.0 == column.0 then code else code_in columns tuple column

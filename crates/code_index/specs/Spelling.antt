@@ -2,8 +2,8 @@
 --     IsCodeOf codes code value      the value was interned, with this code
 --     HasCode codes value            the value was interned
 --     AllHaveCodes codes values      each of them was
---     AreCodesOf codes words values  these are the codes of the values
---     IsCodeIn codes words row column      a row's code in a column is that of its value there
+--     AreCodesOf codes tuple values  these are the codes of the values
+--     IsCodeIn codes row_codes row column      a row's code in a column is that of its value there
 use Rattle.std.specs.Prelude.{◌≡◌, ◌<◌, ℕ, List, length}
 use Rattle.std.specs.List.{AllByRecursion}
 use Rattle.beas_core.specs.declared.value.Value.{Value}
@@ -24,9 +24,9 @@ abbrev pub AllHaveCodes : List Value → List Value → Type 0
 AllHaveCodes codes values = AllByRecursion (HasCode codes) values
 
 -- these are the codes of the values
-pub record AreCodesOf (codes : List Value) (words : List ℕ) (values : List Value) : Type 0 where
-  pub known : AllKnown codes words
-  pub same : read codes words ≡ values
+pub record AreCodesOf (codes : List Value) (tuple : List ℕ) (values : List Value) : Type 0 where
+  pub known : AllKnown codes tuple
+  pub same : read codes tuple ≡ values
 
 abbrev pub IsCodeIn : List Value → List ℕ → List Value → ColumnId → Type 0
-IsCodeIn codes words row column = IsCodeOf codes (row_code words column) (value_at row column)
+IsCodeIn codes row_codes row column = IsCodeOf codes (row_code row_codes column) (value_at row column)

@@ -38,14 +38,14 @@ fn same_codes(left: &[u64], right: &[u64]) -> bool
 }
 
 /// Whether a row has a key.
-fn has_key(columns: &[ColumnId], words: &[u64], key: &[u64]) -> bool
-    ensures { result ≡ pointwise nat_eq (pick columns.now words.now) key.now }
+fn has_key(columns: &[ColumnId], row_codes: &[u64], key: &[u64]) -> bool
+    ensures { result ≡ pointwise nat_eq (pick columns.now row_codes.now) key.now }
 {
     if columns.len() != key.len() {
         return false;
     }
     for (i, column) in columns.iter().enumerate() {
-        if row_code(words, *column) != key[i] {
+        if row_code(row_codes, *column) != key[i] {
             return false;
         }
     }

@@ -3,7 +3,7 @@ ghost use Rattle.std.specs.Prelude.{◌≡◌, ◌<◌, ◌≤◌, ◌==◌, ℕ
 ghost use Rattle.beas_core.specs.Order.{row_cmp, value_cmp};
 ghost use Rattle.beas_core.specs.Groups.{has_column, member_columns};
 ghost use Rattle.code_index.specs.Codes.{value_of};
-ghost use Rattle.code_index.specs.Reading.{read, row_code, word_in, pick};
+ghost use Rattle.code_index.specs.Reading.{read, row_code, code_in, pick};
 
 use crate::interner::Interner;
 use beas_core::{Access, ColumnId, NoMemory, Value, compare};
@@ -35,10 +35,10 @@ pub fn column_at(access: &Access, i: usize) -> ColumnId
 }
 
 /// The code of a row in a column. A column that the row doesn't have counts as 0.
-pub fn row_code(words: &[u64], column: ColumnId) -> u64
-    ensures { result ≡ row_code words.now column }
+pub fn row_code(row_codes: &[u64], column: ColumnId) -> u64
+    ensures { result ≡ row_code row_codes.now column }
 {
-    match words.get(column.0 as usize) {
+    match row_codes.get(column.0 as usize) {
         Some(code) => *code,
         None => 0,
     }
@@ -65,14 +65,15 @@ fn compare_codes(codes: &Interner, left: u64, right: u64) -> Ordering
 }
 
 /// The order of a tuple's values and those of a row's tuple.
-pub fn compare_tuple(codes: &Interner, left: &[u64], access: &Access, words: &[u64]) -> Ordering
-    ensures { result ≡ row_cmp (read codes.now left.now) (read codes.now (pick (member_columns access.now) words.now)) }
+pub fn compare_tuple(codes: &Interner, left: &[u64], access: &Access, row_codes: &[u64]) -> Ordering
+    ensures { result ≡ row_cmp (read codes.now left.now)
+        (read codes.now (pick (member_columns access.now) row_codes.now)) }
 {
     for (i, code) in left.iter().enumerate() {
         if !has_place(access, i) {
             return Ordering::Greater;
         }
-        let order = compare_codes(codes, *code, row_code(words, column_at(access, i)));
+        let order = compare_codes(codes, *code, row_code(row_codes, column_at(access, i)));
         if order != Ordering::Equal {
             return order;
         }
@@ -84,14 +85,14 @@ pub fn compare_tuple(codes: &Interner, left: &[u64], access: &Access, words: &[u
 }
 
 /// Whether a tuple is a row's.
-pub fn is_tuple(tuple: &[u64], access: &Access, words: &[u64]) -> bool
-    ensures { IsTrue result ↔ (tuple.now ≡ pick (member_columns access.now) words.now) }
+pub fn is_tuple(tuple: &[u64], access: &Access, row_codes: &[u64]) -> bool
+    ensures { IsTrue result ↔ (tuple.now ≡ pick (member_columns access.now) row_codes.now) }
 {
     for (i, code) in tuple.iter().enumerate() {
         if !has_place(access, i) {
             return false;
         }
-        if *code != row_code(words, column_at(access, i)) {
+        if *code != row_code(row_codes, column_at(access, i)) {
             return false;
         }
     }
@@ -99,34 +100,42 @@ pub fn is_tuple(tuple: &[u64], access: &Access, words: &[u64]) -> bool
 }
 
 /// Adds a row's codes in some columns to a tuple.
-pub fn push_codes(tuple: &mut Vec<u64>, columns: &[ColumnId], words: &[u64]) -> Result<(), NoMemory>
-    ensures { OnOk result (tuple.new.items ≡ tuple.old.items ++ pick columns.now words.now) }
+pub fn push_codes(
+    tuple: &mut Vec<u64>,
+    columns: &[ColumnId],
+    row_codes: &[u64],
+) -> Result<(), NoMemory>
+    ensures { OnOk result (tuple.new.items ≡ tuple.old.items ++ pick columns.now row_codes.now) }
 {
     for column in columns {
-        tuple.push(row_code(words, *column))?;
+        tuple.push(row_code(row_codes, *column))?;
     }
     Ok(())
 }
 
 /// The codes of a row's tuple.
-pub fn tuple_codes(alloc: Global, access: &Access, words: &[u64]) -> Result<TupleCodes, NoMemory>
-    ensures { IfOk result (λ tuple. tuple ≡ pick (member_columns access.now) words.now) }
+pub fn tuple_codes(
+    alloc: Global,
+    access: &Access,
+    row_codes: &[u64],
+) -> Result<TupleCodes, NoMemory>
+    ensures { IfOk result (λ tuple. tuple ≡ pick (member_columns access.now) row_codes.now) }
 {
     let width = access.key.len().saturating_add(access.fetched.len());
     let mut tuple = Vec::with_capacity(alloc, width)?;
-    push_codes(&mut tuple, access.key.as_slice(), words)?;
-    push_codes(&mut tuple, access.fetched.as_slice(), words)?;
+    push_codes(&mut tuple, access.key.as_slice(), row_codes)?;
+    push_codes(&mut tuple, access.fetched.as_slice(), row_codes)?;
     Ok(TupleCodes::from_vec(tuple))
 }
 
 /// The codes of a row in the columns of a key.
-pub fn key_of<const K: usize>(columns: &[ColumnId], words: &[u64]) -> [u64; K]
+pub fn key_of<const K: usize>(columns: &[ColumnId], row_codes: &[u64]) -> [u64; K]
     requires width { length columns.now ≡ K }
-    ensures { result ≡ pick columns.now words.now }
+    ensures { result ≡ pick columns.now row_codes.now }
 {
     let mut key = [0; K];
     for (i, column) in columns.iter().enumerate() {
-        key[i] = row_code(words, *column);
+        key[i] = row_code(row_codes, *column);
     }
     key
 }
@@ -143,7 +152,7 @@ pub fn column_position(access: &Access, column: ColumnId) -> usize
     requires { IsTrue (has_column (member_columns access.now) column) }
     ensures within { result < length (member_columns access.now) }
     ensures code { (tuple : List ℕ) → length tuple ≡ length (member_columns access.now)
-        → word_in (member_columns access.now) tuple column ≡ slice_index_or tuple result 0 }
+        → code_in (member_columns access.now) tuple column ≡ slice_index_or tuple result 0 }
 {
     let key = access.key.as_slice();
     let fetched = access.fetched.as_slice();

@@ -110,7 +110,7 @@ impl Interner {
 
     /// The code of an integer, which is interned where it wasn't yet. Where no hint tells, it is hashed once. After an
     /// error the interner is as it was.
-    pub fn intern_integer(&mut self, alloc: Global, integer: i64) -> Result<u64, NoMemory>
+    pub(crate) fn intern_integer(&mut self, alloc: Global, integer: i64) -> Result<u64, NoMemory>
         ensures code { IfOk result (λ code. code_of self.new (Int integer) ≡ Some code) }
         ensures kept { KeepsCodes self.old self.new }
         ensures err { OnErr result (self.new ≡ self.old) }
@@ -130,7 +130,7 @@ impl Interner {
     }
 
     /// The value of a code, or none for a number that is no code. It takes no memory.
-    pub fn get(&self, code: u64) -> Option<&Value>
+    pub(crate) fn get(&self, code: u64) -> Option<&Value>
         ensures value { or_zero (option_copied result) ≡ value_of self.now code }
         ensures found { IsSome result ↔ (code < length self.now) }
     {

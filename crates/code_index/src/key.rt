@@ -12,7 +12,7 @@ use std::marker::Model;
 /// The codes of a whole tuple, up to `N` of them, by which a map is asked. They lie in place and take no memory.
 #[derive(Drop)]
 pub struct KeyCodes<const N: usize> {
-    words: [u64; N],
+    codes: [u64; N],
     len: usize,
 }
 
@@ -21,16 +21,16 @@ impl<const N: usize> Model for KeyCodes<N> {
 
     ghost Value = { List ℕ };
 
-    ghost view = { λ s. take s.len s.words };
+    ghost view = { λ s. take s.len s.codes };
 
-    ghost invariant = { λ s. (s.len ≤ N) × (length s.words ≡ N) };
+    ghost invariant = { λ s. (s.len ≤ N) × (length s.codes ≡ N) };
 }
 
 impl<const N: usize> KeyCodes<N> {
     /// The codes of a row's tuple, or none where it has more than `N`.
     #[tactic(auto, using(crate::proofs::Members::members_long))]
-    pub fn tuple(access: &Access, words: &[u64]) -> Option<KeyCodes<N>>
-        ensures { IfSome result (λ tuple. tuple ≡ pick (member_columns access.now) words.now) }
+    pub fn tuple(access: &Access, row_codes: &[u64]) -> Option<KeyCodes<N>>
+        ensures { IfSome result (λ tuple. tuple ≡ pick (member_columns access.now) row_codes.now) }
     {
         let len = access.key.len().saturating_add(access.fetched.len());
         if len > N {
@@ -38,15 +38,15 @@ impl<const N: usize> KeyCodes<N> {
         }
         let mut tuple = [0; N];
         for i in 0..len {
-            tuple[i] = row_code(words, column_at(access, i));
+            tuple[i] = row_code(row_codes, column_at(access, i));
         }
-        Some(KeyCodes { words: tuple, len })
+        Some(KeyCodes { codes: tuple, len })
     }
 
     pub fn as_slice(&self) -> &[u64]
         ensures { result.now ≡ self.now }
     {
-        &self.words[..self.len]
+        &self.codes[..self.len]
     }
 }
 
@@ -54,14 +54,14 @@ impl<const N: usize> KeyCodes<N> {
 pub fn known_codes<const N: usize>(codes: &Interner, key: &[Value]) -> Option<[u64; N]>
     requires { length key.now ≤ N }
     ensures { MatchOption result (AllHaveCodes codes.now key.now → ⊥)
-        (λ words. AreCodesOf codes.now (take (length key.now) words) key.now) }
+        (λ key_codes. AreCodesOf codes.now (take (length key.now) key_codes) key.now) }
 {
-    let mut words = [0; N];
+    let mut key_codes = [0; N];
     for (i, value) in key.iter().enumerate() {
         match codes.code(value) {
-            Some(code) => words[i] = code,
+            Some(code) => key_codes[i] = code,
             None => return None,
         }
     }
-    Some(words)
+    Some(key_codes)
 }

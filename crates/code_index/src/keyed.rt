@@ -4,7 +4,7 @@ ghost use Rattle.beas_core.specs.declared.value.Value.{Value};
 ghost use Rattle.beas_core.specs.Groups.{Holds, greatest, group_of, member_columns, has_column};
 ghost use Rattle.access_index.specs.Index.{IsIndexOf, WouldHold};
 ghost use Rattle.code_index.specs.Codes.{AreDistinct};
-ghost use Rattle.code_index.specs.Reading.{read, read_index, pick, AllKnown, Spells, IsInOrderFor, words_at, word_in};
+ghost use Rattle.code_index.specs.Reading.{read, read_index, pick, AllKnown, Spells, IsInOrderFor, codes_at, code_in};
 ghost use Rattle.code_index.specs.Taking.{CountsWhere, HoldsWhere};
 
 use crate::asked::{AskedCodes, AskedRow};
@@ -36,9 +36,9 @@ pub type LongIndex = KeyedIndex<TupleCodes>;
 
 impl<W: OwnCodes> Model for KeyedIndex<W> {
     ghost use Rattle.std.specs.Prelude.{◌≡◌, ◌≤◌, length};
-    ghost use Rattle.code_index.specs.Reading.{WordIndex, IsOrdered};
+    ghost use Rattle.code_index.specs.Reading.{CodeIndex, IsOrdered};
 
-    ghost Value = { WordIndex };
+    ghost Value = { CodeIndex };
 
     ghost view = { λ s. record { access = s.access; total = s.total; groups = s.groups.entries } };
 
@@ -102,6 +102,13 @@ impl<W: OwnCodes> KeyedIndex<W> {
         }
     }
 
+    /// Recalls that an index is of fewer than 2^32 rows. The call is there for its clause and changes nothing.
+    fn recall_few_rows(&self)
+        ensures { self.now.total < 2 ^ 32 }
+    {
+        let _total = self.total;
+    }
+
     /// The constraint. It takes no memory.
     pub fn access(&self) -> &Access
         ensures { result.now ≡ self.now.access }
@@ -109,7 +116,8 @@ impl<W: OwnCodes> KeyedIndex<W> {
         &self.access
     }
 
-    /// Counts one row more, wherever among the rows it stands. After an error the index is as it was.
+    /// Counts one row more, wherever among the rows it stands. `words` has its code in each column of the key and of what
+    /// is fetched; its other places play no part. After an error the index is as it was.
     pub fn add(&mut self, alloc: Global, codes: &Interner, words: &[u64]) -> Result<(), NoMemory>
         requires in_order { IsInOrderFor codes.now self.old }
         requires known { AllKnown codes.now (pick (member_columns self.old.access) words.now) }
@@ -127,7 +135,8 @@ impl<W: OwnCodes> KeyedIndex<W> {
         Ok(())
     }
 
-    /// Whether the row's tuple is there or its group has fewer members than the bound. It takes no memory.
+    /// Whether the tuple of a row with these codes is there or its group has fewer members than the bound. It takes no
+    /// memory.
     pub fn would_hold(&self, words: &[u64]) -> bool
         ensures exactly { (codes row : List Value) → IsInOrderFor codes self.now
             → Spells codes (member_columns self.now.access) words.now row
@@ -153,19 +162,19 @@ impl<W: OwnCodes> KeyedIndex<W> {
         &mut self,
         alloc: Global,
         codes: &Interner,
-        words: &[u64],
+        row_codes: &[u64],
     ) -> Result<bool, NoMemory>
         requires in_order { IsInOrderFor codes.now self.old }
-        requires known { AllKnown codes.now (pick (member_columns self.old.access) words.now) }
+        requires known { AllKnown codes.now (pick (member_columns self.old.access) row_codes.now) }
         requires room { self.old.total + 1 < 2 ^ 32 }
         ensures access { self.new.access ≡ self.old.access }
         ensures total { IfOk result (λ held. self.new.total ≡ self.old.total + (if held then 1 else 0)) }
         ensures in_order { IsInOrderFor codes.now self.new }
-        ensures index { IfOk result (λ held. CountsWhere held codes.now words.now self.old self.new) }
-        ensures holds { IfOk result (λ held. HoldsWhere held codes.now words.now self.old) }
+        ensures index { IfOk result (λ held. CountsWhere held codes.now row_codes.now self.old self.new) }
+        ensures holds { IfOk result (λ held. HoldsWhere held codes.now row_codes.now self.old) }
         ensures err { OnErr result (self.new ≡ self.old) }
     {
-        self.add_where(alloc, codes, words, true)
+        self.add_where(alloc, codes, row_codes, true)
     }
 
     /// Counts one row more, wherever among the rows it stands. Where it is bounded, it does so only if the row's tuple is
@@ -175,43 +184,44 @@ impl<W: OwnCodes> KeyedIndex<W> {
         &mut self,
         alloc: Global,
         codes: &Interner,
-        words: &[u64],
+        row_codes: &[u64],
         bounded: bool,
     ) -> Result<bool, NoMemory>
         requires in_order { IsInOrderFor codes.now self.old }
-        requires known { AllKnown codes.now (pick (member_columns self.old.access) words.now) }
+        requires known { AllKnown codes.now (pick (member_columns self.old.access) row_codes.now) }
         requires room { self.old.total + 1 < 2 ^ 32 }
         ensures access { self.new.access ≡ self.old.access }
         ensures total { IfOk result (λ held. self.new.total ≡ self.old.total + (if held then 1 else 0)) }
         ensures in_order { IsInOrderFor codes.now self.new }
-        ensures index { IfOk result (λ held. CountsWhere held codes.now words.now self.old self.new) }
-        ensures holds { IfOk result (λ held. IsTrue bounded → HoldsWhere held codes.now words.now self.old) }
+        ensures index { IfOk result (λ held. CountsWhere held codes.now row_codes.now self.old self.new) }
+        ensures holds { IfOk result (λ held. IsTrue bounded → HoldsWhere held codes.now row_codes.now self.old) }
         ensures all { IfOk result (λ held. bounded ≡ false → IsTrue held) }
         ensures err { OnErr result (self.new ≡ self.old) }
     {
         let asked = AskedRow {
             columns: self.access.key.as_slice(),
-            codes: words,
+            codes: row_codes,
         };
         if let Some(group) = self.groups.get_mut(asked) {
-            if !may_come(bounded, group, &self.access, words) {
+            if !may_come(bounded, group, &self.access, row_codes) {
                 return Ok(false);
             }
-            count_up(alloc, codes, group, &self.access, words)?;
+            count_up(alloc, codes, group, &self.access, row_codes)?;
             self.total += 1;
             return Ok(true);
         }
         if !may_begin(bounded, &self.access) {
             return Ok(false);
         }
-        let group = of_one(alloc, &self.access, words)?;
-        let key = GroupKey::of_row(alloc, self.access.key.as_slice(), words)?;
+        let group = of_one(alloc, &self.access, row_codes)?;
+        let key = GroupKey::of_row(alloc, self.access.key.as_slice(), row_codes)?;
         self.groups.insert(key, group)?;
         self.total += 1;
         Ok(true)
     }
 
-    /// Counts one row fewer, wherever among the rows it stood. The tuple goes with its last row. It takes no memory.
+    /// Counts one row with these codes fewer, wherever among the rows it stood. The tuple goes with its last row. It takes
+    /// no memory.
     pub fn remove(&mut self, words: &[u64])
         ensures access { self.new.access ≡ self.old.access }
         ensures total { self.new.total ≤ self.old.total }
@@ -249,16 +259,17 @@ impl<W: OwnCodes> KeyedIndex<W> {
     /// The place and the length of a key's group, or none where it is empty. It takes no memory.
     pub fn find(&self, key: &[u64]) -> Option<(u64, u32)>
         requires { length key.now ≡ length self.now.access.key }
-        ensures len { IfSome result (λ found. found.1 ≡ length (words_at self.now found.0)) }
+        ensures len { IfSome result (λ found. found.1 ≡ length (codes_at self.now found.0)) }
         ensures group { (codes : List Value) (rows : List (List Value)) → IsInOrderFor codes self.now
             → AllKnown codes key.now → IsIndexOf (read_index codes self.now) rows
             → MatchOption result (group_of rows self.now.access (read codes key.now) ≡ [])
-            (λ found. map (read codes) (words_at self.now found.0) ≡ group_of rows self.now.access (read codes key.now)) }
+            (λ found. map (read codes) (codes_at self.now found.0)
+            ≡ group_of rows self.now.access (read codes key.now)) }
         ensures some { IfSome result (λ found. 0 < found.1) }
         ensures stands { IfSome result (λ found. found.0 < length self.now.groups) }
     {
-        // Read for what its type tells: there are fewer than 2^32 rows, and so fewer tuples in each group.
-        let _in_range = self.total;
+        // Each group has fewer than 2^32 tuples, as there are fewer rows.
+        self.recall_few_rows();
         match self.groups.get_index_of(AskedCodes { codes: key }) {
             None => None,
             Some(index) => Some((index as u64, self.groups[index].len() as u32)),
@@ -268,9 +279,10 @@ impl<W: OwnCodes> KeyedIndex<W> {
     /// A column's code of a tuple that `find` found, while the index is as it was. It takes no memory.
     pub fn word(&self, place: u64, i: u32, column: ColumnId) -> u64
         requires stands { place < length self.now.groups }
-        requires member { i < length (words_at self.now place) }
+        requires member { i < length (codes_at self.now place) }
         requires column { IsTrue (has_column (member_columns self.now.access) column) }
-        ensures { result ≡ word_in (member_columns self.now.access) (slice_index_or (words_at self.now place) i []) column }
+        ensures { result ≡ code_in (member_columns self.now.access)
+            (slice_index_or (codes_at self.now place) i []) column }
     {
         let at = column_position(&self.access, column);
         self.groups[place as usize].codes(i as usize)[at]
@@ -282,8 +294,8 @@ impl<W: OwnCodes> KeyedIndex<W> {
             → IsIndexOf (read_index codes self.now) rows
             → result ≡ greatest rows self.now.access.key self.now.access.fetched }
     {
-        // Read for what its type tells: there are fewer than 2^32 rows, and so fewer tuples in each group.
-        let _in_range = self.total;
+        // Each group has fewer than 2^32 tuples, as there are fewer rows.
+        self.recall_few_rows();
         let mut best = 0;
         for i in 0..self.groups.len() {
             best = (self.groups[i].len() as u32).max(best);

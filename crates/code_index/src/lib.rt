@@ -16,4 +16,4 @@ mod tuples;
 pub use interner::Interner;
 pub use key::known_codes;
 pub use keyed::{FixedIndex, LongIndex};
-pub use spelling::{interned_row, row_codes};
+pub use spelling::{interned_row, known_row};

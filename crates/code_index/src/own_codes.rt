@@ -3,7 +3,7 @@ ghost use Rattle.std.specs.Prelude.{◌≡◌, ◌≤◌, ℕ, List, length, nat
 ghost use Rattle.std.specs.Cmp.{partial_equiv_from_equiv};
 ghost use Rattle.std.specs.Cmp.Lexicographic.{pointwise, nat_list_eq_equiv};
 ghost use Rattle.std.specs.Hash as fed;
-ghost use Rattle.labelled_list.specs.Hashing.{words_alike};
+ghost use Rattle.labelled_list.specs.Hashing.{codes_alike};
 ghost use Rattle.code_index.specs.Reading.{pick};
 
 use crate::codes::{key_of, push_codes};
@@ -24,9 +24,9 @@ pub trait OwnCodes: Drop {
         ensures { result.now ≡ seen self.now };
 
     /// The codes of a row in some columns.
-    fn of_row(alloc: Global, columns: &[ColumnId], words: &[u64]) -> Result<Self, NoMemory>
+    fn of_row(alloc: Global, columns: &[ColumnId], row_codes: &[u64]) -> Result<Self, NoMemory>
         requires { fits (length columns.now) }
-        ensures { IfOk result (λ own. seen own ≡ pick columns.now words.now) };
+        ensures { IfOk result (λ own. seen own ≡ pick columns.now row_codes.now) };
 
     /// The same codes.
     fn copy(&self, alloc: Global) -> Result<Self, NoMemory>
@@ -43,8 +43,12 @@ impl<const K: usize> OwnCodes for [u64; K] {
         &self[..]
     }
 
-    fn of_row(_alloc: Global, columns: &[ColumnId], words: &[u64]) -> Result<[u64; K], NoMemory> {
-        Ok(key_of::<K>(columns, words))
+    fn of_row(
+        _alloc: Global,
+        columns: &[ColumnId],
+        row_codes: &[u64],
+    ) -> Result<[u64; K], NoMemory> {
+        Ok(key_of::<K>(columns, row_codes))
     }
 
     fn copy(&self, _alloc: Global) -> Result<[u64; K], NoMemory> {
@@ -62,9 +66,13 @@ impl OwnCodes for TupleCodes {
         self.as_slice()
     }
 
-    fn of_row(alloc: Global, columns: &[ColumnId], words: &[u64]) -> Result<TupleCodes, NoMemory> {
+    fn of_row(
+        alloc: Global,
+        columns: &[ColumnId],
+        row_codes: &[u64],
+    ) -> Result<TupleCodes, NoMemory> {
         let mut key = Vec::with_capacity(alloc, columns.len())?;
-        push_codes(&mut key, columns, words)?;
+        push_codes(&mut key, columns, row_codes)?;
         Ok(TupleCodes::from_vec(key))
     }
 
@@ -92,13 +100,13 @@ impl<W: OwnCodes> GroupKey<W> {
     pub fn of_row(
         alloc: Global,
         columns: &[ColumnId],
-        words: &[u64],
+        row_codes: &[u64],
     ) -> Result<GroupKey<W>, NoMemory>
         requires { W.fits (length columns.now) }
-        ensures { IfOk result (λ key. key ≡ pick columns.now words.now) }
+        ensures { IfOk result (λ key. key ≡ pick columns.now row_codes.now) }
     {
         Ok(GroupKey {
-            own: W::of_row(alloc, columns, words)?,
+            own: W::of_row(alloc, columns, row_codes)?,
         })
     }
 
@@ -136,7 +144,7 @@ impl<W: OwnCodes> Eq for GroupKey<W> {
 impl<W: OwnCodes> Hash for GroupKey<W> {
     ghost hash_input = { fed.slice fed.u64 };
 
-    ghost respects_eq = { words_alike };
+    ghost respects_eq = { codes_alike };
 
     fn hash<H: Hasher>(&self, state: &mut H) {
         self.as_slice().hash(state);

@@ -14,7 +14,7 @@ use std::alloc::Global;
 
 /// The code of a row's value in a column, or none where it was never interned. A column that the row doesn't have stands
 /// for the integer 0.
-pub fn code_in(codes: &Interner, row: &[Value], column: ColumnId) -> Option<u64>
+pub fn known_code(codes: &Interner, row: &[Value], column: ColumnId) -> Option<u64>
     ensures { result ≡ code_of codes.now (value_at row.now column) }
 {
     match row.get(column.0 as usize) {
@@ -57,7 +57,7 @@ fn interned_in(
     if let Some(integer) = integer_at(row, column) {
         return codes.intern_integer(alloc, integer);
     }
-    match code_in(codes, row, column) {
+    match known_code(codes, row, column) {
         Some(code) => Ok(code),
         None => codes.intern(alloc, copy_in(alloc, row, column)?),
     }
@@ -66,20 +66,20 @@ fn interned_in(
 /// The codes of a row's values in the columns of a constraint's tuples, each at the place of its column, or none where
 /// one of the values was never interned. It takes no memory.
 #[tactic(auto, using(crate::proofs::Members::members_long))]
-pub fn row_codes(codes: &Interner, access: &Access, row: &[Value]) -> Option<[u64; 64]>
+pub fn known_row(codes: &Interner, access: &Access, row: &[Value]) -> Option<[u64; 64]>
     requires { AccessIsWellFormed 64 access.now }
     ensures { MatchOption result (AllHaveCodes codes.now (project (member_columns access.now) row.now) → ⊥)
-        (λ words. Spells codes.now (member_columns access.now) words row.now) }
+        (λ row_codes. Spells codes.now (member_columns access.now) row_codes row.now) }
 {
-    let mut words = [0; 64];
+    let mut row_codes = [0; 64];
     for i in 0..access.key.len() + access.fetched.len() {
         let column = column_at(access, i);
-        match code_in(codes, row, column) {
-            Some(code) => words[column.0 as usize] = code,
+        match known_code(codes, row, column) {
+            Some(code) => row_codes[column.0 as usize] = code,
             None => return None,
         }
     }
-    Some(words)
+    Some(row_codes)
 }
 
 /// Writes the codes of a row's values in the columns of a constraint's tuples, each to the place of its column. Values that
@@ -90,15 +90,15 @@ pub fn interned_row(
     codes: &mut Interner,
     access: &Access,
     row: &[Value],
-    words: &mut [u64; 64],
+    row_codes: &mut [u64; 64],
 ) -> Result<(), NoMemory>
     requires { AccessIsWellFormed 64 access.now }
     ensures kept { KeepsCodes codes.old codes.new }
-    ensures spells { OnOk result (Spells codes.new (member_columns access.now) words.new row.now) }
+    ensures spells { OnOk result (Spells codes.new (member_columns access.now) row_codes.new row.now) }
 {
     for i in 0..access.key.len() + access.fetched.len() {
         let column = column_at(access, i);
-        words[column.0 as usize] = interned_in(alloc, codes, row, column)?;
+        row_codes[column.0 as usize] = interned_in(alloc, codes, row, column)?;
     }
     Ok(())
 }

@@ -120,14 +120,14 @@ impl Group {
     }
 
     /// Where a row's tuple is, by a look at each.
-    fn scan(&self, access: &Access, words: &[u64]) -> Option<usize>
+    fn scan(&self, access: &Access, row_codes: &[u64]) -> Option<usize>
         ensures { MatchOption result
-            (AllByRecursion (λ (tuple : Coded). tuple.codes ≢ pick (member_columns access.now) words.now) self.now)
+            (AllByRecursion (λ (tuple : Coded). tuple.codes ≢ pick (member_columns access.now) row_codes.now) self.now)
             (λ at. (at < length self.now)
-            × ((d : Coded) → (slice_index_or self.now at d).codes ≡ pick (member_columns access.now) words.now)) }
+            × ((d : Coded) → (slice_index_or self.now at d).codes ≡ pick (member_columns access.now) row_codes.now)) }
     {
         for i in 0..self.len() {
-            if is_tuple(self.codes(i), access, words) {
+            if is_tuple(self.codes(i), access, row_codes) {
                 return Some(i);
             }
         }
@@ -137,34 +137,34 @@ impl Group {
     /// Where a row's tuple of more than `FEW` codes is, as where a key and the fetched columns overlap. Of a table's 64
     /// columns a constraint has each at most once in its key and once among those that it fetches.
     #[inline(never)]
-    fn wide_position_of(&self, access: &Access, words: &[u64]) -> Option<usize>
+    fn wide_position_of(&self, access: &Access, row_codes: &[u64]) -> Option<usize>
         ensures { MatchOption result
-            (AllByRecursion (λ (tuple : Coded). tuple.codes ≢ pick (member_columns access.now) words.now) self.now)
+            (AllByRecursion (λ (tuple : Coded). tuple.codes ≢ pick (member_columns access.now) row_codes.now) self.now)
             (λ at. (at < length self.now)
-            × ((d : Coded) → (slice_index_or self.now at d).codes ≡ pick (member_columns access.now) words.now)) }
+            × ((d : Coded) → (slice_index_or self.now at d).codes ≡ pick (member_columns access.now) row_codes.now)) }
     {
         match &self.form {
-            Form::Short(_) => self.scan(access, words),
-            Form::Labelled(tuples) => match KeyCodes::<MANY>::tuple(access, words) {
+            Form::Short(_) => self.scan(access, row_codes),
+            Form::Labelled(tuples) => match KeyCodes::<MANY>::tuple(access, row_codes) {
                 Some(tuple) => tuples.position_of(tuple.as_slice()),
-                None => self.scan(access, words),
+                None => self.scan(access, row_codes),
             },
         }
     }
 
     /// Where a row's tuple is by its codes alone: in a short group by a look at each tuple's codes, in a long one by its
     /// label. It takes no memory.
-    pub fn position_of(&self, access: &Access, words: &[u64]) -> Option<usize>
+    pub fn position_of(&self, access: &Access, row_codes: &[u64]) -> Option<usize>
         ensures { MatchOption result
-            (AllByRecursion (λ (tuple : Coded). tuple.codes ≢ pick (member_columns access.now) words.now) self.now)
+            (AllByRecursion (λ (tuple : Coded). tuple.codes ≢ pick (member_columns access.now) row_codes.now) self.now)
             (λ at. (at < length self.now)
-            × ((d : Coded) → (slice_index_or self.now at d).codes ≡ pick (member_columns access.now) words.now)) }
+            × ((d : Coded) → (slice_index_or self.now at d).codes ≡ pick (member_columns access.now) row_codes.now)) }
     {
         match &self.form {
-            Form::Short(_) => self.scan(access, words),
-            Form::Labelled(tuples) => match KeyCodes::<FEW>::tuple(access, words) {
+            Form::Short(_) => self.scan(access, row_codes),
+            Form::Labelled(tuples) => match KeyCodes::<FEW>::tuple(access, row_codes) {
                 Some(tuple) => tuples.position_of(tuple.as_slice()),
-                None => self.wide_position_of(access, words),
+                None => self.wide_position_of(access, row_codes),
             },
         }
     }

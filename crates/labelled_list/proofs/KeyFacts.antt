@@ -40,45 +40,45 @@ key_at es i d l = get_or-map (λ (t : Tuple). t.0) es i no_tuple d l
 length_keys : (es : List Tuple) → length (keys_of es) ≡ length es
 length_keys es = length-map es (λ (t : Tuple). t.0)
 
-other_words : (a b : List ℕ) → pointwise nat_eq a b ≡ false → b ≡ a → ⊥
-other_words a b e same = true≢false (sym ((bytes_decides a b).1 (sym same)) ∙ e)
+other_codes : (a b : List ℕ) → pointwise nat_eq a b ≡ false → b ≡ a → ⊥
+other_codes a b e same = true≢false (sym ((bytes_decides a b).1 (sym same)) ∙ e)
 
-not_words : (a b : List ℕ) → (b ≡ a → ⊥) → pointwise nat_eq a b ≡ false
-not_words a b out = by (pointwise nat_eq a b) refl
+not_codes : (a b : List ℕ) → (b ≡ a → ⊥) → pointwise nat_eq a b ≡ false
+not_codes a b out = by (pointwise nat_eq a b) refl
   where
     by : (t : Bool) → pointwise nat_eq a b ≡ t → pointwise nat_eq a b ≡ false
     by true e = absurd (out (sym ((bytes_decides a b).0 e)))
     by false e = e
 
 -- codes that the map doesn't have are no item's
-pub none_seen : (es : List Tuple) (slots : List Slot) (self : List Coded) (words : List ℕ) → ArePlaces (length es) slots → items_of es slots ≡ self
-    → None ≡ position (pointwise nat_eq words) (keys_of es) → AllByRecursion (λ (item : Coded). item.codes ≢ words) self
-none_seen es slots self words p v e =
-    subst (AllByRecursion (λ (item : Coded). item.codes ≢ words)) v
-    (all_by_places (λ (item : Coded). item.codes ≢ words) (items_of es slots) (λ i d l.
+pub none_seen : (es : List Tuple) (slots : List Slot) (self : List Coded) (codes : List ℕ) → ArePlaces (length es) slots → items_of es slots ≡ self
+    → None ≡ position (pointwise nat_eq codes) (keys_of es) → AllByRecursion (λ (item : Coded). item.codes ≢ codes) self
+none_seen es slots self codes p v e =
+    subst (AllByRecursion (λ (item : Coded). item.codes ≢ codes)) v
+    (all_by_places (λ (item : Coded). item.codes ≢ codes) (items_of es slots) (λ i d l.
     let s : Slot = record { entry = 0 } in
     let h : i < length slots = omega (arith, l, length_items es slots) in
     let w = p.within i s h in
-    let out = place_of_all (λ k. pointwise nat_eq words k ≡ false) (keys_of es) (Missing-position (pointwise nat_eq words) es (sym e)).absent
+    let out = place_of_all (λ k. pointwise nat_eq codes k ≡ false) (keys_of es) (Missing-position (pointwise nat_eq codes) es (sym e)).absent
     (get_or slots i s).entry [] (omega (arith, w, length_keys es)) in
-    λ same. other_words words (get_or (keys_of es) (get_or slots i s).entry []) out
+    λ same. other_codes codes (get_or (keys_of es) (get_or slots i s).entry []) out
     (key_at es (get_or slots i s).entry [] w ∙ sym (ap (λ (x : Coded). x.codes) (item_at es slots i d s h)) ∙ same)))
 
 -- and codes that it has are those of the slot that names their place
-pub one_seen : (es : List Tuple) (slots : List Slot) (self : List Coded) (words : List ℕ) (entry place : ℕ) → items_of es slots ≡ self
-    → Some entry ≡ position (pointwise nat_eq words) (keys_of es) → place < length slots → ((d : Slot) → (get_or slots place d).entry ≡ entry)
-    → (place < length self) × ((d : Coded) → (get_or self place d).codes ≡ words)
-one_seen es slots self words entry place v e l named =
+pub one_seen : (es : List Tuple) (slots : List Slot) (self : List Coded) (codes : List ℕ) (entry place : ℕ) → items_of es slots ≡ self
+    → Some entry ≡ position (pointwise nat_eq codes) (keys_of es) → place < length slots → ((d : Slot) → (get_or slots place d).entry ≡ entry)
+    → (place < length self) × ((d : Coded) → (get_or self place d).codes ≡ codes)
+one_seen es slots self codes entry place v e l named =
     let s : Slot = record { entry = 0 } in
-    let w = (Found-position (pointwise nat_eq words) es entry (sym e)).within in
-    let hit = position-Some (pointwise nat_eq words) (keys_of es) entry [] (sym e) in (
+    let w = (Found-position (pointwise nat_eq codes) es entry (sym e)).within in
+    let hit = position-Some (pointwise nat_eq codes) (keys_of es) entry [] (sym e) in (
       omega (arith, l, length_items es slots, ap length v),
       λ d.
           ap (λ (xs : List Coded). (get_or xs place d).codes) (sym v)
           ∙ ap (λ (x : Coded). x.codes) (item_at es slots place d s l)
           ∙ ap (λ n. (get_or es n no_tuple).0) (named s)
           ∙ sym (key_at es entry [] w)
-          ∙ sym ((bytes_decides words (get_or (keys_of es) entry [])).0 hit.1),
+          ∙ sym ((bytes_decides codes (get_or (keys_of es) entry [])).0 hit.1),
     )
 
 distinct_at : (ks : List (List ℕ)) → IsDistinct (pointwise nat_eq) ks → (i j : ℕ) (d : List ℕ) → i < j → j < length ks
@@ -102,11 +102,11 @@ items_distinct es slots self p u v = subst AreDistinct v (λ i j d h l same.
     sym (ap (λ (x : Coded). x.codes) (item_at es slots i d s k)) ∙ same ∙ ap (λ (x : Coded). x.codes) (item_at es slots j d s m) in
     let alike = key_at es a [] (p.within i s k) ∙ keys ∙ sym (key_at es b [] (p.within j s m)) in
     elim (cases_lt a b) [
-      | inl f ↦ other_words (get_or (keys_of es) a []) (get_or (keys_of es) b [])
+      | inl f ↦ other_codes (get_or (keys_of es) a []) (get_or (keys_of es) b [])
           (distinct_at (keys_of es) u a b [] f (omega (arith, p.within j s m, length_keys es))) (sym alike)
       | inr f ↦
           let other : a ≡ b → ⊥ = λ e. omega (arith, h, p.apart i j s k m e) in
-          other_words (get_or (keys_of es) b []) (get_or (keys_of es) a [])
+          other_codes (get_or (keys_of es) b []) (get_or (keys_of es) a [])
           (distinct_at (keys_of es) u b a [] (omega (arith, f, other)) (omega (arith, p.within i s k, length_keys es))) alike
     ])
 
@@ -154,7 +154,7 @@ added es new slots more_slots at n key w m l room absent sits is grown wider =
         let d : Coded = record { codes = []; count = 0 } in
         let k = m.places.named e h in
         let out = place_of_all (λ (item : Coded). item.codes ≢ key) (items_of es slots) absent k.0 d (omega (arith, k.1, length_items es slots)) in
-        not_words key (get_or es e no_tuple).0
+        not_codes key (get_or es e no_tuple).0
         (λ q. out (ap (λ (x : Coded). x.codes) (item_at es slots k.0 d s k.1) ∙ ap (λ i. (get_or es i no_tuple).0) (k.2 s) ∙ q)))
 
 pub remove_insert : {X : Type 0} (xs : List X) (at : ℕ) (x : X) → at ≤ length xs → remove (insert xs at x) at ≡ xs

@@ -1,13 +1,13 @@
 -- The codes of a tuple, wherever they lie.
---     kept_words kept      those of a kept tuple, short or long
+--     kept_codes kept      those of a kept tuple, short or long
 --     IsKept kept          a short one has no more codes than stand in place
 use Rattle.std.specs.Prelude.{⊤, ◌≡◌, ◌≤◌, ℕ, List, length, take}
 use Rattle.labelled_list.specs.declared.codes.Kept.{Kept}
 use Rattle.labelled_list.specs.declared.codes.Kept.TheVariants.{Short, Long}
 
-abbrev pub kept_words : Kept → List ℕ
-kept_words (Short len codes) = take len codes
-kept_words (Long codes) = codes.items
+abbrev pub kept_codes : Kept → List ℕ
+kept_codes (Short len codes) = take len codes
+kept_codes (Long codes) = codes.items
 
 abbrev pub IsKept : Kept → Type 0
 IsKept (Short len codes) = (len ≤ 4) × (length codes ≡ 4)

@@ -15,11 +15,11 @@ pub struct Coded {
 
 impl Coded {
     /// A tuple of these codes that so many rows have.
-    pub fn of(alloc: Global, words: &[u64], count: u32) -> Result<Coded, NoMemory>
-        ensures { IfOk result (λ coded. coded ≡ record { codes = words.now; count = count }) }
+    pub fn of(alloc: Global, codes: &[u64], count: u32) -> Result<Coded, NoMemory>
+        ensures { IfOk result (λ coded. coded ≡ record { codes = codes.now; count = count }) }
     {
         Ok(Coded {
-            codes: TupleCodes::of(alloc, words)?,
+            codes: TupleCodes::of(alloc, codes)?,
             count,
         })
     }

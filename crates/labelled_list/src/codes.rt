@@ -3,8 +3,8 @@ ghost use Rattle.std.specs.Prelude.{◌≡◌, ◌≤◌, length, nat_eq, IfOk};
 ghost use Rattle.std.specs.Cmp.{partial_equiv_from_equiv};
 ghost use Rattle.std.specs.Cmp.Lexicographic.{pointwise, nat_list_eq_equiv};
 ghost use Rattle.std.specs.Hash as fed;
-ghost use Rattle.labelled_list.specs.Hashing.{words_alike};
-ghost use Rattle.labelled_list.specs.Kept.{kept_words, IsKept};
+ghost use Rattle.labelled_list.specs.Hashing.{codes_alike};
+ghost use Rattle.labelled_list.specs.Kept.{kept_codes, IsKept};
 
 use beas_core::{Duplicate, NoMemory};
 use indexmap::Equivalent;
@@ -27,7 +27,7 @@ enum Kept {
 fn in_place(codes: &[u64]) -> Kept
     requires { length codes.now ≤ 4 }
     ensures kept { IsKept result }
-    ensures codes { kept_words result ≡ codes.now }
+    ensures codes { kept_codes result ≡ codes.now }
 {
     let len = codes.len();
     let mut short = [0; FEW];
@@ -46,36 +46,36 @@ pub struct TupleCodes {
 
 impl Model for TupleCodes {
     ghost use Rattle.std.specs.Prelude.{List, ℕ};
-    ghost use Rattle.labelled_list.specs.Kept.{kept_words, IsKept};
+    ghost use Rattle.labelled_list.specs.Kept.{kept_codes, IsKept};
 
     ghost Value = { List ℕ };
 
-    ghost view = { λ s. kept_words s.kept };
+    ghost view = { λ s. kept_codes s.kept };
 
     ghost invariant = { λ s. IsKept s.kept };
 }
 
 impl TupleCodes {
     /// These codes. It takes no memory.
-    pub fn from_vec(words: Vec<u64>) -> TupleCodes
-        ensures { result ≡ words.items }
+    pub fn from_vec(codes: Vec<u64>) -> TupleCodes
+        ensures { result ≡ codes.items }
     {
-        let kept = if words.len() > FEW {
-            Kept::Long(words)
+        let kept = if codes.len() > FEW {
+            Kept::Long(codes)
         } else {
-            in_place(&words)
+            in_place(&codes)
         };
         TupleCodes { kept }
     }
 
     /// The same codes. It takes no memory for up to four.
-    pub fn of(alloc: Global, words: &[u64]) -> Result<TupleCodes, NoMemory>
-        ensures { IfOk result (λ key. key ≡ words.now) }
+    pub fn of(alloc: Global, codes: &[u64]) -> Result<TupleCodes, NoMemory>
+        ensures { IfOk result (λ key. key ≡ codes.now) }
     {
-        let kept = if words.len() > FEW {
-            Kept::Long(words.to_vec(alloc)?)
+        let kept = if codes.len() > FEW {
+            Kept::Long(codes.to_vec(alloc)?)
         } else {
-            in_place(words)
+            in_place(codes)
         };
         Ok(TupleCodes { kept })
     }
@@ -114,7 +114,7 @@ impl Eq for TupleCodes {
 impl Hash for TupleCodes {
     ghost hash_input = { fed.slice fed.u64 };
 
-    ghost respects_eq = { words_alike };
+    ghost respects_eq = { codes_alike };
 
     fn hash<H: Hasher>(&self, state: &mut H) {
         self.as_slice().hash(state);
@@ -125,7 +125,7 @@ impl Hash for TupleCodes {
 impl Equivalent<TupleCodes> for &[u64] {
     ghost equivalent = { λ q. pointwise nat_eq q.now };
 
-    ghost respects_hash = { λ q. words_alike q.now };
+    ghost respects_hash = { λ q. codes_alike q.now };
 
     ghost respects_eq = { λ q x y. nat_list_eq_equiv.congr q.now x y };
 

@@ -134,12 +134,12 @@ impl LabelledList {
     }
 
     /// Where a tuple is by its codes alone. It takes no memory.
-    pub fn position_of(&self, words: &[u64]) -> Option<usize>
+    pub fn position_of(&self, codes: &[u64]) -> Option<usize>
         ensures { MatchOption result
-            (AllByRecursion (λ (item : Coded). item.codes ≢ words.now) self.now)
-            (λ at. (at < length self.now) × ((d : Coded) → (slice_index_or self.now at d).codes ≡ words.now)) }
+            (AllByRecursion (λ (item : Coded). item.codes ≢ codes.now) self.now)
+            (λ at. (at < length self.now) × ((d : Coded) → (slice_index_or self.now at d).codes ≡ codes.now)) }
     {
-        match self.tuples.get_index_of(words) {
+        match self.tuples.get_index_of(codes) {
             None => None,
             Some(entry) => Some(position_of_entry(&self.tuples, &self.slots, entry)),
         }

@@ -3,7 +3,7 @@ use Rattle.std.proofs.Common.{◌≡◌, ◌<◌, ◌+◌, [], ℕ, List, length
 use Rattle.std.proofs.lemmas.List.Sums.{fold_more}
 use Rattle.beas_core.specs.declared.value.Value.{Value}
 use Rattle.seeded_hash.specs.declared.hasher.TheConstants.{FIXED_FACTOR}
-use Rattle.seeded_hash.specs.Words.{mixed}
+use Rattle.seeded_hash.specs.Mixing.{mixed}
 use Rattle.place_chains.specs.Hashing.{hash_of, number_of}
 
 -- the number of one value more is mixed in

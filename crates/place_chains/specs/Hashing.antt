@@ -10,7 +10,7 @@ use Rattle.beas_core.specs.declared.value.Value.TheVariants.{Int, Str}
 use Rattle.beas_core.specs.Hashing.{writes_of}
 use Rattle.beas_core.specs.Types.{Row}
 use Rattle.seeded_hash.specs.declared.hasher.TheConstants.{FIXED_FACTOR}
-use Rattle.seeded_hash.specs.Words.{mixed}
+use Rattle.seeded_hash.specs.Mixing.{mixed}
 
 abbrev pub number_of : Value → ℕ
 number_of (Int n) = cast_unsigned w64 n

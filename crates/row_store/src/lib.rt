@@ -1,7 +1,7 @@
 //! The rows of one table, of which each that is handed out counts as one read.
 #![tactic(auto)]
 
-ghost use Rattle.std.specs.Prelude.{◌≡◌, ◌+◌, ◌<◌, ◌≤◌, ◌↔◌, ◌++◌, ◌∷◌, [], length, take, slice_index_or, IfErr, IfOk, IsErrOf, OnOk, OnErr};
+ghost use Rattle.std.specs.Prelude.{◌≡◌, ◌+◌, ◌<◌, ◌≤◌, ◌^◌, ◌↔◌, ◌++◌, ◌∷◌, [], length, take, slice_index_or, IfErr, IfOk, IsErrOf, OnOk, OnErr};
 ghost use Rattle.std.specs.List.{SwappedAt, remove, swap};
 
 use beas_core::{Counted, Fail, List, NoMemory, Refusal, Row, Steps, copy_row};
@@ -31,6 +31,13 @@ impl Model for Rows {
 /// A table's rows have this one field and no other, so no second copy of a row: with a further field this would not compile.
 fn rows_fields(rows: &Rows) {
     let Rows { rows: _rows } = rows;
+}
+
+/// Recalls that a table has fewer than 2^32 rows. The call is there for its clause and changes nothing.
+pub fn recall_few_rows(rows: &Rows)
+    ensures { length rows.now < 2 ^ 32 }
+{
+    let _len = rows.len();
 }
 
 fn too_many(limit: u32) -> Fail

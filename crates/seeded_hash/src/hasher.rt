@@ -1,17 +1,17 @@
-// A hasher of words: maps are asked by numbers much more often than by texts.
+// A hasher of numbers: maps are asked by numbers much more often than by texts.
 ghost use Rattle.std.specs.Prelude.{◌≡◌};
 ghost use Rattle.std.specs.Hash.FoldHasher.{folded_multiply};
-ghost use Rattle.seeded_hash.specs.Words.{mixed, word_of};
+ghost use Rattle.seeded_hash.specs.Mixing.{mixed, input_of};
 
 use std::hash::{BuildHasher, DefaultHasher, Hasher};
 
-/// A fast hasher that takes one multiplication for a word. A piece of eight bytes or of one is the number that these spell;
-/// any other is hashed by SipHash first, which has the factor before it. Words that collide for one seed are spread under
-/// another. The multiplication isn't cryptographic.
+/// A fast hasher that takes one multiplication for each input, which is a number of 64 bits. Eight bytes or one are the number
+/// that they spell; any others are hashed by SipHash first, which has the factor before them. Inputs that collide for one
+/// seed are spread under another. The multiplication isn't cryptographic.
 #[derive(Clone, Copy)]
 pub struct SeededHasher {
     state: u64,
-    // It is drawn from the seed too: with a fixed one, words that collide for one seed would often do so for others.
+    // It is drawn from the seed too: with a fixed one, inputs that collide for one seed would often do so for others.
     factor: u64,
 }
 
@@ -25,7 +25,7 @@ pub struct SeededHashing {
 /// takes it.
 pub const FIXED_FACTOR: u64 = 0x9e37_79b9_7f4a_7c15;
 
-// Both halves of the product of two words, joined.
+// Both halves of the product of two numbers, joined.
 fn folded_product(a: u64, b: u64) -> u64
     ensures { result ≡ folded_multiply a b }
 {
@@ -33,16 +33,16 @@ fn folded_product(a: u64, b: u64) -> u64
     (product & 0xFFFF_FFFF_FFFF_FFFF) as u64 ^ (product >> 64) as u64
 }
 
-/// A word mixed into a state. It isn't cryptographic: who chooses the words can make many states equal.
-pub fn mixed(factor: u64, state: u64, word: u64) -> u64
-    ensures { result ≡ mixed factor state word }
+/// An input mixed into a state. It isn't cryptographic: who chooses the inputs can make many states equal.
+pub fn mixed(factor: u64, state: u64, input: u64) -> u64
+    ensures { result ≡ mixed factor state input }
 {
-    folded_product(state ^ word, factor)
+    folded_product(state ^ input, factor)
 }
 
-/// The word that stands for some bytes. Eight of them, or one, are the number that they spell.
-fn word_of(factor: u64, bytes: &[u8]) -> u64
-    ensures { result ≡ word_of factor bytes.now }
+/// The input that stands for some bytes. Eight of them, or one, are the number that they spell.
+fn input_of(factor: u64, bytes: &[u8]) -> u64
+    ensures { result ≡ input_of factor bytes.now }
 {
     match bytes {
         [a, b, c, d, e, f, g, h] => u64::from_le_bytes([*a, *b, *c, *d, *e, *f, *g, *h]),
@@ -71,11 +71,11 @@ impl SeededHashing {
 }
 
 impl SeededHasher {
-    // Mixes a word into the state.
-    fn mix(&mut self, word: u64)
-        ensures { self.new ≡ record self.old { state = mixed self.old.factor self.old.state word } }
+    // Mixes an input into the state.
+    fn mix(&mut self, input: u64)
+        ensures { self.new ≡ record self.old { state = mixed self.old.factor self.old.state input } }
     {
-        self.state = mixed(self.factor, self.state, word);
+        self.state = mixed(self.factor, self.state, input);
     }
 }
 
@@ -90,9 +90,9 @@ impl BuildHasher for SeededHashing {
 }
 
 impl Hasher for SeededHasher {
-    ghost use Rattle.seeded_hash.specs.Words.{mixed, word_of};
+    ghost use Rattle.seeded_hash.specs.Mixing.{mixed, input_of};
 
-    ghost write = { λ s bytes. record s { state = mixed s.factor s.state (word_of s.factor bytes) } };
+    ghost write = { λ s bytes. record s { state = mixed s.factor s.state (input_of s.factor bytes) } };
 
     ghost finish = { λ s. s.state };
 
@@ -101,15 +101,15 @@ impl Hasher for SeededHasher {
     }
 
     fn write(&mut self, bytes: &[u8]) {
-        self.mix(word_of(self.factor, bytes));
+        self.mix(input_of(self.factor, bytes));
     }
 
     fn write_u8(&mut self, byte: u8) {
         self.mix(u64::from(byte));
     }
 
-    fn write_u64(&mut self, word: u64) {
-        self.mix(word);
+    fn write_u64(&mut self, input: u64) {
+        self.mix(input);
     }
 
     fn write_usize(&mut self, number: usize) {

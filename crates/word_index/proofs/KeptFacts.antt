@@ -7,7 +7,7 @@ use Rattle.beas_core.specs.declared.value.Value.{Value}
 use Rattle.beas_core.specs.Shapes.{AccessIsWellFormed}
 use Rattle.access_index.specs.Index.{Index}
 use Rattle.word_index.specs.declared.any.AnyIndex.{AnyIndex}
-use Rattle.code_index.specs.Reading.{WordIndex, KeepsCodes, IsInOrderFor, read_index}
+use Rattle.code_index.specs.Reading.{CodeIndex, KeepsCodes, IsInOrderFor, read_index}
 use Rattle.word_index.specs.Widths.{index_in}
 use Rattle.code_index.proofs.Ordering.{none_in_order}
 use Rattle.update_guard.specs.Indexing.{no_access}
@@ -110,8 +110,8 @@ module _ (codes : List Value) (index copy : AnyIndex) (alike : index_in copy ≡
   copy_kept : IsKept codes index → IsKept codes copy
   copy_kept k = record {
     in_order = subst (IsInOrderFor codes) (sym alike) k.in_order;
-    form = subst (λ (x : WordIndex). AccessIsWellFormed 64 x.access) (sym alike) k.form;
-    few = subst (λ (x : WordIndex). x.total < 4294967296) (sym alike) k.few;
+    form = subst (λ (x : CodeIndex). AccessIsWellFormed 64 x.access) (sym alike) k.form;
+    few = subst (λ (x : CodeIndex). x.total < 4294967296) (sym alike) k.few;
   }
 
   module _ (indexes copies : List AnyIndex) (place : ℕ) (within : place < length indexes) (is : index ≡ get_or indexes place index) where

@@ -14,7 +14,7 @@ use Rattle.access_index.specs.Buckets.{tuples_in, is_key}
 use Rattle.access_index.specs.Index.{IsIndexOf, tallies, tuple_of, key_of}
 use Rattle.access_index.proofs.Indexing.{group_tuples}
 use Rattle.labelled_list.specs.declared.coded.Coded.{Coded}
-use Rattle.code_index.specs.Reading.{read_tally, read_group, read_entries, read_index, AllWordsKnown, IsInOrderFor, WordIndex}
+use Rattle.code_index.specs.Reading.{read_tally, read_group, read_entries, read_index, AllCodesKnown, IsInOrderFor, CodeIndex}
 use Rattle.code_index.specs.Spelling.{AllHaveCodes}
 use Rattle.code_index.proofs.SpellingFacts.{read_coded}
 
@@ -24,7 +24,7 @@ record IsCoded (codes : List Value) (width : ℕ) (key : List Value) (tally : Ta
   keyed : is_key width key tally ≡ true
 
 module _ (codes : List Value) (width : ℕ) (key : List Value) where
-  in_group : (group : List Coded) (rest : List Tally) → AllWordsKnown codes group → AllByRecursion (IsCoded codes width key) rest
+  in_group : (group : List Coded) (rest : List Tally) → AllCodesKnown codes group → AllByRecursion (IsCoded codes width key) rest
       → AllByRecursion (IsCoded codes width key) (filter (is_key width key) (read_group codes group) ++ rest)
   in_group [] rest k r = r
   in_group (c ∷ group) rest k r = by (is_key width key (read_tally codes c)) refl (in_group group rest k.1 r)
@@ -36,7 +36,7 @@ module _ (codes : List Value) (width : ℕ) (key : List Value) where
       by true t a = (record { coded = read_coded codes c.codes k.0; keyed = t }, a)
       by false t a = a
 
-  in_groups : (groups : List (List ℕ × List Coded)) → AllByRecursion (λ e. AllWordsKnown codes e.1) groups
+  in_groups : (groups : List (List ℕ × List Coded)) → AllByRecursion (λ e. AllCodesKnown codes e.1) groups
       → AllByRecursion (IsCoded codes width key) (flat_map (filter (is_key width key)) (values_of (read_entries codes groups)))
   in_groups [] k = tt
   in_groups (e ∷ groups) k =
@@ -57,7 +57,7 @@ module _ (codes : List Value) (width : ℕ) (key : List Value) where
   none_coded (t ∷ ts) a n =
       absurd (n (subst (AllHaveCodes codes) (same_row_true (take width t.tuple) key a.0.keyed) (front_coded width t.tuple a.0.coded)))
 
-module _ (codes : List Value) (index : WordIndex) (o : IsInOrderFor codes index) where
+module _ (codes : List Value) (index : CodeIndex) (o : IsInOrderFor codes index) where
   -- a key with a value that has no code has no group
   pub none_found : (rows : List (List Value)) (key : List Value) → IsIndexOf (read_index codes index) rows → (AllHaveCodes codes key → ⊥)
       → group_of rows index.access key ≡ []

@@ -2,9 +2,9 @@
 --     index_in index        it, whatever its width
 use Rattle.word_index.specs.declared.any.AnyIndex.{AnyIndex}
 use Rattle.word_index.specs.declared.any.AnyIndex.TheVariants.{Zero, One, Two, Three, Four, Long}
-use Rattle.code_index.specs.Reading.{WordIndex}
+use Rattle.code_index.specs.Reading.{CodeIndex}
 
-abbrev pub index_in : AnyIndex → WordIndex
+abbrev pub index_in : AnyIndex → CodeIndex
 index_in (Zero index) = index
 index_in (One index) = index
 index_in (Two index) = index

@@ -77,9 +77,9 @@ fn add_in_turn(
         → IsIndexOf (read_index codes.new (index_in index.new)) front) }
 {
     // One array serves all rows: to clear and copy one for each would cost a part of the row.
-    let mut words = [0; 64];
+    let mut row_codes = [0; 64];
     for (i, lent) in rows.iter().enumerate() {
-        match add_if_holds(alloc, codes, index, lent.row.as_slice(), &mut words) {
+        match add_if_holds(alloc, codes, index, lent.row.as_slice(), &mut row_codes) {
             Ok(held) => {
                 if !held {
                     remove_lent(codes, index, &rows[..i]);
@@ -143,9 +143,9 @@ fn add_all(
     ensures in_order { IsInOrderFor codes.new (index_in index.new) }
     ensures index { OnOk result (IsIndexOf (read_index codes.new (index_in index.new)) (map (λ lent. lent.row.now) rows.now)) }
 {
-    let mut words = [0; 64];
+    let mut row_codes = [0; 64];
     for lent in rows {
-        add_row(alloc, codes, index, lent.row.as_slice(), &mut words)?;
+        add_row(alloc, codes, index, lent.row.as_slice(), &mut row_codes)?;
     }
     Ok(())
 }

@@ -12,7 +12,7 @@ use crate::probing::{probe_in, value_in_hits};
 use crate::rows::{add_if_holds, remove_row};
 use beas_core::{Access, ColumnId, Hits, NoMemory, Row, Steps, Value};
 use code_index::Interner;
-use row_store::Rows;
+use row_store::{Rows, recall_few_rows};
 use std::alloc::Global;
 use std::marker::Model;
 use std::sync::ledger::Ledger;
@@ -108,13 +108,13 @@ impl Indexes for CodeIndexes {
     }
 
     fn add_if_holds(&mut self, alloc: Global, place: usize, row: &Row) -> Result<bool, NoMemory> {
-        let mut words = [0; 64];
+        let mut row_codes = [0; 64];
         add_if_holds(
             alloc,
             &mut self.codes,
             &mut self.indexes[place],
             row.as_slice(),
-            &mut words,
+            &mut row_codes,
         )
     }
 
@@ -137,8 +137,8 @@ impl Indexes for CodeIndexes {
         rows: &Rows,
         steps: &mut Steps<L>,
     ) -> Result<u32, NoMemory> {
-        // Read for what its type tells: there are fewer than 2^32 rows.
-        let _in_range = rows.len();
+        // The index is of these rows, fewer than 2^32.
+        recall_few_rows(rows);
         self.indexes.reserve(1)?;
         let index = index_of(alloc, &mut self.codes, access, rows, steps)?;
         let most = index.greatest();

@@ -8,6 +8,7 @@ ghost use Rattle.word_index.specs.Kept.{meaning, IsKept};
 
 use crate::any::AnyIndex;
 use crate::rows::find_group;
+use access_index::GroupStart;
 use beas_core::{ColumnId, Hits, Steps, Value};
 use code_index::Interner;
 use std::sync::ledger::Ledger;
@@ -30,7 +31,13 @@ pub fn probe_in<L: Ledger>(
 {
     let id = index.access().id;
     match find_group(codes, index, key) {
-        Some((group, len)) => Hits::counted(id, group * 0x1_0000_0000, len, steps),
+        Some((group, len)) => {
+            let start = GroupStart {
+                bucket: group as u32,
+                from: 0,
+            };
+            Hits::counted(id, start.pack(), len, steps)
+        }
         None => Hits::counted(id, 0, 0, steps),
     }
 }
@@ -50,7 +57,6 @@ pub fn value_in_hits<'a>(
     ensures { result.now ≡ value_in (member_columns (index_in index.now).access)
         (slice_index_or (members_at (meaning codes.now index.now) hits.now) i []) column }
 {
-    let group = hits.place() / 0x1_0000_0000;
-    let at = (hits.place() % 0x1_0000_0000) as u32 + i;
-    codes.value(index.word(group, at, column))
+    let start = GroupStart::unpack(hits.place());
+    codes.value(index.word(u64::from(start.bucket), start.from + i, column))
 }

@@ -4,12 +4,12 @@ ghost use Rattle.beas_core.specs.declared.value.Value.{Value};
 ghost use Rattle.beas_core.specs.Groups.{Holds, group_of};
 ghost use Rattle.beas_core.specs.Shapes.{AccessIsWellFormed};
 ghost use Rattle.access_index.specs.Index.{IsIndexOf};
-ghost use Rattle.code_index.specs.Reading.{read, read_index, IsInOrderFor, KeepsCodes, words_at};
+ghost use Rattle.code_index.specs.Reading.{read, read_index, IsInOrderFor, KeepsCodes, codes_at};
 ghost use Rattle.word_index.specs.Widths.{index_in};
 
 use crate::any::AnyIndex;
 use beas_core::{NoMemory, Value};
-use code_index::{Interner, interned_row, known_codes, row_codes};
+use code_index::{Interner, interned_row, known_codes, known_row};
 use std::alloc::Global;
 
 /// Most keys have no more columns than this.
@@ -25,15 +25,15 @@ fn find_among<const N: usize>(
     requires width { length key.now ≡ length (index_in index.now).access.key }
     requires few { length key.now ≤ N }
     requires small { N ≤ 64 }
-    ensures len { IfSome result (λ found. found.1 ≡ length (words_at (index_in index.now) found.0)) }
+    ensures len { IfSome result (λ found. found.1 ≡ length (codes_at (index_in index.now) found.0)) }
     ensures group { (rows : List (List Value)) → IsIndexOf (read_index codes.now (index_in index.now)) rows
         → MatchOption result (group_of rows (index_in index.now).access key.now ≡ [])
-        (λ found. map (read codes.now) (words_at (index_in index.now) found.0)
+        (λ found. map (read codes.now) (codes_at (index_in index.now) found.0)
         ≡ group_of rows (index_in index.now).access key.now) }
     ensures stands { IfSome result (λ found. found.0 < length (index_in index.now).groups) }
 {
     match known_codes::<N>(codes, key) {
-        Some(words) => index.find(&words[..key.len()]),
+        Some(key_codes) => index.find(&key_codes[..key.len()]),
         None => None,
     }
 }
@@ -43,10 +43,10 @@ pub fn find_group(codes: &Interner, index: &AnyIndex, key: &[Value]) -> Option<(
     requires in_order { IsInOrderFor codes.now (index_in index.now) }
     requires width { length key.now ≡ length (index_in index.now).access.key }
     requires few { length key.now ≤ 64 }
-    ensures len { IfSome result (λ found. found.1 ≡ length (words_at (index_in index.now) found.0)) }
+    ensures len { IfSome result (λ found. found.1 ≡ length (codes_at (index_in index.now) found.0)) }
     ensures group { (rows : List (List Value)) → IsIndexOf (read_index codes.now (index_in index.now)) rows
         → MatchOption result (group_of rows (index_in index.now).access key.now ≡ [])
-        (λ found. map (read codes.now) (words_at (index_in index.now) found.0)
+        (λ found. map (read codes.now) (codes_at (index_in index.now) found.0)
         ≡ group_of rows (index_in index.now).access key.now) }
     ensures stands { IfSome result (λ found. found.0 < length (index_in index.now).groups) }
 {
@@ -68,20 +68,20 @@ pub fn remove_row(codes: &Interner, index: &mut AnyIndex, row: &[Value])
         → IsIndexOf (read_index codes.now (index_in index.old)) (front ++ row.now ∷ back)
         → IsIndexOf (read_index codes.now (index_in index.new)) (front ++ back) }
 {
-    match row_codes(codes, index.access(), row) {
-        Some(words) => index.remove(&words),
+    match known_row(codes, index.access(), row) {
+        Some(row_codes) => index.remove(&row_codes),
         None => {}
     }
 }
 
 /// Counts one row more, wherever among the rows it stands. Its values are interned where they weren't yet, and their codes
-/// go to `words`. After an error the index is as it was.
+/// go to `row_codes`. After an error the index is as it was.
 pub fn add_row(
     alloc: Global,
     codes: &mut Interner,
     index: &mut AnyIndex,
     row: &[Value],
-    words: &mut [u64; 64],
+    row_codes: &mut [u64; 64],
 ) -> Result<(), NoMemory>
     requires in_order { IsInOrderFor codes.old (index_in index.old) }
     requires form { AccessIsWellFormed 64 (index_in index.old).access }
@@ -95,19 +95,19 @@ pub fn add_row(
         → IsIndexOf (read_index codes.new (index_in index.new)) (front ++ row.now ∷ back)) }
     ensures err { OnErr result (index_in index.new ≡ index_in index.old) }
 {
-    interned_row(alloc, codes, index.access(), row, words)?;
-    index.add(alloc, codes, &words[..])
+    interned_row(alloc, codes, index.access(), row, row_codes)?;
+    index.add(alloc, codes, &row_codes[..])
 }
 
 /// Counts one row more, wherever among the rows it stands, where the constraint, if it held, holds with this row too, and
 /// else it stays the index of its rows. Its values are interned where they weren't yet, so that each is looked up once, and
-/// its group too. Their codes go to `words`. After an error the index is as it was.
+/// its group too. Their codes go to `row_codes`. After an error the index is as it was.
 pub fn add_if_holds(
     alloc: Global,
     codes: &mut Interner,
     index: &mut AnyIndex,
     row: &[Value],
-    words: &mut [u64; 64],
+    row_codes: &mut [u64; 64],
 ) -> Result<bool, NoMemory>
     requires in_order { IsInOrderFor codes.old (index_in index.old) }
     requires form { AccessIsWellFormed 64 (index_in index.old).access }
@@ -124,6 +124,6 @@ pub fn add_if_holds(
         → (IsTrue held ↔ Holds (rows ++ row.now ∷ []) (index_in index.old).access)) }
     ensures err { OnErr result (index_in index.new ≡ index_in index.old) }
 {
-    interned_row(alloc, codes, index.access(), row, words)?;
-    index.add_if_holds(alloc, codes, &words[..])
+    interned_row(alloc, codes, index.access(), row, row_codes)?;
+    index.add_if_holds(alloc, codes, &row_codes[..])
 }

@@ -1,7 +1,7 @@
 use Rattle.std.proofs.Common.{◌≡◌, take}
 use Rattle.std.specs.List.{fold}
 use Rattle.seeded_hash.specs.declared.hasher.TheConstants.{FIXED_FACTOR}
-use Rattle.seeded_hash.specs.Words.{mixed}
+use Rattle.seeded_hash.specs.Mixing.{mixed}
 use Rattle.access_index.proofs.values.mix_bytes.Given as goal
 
 abbrev pub invariant-loop-byte : goal.invariant-loop-byte

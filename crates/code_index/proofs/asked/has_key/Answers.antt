@@ -15,35 +15,35 @@ unlike xs ys n = by (pointwise nat_eq xs ys) (λ e. n ((bytes_decides xs ys).0 e
 pub returns-then-columns-key : goal.returns-then-columns-key
 returns-then-columns-key c =
     let columns = c.args.columns.now in
-    let words = c.args.words.now in
+    let row_codes = c.args.row_codes.now in
     let key = c.args.key.now in
-    unlike (pick columns words) key (λ e. c.if-columns-key.true (sym (length-map columns (row_code words)) ∙ ap length e))
+    unlike (pick columns row_codes) key (λ e. c.if-columns-key.true (sym (length-map columns (row_code row_codes)) ∙ ap length e))
 
 pub returns-then-row_code-key : goal.returns-then-row_code-key
 returns-then-row_code-key c =
     let columns = c.args.columns.now in
-    let words = c.args.words.now in
+    let row_codes = c.args.row_codes.now in
     let key = c.args.key.now in
     let i = c.loop-i.i in
-    let w = c.row_code.ensures ∙ sym (get_or-map (row_code words) columns i (record { 0 = 0 }) 0 c.loop-i-test.true) in
-    unlike (pick columns words) key (λ e. c.if-row_code-key.true (w ∙ ap (λ t. get_or t i 0) e))
+    let w = c.row_code.ensures ∙ sym (get_or-map (row_code row_codes) columns i (record { 0 = 0 }) 0 c.loop-i-test.true) in
+    unlike (pick columns row_codes) key (λ e. c.if-row_code-key.true (w ∙ ap (λ t. get_or t i 0) e))
 
 pub loop-i-preserved : goal.loop-i-preserved
 loop-i-preserved c =
     let columns = c.args.columns.now in
-    let words = c.args.words.now in
+    let row_codes = c.args.row_codes.now in
     let i = c.loop-i.i in
-    let w = c.row_code.ensures ∙ sym (get_or-map (row_code words) columns i (record { 0 = 0 }) 0 c.loop-i-test.true) in
-    take_more_same (pick columns words) c.args.key.now i 0 (omega (arith, c.loop-i-test.true, length-map columns (row_code words)))
+    let w = c.row_code.ensures ∙ sym (get_or-map (row_code row_codes) columns i (record { 0 = 0 }) 0 c.loop-i-test.true) in
+    take_more_same (pick columns row_codes) c.args.key.now i 0 (omega (arith, c.loop-i-test.true, length-map columns (row_code row_codes)))
     (omega (arith, c.loop-i-test.true, c.if-columns-key.false)) c.loop-i.invariant (sym w ∙ c.if-row_code-key.false)
 
 pub returns : goal.returns
 returns c =
     let columns = c.args.columns.now in
-    let words = c.args.words.now in
+    let row_codes = c.args.row_codes.now in
     let key = c.args.key.now in
-    let own = pick columns words in
-    let long = length-map columns (row_code words) in
+    let own = pick columns row_codes in
+    let long = length-map columns (row_code row_codes) in
     let end : c.loop-i.i ≡ length columns = omega (arith, c.loop-i-test.false, c.loop-i.auto.i-end) in
     let same = sym (take_all c.loop-i.i own (omega (arith, end, long))) ∙ c.loop-i.invariant
     ∙ take_all c.loop-i.i key (omega (arith, end, c.if-columns-key.false)) in

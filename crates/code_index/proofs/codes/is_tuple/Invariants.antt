@@ -7,5 +7,5 @@ use Rattle.code_index.proofs.codes.is_tuple.Given as goal
 abbrev pub invariant-loop-i : goal.invariant-loop-i
 invariant-loop-i l = record {
   within : l.i ≤ length (member_columns l.access);
-  same : take l.i l.tuple ≡ take l.i (pick (member_columns l.access) l.words);
+  same : take l.i l.tuple ≡ take l.i (pick (member_columns l.access) l.row_codes);
 }

@@ -2,7 +2,7 @@ use Rattle.std.proofs.Common.{get_or, [], sym, subst, refl, arith}
 use Rattle.access_index.specs.Buckets.{IsOneMore}
 use Rattle.blocked_list.proofs.Joined.{all_set, all_at}
 use Rattle.labelled_list.specs.declared.coded.Coded.{Coded}
-use Rattle.code_index.specs.Reading.{read, read_group, AllKnown, AllWordsKnown}
+use Rattle.code_index.specs.Reading.{read, read_group, AllKnown, AllCodesKnown}
 use Rattle.code_index.proofs.GroupFacts.{group_lowered, group_taken, member_counted}
 use Rattle.code_index.proofs.group.count_down.Goals as goal
 
@@ -24,5 +24,5 @@ pub returns-then-count-gt1-clause-known : goal.returns-then-count-gt1-clause-kno
 returns-then-count-gt1-clause-known c codes k =
     let g = c.args.group.now in
     let d : Coded = record { codes = []; count = 0 } in
-    subst (AllWordsKnown codes) (sym (c.recount.ensures d))
+    subst (AllCodesKnown codes) (sym (c.recount.ensures d))
     (all_set (λ (x : Coded). AllKnown codes x.codes) g c.args.at _ k (all_at (λ (x : Coded). AllKnown codes x.codes) g c.args.at d c.requires.within k))

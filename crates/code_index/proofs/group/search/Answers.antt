@@ -15,7 +15,7 @@ pub partition_point-at-requires : goal.partition_point-at-requires
 partition_point-at-requires c i j d le lt e =
     let codes = c.args.codes.now in
     let g = c.args.group.now in
-    let x = read codes (pick (member_columns c.args.access.now) c.args.words.now) in
+    let x = read codes (pick (member_columns c.args.access.now) c.args.row_codes.now) in
     let len = length_group codes g in
     ap (λ (t : Tally). is_lt (row_cmp t.tuple x)) (sym (read_at codes g i d (read_tally codes d) (omega (arith, le, lt))))
     ∙ tuple_place x (read_group codes g) c.requires i j (read_tally codes d) le (omega (arith, lt, len))
@@ -25,7 +25,7 @@ pub returns-then-at-end : goal.returns-then-at-end
 returns-then-at-end c =
     let codes = c.args.codes.now in
     let g = c.args.group.now in
-    let x = read codes (pick (member_columns c.args.access.now) c.args.words.now) in
+    let x = read codes (pick (member_columns c.args.access.now) c.args.row_codes.now) in
     gap_at x (read_group codes g) c.partition_point-at.result c.requires (c.partition_point-at.ensures ∙ filter_read codes (stands_before x) g)
     (λ d l e. omega (arith, l, c.if-at-end.true, c.len-end.ensures, length_group codes g))
 
@@ -33,14 +33,14 @@ pub codes-requires : goal.codes-requires
 codes-requires c =
     let codes = c.args.codes.now in
     let g = c.args.group.now in
-    let x = read codes (pick (member_columns c.args.access.now) c.args.words.now) in
+    let x = read codes (pick (member_columns c.args.access.now) c.args.row_codes.now) in
     omega (arith, c.if-at-end.false, c.len-end.ensures, c.partition_point-at.ensures, filter_read codes (stands_before x) g, place_le x (read_group codes g), length_group codes g)
 
 pub returns-in-Equal : goal.returns-in-Equal
 returns-in-Equal c =
     let codes = c.args.codes.now in
     let g = c.args.group.now in
-    let x = read codes (pick (member_columns c.args.access.now) c.args.words.now) in
+    let x = read codes (pick (member_columns c.args.access.now) c.args.row_codes.now) in
     let within : c.partition_point-at.result < length g =
     omega (arith, c.if-at-end.false, c.len-end.ensures, c.partition_point-at.ensures, filter_read codes (stands_before x) g, place_le x (read_group codes g), length_group codes g) in (
       within,
@@ -51,7 +51,7 @@ pub returns-in_default : goal.returns-in_default
 returns-in_default c =
     let codes = c.args.codes.now in
     let g = c.args.group.now in
-    let x = read codes (pick (member_columns c.args.access.now) c.args.words.now) in
+    let x = read codes (pick (member_columns c.args.access.now) c.args.row_codes.now) in
     let at = c.partition_point-at.result in
     let e0 : Coded = record { codes = []; count = 0 } in
     gap_at x (read_group codes g) at c.requires (c.partition_point-at.ensures ∙ filter_read codes (stands_before x) g)
@@ -64,5 +64,5 @@ returns-in_default c =
 pub returns-then-ends_before : goal.returns-then-ends_before
 returns-then-ends_before c =
     let codes = c.args.codes.now in
-    let x = read codes (pick (member_columns c.args.access.now) c.args.words.now) in
+    let x = read codes (pick (member_columns c.args.access.now) c.args.row_codes.now) in
     subst (λ n. IsGap (read_group codes c.args.group.now) x n) (sym c.len-end.ensures) (c.ends_before.ensures c.if-ends_before.true)

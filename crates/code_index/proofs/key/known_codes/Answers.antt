@@ -22,12 +22,12 @@ loop-i-preserved g c =
     let value = c.index-key-i.result in
     let here = c.index-key-i.is ∙ get_or_default key c.loop-i.i value (Int (pos 0)) c.loop-i-test.true in
     record {
-      len = length-set c.loop-i.words c.loop-i.i c.in-Some.code ∙ c.loop-i.invariant.len;
-      right = coded_next codes key c.loop-i.words c.loop-i.i c.in-Some.code (omega (arith, c.loop-i-test.true, c.requires, c.loop-i.invariant.len))
+      len = length-set c.loop-i.key_codes c.loop-i.i c.in-Some.code ∙ c.loop-i.invariant.len;
+      right = coded_next codes key c.loop-i.key_codes c.loop-i.i c.in-Some.code (omega (arith, c.loop-i-test.true, c.requires, c.loop-i.invariant.len))
           (subst (IsCodeOf codes c.in-Some.code) here (found_code codes value c.in-Some.code (sym c.code.ensures ∙ c.in-Some.is))) c.loop-i.invariant.right;
     }
 
 pub returns : goal.returns
 returns g c =
-    coded c.args.codes.now c.args.key.now c.loop-i.words (omega (arith, c.requires, c.loop-i.invariant.len))
+    coded c.args.codes.now c.args.key.now c.loop-i.key_codes (omega (arith, c.requires, c.loop-i.invariant.len))
     (λ j l. c.loop-i.invariant.right j (omega (arith, l, c.loop-i-test.false)))

@@ -17,8 +17,8 @@ overflow_add-i-end c =
 pub loop-i-init : goal.loop-i-init
 loop-i-init c = record { len = search rules; kept = kept_codes c.args.codes.now; right = λ j d l. absurd (omega (arith, l)) }
 
-pub returns-in_err-words-clause-kept : goal.returns-in_err-words-clause-kept
-returns-in_err-words-clause-kept c =
+pub returns-in_err-row_codes-clause-kept : goal.returns-in_err-row_codes-clause-kept
+returns-in_err-row_codes-clause-kept c =
     kept_twice c.args.codes.now c.loop-i.codes c.interned_in.new.codes c.loop-i.invariant.kept c.interned_in.ensures.kept
 
 pub loop-i-preserved : goal.loop-i-preserved
@@ -30,12 +30,12 @@ loop-i-preserved c =
     let small : column.0 < 64 = subst (λ (x : ColumnId). x.0 < 64) (sym c.column_at-column.ensures) (narrow a c.requires c.loop-i.i column within) in
     let more = c.interned_in.new.codes in
     record {
-      len = length-set c.loop-i.words column.0 c.in_ok-words.field-0 ∙ c.loop-i.invariant.len;
+      len = length-set c.loop-i.row_codes column.0 c.in_ok-row_codes.field-0 ∙ c.loop-i.invariant.len;
       kept = kept_twice c.args.codes.now c.loop-i.codes more c.loop-i.invariant.kept c.interned_in.ensures.kept;
-      right = written_next more c.loop-i.words c.args.row.now members c.loop-i.i column c.in_ok-words.field-0 within c.column_at-column.ensures
+      right = written_next more c.loop-i.row_codes c.args.row.now members c.loop-i.i column c.in_ok-row_codes.field-0 within c.column_at-column.ensures
           (omega (arith, small, c.loop-i.invariant.len))
-          (found_code more (value_at c.args.row.now column) c.in_ok-words.field-0 c.in_ok-words.ensures.code)
-          (λ j d l. code_stays c.loop-i.codes more c.interned_in.ensures.kept (row_code c.loop-i.words (get_or members j d))
+          (found_code more (value_at c.args.row.now column) c.in_ok-row_codes.field-0 c.in_ok-row_codes.ensures.code)
+          (λ j d l. code_stays c.loop-i.codes more c.interned_in.ensures.kept (row_code c.loop-i.row_codes (get_or members j d))
           (value_at c.args.row.now (get_or members j d)) (c.loop-i.invariant.right j d l));
     }
 
@@ -45,5 +45,5 @@ returns-clause-kept c = c.loop-i.invariant.kept
 pub returns-clause-spells : goal.returns-clause-spells
 returns-clause-spells c =
     let a = c.args.access.now in
-    spelled c.loop-i.codes c.loop-i.words c.args.row.now (member_columns a)
+    spelled c.loop-i.codes c.loop-i.row_codes c.args.row.now (member_columns a)
     (λ j d l. c.loop-i.invariant.right j d (omega (arith, l, c.loop-i-test.false, c.len.ensures, c.len-2.ensures, members_long a.key a.fetched)))

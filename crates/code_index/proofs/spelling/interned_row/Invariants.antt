@@ -7,7 +7,7 @@ use Rattle.code_index.proofs.spelling.interned_row.Given as goal
 
 abbrev pub invariant-loop-i : goal.invariant-loop-i
 invariant-loop-i l = record {
-  len : length l.words ≡ 64;
+  len : length l.row_codes ≡ 64;
   kept : KeepsCodes l.initial.codes l.codes;
-  right : (j : ℕ) (d : ColumnId) → j < l.i → IsCodeIn l.codes l.words l.row (get_or (member_columns l.access) j d);
+  right : (j : ℕ) (d : ColumnId) → j < l.i → IsCodeIn l.codes l.row_codes l.row (get_or (member_columns l.access) j d);
 }

@@ -1,6 +1,6 @@
 use Rattle.std.proofs.Common.{◌∙◌, take, ap, sym}
 use Rattle.seeded_hash.specs.declared.hasher.TheConstants.{FIXED_FACTOR}
-use Rattle.seeded_hash.specs.Words.{mixed}
+use Rattle.seeded_hash.specs.Mixing.{mixed}
 use Rattle.place_chains.specs.Hashing.{hash_of, number_of}
 use Rattle.place_chains.proofs.HashFacts.{hash_more}
 use Rattle.place_chains.proofs.hashing.hash_of.Goals as goal

@@ -1,4 +1,4 @@
-use Rattle.seeded_hash.specs.Words.{mixed}
+use Rattle.seeded_hash.specs.Mixing.{mixed}
 use Rattle.seeded_hash.proofs.hasher.mixed.Goals as goal
 
 pub returns : goal.returns

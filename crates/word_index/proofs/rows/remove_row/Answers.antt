@@ -9,7 +9,7 @@ use Rattle.word_index.proofs.rows.remove_row.Goals as goal
 
 pub returns-in-Some-clause-rest : goal.returns-in-Some-clause-rest
 returns-in-Some-clause-rest c front back is =
-    let spells = subst (λ (a : Access). Spells c.args.codes.now (member_columns a) c.in-Some.words c.args.row.now) c.access.ensures c.in-Some.ensures in
+    let spells = subst (λ (a : Access). Spells c.args.codes.now (member_columns a) c.in-Some.row_codes c.args.row.now) c.access.ensures c.in-Some.ensures in
     c.remove.ensures.rest c.args.codes.now c.args.row.now front back c.requires.in_order spells is
 
 pub returns-in-None-clause-rest : goal.returns-in-None-clause-rest

@@ -1,4 +1,4 @@
-use Rattle.std.proofs.Common.{◌≡◌, length, sym, subst, arith}
+use Rattle.std.proofs.Common.{◌≡◌, length, ap, sym, subst, arith}
 use Rattle.std.specs.Map.{values_of}
 use Rattle.std.proofs.lemmas.List.{length-map}
 use Rattle.beas_core.specs.Groups.{greatest}
@@ -19,7 +19,14 @@ greatest_in-requires-clause-few c =
     let b = bucket_at_place (length c.self.inside.columns) (length c.self.inside.access.key) c.self.inside.buckets.entries c.loop-i.i c.index.result.now
     c.self.invariant.1.buckets c.index.ensures in
     let total = c.self.invariant.1.total_is in
-    omega (arith, total, tuples_within c.index.result.now b.1.counted, sum_at_place c.self.inside.buckets.entries c.loop-i.i c.index.result.now c.index.ensures)
+    omega (
+      arith,
+      total,
+      c.recall_few_rows.ensures,
+      ap (λ (s : Index). s.total) c.self.view_is,
+      tuples_within c.index.result.now b.1.counted,
+      sum_at_place c.self.inside.buckets.entries c.loop-i.i c.index.result.now c.index.ensures,
+    )
 
 pub loop-i-preserved : goal.loop-i-preserved
 loop-i-preserved c =

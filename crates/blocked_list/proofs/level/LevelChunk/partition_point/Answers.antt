@@ -10,7 +10,7 @@ pub len_of-before-requires : goal.len_of-before-requires
 len_of-before-requires g c =
     let same = ap (λ xs. length (flat_map g.P.Chunk.items (take c.partition_point-at.result xs))) c.deref-2.ensures.value in
     let len = c.self.invariant.0 in
-    omega (arith, same, len, take_le g.P.Chunk.items c.partition_point-at.result c.self.inside.chunks.items)
+    omega (arith, same, len, c.recall_few.ensures, ap length c.self.view_is, take_le g.P.Chunk.items c.partition_point-at.result c.self.inside.chunks.items)
 
 pub returns-then-at-len : goal.returns-then-at-len
 returns-then-at-len g c =
@@ -56,4 +56,4 @@ overflow_add-result g c =
     let test = g.B.Before.before c.args.wanted.now in
     let sum : c.len_of-before.result + c.partition_point.result ≡ length (filter test c.args.self.now) = returns g c in
     let len = c.self.invariant.0 in
-    omega (arith, sum, len, kept_le test c.args.self.now, ap length c.self.view_is)
+    omega (arith, sum, len, c.recall_few.ensures, kept_le test c.args.self.now, ap length c.self.view_is)

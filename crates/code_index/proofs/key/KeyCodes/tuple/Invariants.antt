@@ -5,6 +5,6 @@ use Rattle.code_index.proofs.key.KeyCodes.tuple.Given as goal
 
 abbrev pub invariant-loop-i : goal.invariant-loop-i
 invariant-loop-i g l = record {
-  same : take l.i l.tuple ≡ take l.i (pick (member_columns l.access) l.words);
+  same : take l.i l.tuple ≡ take l.i (pick (member_columns l.access) l.row_codes);
   len : length l.tuple ≡ g.row.N;
 }

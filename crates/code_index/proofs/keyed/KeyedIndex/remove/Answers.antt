@@ -6,7 +6,7 @@ use Rattle.indexmap.specs.IndexMap.{swap_remove_entry}
 use Rattle.beas_core.specs.declared.value.Value.{Value}
 use Rattle.beas_core.specs.Groups.{member_columns}
 use Rattle.access_index.specs.Index.{IsIndexOf}
-use Rattle.code_index.specs.Reading.{WordIndex, IsInOrderFor, IsOrdered, Spells, read_index, pick}
+use Rattle.code_index.specs.Reading.{CodeIndex, IsInOrderFor, IsOrdered, Spells, read_index, pick}
 use Rattle.code_index.proofs.Removing.{no_tuple, some_row, left_counted, left_without}
 use Rattle.code_index.proofs.Steps.{Left, set_same, not_without, not_lacking}
 use Rattle.code_index.proofs.keyed.KeyedIndex.remove.Given
@@ -18,12 +18,12 @@ returns-in-None-clause-rest g c codes row front back o s is =
     let access = c.self.inside.access in
     let es = c.self.inside.groups.entries in
     let total = c.self.inside.total in
-    let words = c.args.words.now in
-    let key_is = ap (λ cs. pick cs words) c.as_slice.ensures in
+    let row_codes = c.args.words.now in
+    let key_is = ap (λ cs. pick cs row_codes) c.as_slice.ensures in
     let o2 = subst (IsInOrderFor codes) (sym c.self.view_is) o in
-    let s2 = subst (λ (x : WordIndex). Spells codes (member_columns x.access) words row) (sym c.self.view_is) s in
-    let is2 = subst (λ (x : WordIndex). IsIndexOf (read_index codes x) (front ++ row ∷ back)) (sym c.self.view_is) is in
-    absurd (not_without access codes total es words o2 row s2 front back is2
+    let s2 = subst (λ (x : CodeIndex). Spells codes (member_columns x.access) row_codes row) (sym c.self.view_is) s in
+    let is2 = subst (λ (x : CodeIndex). IsIndexOf (read_index codes x) (front ++ row ∷ back)) (sym c.self.view_is) is in
+    absurd (not_without access codes total es row_codes o2 row s2 front back is2
     (ap (λ j. lookup (pointwise nat_eq j) es) (sym key_is) ∙ sym c.in-None.ensures.value))
 
 pub invariant_of-self-in-None-position_of : goal.invariant_of-self-in-None-position_of
@@ -31,7 +31,7 @@ invariant_of-self-in-None-position_of g c =
     let access = c.self.inside.access in
     let es = c.self.inside.groups.entries in
     let total = c.self.inside.total in
-    let words = c.args.words.now in
+    let row_codes = c.args.words.now in
     let key = pick c.as_slice.result.now c.args.words.now in
     let g0 = c.in-Some.group.now in
     let found : lookup (pointwise nat_eq key) es ≡ Some g0 = sym c.in-Some.ensures.value in
@@ -43,7 +43,7 @@ returns-in-None-position_of-clause-in_order g c codes o =
     let access = c.self.inside.access in
     let es = c.self.inside.groups.entries in
     let total = c.self.inside.total in
-    let words = c.args.words.now in
+    let row_codes = c.args.words.now in
     let key = pick c.as_slice.result.now c.args.words.now in
     let g0 = c.in-Some.group.now in
     let found : lookup (pointwise nat_eq key) es ≡ Some g0 = sym c.in-Some.ensures.value in
@@ -55,24 +55,24 @@ returns-in-None-position_of-clause-rest g c codes row front back o s is =
     let access = c.self.inside.access in
     let es = c.self.inside.groups.entries in
     let total = c.self.inside.total in
-    let words = c.args.words.now in
+    let row_codes = c.args.words.now in
     let key = pick c.as_slice.result.now c.args.words.now in
-    let key_is = ap (λ cs. pick cs words) c.as_slice.ensures in
+    let key_is = ap (λ cs. pick cs row_codes) c.as_slice.ensures in
     let g0 = c.in-Some.group.now in
     let found : lookup (pointwise nat_eq key) es ≡ Some g0 = sym c.in-Some.ensures.value in
     let o2 = subst (IsInOrderFor codes) (sym c.self.view_is) o in
-    let s2 = subst (λ (x : WordIndex). Spells codes (member_columns x.access) words row) (sym c.self.view_is) s in
-    let is2 = subst (λ (x : WordIndex). IsIndexOf (read_index codes x) (front ++ row ∷ back)) (sym c.self.view_is) is in
-    absurd (not_lacking access codes total es words o2 row s2 front back is2 g0 (ap (λ j. lookup (pointwise nat_eq j) es) (sym key_is) ∙ found)
+    let s2 = subst (λ (x : CodeIndex). Spells codes (member_columns x.access) row_codes row) (sym c.self.view_is) s in
+    let is2 = subst (λ (x : CodeIndex). IsIndexOf (read_index codes x) (front ++ row ∷ back)) (sym c.self.view_is) is in
+    absurd (not_lacking access codes total es row_codes o2 row s2 front back is2 g0 (ap (λ j. lookup (pointwise nat_eq j) es) (sym key_is) ∙ found)
     c.in-None-position_of.ensures)
 
 -- there is a row
 least : (g : Given.Over) (c : In-Some-position_of g) → 1 ≤ c.self.inside.total
 least g c =
     let s = c.self.inside in
-    let words = c.args.words.now in
-    let key_is = ap (λ cs. pick cs words) c.as_slice.ensures in
-    some_row s.access s.total s.groups.entries words c.args.self.now c.self.view_is c.self.invariant.1 (pick c.as_slice.result.now words) key_is
+    let row_codes = c.args.words.now in
+    let key_is = ap (λ cs. pick cs row_codes) c.as_slice.ensures in
+    some_row s.access s.total s.groups.entries row_codes c.args.self.now c.self.view_is c.self.invariant.1 (pick c.as_slice.result.now row_codes) key_is
     c.in-Some.group.now (sym c.in-Some.ensures.value) c.in-Some-position_of.at c.in-Some-position_of.ensures.0
 
 pub overflow_sub-self : goal.overflow_sub-self
@@ -87,11 +87,11 @@ left_there : (g : Given.Over) (c : After-count_down g) (codes : List Value) → 
     c.args.self.now codes
 left_there g c =
     let s = c.self.inside in
-    let words = c.args.words.now in
-    let key_is = ap (λ cs. pick cs words) c.as_slice.ensures in
+    let row_codes = c.args.words.now in
+    let key_is = ap (λ cs. pick cs row_codes) c.as_slice.ensures in
     let there = c.in-Some-position_of.ensures in
     let wrote = c.get_mut.follows.holds c.count_down.new.group in
-    left_counted s.access s.total s.groups.entries words c.args.self.now c.self.view_is c.self.invariant.1 (pick c.as_slice.result.now words) key_is
+    left_counted s.access s.total s.groups.entries row_codes c.args.self.now c.self.view_is c.self.invariant.1 (pick c.as_slice.result.now row_codes) key_is
     c.in-Some.group.now (sym c.in-Some.ensures.value) c.in-Some-position_of.at there.0 there.1 (c.get_mut.follows.lender c.count_down.new.group).entries
     c.count_down.new.group wrote.0 wrote.4 c.count_down.ensures.less c.count_down.ensures.known
     (omega (arith, c.if-max-gt1.true, c.max.ensures, c.len.ensures, c.count-rows.ensures no_tuple))
@@ -116,17 +116,17 @@ left_gone : (g : Given.Over) (c : After-swap_remove g) (codes : List Value) → 
 left_gone g c =
     let s = c.self.inside in
     let es = s.groups.entries in
-    let words = c.args.words.now in
+    let row_codes = c.args.words.now in
     let key = pick c.as_slice.result.now c.args.words.now in
-    let key_is = ap (λ cs. pick cs words) c.as_slice.ensures in
+    let key_is = ap (λ cs. pick cs row_codes) c.as_slice.ensures in
     let g0 = c.in-Some.group.now in
     let found : lookup (pointwise nat_eq key) es ≡ Some g0 = sym c.in-Some.ensures.value in
     let there = c.in-Some-position_of.ensures in
     let kept = (c.get_mut.follows.holds g0).0 ∙ set_same (pointwise nat_eq key) es g0 found in
     let gone = c.swap_remove.ensures in
     let asked = c.as_slice-2.ensures ∙ sym c.as_slice.ensures in
-    left_without s.access s.total es words c.args.self.now c.self.view_is c.self.invariant.1 key key_is g0 found c.in-Some-position_of.at there.0 there.1
-    c.swap_remove.new.self.entries (gone.entries ∙ (λ i. swap_remove_entry (pointwise nat_eq (pick (asked i) words)) (kept i))) gone.unique
+    left_without s.access s.total es row_codes c.args.self.now c.self.view_is c.self.invariant.1 key key_is g0 found c.in-Some-position_of.at there.0 there.1
+    c.swap_remove.new.self.entries (gone.entries ∙ (λ i. swap_remove_entry (pointwise nat_eq (pick (asked i) row_codes)) (kept i))) gone.unique
     (omega (arith, c.if-max-gt1.false, c.max.ensures, c.len.ensures, c.count-rows.ensures no_tuple))
 
 pub invariant_of-self-2 : goal.invariant_of-self-2

@@ -13,11 +13,11 @@ pub returns-in-None-clause-exactly : goal.returns-in-None-clause-exactly
 returns-in-None-clause-exactly g c codes row o s =
     let access = c.self.inside.access in
     let es = c.self.inside.groups.entries in
-    let words = c.args.words.now in
+    let row_codes = c.args.words.now in
     let key = pick c.as_slice.result.now c.args.words.now in
     let none : lookup (pointwise nat_eq key) es ≡ None = sym c.in-None.ensures.value in
-    let key_is = ap (λ cs. pick cs words) c.as_slice.ensures in
-    new_tells access codes c.self.inside.total es words c.args.self.now c.self.view_is o key key_is none _
+    let key_is = ap (λ cs. pick cs row_codes) c.as_slice.ensures in
+    new_tells access codes c.self.inside.total es row_codes c.args.self.now c.self.view_is o key key_is none _
     (ltb-true 0 access.bound, lt-ltb 0 access.bound) row s
 
 pub returns-in-None-clause-holds : goal.returns-in-None-clause-holds
@@ -28,12 +28,12 @@ pub returns-in-Some-clause-exactly : goal.returns-in-Some-clause-exactly
 returns-in-Some-clause-exactly g c codes row o s =
     let access = c.self.inside.access in
     let es = c.self.inside.groups.entries in
-    let words = c.args.words.now in
+    let row_codes = c.args.words.now in
     let key = pick c.as_slice.result.now c.args.words.now in
     let g0 = c.in-Some.group.now in
     let found : lookup (pointwise nat_eq key) es ≡ Some g0 = sym c.in-Some.ensures.value in
-    let key_is = ap (λ cs. pick cs words) c.as_slice.ensures in
-    found_tells access codes c.self.inside.total es words c.args.self.now c.self.view_is o key key_is g0 found _ c.has_room.ensures row s
+    let key_is = ap (λ cs. pick cs row_codes) c.as_slice.ensures in
+    found_tells access codes c.self.inside.total es row_codes c.args.self.now c.self.view_is o key key_is g0 found _ c.has_room.ensures row s
 
 pub returns-in-Some-clause-holds : goal.returns-in-Some-clause-holds
 returns-in-Some-clause-holds g c codes row rows o s is h =

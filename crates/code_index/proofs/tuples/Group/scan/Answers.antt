@@ -16,11 +16,11 @@ loop-i-preserved c =
     let i = c.loop-i.i in
     let d : Coded = record { codes = []; count = 0 } in
     let within : i < length tuples = omega (arith, c.loop-i-test.true, c.len-i-end.ensures) in
-    subst (AllByRecursion (λ (tuple : Coded). tuple.codes ≢ pick (member_columns c.args.access.now) c.args.words.now)) (sym (take_more tuples i d within))
-    (all_append (λ (tuple : Coded). tuple.codes ≢ pick (member_columns c.args.access.now) c.args.words.now) (take i tuples) (get_or tuples i d ∷ [])
+    subst (AllByRecursion (λ (tuple : Coded). tuple.codes ≢ pick (member_columns c.args.access.now) c.args.row_codes.now)) (sym (take_more tuples i d within))
+    (all_append (λ (tuple : Coded). tuple.codes ≢ pick (member_columns c.args.access.now) c.args.row_codes.now) (take i tuples) (get_or tuples i d ∷ [])
     c.loop-i.invariant ((λ e. true≢false (sym (c.is_tuple.ensures.1 (c.codes.ensures d ∙ e)) ∙ c.if-is_tuple.false)), tt))
 
 pub returns : goal.returns
 returns c =
-    subst (AllByRecursion (λ (tuple : Coded). tuple.codes ≢ pick (member_columns c.args.access.now) c.args.words.now))
+    subst (AllByRecursion (λ (tuple : Coded). tuple.codes ≢ pick (member_columns c.args.access.now) c.args.row_codes.now))
     (take_all c.loop-i.i c.args.self.now (omega (arith, c.loop-i-test.false, c.len-i-end.ensures))) c.loop-i.invariant

@@ -7,4 +7,4 @@ use Rattle.code_index.proofs.tuples.Group.scan.Given as goal
 
 -- none so far is the row's
 abbrev pub invariant-loop-i : goal.invariant-loop-i
-invariant-loop-i l = AllByRecursion (λ (tuple : Coded). tuple.codes ≢ pick (member_columns l.access) l.words) (take l.i l.self)
+invariant-loop-i l = AllByRecursion (λ (tuple : Coded). tuple.codes ≢ pick (member_columns l.access) l.row_codes) (take l.i l.self)

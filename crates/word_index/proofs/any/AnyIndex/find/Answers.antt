@@ -4,14 +4,14 @@ use Rattle.beas_core.specs.declared.value.Value.{Value}
 use Rattle.beas_core.specs.Groups.{group_of}
 use Rattle.access_index.specs.Index.{IsIndexOf}
 use Rattle.word_index.specs.declared.any.AnyIndex.{AnyIndex}
-use Rattle.code_index.specs.Reading.{WordIndex, IsInOrderFor, AllKnown, read, read_index, words_at}
+use Rattle.code_index.specs.Reading.{CodeIndex, IsInOrderFor, AllKnown, read, read_index, codes_at}
 use Rattle.word_index.specs.Widths.{index_in}
 use Rattle.word_index.proofs.any.AnyIndex.find.Goals as goal
 
-abbrev Finds : Option (ℕ × ℕ) → List ℕ → WordIndex → Type 0
+abbrev Finds : Option (ℕ × ℕ) → List ℕ → CodeIndex → Type 0
 Finds found key index = (codes : List Value) (rows : List (List Value)) → IsInOrderFor codes index → AllKnown codes key → IsIndexOf (read_index codes index) rows
     → MatchOption found (group_of rows index.access (read codes key) ≡ [])
-    (λ place. map (read codes) (words_at index place.0) ≡ group_of rows index.access (read codes key))
+    (λ place. map (read codes) (codes_at index place.0) ≡ group_of rows index.access (read codes key))
 
 pub returns-in-Zero-clause-group : goal.returns-in-Zero-clause-group
 returns-in-Zero-clause-group c = subst (λ (any : AnyIndex). Finds c.find.result c.args.key.now (index_in any)) (sym c.in-Zero.is) c.find.ensures.group

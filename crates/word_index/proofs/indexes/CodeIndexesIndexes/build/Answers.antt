@@ -24,7 +24,7 @@ invariant_of-self-2 g c =
     (kept_pushed c.self.inside.codes c.index_of.new.codes c.index_of.ensures.kept c.self.inside.indexes.items index c.self.invariant (record {
       in_order = c.in_ok-index.ensures.in_order;
       form = subst (AccessIsWellFormed 64) (sym c.in_ok-index.ensures.access) c.requires;
-      few = omega (arith, c.in_ok-index.ensures.total, c.len-in_range.ensures, c.len-in_range.type_inv);
+      few = omega (arith, c.in_ok-index.ensures.total, c.recall_few_rows.ensures);
     }))
 
 pub returns-clause-built : goal.returns-clause-built

@@ -3,7 +3,7 @@ use Rattle.std.specs.Prelude.{pos}
 use Rattle.std.proofs.Math.ListN.{get_or-eq_default}
 use Rattle.beas_core.specs.declared.value.Value.TheVariants.{Int}
 use Rattle.code_index.specs.Codes.{code_of}
-use Rattle.code_index.proofs.spelling.code_in.Goals as goal
+use Rattle.code_index.proofs.spelling.known_code.Goals as goal
 
 pub returns-in-Some : goal.returns-in-Some
 returns-in-Some c = c.code.ensures ∙ ap (code_of c.args.codes.now) (c.in-Some.ensures.lookup.3.1 (Int (pos 0)))

@@ -11,32 +11,34 @@ use Rattle.beas_core.specs.Order.{row_cmp}
 use Rattle.code_index.specs.Reading.{read, pick}
 
 -- a tuple that goes on after the columns end
-pub ended_after : (codes : List Value) (words : List ℕ) (i : ℕ) (left : List ℕ) (columns : List ColumnId) → i < length left → length columns ≤ i
-    → row_cmp (read codes (drop i left)) (read codes (pick (drop i columns) words)) ≡ Greater
-ended_after codes words i [] columns l e = absurd (omega (arith, l))
-ended_after codes words zero (x ∷ left) [] l e = refl
-ended_after codes words zero (x ∷ left) (c ∷ columns) l e = absurd (omega (arith, e))
-ended_after codes words (suc i) (x ∷ left) [] l e =
-    ap (λ cs. row_cmp (read codes (drop i left)) (read codes (pick cs words))) (sym (none i)) ∙ ended_after codes words i left [] (omega arith) (omega arith)
+pub ended_after : (codes : List Value) (row_codes : List ℕ) (i : ℕ) (left : List ℕ) (columns : List ColumnId) → i < length left → length columns ≤ i
+    → row_cmp (read codes (drop i left)) (read codes (pick (drop i columns) row_codes)) ≡ Greater
+ended_after codes row_codes i [] columns l e = absurd (omega (arith, l))
+ended_after codes row_codes zero (x ∷ left) [] l e = refl
+ended_after codes row_codes zero (x ∷ left) (c ∷ columns) l e = absurd (omega (arith, e))
+ended_after codes row_codes (suc i) (x ∷ left) [] l e =
+    ap (λ cs. row_cmp (read codes (drop i left)) (read codes (pick cs row_codes))) (sym (none i))
+    ∙ ended_after codes row_codes i left [] (omega arith) (omega arith)
   where
     none : (j : ℕ) → drop {A = ColumnId} j [] ≡ []
     none zero = refl
     none (suc j) = refl
-ended_after codes words (suc i) (x ∷ left) (c ∷ columns) l e = ended_after codes words i left columns (omega arith) (omega arith)
+ended_after codes row_codes (suc i) (x ∷ left) (c ∷ columns) l e = ended_after codes row_codes i left columns (omega arith) (omega arith)
 
 -- a tuple that ends before the columns do
-pub ended_before : (codes : List Value) (words : List ℕ) (i : ℕ) (left : List ℕ) (columns : List ColumnId) → length left ≤ i → i < length columns
-    → row_cmp (read codes (drop i left)) (read codes (pick (drop i columns) words)) ≡ Less
-ended_before codes words i left [] l e = absurd (omega (arith, e))
-ended_before codes words zero [] (c ∷ columns) l e = refl
-ended_before codes words zero (x ∷ left) (c ∷ columns) l e = absurd (omega (arith, l))
-ended_before codes words (suc i) [] (c ∷ columns) l e =
-    ap (λ ws. row_cmp (read codes ws) (read codes (pick (drop i columns) words))) (sym (none i)) ∙ ended_before codes words i [] columns (omega arith) (omega arith)
+pub ended_before : (codes : List Value) (row_codes : List ℕ) (i : ℕ) (left : List ℕ) (columns : List ColumnId) → length left ≤ i → i < length columns
+    → row_cmp (read codes (drop i left)) (read codes (pick (drop i columns) row_codes)) ≡ Less
+ended_before codes row_codes i left [] l e = absurd (omega (arith, e))
+ended_before codes row_codes zero [] (c ∷ columns) l e = refl
+ended_before codes row_codes zero (x ∷ left) (c ∷ columns) l e = absurd (omega (arith, l))
+ended_before codes row_codes (suc i) [] (c ∷ columns) l e =
+    ap (λ ws. row_cmp (read codes ws) (read codes (pick (drop i columns) row_codes))) (sym (none i))
+    ∙ ended_before codes row_codes i [] columns (omega arith) (omega arith)
   where
     none : (j : ℕ) → drop {A = ℕ} j [] ≡ []
     none zero = refl
     none (suc j) = refl
-ended_before codes words (suc i) (x ∷ left) (c ∷ columns) l e = ended_before codes words i left columns (omega arith) (omega arith)
+ended_before codes row_codes (suc i) (x ∷ left) (c ∷ columns) l e = ended_before codes row_codes i left columns (omega arith) (omega arith)
 
 -- a test that fails
 pub not_within : (b : Bool) (i n : ℕ) → (IsTrue b ↔ (i < n)) → b ≡ false → n ≤ i
