@@ -128,7 +128,7 @@ impl<'a> Keys<'a> {
     }
 
     /// Adds a class to the set.
-    pub fn add(&mut self, block: &Normal, class: u16) -> Result<(), NoMemory>
+    fn add(&mut self, block: &Normal, class: u16) -> Result<(), NoMemory>
         requires class { class < block.now.count }
         requires counted { KeysAreCounted block.now self.old }
         ensures counted { OnOk result (KeysAreCounted block.now self.new) }

@@ -1,4 +1,4 @@
 pub mod Offsets
 pub mod Numbered
 pub mod Joined
-pub mod Marked
+pub mod Used

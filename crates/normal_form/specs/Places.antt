@@ -1,7 +1,7 @@
 -- The places of a block's atoms, numbered by atom and then column.
 --     offset atoms k           how many places stand before those of atom k
 --     place_number atoms p     how many places stand before a place
---     mark atoms used ps       the truth values of all places, with true at some more
+--     with_places atoms used ps    the truth values of all places, with true at some more
 --     class_lists atoms classes, used_lists atoms used     what a list over all places says of each atom's columns
 use Rattle.std.specs.Prelude.{◌+◌, ℕ, zero, suc, Bool, List, [], ◌∷◌, map, filter, false, slice_index_or}
 use Rattle.std.specs.List.{enumerate_from, range_with_len}
@@ -18,8 +18,8 @@ offset (a ∷ atoms) (suc atom) = a.width + offset atoms atom
 abbrev pub place_number : List Atom → Place → ℕ
 place_number atoms place = offset atoms place.atom + place.column.0
 
-unfoldable pub mark : List Atom → List Bool → List Place → List Bool
-mark atoms used places = with_classes used (map (place_number atoms) places)
+unfoldable pub with_places : List Atom → List Bool → List Place → List Bool
+with_places atoms used places = with_classes used (map (place_number atoms) places)
 
 abbrev pub place_at : ℕ → ℕ → Place
 place_at atom column = record { atom = atom; column = record { 0 = column } }

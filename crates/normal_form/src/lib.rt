@@ -17,11 +17,11 @@ use beas_core::{Block, Duplicate, NoMemory, Normal};
 pub use query_blocks::blocks;
 use std::alloc::Global;
 
-/// The most places whose labels and marks lie in the call's own frame. Those of more take blocks of memory.
+/// The most places whose labels and truth values lie in the call's own frame. Those of more take blocks of memory.
 const FEW_PLACES: usize = 64;
 
-// The normal form of a block. Labels and marks have room for as many places as it has.
-#[tactic(auto, using(crate::proofs::Marked::normal_is))]
+// The normal form of a block. Labels and truth values have room for as many places as it has.
+#[tactic(auto, using(crate::proofs::Used::normal_is))]
 fn normal_over(
     alloc: Global,
     block: &Block,

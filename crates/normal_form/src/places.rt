@@ -79,7 +79,7 @@ impl Places<'_> {
     }
 
     /// The classes of the columns of each atom, where `classes` has those of all places.
-    #[tactic(auto, using(crate::proofs::Marked::class_lists_more, crate::proofs::Marked::class_lists_all, crate::proofs::Offsets::width_at))]
+    #[tactic(auto, using(crate::proofs::Used::class_lists_more, crate::proofs::Used::class_lists_all, crate::proofs::Offsets::width_at))]
     pub fn class_lists(&self, alloc: Global, classes: &[u16]) -> Result<List<List<u16>>, NoMemory>
         requires { length classes.now ≡ self.now.count }
         ensures { IfOk result (λ lists. lists ≡ class_lists self.now.atoms.now classes.now) }
@@ -115,7 +115,7 @@ impl Places<'_> {
     }
 
     /// The columns of each atom that are used, where `used` tells it of all places.
-    #[tactic(auto, using(crate::proofs::Marked::used_lists_more, crate::proofs::Marked::used_lists_all, crate::proofs::Offsets::width_at))]
+    #[tactic(auto, using(crate::proofs::Used::used_lists_more, crate::proofs::Used::used_lists_all, crate::proofs::Offsets::width_at))]
     pub fn used_lists(&self, alloc: Global, used: &[bool]) -> Result<List<List<ColumnId>>, NoMemory>
         requires { length used.now ≡ self.now.count }
         ensures { IfOk result (λ lists. lists ≡ used_lists self.now.atoms.now used.now) }

@@ -22,7 +22,7 @@ use Rattle.beas_core.proofs.ClassFacts.{has_place, width_at, place_from_test}
 use Rattle.beas_core.proofs.ClassNumbers.{first_place as first_of_class, place_of_list}
 use Rattle.specialise.specs.Specialised.{first_place, with_constants}
 use Rattle.specialise.proofs.Lists.{found, get_or-enumerated}
-use Rattle.specialise.proofs.Marks.{with_append}
+use Rattle.specialise.proofs.Noted.{with_append}
 
 abbrev pub place_at : ℕ → ℕ → Place
 place_at atom column = record { atom = atom; column = record { 0 = column } }

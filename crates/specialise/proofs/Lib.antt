@@ -1,5 +1,5 @@
 pub mod Lists
-pub mod Marks
+pub mod Noted
 pub mod Places
 pub mod Masks
 pub mod Tables

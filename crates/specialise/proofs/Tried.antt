@@ -16,9 +16,9 @@ use Rattle.specialise.specs.Trials.{candidate_of, classes_at, classes_in, first_
 use Rattle.specialise.proofs.Lists.{find_here, find_on, flat_push, range_push, unequal}
 use Rattle.specialise.proofs.Masks.{classes_more, classes_to, no_classes}
 
--- a position's mark, as the code has it
-pub mark_is : (p : ℕ) → p < 16 → 1 * 2 ^ p % 4294967296 ≡ 2 ^ p
-mark_is p l = let b = pow_below p 16 l in let e : 2 ^ 16 ≡ 65536 = refl in omega (arith, b, e)
+-- a position's bit, as the code has it
+pub bit_is : (p : ℕ) → p < 16 → 1 * 2 ^ p % 4294967296 ≡ 2 ^ p
+bit_is p l = let b = pow_below p 16 l in let e : 2 ^ 16 ≡ 65536 = refl in omega (arith, b, e)
 
 -- of fewer members there is no sublist
 too_few : (n : ℕ) (xs : List ℕ) → length xs < n → sublists n xs ≡ []

@@ -31,9 +31,9 @@ use Rattle.specialise.specs.declared.rules.Rule.{Rule}
 use Rattle.specialise.specs.declared.servers.Server.{Server}
 use Rattle.specialise.specs.Specialised.{candidates, first_place, is_covered_with, sublists}
 
--- a class that is marked, and that the covered set lacks
-abbrev pub is_marked : ClassSet → ClassSet → ℕ → Bool
-is_marked cover marks class = not (has cover class) && has marks class
+-- a class that is asked for, and that the covered set lacks
+abbrev pub is_open : ClassSet → ClassSet → ℕ → Bool
+is_open cover asked class = not (has cover class) && has asked class
 
 abbrev pub candidate_of : Block → ℕ → Candidate
 candidate_of block class = record { class = class; place = first_place block class }

@@ -7,7 +7,7 @@ ghost use Rattle.beas_core.specs.Coverage.{class_at as class_of_column, key_clas
 ghost use Rattle.beas_core.specs.Shapes.{BlockIsWellFormed};
 ghost use Rattle.attribute_closure.specs.Uses.{as_use};
 ghost use Rattle.specialise.specs.Specialised.{candidates, first_place as first_place_of};
-ghost use Rattle.specialise.specs.Trials.{candidate_of, is_marked};
+ghost use Rattle.specialise.specs.Trials.{candidate_of, is_open};
 
 use attribute_closure::{UseAt, has_class};
 use beas_core::{Block, ColumnId, List, NoMemory, Normal, Place, class_at};
@@ -20,47 +20,47 @@ pub struct Candidate {
     pub place: Place,
 }
 
-// Marks the classes of some columns of an atom.
-#[tactic(auto, using(attribute_closure::proofs::Sets::columns_more, crate::proofs::Marks::marks_past))]
-fn mark_columns(block: &Normal, atom: u16, columns: &[ColumnId], marks: &mut [bool])
-    ensures { marks.new ≡ with_classes marks.old (map (class_of_column block.now atom) columns.now) }
+// Notes the classes of some columns of an atom.
+#[tactic(auto, using(attribute_closure::proofs::Sets::columns_more, crate::proofs::Noted::noted_past))]
+fn note_columns(block: &Normal, atom: u16, columns: &[ColumnId], asked: &mut [bool])
+    ensures { asked.new ≡ with_classes asked.old (map (class_of_column block.now atom) columns.now) }
 {
     for column in columns {
         let class = usize::from(class_at(block, atom, *column));
-        if class < marks.len() {
-            marks[class] = true;
+        if class < asked.len() {
+            asked[class] = true;
         }
     }
 }
 
-fn mark_needed(block: &Normal, marks: &mut [bool])
+fn note_needed(block: &Normal, asked: &mut [bool])
     requires { length block.now.needed ≤ 65536 }
-    ensures { marks.new ≡ with_classes marks.old (map (place_class block.now) (needed_places block.now)) }
+    ensures { asked.new ≡ with_classes asked.old (map (place_class block.now) (needed_places block.now)) }
 {
     for (number, columns) in block.needed.as_slice().iter().enumerate() {
-        mark_columns(block, number as u16, columns.as_slice(), marks);
+        note_columns(block, number as u16, columns.as_slice(), asked);
     }
 }
 
-fn mark_keys(block: &Normal, found: &[UseAt<'_>], marks: &mut [bool])
-    ensures { marks.new ≡ with_classes marks.old (flat_map (key_classes block.now) (map as_use found.now)) }
+fn note_keys(block: &Normal, found: &[UseAt<'_>], asked: &mut [bool])
+    ensures { asked.new ≡ with_classes asked.old (flat_map (key_classes block.now) (map as_use found.now)) }
 {
     for use_at in found {
-        mark_columns(block, use_at.atom, use_at.access.key.as_slice(), marks);
+        note_columns(block, use_at.atom, use_at.access.key.as_slice(), asked);
     }
 }
 
 // The classes that the block needs, or that a key has: one truth value for each class.
-fn marks_of(alloc: Global, block: &Normal, found: &[UseAt<'_>]) -> Result<Vec<bool>, NoMemory>
+fn asked_of(alloc: Global, block: &Normal, found: &[UseAt<'_>]) -> Result<Vec<bool>, NoMemory>
     requires { length block.now.needed ≤ 65536 }
-    ensures { IfOk result (λ marks. marks.items ≡ with_classes (replicate block.now.count false)
+    ensures { IfOk result (λ asked. asked.items ≡ with_classes (replicate block.now.count false)
         (map (place_class block.now) (needed_places block.now)
         ++ flat_map (key_classes block.now) (map as_use found.now))) }
 {
-    let mut marks = vec![in alloc; false; usize::from(block.count)]?;
-    mark_needed(block, &mut marks);
-    mark_keys(block, found, &mut marks);
-    Ok(marks)
+    let mut asked = vec![in alloc; false; usize::from(block.count)]?;
+    note_needed(block, &mut asked);
+    note_keys(block, found, &mut asked);
+    Ok(asked)
 }
 
 // The first column of an atom that has a class.
@@ -97,49 +97,49 @@ fn first_place(block: &Block, normal: &Normal, class: u16) -> Place
     }
 }
 
-fn is_marked(cover: &[bool], marks: &[bool], class: u16) -> bool
-    ensures { result ≡ is_marked cover.now marks.now class }
+fn is_open(cover: &[bool], asked: &[bool], class: u16) -> bool
+    ensures { result ≡ is_open cover.now asked.now class }
 {
-    !has_class(cover, class) && has_class(marks, class)
+    !has_class(cover, class) && has_class(asked, class)
 }
 
-// Adds a class with its first place, where it is marked and the covered set lacks it.
-fn push_marked(
+// Adds a class with its first place, where it is asked for and the covered set lacks it.
+fn push_open(
     block: &Block,
     normal: &Normal,
     cover: &[bool],
-    marks: &[bool],
+    asked: &[bool],
     class: u16,
     found: &mut List<Candidate>,
 ) -> Result<(), NoMemory>
     requires shape { BlockIsWellFormed block.now }
     requires normal { normal.now ≡ normal_of block.now }
     ensures { OnOk result (found.new ≡ found.old
-        ++ map (candidate_of block.now) (filter (is_marked cover.now marks.now) (class ∷ []))) }
+        ++ map (candidate_of block.now) (filter (is_open cover.now asked.now) (class ∷ []))) }
 {
-    if is_marked(cover, marks, class) {
+    if is_open(cover, asked, class) {
         let place = first_place(block, normal, class);
         found.push(Candidate { class, place })?;
     }
     Ok(())
 }
 
-// The classes that are marked and that the covered set lacks, each with its first place.
-fn marked(
+// The classes that are asked for and that the covered set lacks, each with its first place.
+fn open_candidates(
     alloc: Global,
     block: &Block,
     normal: &Normal,
     cover: &[bool],
-    marks: &[bool],
+    asked: &[bool],
 ) -> Result<List<Candidate>, NoMemory>
     requires shape { BlockIsWellFormed block.now }
     requires normal { normal.now ≡ normal_of block.now }
     ensures { IfOk result (λ found. found ≡ map (candidate_of block.now)
-        (filter (is_marked cover.now marks.now) (range_with_len 0 normal.now.count))) }
+        (filter (is_open cover.now asked.now) (range_with_len 0 normal.now.count))) }
 {
     let mut found = List::new(alloc);
     for class in 0..normal.count {
-        push_marked(block, normal, cover, marks, class, &mut found)?;
+        push_open(block, normal, cover, asked, class, &mut found)?;
     }
     Ok(found)
 }
@@ -158,6 +158,6 @@ pub(crate) fn candidates_of(
     ensures { IfOk result (λ listed. (accesses : Items Access) → map as_use found.now ≡ uses normal.now accesses
         → cover.now ≡ own_cover normal.now accesses → listed ≡ map (candidate_of block.now) (candidates accesses block.now)) }
 {
-    let marks = marks_of(alloc, normal, found)?;
-    Ok(marked(alloc, block, normal, cover, &marks)?)
+    let asked = asked_of(alloc, normal, found)?;
+    Ok(open_candidates(alloc, block, normal, cover, &asked)?)
 }

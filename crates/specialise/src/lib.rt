@@ -65,8 +65,26 @@ fn search(
     Ok(trial.search(alloc)?)
 }
 
-// What is answered of a block, whose sets of candidates are tried against each of the constraints.
+// What is answered of a block, where `normal` is its normal form.
 #[tactic(auto, using(coverage_check::proofs::NormalFacts::in_range, coverage_check::proofs::NormalFacts::few_atoms, coverage_check::proofs::NormalFacts::few_needed))]
+fn specialise_normal(
+    alloc: Global,
+    accesses: &List<Access>,
+    block: &Block,
+    normal: &Normal,
+) -> Result<Option<List<Place>>, Fail>
+    requires shape { BlockIsWellFormed block.now }
+    requires normal { normal.now ≡ normal_of block.now }
+    ensures { Gives result (specialised accesses.now block.now) }
+{
+    let cover = close(alloc, normal, accesses)?;
+    match why_not(normal, accesses.as_slice(), cover.as_slice()) {
+        None => Ok(Some(List::new(alloc))),
+        Some(_) => search(alloc, accesses, block, normal, cover.as_slice()),
+    }
+}
+
+// What is answered of a block, whose sets of candidates are tried against each of the constraints.
 fn specialise_over(
     alloc: Global,
     accesses: &List<Access>,
@@ -76,11 +94,9 @@ fn specialise_over(
     ensures { Gives result (specialised accesses.now block.now) }
 {
     let normal = normalise(alloc, block)?;
-    let cover = close(alloc, &normal, accesses)?;
-    match why_not(&normal, accesses.as_slice(), cover.as_slice()) {
-        None => Ok(Some(List::new(alloc))),
-        Some(_) => search(alloc, accesses, block, &normal, cover.as_slice()),
-    }
+    let found = specialise_normal(alloc, accesses, block, &normal);
+    drop(normal);
+    found
 }
 
 /// The columns of a block that make it covered, once each is equated with a constant: the first places of the first set of

@@ -1,4 +1,4 @@
-use Rattle.normal_form.proofs.Marked.{normal_from}
+use Rattle.normal_form.proofs.Used.{normal_from}
 use Rattle.normal_form.proofs.normal_over.Goals as goal
 
 pub returns : goal.returns

@@ -1,7 +1,7 @@
 use Rattle.std.proofs.Common.{◌≡◌, ◌+◌, ℕ, ap, ◌∙◌, length, arith}
 use Rattle.beas_core.specs.declared.query.Atom.{Atom}
 use Rattle.normal_form.specs.Places.{class_list}
-use Rattle.normal_form.proofs.Marked.{listed_more, listed_all}
+use Rattle.normal_form.proofs.Used.{listed_more, listed_all}
 use Rattle.normal_form.proofs.places.Places.class_lists.Goals as goal
 
 pub loop-atom-preserved : goal.loop-atom-preserved

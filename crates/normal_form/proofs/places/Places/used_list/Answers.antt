@@ -1,7 +1,7 @@
 use Rattle.std.proofs.Common.{◌≡◌, ◌+◌, ◌∙◌, ap, sym, refl, arith}
 use Rattle.std.specs.Prelude.{vec_len, vec_capacity}
 use Rattle.normal_form.specs.Places.{offset, place_number, place_at}
-use Rattle.normal_form.proofs.Marked.{pushed, used_more_true, used_more_false}
+use Rattle.normal_form.proofs.Used.{pushed, used_more_true, used_more_false}
 use Rattle.normal_form.proofs.places.Places.used_list.Goals as goal
 use Rattle.normal_form.proofs.places.Places.used_list.Goals.{then-used-first, else-used-first}
 

@@ -1,4 +1,4 @@
--- Classes that are marked, list by list.
+-- Classes that are noted, list by list.
 use Rattle.std.proofs.Common.{◌≡◌, ◌<◌, ◌≤◌, ◌+◌, ℕ, true, List, [], ◌∷◌, ◌++◌, length, map, take, get_or, refl, ap, sym, ◌∙◌, subst}
 use Rattle.std.specs.List.{flat_map, enumerate_from, slice_set}
 use Rattle.std.proofs.lemmas.List.{map-append, take_all}
@@ -13,10 +13,10 @@ use Rattle.attribute_closure.specs.Uses.{as_use}
 use Rattle.attribute_closure.specs.declared.uses.UseAt.{UseAt}
 use Rattle.specialise.proofs.Lists.{numbers_push, flat_push, map_push}
 
-pub marks_past : {A : Type 0} (set : ClassSet) (f : A → ℕ) (xs : List A) (i : ℕ) (d : A) → i < length xs
+pub noted_past : {A : Type 0} (set : ClassSet) (f : A → ℕ) (xs : List A) (i : ℕ) (d : A) → i < length xs
     → length (with_classes set (map f (take i xs))) ≤ f (get_or xs i d)
     → with_classes set (map f (take (i + 1) xs)) ≡ with_classes set (map f (take i xs))
-marks_past set f xs i d l past = sym (columns_more set f xs i d l) ∙ set_past (with_classes set (map f (take i xs))) (f (get_or xs i d)) past
+noted_past set f xs i d l past = sym (columns_more set f xs i d l) ∙ set_past (with_classes set (map f (take i xs))) (f (get_or xs i d)) past
 
 pub with_append : (set : ClassSet) (xs ys : List ℕ) → with_classes set (xs ++ ys) ≡ with_classes (with_classes set xs) ys
 with_append set [] ys = refl

@@ -1,4 +1,4 @@
--- Places that are marked as used, and the lists of the normal form that are read off.
+-- Places that are used, and the lists of the normal form that are read off.
 use Rattle.std.proofs.Common.{◌≡◌, ◌==◌, ◌||◌, ◌<◌, ◌+◌, ℕ, zero, suc, Bool, true, false, cond, List, [], ◌∷◌, ◌++◌, length, map, take, get_or, replicate, inl, inr, refl, ap, sym, ◌∙◌, subst, arith, add-one, length-set, All, append_assoc, zero-add, add-zero}
 use Rattle.std.specs.List.{list_any, filter, flat_map, enumerate_from, range_with_len, slice_set}
 use Rattle.std.proofs.Math.Seq.{take-suc, take-length}
@@ -19,7 +19,7 @@ use Rattle.beas_core.specs.Shapes.{IsPlace, BlockIsWellFormed, ComparisonIsWellF
 use Rattle.beas_core.specs.Classes.{same_place, operand_places, used_places, needed_columns, class_of, normal_of}
 use Rattle.beas_core.specs.Coverage.{has, with_classes}
 use Rattle.beas_core.proofs.Sets.{Has}
-use Rattle.normal_form.specs.Places.{offset, place_number, mark, place_at, class_list, used_list, class_lists, used_lists}
+use Rattle.normal_form.specs.Places.{offset, place_number, with_places, place_at, class_list, used_list, class_lists, used_lists}
 use Rattle.normal_form.specs.Labels.{AreLabels, heads, rank}
 use Rattle.normal_form.proofs.Offsets.{number_below, number_same, in_range, width_at}
 use Rattle.normal_form.proofs.Joined.{class_by_label, count_by_label}
@@ -32,22 +32,23 @@ length-with : (set : List Bool) (xs : List ℕ) → length (with_classes set xs)
 length-with set [] = refl
 length-with set (x ∷ xs) = length-with (slice_set set x true) xs ∙ length-set set x true
 
-pub length_marked : (atoms : List Atom) (used : List Bool) (ps : List Place) → length (mark atoms used ps) ≡ length used
-unfolding mark
-length_marked atoms used ps = length-with used (map (place_number atoms) ps)
+pub length_used : (atoms : List Atom) (used : List Bool) (ps : List Place) → length (with_places atoms used ps) ≡ length used
+unfolding with_places
+length_used atoms used ps = length-with used (map (place_number atoms) ps)
 
-pub marked_append : (atoms : List Atom) (used : List Bool) (ps qs : List Place) → mark atoms used (ps ++ qs) ≡ mark atoms (mark atoms used ps) qs
-unfolding mark
-marked_append atoms used ps qs = ap (with_classes used) (map-append (place_number atoms) ps qs)
+pub used_append : (atoms : List Atom) (used : List Bool) (ps qs : List Place)
+    → with_places atoms used (ps ++ qs) ≡ with_places atoms (with_places atoms used ps) qs
+unfolding with_places
+used_append atoms used ps qs = ap (with_classes used) (map-append (place_number atoms) ps qs)
     ∙ with_classes-append used (map (place_number atoms) ps) (map (place_number atoms) qs)
 
-pub marked_nil : (atoms : List Atom) (used : List Bool) → mark atoms used [] ≡ used
-unfolding mark
-marked_nil atoms used = refl
+pub used_nil : (atoms : List Atom) (used : List Bool) → with_places atoms used [] ≡ used
+unfolding with_places
+used_nil atoms used = refl
 
-pub marked_one : (atoms : List Atom) (used : List Bool) (p : Place) → mark atoms used (p ∷ []) ≡ slice_set used (place_number atoms p) true
-unfolding mark
-marked_one atoms used p = refl
+pub used_one : (atoms : List Atom) (used : List Bool) (p : Place) → with_places atoms used (p ∷ []) ≡ slice_set used (place_number atoms p) true
+unfolding with_places
+used_one atoms used p = refl
 
 pub flat_map_more : {A B : Type 0} (f : A → List B) (xs : List A) (i : ℕ) (d : A) → i < length xs
     → flat_map f (take (i + 1) xs) ≡ flat_map f (take i xs) ++ f (get_or xs i d)
@@ -61,32 +62,33 @@ flat_map_more f xs i d l = ap (λ k. flat_map f (take k xs)) (add-one i) ∙ ap 
 pub pushed : {A : Type 0} (xs ys new : List A) (x y : A) → new ≡ xs ++ x ∷ [] → xs ≡ ys → x ≡ y → new ≡ ys ++ y ∷ []
 pushed xs ys new x y e f g = e ∙ ap (λ zs. zs ++ x ∷ []) f ∙ ap (λ z. ys ++ z ∷ []) g
 
--- one more mark, at a step of a loop
-pub marked_more : (atoms : List Atom) (used : List Bool) (ps : List Place) (i : ℕ) (d : Place) → i < length ps
-    → mark atoms (mark atoms used (take i ps)) (get_or ps i d ∷ []) ≡ mark atoms used (take (i + 1) ps)
-marked_more atoms used ps i d l = sym (marked_append atoms used (take i ps) (get_or ps i d ∷ []))
-    ∙ ap (mark atoms used) (sym (ap (λ k. take k ps) (add-one i) ∙ take-suc ps i d l))
+-- one more place, at a step of a loop
+pub used_more : (atoms : List Atom) (used : List Bool) (ps : List Place) (i : ℕ) (d : Place) → i < length ps
+    → with_places atoms (with_places atoms used (take i ps)) (get_or ps i d ∷ []) ≡ with_places atoms used (take (i + 1) ps)
+used_more atoms used ps i d l = sym (used_append atoms used (take i ps) (get_or ps i d ∷ []))
+    ∙ ap (with_places atoms used) (sym (ap (λ k. take k ps) (add-one i) ∙ take-suc ps i d l))
 
-pub marked_firsts : (atoms : List Atom) (used : List Bool) (cs : List (Place × Value)) (i : ℕ) (d : Place × Value) → i < length cs
-    → mark atoms (mark atoms used (map (λ c. c.0) (take i cs))) ((get_or cs i d).0 ∷ []) ≡ mark atoms used (map (λ c. c.0) (take (i + 1) cs))
-marked_firsts atoms used cs i d l = sym (marked_append atoms used (map (λ c. c.0) (take i cs)) ((get_or cs i d).0 ∷ []))
-    ∙ ap (mark atoms used) (sym (ap (λ k. map (λ c. c.0) (take k cs)) (add-one i) ∙ ap (map (λ c. c.0)) (take-suc cs i d l)
+pub used_firsts : (atoms : List Atom) (used : List Bool) (cs : List (Place × Value)) (i : ℕ) (d : Place × Value) → i < length cs
+    → with_places atoms (with_places atoms used (map (λ c. c.0) (take i cs))) ((get_or cs i d).0 ∷ [])
+    ≡ with_places atoms used (map (λ c. c.0) (take (i + 1) cs))
+used_firsts atoms used cs i d l = sym (used_append atoms used (map (λ c. c.0) (take i cs)) ((get_or cs i d).0 ∷ []))
+    ∙ ap (with_places atoms used) (sym (ap (λ k. map (λ c. c.0) (take k cs)) (add-one i) ∙ ap (map (λ c. c.0)) (take-suc cs i d l)
     ∙ map-append (λ c. c.0) (take i cs) (get_or cs i d ∷ [])))
 
-pub marked_pairs : (atoms : List Atom) (used : List Bool) (es : List (Place × Place)) (i : ℕ) (d : Place × Place) → i < length es
-    → mark atoms (mark atoms (mark atoms used (flat_map (λ e. e.0 ∷ e.1 ∷ []) (take i es))) ((get_or es i d).0 ∷ [])) ((get_or es i d).1 ∷ [])
-    ≡ mark atoms used (flat_map (λ e. e.0 ∷ e.1 ∷ []) (take (i + 1) es))
-marked_pairs atoms used es i d l =
-    sym (marked_append atoms (mark atoms used (flat_map (λ e. e.0 ∷ e.1 ∷ []) (take i es))) ((get_or es i d).0 ∷ []) ((get_or es i d).1 ∷ []))
-    ∙ sym (marked_append atoms used (flat_map (λ e. e.0 ∷ e.1 ∷ []) (take i es)) ((get_or es i d).0 ∷ (get_or es i d).1 ∷ []))
-    ∙ ap (mark atoms used) (sym (flat_map_more (λ e. e.0 ∷ e.1 ∷ []) es i d l))
+pub used_pairs : (atoms : List Atom) (used : List Bool) (es : List (Place × Place)) (i : ℕ) (d : Place × Place) → i < length es
+    → with_places atoms (with_places atoms (with_places atoms used (flat_map (λ e. e.0 ∷ e.1 ∷ []) (take i es))) ((get_or es i d).0 ∷ []))
+    ((get_or es i d).1 ∷ []) ≡ with_places atoms used (flat_map (λ e. e.0 ∷ e.1 ∷ []) (take (i + 1) es))
+used_pairs atoms used es i d l =
+    sym (used_append atoms (with_places atoms used (flat_map (λ e. e.0 ∷ e.1 ∷ []) (take i es))) ((get_or es i d).0 ∷ []) ((get_or es i d).1 ∷ []))
+    ∙ sym (used_append atoms used (flat_map (λ e. e.0 ∷ e.1 ∷ []) (take i es)) ((get_or es i d).0 ∷ (get_or es i d).1 ∷ []))
+    ∙ ap (with_places atoms used) (sym (flat_map_more (λ e. e.0 ∷ e.1 ∷ []) es i d l))
 
-pub marked_sides : (atoms : List Atom) (used : List Bool) (cs : List Comparison) (i : ℕ) (d : Comparison) → i < length cs
-    → mark atoms (mark atoms used (flat_map (λ c. c.left ∷ operand_places c.right) (take i cs)))
-    ((get_or cs i d).left ∷ operand_places (get_or cs i d).right) ≡ mark atoms used (flat_map (λ c. c.left ∷ operand_places c.right) (take (i + 1) cs))
-marked_sides atoms used cs i d l =
-    sym (marked_append atoms used (flat_map (λ c. c.left ∷ operand_places c.right) (take i cs)) ((get_or cs i d).left ∷ operand_places (get_or cs i d).right))
-    ∙ ap (mark atoms used) (sym (flat_map_more (λ c. c.left ∷ operand_places c.right) cs i d l))
+pub used_sides : (atoms : List Atom) (used : List Bool) (cs : List Comparison) (i : ℕ) (d : Comparison) → i < length cs
+    → with_places atoms (with_places atoms used (flat_map (λ c. c.left ∷ operand_places c.right) (take i cs)))
+    ((get_or cs i d).left ∷ operand_places (get_or cs i d).right) ≡ with_places atoms used (flat_map (λ c. c.left ∷ operand_places c.right) (take (i + 1) cs))
+used_sides atoms used cs i d l =
+    sym (used_append atoms used (flat_map (λ c. c.left ∷ operand_places c.right) (take i cs)) ((get_or cs i d).left ∷ operand_places (get_or cs i d).right))
+    ∙ ap (with_places atoms used) (sym (flat_map_more (λ c. c.left ∷ operand_places c.right) cs i d l))
 
 -- one more column, and one more atom
 pub range_more : (n : ℕ) → range_with_len 0 (n + 1) ≡ range_with_len 0 n ++ n ∷ []
@@ -172,11 +174,11 @@ has-set (b ∷ set) (suc c) zero l = let e : (suc c == zero) ≡ false = grind (
 has-set (b ∷ set) (suc c) (suc k) l = let e : (suc c == suc k) ≡ (c == k) = grind (arith, nat_tests) in
     has-set set c k (omega arith) ∙ ap (λ t. t || has set k) (sym e)
 
--- the marked places are those of the list, where none was marked before
-has-marked : (set : List Bool) (ks : List ℕ) (k : ℕ) → k < length set → has (with_classes set ks) k ≡ (list_any (λ c. c == k) ks || has set k)
-has-marked set [] k l = refl
-has-marked set (c ∷ ks) k l =
-    has-marked (slice_set set c true) ks k (subst (λ n. k < n) (sym (length-set set c true)) l)
+-- the used places are those of the list, where none was used before
+has-used : (set : List Bool) (ks : List ℕ) (k : ℕ) → k < length set → has (with_classes set ks) k ≡ (list_any (λ c. c == k) ks || has set k)
+has-used set [] k l = refl
+has-used set (c ∷ ks) k l =
+    has-used (slice_set set c true) ks k (subst (λ n. k < n) (sym (length-set set c true)) l)
     ∙ ap (λ b. list_any (λ d. d == k) ks || b) (has-set set c k l)
     ∙ turned (list_any (λ d. d == k) ks) (c == k) (has set k)
   where
@@ -207,11 +209,11 @@ any_numbered atoms p (q ∷ ps) h all =
     eqb_turned a b = grind (arith, nat_tests)
 
 module _ (atoms : List Atom) (n : ℕ) (ps : List Place) (full : n ≡ offset atoms (length atoms)) (all : All (IsPlace atoms) ps) where
-  pub marked_at : (p : Place) → IsPlace atoms p → has (mark atoms (replicate n false) ps) (place_number atoms p) ≡ list_any (same_place p) ps
-  unfolding mark
-  marked_at p h =
+  pub used_at : (p : Place) → IsPlace atoms p → has (with_places atoms (replicate n false) ps) (place_number atoms p) ≡ list_any (same_place p) ps
+  unfolding with_places
+  used_at p h =
       let l = number_below atoms p h in
-      has-marked (replicate n false) (map (place_number atoms) ps) (place_number atoms p)
+      has-used (replicate n false) (map (place_number atoms) ps) (place_number atoms p)
       (subst (λ m. place_number atoms p < m) (sym full ∙ sym (length-replicate n false)) l)
       ∙ ap (λ b. list_any (λ c. c == place_number atoms p) (map (place_number atoms) ps) || b) (none_there n (place_number atoms p))
       ∙ or_false (list_any (λ c. c == place_number atoms p) (map (place_number atoms) ps))
@@ -291,14 +293,14 @@ module _ (block : Block) (shape : BlockIsWellFormed block) where
   member a h = numbered_from block.atoms 0 block.atoms (λ k d l. ap (λ n. get_or block.atoms n d) (zero-add k)) (zero-add (length block.atoms)) a h
 
   module _ (n : ℕ) (full : n ≡ offset block.atoms (length block.atoms)) where
-    needed_lists : used_lists block.atoms (mark block.atoms (replicate n false) (used_places block))
+    needed_lists : used_lists block.atoms (with_places block.atoms (replicate n false) (used_places block))
         ≡ map (λ a. needed_columns block a.0 a.1.width) (enumerate_from 0 block.atoms)
-    needed_lists = map_agrees (λ a. used_list block.atoms (mark block.atoms (replicate n false) (used_places block)) a.0 a.1.width)
+    needed_lists = map_agrees (λ a. used_list block.atoms (with_places block.atoms (replicate n false) (used_places block)) a.0 a.1.width)
         (λ a. needed_columns block a.0 a.1.width) (enumerate_from 0 block.atoms)
-        (λ a m. ap (map column) (filter_agrees (λ c. has (mark block.atoms (replicate n false) (used_places block))
+        (λ a m. ap (map column) (filter_agrees (λ c. has (with_places block.atoms (replicate n false) (used_places block))
         (place_number block.atoms (place_at a.0 c)))
         (λ c. list_any (same_place (place_at a.0 c)) (used_places block)) (range_with_len 0 a.1.width)
-        (λ c k. marked_at block.atoms n (used_places block) full (used_are block shape) (place_at a.0 c) (place_numbered block.atoms a c (member a m) k))))
+        (λ c k. used_at block.atoms n (used_places block) full (used_are block shape) (place_at a.0 c) (place_numbered block.atoms a c (member a m) k))))
 
   module _ (labels : List ℕ) (are : AreLabels block.atoms block.equalities labels) where
     classes_are : class_lists block.atoms (map (rank labels) labels)
@@ -321,12 +323,13 @@ module _ (block : Block) (shape : BlockIsWellFormed block) where
         ap (λ n. pair n c.1 ∷ map by_label cs) (class_by_label block labels are c.0 (All-head (λ d. IsPlace block.atoms d.0) c cs h))
         ∙ ap (λ ds. by_class c ∷ ds) (constants_from cs (All-tail (λ d. IsPlace block.atoms d.0) c cs h))
 
-    -- what is read off the labels and the marks is the normal form
+    -- what is read off the labels and the used places is the normal form
     pub normal_is : (n : ℕ) → n ≡ offset block.atoms (length block.atoms)
         → (atoms : List Atom) (classes : List (List ℕ)) (count : ℕ) (constants : List (ℕ × Value)) (needed : List (List ColumnId))
         (comparisons : List Comparison) (output : List Place) → atoms ≡ block.atoms → classes ≡ class_lists block.atoms (map (rank labels) labels)
         → count ≡ length (heads labels) → constants ≡ map by_label block.constants
-        → needed ≡ used_lists block.atoms (mark block.atoms (replicate n false) (used_places block)) → comparisons ≡ block.comparisons → output ≡ block.output
+        → needed ≡ used_lists block.atoms (with_places block.atoms (replicate n false) (used_places block))
+        → comparisons ≡ block.comparisons → output ≡ block.output
         → ◌≡◌ {A = Normal} (record {
           atoms = atoms;
           classes = classes;
@@ -347,7 +350,8 @@ module _ (block : Block) (shape : BlockIsWellFormed block) where
 -- the same, as the calls hand it on
 pub normal_from : (block : Block) → BlockIsWellFormed block → (atoms : List Atom) → atoms ≡ block.atoms → (equalities : List (Place × Place))
     → equalities ≡ block.equalities → (labels numbers : List ℕ) → AreLabels atoms equalities labels → numbers ≡ map (rank labels) labels
-    → (n : ℕ) → n ≡ offset atoms (length atoms) → (unused used : List Bool) → unused ≡ replicate n false → used ≡ mark block.atoms unused (used_places block)
+    → (n : ℕ) → n ≡ offset atoms (length atoms) → (unused used : List Bool)
+    → unused ≡ replicate n false → used ≡ with_places block.atoms unused (used_places block)
     → (given : List (Place × Value)) → given ≡ block.constants
     → (atoms2 : List Atom) (classes : List (List ℕ)) (count : ℕ) (constants : List (ℕ × Value)) (needed : List (List ColumnId)) (comparisons : List Comparison)
     (output : List Place)
@@ -374,4 +378,4 @@ normal_from block shape atoms ea equalities ee labels numbers are en n full unus
     ∙ ap (λ given_atoms. map (λ c. pair (get_or numbers (place_number given_atoms c.0) 0) c.1) block.constants) ea
     ∙ ap (λ ns. map (λ c. pair (get_or ns (place_number block.atoms c.0) 0) c.1) block.constants) en)
     (e ∙ ap (λ given_atoms. used_lists given_atoms used) ea
-    ∙ ap (used_lists block.atoms) (eu ∙ ap (λ none. mark block.atoms none (used_places block)) e0)) f g
+    ∙ ap (used_lists block.atoms) (eu ∙ ap (λ none. with_places block.atoms none (used_places block)) e0)) f g

@@ -1,6 +1,0 @@
-use Rattle.std.proofs.Common.{◌≡◌, map, take}
-use Rattle.normal_form.specs.Places.{mark}
-use Rattle.normal_form.proofs.needed.mark_constants.Given as goal
-
-abbrev pub invariant-loop-constant : goal.invariant-loop-constant
-invariant-loop-constant l = l.used ≡ mark l.places.atoms.now l.initial.used (map (λ c. c.0) (take l.constant-index l.constants))

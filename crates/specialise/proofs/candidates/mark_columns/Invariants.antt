@@ -1,6 +1,0 @@
-use Rattle.std.proofs.Common.{◌≡◌, map, take}
-use Rattle.beas_core.specs.Coverage.{with_classes, class_at}
-use Rattle.specialise.proofs.candidates.mark_columns.Given as goal
-
-abbrev pub invariant-loop-column : goal.invariant-loop-column
-invariant-loop-column l = l.marks ≡ with_classes l.fn.marks (map (class_at l.block l.atom) (take l.column-index l.columns))
