@@ -90,7 +90,7 @@ fn is_in_list(lists: &[&[&str]], at: usize, word: &str) -> bool
     at < lists.len() && is_among(lists[at], word)
 }
 
-/// Whether a word in lower case is one of those that are no names: a look at those with its first letter tells. It takes no memory.
+// Whether a word in lower case is one of those that are no names: a look at those with its first letter tells.
 pub fn is_reserved(word: &str) -> bool
     ensures { result ≡ is_reserved word.now }
 {

@@ -42,14 +42,6 @@ impl Name {
         self.text.as_str()
     }
 
-    /// The text is an identifier in lower case.
-    pub fn law_is_name(&self)
-        ensures { IsTrue (is_name self.now) }
-    {
-        // Read for what its type tells: a name's text is an identifier.
-        let _text = &self.text;
-    }
-
     /// Whether it is this text.
     pub fn is(&self, text: &str) -> bool
         ensures { IsTrue result ↔ (self.now ≡ text.now) }

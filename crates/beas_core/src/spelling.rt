@@ -22,8 +22,8 @@ pub fn begins_word(byte: u8) -> bool
     byte.is_ascii_alphabetic() || byte == b'_'
 }
 
-/// Whether a byte goes on with a word: a letter, `_` or a digit.
-pub fn continues_word(byte: u8) -> bool
+// Whether a byte goes on with a word: a letter, `_` or a digit.
+fn continues_word(byte: u8) -> bool
     ensures { result ≡ continues_word byte }
 {
     begins_word(byte) || byte.is_ascii_digit()

@@ -9,8 +9,8 @@ ghost use Rattle.name_resolution.specs.Refusing.{first};
 
 use crate::at_once::bound_at_once;
 use beas_core::{Fail, Limits, Query};
-use catalogue::Catalogue;
-use name_resolution::{bound_by_kinds, recall_soundness};
+use catalogue::{Catalogue, recall_soundness};
+use name_resolution::bound_by_kinds;
 use sql_text::SelectTree;
 use std::alloc::Global;
 

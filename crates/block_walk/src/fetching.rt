@@ -12,8 +12,9 @@ ghost use Rattle.plan_ops.specs.Stages.{IsStage};
 use crate::group::Group;
 use beas_core::{
     AccessId, AccessPort, ColumnId, Hits, NoMemory, Normal, Operand, Steps, Value, compare,
+    sign_holds,
 };
-use plan_ops::{Own, Stage, push_copy, sign_holds};
+use plan_ops::{Own, Stage, push_copy};
 use std::alloc::Global;
 use std::sync::ledger::Ledger;
 

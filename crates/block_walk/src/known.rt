@@ -307,11 +307,7 @@ impl Known {
             alloc, port, block, id, stage, one, key, values, steps,
         )?;
         let place = self.spots.len();
-        let hash = self
-            .ordered
-            .hash_for(alloc, &self.chains, step, key, place, hash)?;
         let key_width = key.len();
-        keep_key(kept, key, &mut self.values)?;
         self.spots.push(Spot {
             step,
             from,
@@ -321,6 +317,10 @@ impl Known {
             index: None,
             all,
         })?;
+        let hash = self
+            .ordered
+            .hash_for(alloc, &self.chains, step, key, place, hash)?;
+        keep_key(kept, key, &mut self.values)?;
         self.chains.push(alloc, hash)?;
         let reads = Some(found.max(1));
         Ok(Found { place, reads })

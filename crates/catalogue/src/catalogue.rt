@@ -1,11 +1,13 @@
 // Tables and live access constraints.
 ghost use Rattle.std.specs.Prelude.{◌≡◌, ◌≢◌, ◌+◌, ◌<◌, ◌≤◌, [], List, length, map, slice_index_or, ◌==◌, option_map, is_some, IsTrue, IsOk, IfOk, IfSome, OnOk, OnErr, None, Some, nat_le};
 ghost use Rattle.std.specs.List.{list_any, remove};
+ghost use Rattle.std.specs.Option.{option_or, is_none};
+ghost use Rattle.beas_core.specs.Spelling.{limit_in};
 ghost use Rattle.catalogue.specs.Schema.{SchemaIsSound, TableIsSound, table_named, table_at, access_with_id, columns_at, has_access, schema_with_table, schema_with_access, schema_without_access};
 ghost use Rattle.beas_core.specs.declared.schema.Access.{Access as Constraint};
 ghost use Rattle.catalogue.specs.Kept.{MayMakeTable, MayMakeAccess, ids_on, id_of_access_named};
 ghost use Rattle.beas_core.specs.Results.{IsRefusedAs, refused_if};
-ghost use Rattle.catalogue.specs.Refusing.{unknown_table, add_table_refusal, resolve_refusal, admit_refusal, drop_access_refusal, column_ids, columns_of_named, new_access};
+ghost use Rattle.catalogue.specs.Refusing.{unknown_table, unknown_columns, repeated_columns, add_table_refusal, resolve_refusal, admit_refusal, drop_access_refusal, column_ids, columns_of_named, new_access};
 
 use crate::columns::{bound_of, ids_of};
 use crate::ids::{position_of_id, push_in, push_in_room, remove_in, reserve_in};
@@ -340,6 +342,42 @@ impl Catalogue {
         }
     }
 
+    /// The table and the columns that these names stand for, of which some may stand twice.
+    fn known_columns(
+        &self,
+        alloc: Global,
+        table: &Name,
+        key: &List<Name>,
+        fetched: &List<Name>,
+    ) -> Result<(TableId, List<ColumnId>, List<ColumnId>), Fail>
+        ensures refused { IsRefusedAs result (option_or (unknown_table self.now table.now)
+            (unknown_columns (columns_of_named self.now table.now) key.now fetched.now)) }
+        ensures table { IfOk result (λ found. table_named self.now table.now ≡ Some found.0) }
+        ensures live { IfOk result (λ found. found.0.0 < length self.now.tables) }
+        ensures key { IfOk result (λ found. found.1 ≡ column_ids (columns_of_named self.now table.now) key.now) }
+        ensures fetched { IfOk result (λ found. found.2
+            ≡ column_ids (columns_of_named self.now table.now) fetched.now) }
+    {
+        let id = self.known_table(alloc, table)?;
+        let columns = self.columns(id).as_slice();
+        let key_columns = ids_of(alloc, columns, key.as_slice())?;
+        let fetched_columns = ids_of(alloc, columns, fetched.as_slice())?;
+        Ok((id, key_columns, fetched_columns))
+    }
+
+    /// Refuses the first column that stands twice in the key, or else in what is fetched.
+    fn refuse_repeated_columns(
+        &self,
+        alloc: Global,
+        key: &List<Name>,
+        fetched: &List<Name>,
+    ) -> Result<(), Fail>
+        ensures { IsRefusedAs result (repeated_columns key.now fetched.now) }
+    {
+        refuse_repeated(alloc, self.hashing(), key.as_slice())?;
+        refuse_repeated(alloc, self.hashing(), fetched.as_slice())
+    }
+
     /// The table and the columns that these names stand for.
     pub fn resolve(
         &self,
@@ -355,13 +393,27 @@ impl Catalogue {
         ensures fetched { IfOk result (λ found. found.2
             ≡ column_ids (columns_of_named self.now table.now) fetched.now) }
     {
-        let id = self.known_table(alloc, table)?;
-        let columns = self.columns(id).as_slice();
-        let key_columns = ids_of(alloc, columns, key.as_slice())?;
-        let fetched_columns = ids_of(alloc, columns, fetched.as_slice())?;
-        refuse_repeated(alloc, self.hashing(), key.as_slice())?;
-        refuse_repeated(alloc, self.hashing(), fetched.as_slice())?;
-        Ok((id, key_columns, fetched_columns))
+        let found = self.known_columns(alloc, table, key, fetched)?;
+        self.refuse_repeated_columns(alloc, key, fetched)?;
+        Ok(found)
+    }
+
+    /// The bound of the constraint that a statement would make, unless its name is taken, a column stands twice, its limit
+    /// is bad, or there are too many constraints.
+    fn admitted_bound(&self, alloc: Global, limits: &Limits, spec: &AccessSpec) -> Result<u32, Fail>
+        ensures refused { IsRefusedAs result
+            (option_or (refused_if (has_access self.now spec.now.name) (Refusal.DuplicateName spec.now.name))
+            (option_or (repeated_columns spec.now.key spec.now.fetched)
+            (option_or (refused_if (is_none (limit_in spec.now.limit)) (Refusal.BadLimit spec.now.limit))
+            (refused_if (nat_le limits.now.constraints self.now.created)
+            (Refusal.TooMany Counted.Constraints limits.now.constraints))))) }
+        ensures bound { IfOk result (λ bound. limit_in spec.now.limit ≡ Some bound) }
+    {
+        self.refuse_taken_name(alloc, &spec.name)?;
+        self.refuse_repeated_columns(alloc, &spec.key, &spec.fetched)?;
+        let bound = bound_of(alloc, &spec.limit)?;
+        self.refuse_one_too_many(limits)?;
+        Ok(bound)
     }
 
     /// The constraint that a statement would make. It tests, and changes nothing.
@@ -370,18 +422,17 @@ impl Catalogue {
         ensures refused { IsRefusedAs result (admit_refusal limits.now self.now spec.now) }
         ensures admitted { IfOk result (λ access. access ≡ new_access self.now spec.now) }
     {
-        let table = self.known_table(alloc, &spec.table)?;
-        let columns = self.columns(table).as_slice();
-        let key = ids_of(alloc, columns, spec.key.as_slice())?;
-        let fetched = ids_of(alloc, columns, spec.fetched.as_slice())?;
-        self.refuse_taken_name(alloc, &spec.name)?;
-        refuse_repeated(alloc, self.hashing(), spec.key.as_slice())?;
-        refuse_repeated(alloc, self.hashing(), spec.fetched.as_slice())?;
-        let bound = bound_of(alloc, &spec.limit)?;
-        self.refuse_one_too_many(limits)?;
+        let (table, key, fetched) = self.known_columns(
+            alloc,
+            &spec.table,
+            &spec.key,
+            &spec.fetched,
+        )?;
+        let bound = self.admitted_bound(alloc, limits, spec)?;
+        let name = spec.name.copy(alloc)?;
         Ok(Access {
             id: AccessId(self.created),
-            name: spec.name.copy(alloc)?,
+            name,
             table,
             key,
             fetched,
@@ -412,4 +463,13 @@ impl Catalogue {
         }
         Ok(())
     }
+}
+
+/// Recalls that the schema of a catalogue is sound: its tables are few and no two have one name, no two constraints have
+/// one id or one name, and each is on a table that is there. That holds of each catalogue, but a caller knows it only by the
+/// clause of a call on it. So this call is there for its clause, and changes nothing.
+pub fn recall_soundness(catalogue: &Catalogue)
+    ensures { SchemaIsSound catalogue.now }
+{
+    let _accesses = catalogue.accesses();
 }

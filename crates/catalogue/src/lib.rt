@@ -17,6 +17,6 @@ mod names;
 mod repeats;
 mod tables;
 
-pub use catalogue::Catalogue;
+pub use catalogue::{Catalogue, recall_soundness};
 pub use ids::position_of_id;
 pub use tables::TableSchema;

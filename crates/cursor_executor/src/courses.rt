@@ -16,7 +16,9 @@ ghost use Rattle.cursor_executor.specs.declared.operations.Operation.TheVariants
 ghost use Rattle.cursor_executor.specs.Turns.{QuerySpent, Stepped, Went};
 
 use crate::operations::{Operation, operations_of};
-use beas_core::{AccessPort, DStep, List, NoMemory, Normal, Prepared, Row, Steps};
+use beas_core::{
+    AccessPort, DStep, List, NoMemory, Normal, Prepared, Row, Steps, recall_bound, recall_length,
+};
 use block_walk::{Walk, answer, begin, turn};
 use plan_ops::{subtract, unite};
 use std::alloc::Global;
@@ -43,8 +45,8 @@ pub fn course_of(alloc: Global, prepared: &Prepared) -> Result<Course, NoMemory>
     ensures course { IfOk result (IsCourse prepared.now) }
     ensures fetched { IfOk result (λ course. fetched_by course ≡ []) }
 {
-    // Read for what its type tells: the announced number fits 128 bits.
-    let _bound = prepared.bound;
+    // A course is one of a query whose announced number fits 128 bits.
+    recall_bound(prepared);
     let operations = operations_of(alloc, prepared)?;
     Ok(Course {
         operations,
@@ -106,9 +108,16 @@ fn first_turn<P: AccessPort, L: Ledger>(
         (route block.now (option_copied guide.entry) plan.now) (walk_fetched walk.old) steps.old steps.new) }
 {
     let mut begun = begin(alloc, block, guide)?;
-    let reads = turn(alloc, port, block, guide, plan, &mut begun, steps)?;
-    *walk = Some(begun);
-    Ok(reads)
+    match turn(alloc, port, block, guide, plan, &mut begun, steps) {
+        Ok(reads) => {
+            *walk = Some(begun);
+            Ok(reads)
+        }
+        Err(NoMemory) => {
+            drop(begun);
+            Err(NoMemory)
+        }
+    }
 }
 
 // One turn of a block's walk, which is begun where it isn't yet. Says how many reads its probe took. A walk that is begun
@@ -150,8 +159,8 @@ fn go_on(course: &mut Course)
     ensures finished { course.new.finished ≡ course.old.finished }
     ensures walk { course.new.walk ≡ course.old.walk }
 {
-    // Read for what its type tells: the number of operations fits.
-    let _count = course.operations.len();
+    // The position is below the number of operations, so that the next one fits.
+    recall_length(course.operations.as_slice());
     course.position += 1;
 }
 
@@ -169,8 +178,8 @@ fn finish_block(course: &mut Course, rows: List<Row>) -> Result<(), NoMemory>
     ensures walk { course.new.walk ≡ None }
 {
     let walk = course.walk.take().unwrap();
-    course.stack.push(rows)?;
     course.finished.push(walk)?;
+    course.stack.push(rows)?;
     go_on(course);
     Ok(())
 }

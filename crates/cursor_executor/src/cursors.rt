@@ -7,7 +7,7 @@ ghost use Rattle.cursor_executor.specs.Fetching.{AllAgree, IsWorld, reads_fetche
 ghost use Rattle.cursor_executor.specs.Turns.{HasGone, QuerySpent, TurnIs};
 
 use crate::courses::{Course, course_of, go};
-use beas_core::{AccessPort, Answer, NoMemory, Prepared, Steps};
+use beas_core::{AccessPort, Answer, NoMemory, Prepared, Steps, recall_bound};
 use plan_ops::ask_for_all;
 use std::alloc::Global;
 use std::marker::Model;
@@ -68,8 +68,8 @@ fn probe_next<P: AccessPort, L: Ledger>(
     ensures spent { OnErr result (QuerySpent (world (P.rows port.now) (P.accesses port.now)) prepared.now
         (fetched_by course.old) steps.old steps.new) }
 {
-    // Read for what its type tells: the announced number fits 128 bits, and so do the reads.
-    let _bound = prepared.bound;
+    // The reads are at most the announced number, so that their sum fits as well.
+    recall_bound(prepared);
     let Some(made) = go(alloc, port, prepared, course, steps)? else {
         return Ok(false);
     };
@@ -156,13 +156,12 @@ impl Cursor {
         ensures rows { Some result.rows ≡ self.answer }
         ensures reads { result.reads ≡ self.reads }
     {
-        let course = self.course;
-        let mut stack = course.stack;
-        let rows = stack.pop().unwrap();
-        Answer {
-            rows,
-            reads: self.reads,
-        }
+        let reads = self.reads;
+        let mut course = self.course;
+        let rows = course.stack.pop().unwrap();
+        drop(course);
+        drop(self.prepared);
+        Answer { rows, reads }
     }
 }
 

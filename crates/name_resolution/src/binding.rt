@@ -220,15 +220,6 @@ fn looked_up_blocks(
     look_up_all(alloc, catalogue, &blocks)
 }
 
-/// Recalls that the schema of a catalogue is sound. That holds of each catalogue, but a caller knows it only by the
-/// clause of a call on it. `bind` and `bind_delete` need it, so this call is there for its clause and changes nothing.
-pub fn recall_soundness(catalogue: &Catalogue)
-    ensures { SchemaIsSound catalogue.now }
-{
-    // The accesses aren't used: the call's own clauses tell that the catalogue is sound.
-    let _accesses = catalogue.accesses();
-}
-
 /// Binds a query kind by kind of refusal, as one has to be bound in which something may be refused.
 #[inline(never)]
 pub fn bound_by_kinds(

@@ -7,7 +7,6 @@ ghost use Rattle.name_resolution.specs.LookedUp.{looked_up, bound_block, BlockIs
 ghost use Rattle.beas_core.specs.Results.{IsRefusedAs};
 ghost use Rattle.name_resolution.specs.Refusing.{first, repeated_among};
 
-use crate::binding::recall_soundness;
 use crate::building::bound_block;
 use crate::kinds::{Flaw, Kind};
 use crate::looking_up::{atoms_of, conditions_of, want_table};
@@ -15,7 +14,7 @@ use crate::meaning::LookedUp;
 use crate::names::names_of_block;
 use crate::refusing::refuse_block;
 use beas_core::{Block, Duplicate, Fail, Limits, List, Name, NoMemory};
-use catalogue::Catalogue;
+use catalogue::{Catalogue, recall_soundness};
 use sql_text::{Cond, FromItem};
 use std::alloc::Global;
 

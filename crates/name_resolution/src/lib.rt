@@ -19,7 +19,7 @@ mod names;
 mod refusing;
 mod scope;
 
-pub use binding::{bound_by_kinds, recall_soundness};
+pub use binding::bound_by_kinds;
 pub use building::{add_condition, all_places, place_of};
 pub use deleting::bind_delete;
 pub use found::NamedAtom;

@@ -179,7 +179,7 @@ impl<'a> Names<'a> {
     }
 
     /// What a side of a condition stands for.
-    pub fn side(&self, alloc: Global, side: &Side) -> Result<Meaning, NoMemory>
+    fn side(&self, alloc: Global, side: &Side) -> Result<Meaning, NoMemory>
         ensures { IfOk result (λ meaning. meaning ≡ side_meaning (told_by self.now) side.now) }
     {
         match side {

@@ -18,6 +18,7 @@ fn refuse_if(failing: bool, why: Refusal) -> Result<(), Fail>
     if failing {
         return Err(Fail::Refused(why));
     }
+    drop(why);
     Ok(())
 }
 

@@ -13,7 +13,7 @@ use crate::lists::scan_lists;
 use crate::plan::ScanPlan;
 use crate::used::plan_over_lists;
 use beas_core::{Fail, List, Query};
-use catalogue::Catalogue;
+use catalogue::{Catalogue, recall_soundness};
 use plan_builder::prepare_over;
 use row_store::Rows;
 use std::alloc::Global;
@@ -37,8 +37,8 @@ pub fn scan_prepare(
         → ((id : TableId) → found id ≡ rows_of_tables rows.now id)
         → ScanPlanFits catalogue.now.accesses found rows.now plan) }
 {
-    // Read for what it shows: no id stands twice among the live constraints, and all are below those of scans.
-    let _live = catalogue.accesses();
+    // No id stands twice among the live constraints, and all are below those of scans.
+    recall_soundness(catalogue);
     let lists = scan_lists(alloc, catalogue, rows.as_slice(), &query)?;
     let prepared = prepare_over(alloc, catalogue, &lists, query)?;
     plan_over_lists(alloc, rows.as_slice(), lists.as_slice(), prepared)

@@ -31,6 +31,23 @@ impl Model for ScanIndex {
     ghost invariant = { λ s. HaveSameColumns s.index.value.access s.access };
 }
 
+// An index that others may share. It reads each row once.
+fn shared_index<L: Ledger>(
+    alloc: Global,
+    scan: &Access,
+    rows: &Rows,
+    steps: &mut Steps<L>,
+) -> Result<Rc<AccessIndex>, NoMemory>
+    ensures index { IfOk result (λ index. IsIndexOf index.value rows.now) }
+    ensures access { IfOk result (λ index. index.value.access ≡ scan.now) }
+    ensures cost { OnOk result (steps.new ≡ steps.old + length rows.now) }
+    ensures at_most { steps.new ≤ steps.old + length rows.now }
+    ensures no_fewer { steps.old ≤ steps.new }
+{
+    let index = AccessIndex::build(alloc, scan.copy(alloc)?, rows, steps)?;
+    Ok(Rc::new(alloc, index)?)
+}
+
 impl ScanIndex {
     /// An index of its own. It reads each row once.
     pub fn build<L: Ledger>(
@@ -45,11 +62,14 @@ impl ScanIndex {
         ensures at_most { steps.new ≤ steps.old + length rows.now }
         ensures no_fewer { steps.old ≤ steps.new }
     {
-        let index = AccessIndex::build(alloc, scan.copy(alloc)?, rows, steps)?;
-        Ok(ScanIndex {
-            access: scan.copy(alloc)?,
-            index: Rc::new(alloc, index)?,
-        })
+        let access = scan.copy(alloc)?;
+        match shared_index(alloc, scan, rows, steps) {
+            Ok(index) => Ok(ScanIndex { access, index }),
+            Err(NoMemory) => {
+                drop(access);
+                Err(NoMemory)
+            }
+        }
     }
 
     /// The index of another scan of the same columns. Both share the tuples.

@@ -11,4 +11,4 @@ mod reading;
 
 pub use event::Event;
 pub use laws::law_one_saying;
-pub use reading::read_piece;
+pub use reading::{UNNAMED, read_piece};

@@ -13,7 +13,7 @@ use sql_tokens::{Token, TokenKind};
 use std::alloc::Global;
 
 /// The session of the pieces that name none. No piece can name it.
-const UNNAMED: u32 = 0;
+pub const UNNAMED: u32 = 0;
 
 /// The greatest number of a session.
 const MOST_SESSIONS: u32 = 64;

@@ -1,11 +1,12 @@
 // The uses that may come next in a derivation, the best first.
-ghost use Rattle.std.specs.Prelude.{◌≡◌, ◌<◌, ◌≤◌, ◌++◌, if◌then◌else◌, slice_set, All, IfOk, IfSome, List, OnOk, filter, length, map, option_map, true};
+ghost use Rattle.std.specs.Prelude.{◌≡◌, ◌<◌, ◌≤◌, ◌++◌, [], if◌then◌else◌, slice_set, All, IfOk, IfSome, List, OnOk, false, filter, length, map, option_map, replicate, true};
 ghost use Rattle.std.specs.List.{list_all};
 ghost use Rattle.std.specs.List.Sorted.{IsPermutation};
-ghost use Rattle.std.specs.BinaryHeap.{IsHeap, heap_items};
+ghost use Rattle.std.specs.BinaryHeap.{IsHeap, heap_items, heap_len};
 ghost use Rattle.beas_core.specs.declared.schema.Access.{Access};
 ghost use Rattle.beas_core.specs.Coverage.{ClassesInRange, holds_needed, is_covered, uses, with_classes};
 ghost use Rattle.beas_core.specs.Derivations.{least_bound, with_use};
+ghost use Rattle.attribute_closure.specs.Keys.{KeysAreCounted};
 ghost use Rattle.attribute_closure.specs.Uses.{as_use};
 ghost use Rattle.plan_builder.specs.Candidates.{AreCandidates, AreLeft, AreOthers, AreWaiting, atoms_served, entry_of, later};
 ghost use Rattle.plan_builder.specs.Choices.{may_add};
@@ -67,6 +68,13 @@ fn note_served(block: &Normal, uses: &[UseAt<'_>], numbers: &[usize], served: &m
     }
 }
 
+// Recalls that the length of a queue is the number of its items.
+fn recall_items(waiting: &Queue)
+    ensures { length (heap_items waiting.now) ≡ heap_len waiting.now }
+{
+    let _items = waiting.as_slice();
+}
+
 // The best that adds a class. Those that come up before it add none, and never will.
 fn next_adding<'a>(
     block: &Normal,
@@ -87,8 +95,8 @@ fn next_adding<'a>(
             return Some(found);
         }
     }
-    // Read for what it shows: none is left.
-    let _left = waiting.as_slice();
+    // Its length is 0, so that none is left.
+    recall_items(waiting);
     None
 }
 
@@ -118,22 +126,41 @@ impl<'a> Candidates<'a> {
         ensures uses { IfOk result (λ c. map as_use c.keys.uses ≡ uses block.now accesses.now) }
         ensures set { IfOk result (λ c. c.keys.set.items ≡ start.now) }
     {
-        let mut keys = Keys::of(alloc, block, accesses)?;
-        keys.add_set(block, start)?;
-        let mut waiting = BinaryHeap::new(alloc);
-        let mut served = vec![in alloc; false; block.atoms.len()]?;
-        push_all(keys.uses.as_slice(), keys.ready.as_slice(), &mut waiting)?;
-        note_served(
-            block,
-            keys.uses.as_slice(),
-            keys.ready.as_slice(),
-            &mut served,
-        );
-        Ok(Candidates {
+        let served = vec![in alloc; false; block.atoms.len()]?;
+        let keys = Keys::of(alloc, block, accesses)?;
+        let mut found = Candidates {
             keys,
-            waiting,
+            waiting: BinaryHeap::new(alloc),
             served,
-        })
+        };
+        match found.take_set(block, start) {
+            Ok(()) => Ok(found),
+            Err(NoMemory) => {
+                drop(found);
+                Err(NoMemory)
+            }
+        }
+    }
+
+    // Takes a start set, before which no class is bound.
+    fn take_set(&mut self, block: &Normal, start: &[bool]) -> Result<(), NoMemory>
+        requires counted { KeysAreCounted block.now self.old.keys }
+        requires atoms { All (λ u. u.atom < length block.now.atoms) (map as_use self.old.keys.uses) }
+        requires classes { length start.now ≡ block.now.count }
+        requires none { self.old.keys.set.items ≡ replicate block.now.count false }
+        requires order { IsHeap later (heap_items self.old.waiting) }
+        requires waiting { heap_items self.old.waiting ≡ [] }
+        requires served { self.old.served.items ≡ replicate (length block.now.atoms) false }
+        ensures are { OnOk result (AreCandidates block.now self.new) }
+        ensures set { OnOk result (self.new.keys.set.items ≡ start.now) }
+        ensures uses { self.new.keys.uses ≡ self.old.keys.uses }
+    {
+        self.keys.add_set(block, start)?;
+        let keys = &self.keys;
+        let ready = keys.ready.as_slice();
+        push_all(keys.uses.as_slice(), ready, &mut self.waiting)?;
+        note_served(block, keys.uses.as_slice(), ready, &mut self.served);
+        Ok(())
     }
 
     /// The use of least bound whose key is bound and that adds a class, the first of those where several have it.

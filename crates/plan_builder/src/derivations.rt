@@ -203,6 +203,33 @@ fn serve_atoms(
     Ok(())
 }
 
+// Adds the steps of `greedy`, where the uses that may come next stand in a queue. False where the constraints don't cover
+// the block from the queue's set.
+fn add_from_queue(
+    steps: &mut List<DStep>,
+    block: &Normal,
+    accesses: &[Access],
+    candidates: &mut Candidates<'_>,
+) -> Result<bool, NoMemory>
+    requires ranges { ClassesInRange block.now }
+    requires atoms { length block.now.atoms < 65536 }
+    requires needed { length block.now.needed ≤ 65536 }
+    requires ids { EachIdOnce accesses.now }
+    requires are { AreCandidates block.now candidates.old }
+    requires uses { map as_use candidates.old.keys.uses ≡ uses_in block.now accesses.now }
+    requires steps { steps.old ≡ [] }
+    ensures { IfOk result (λ whole. MatchBool whole
+        (greedy_steps block.now accesses.now candidates.old.keys.set.items ≡ Some steps.new)
+        (greedy_steps block.now accesses.now candidates.old.keys.set.items ≡ None)) }
+{
+    if !add_steps(steps, block, candidates)? {
+        return Ok(false);
+    }
+    let keys = &mut candidates.keys;
+    serve_atoms(steps, &mut keys.set, block, accesses, keys.uses.as_slice())?;
+    Ok(true)
+}
+
 // The steps of `greedy`, with the uses that may come next in a queue.
 fn greedy_by_queue(
     alloc: Global,
@@ -217,22 +244,12 @@ fn greedy_by_queue(
     requires ids { EachIdOnce accesses.now }
     ensures { IfOk result (λ steps. steps ≡ greedy_steps block.now accesses.now start.now) }
 {
-    let mut candidates = Candidates::of(alloc, block, accesses.as_slice(), start)?;
     let mut steps = List::from_vec(Vec::with_capacity(alloc, block.atoms.len())?);
-    if !add_steps(&mut steps, block, &mut candidates)? {
-        return Ok(None);
-    }
-    let keys = candidates.keys;
-    let uses = keys.uses;
-    let mut set = keys.set;
-    serve_atoms(
-        &mut steps,
-        &mut set,
-        block,
-        accesses.as_slice(),
-        uses.as_slice(),
-    )?;
-    Ok(Some(steps))
+    let live = accesses.as_slice();
+    let mut candidates = Candidates::of(alloc, block, live, start)?;
+    let added = add_from_queue(&mut steps, block, live, &mut candidates);
+    drop(candidates);
+    if added? { Ok(Some(steps)) } else { Ok(None) }
 }
 
 // The steps of `greedy` from few uses, by going over all of them for each. The start itself grows.

@@ -12,7 +12,6 @@ mod pruning;
 mod sets;
 mod uncovered;
 
-pub use blocks::{BlockAt, push_blocks};
 pub use derivations::derive;
 pub use preparation::{prepare, prepare_over};
-pub use uncovered::{block_reason, lacking};
+pub use uncovered::lacking;

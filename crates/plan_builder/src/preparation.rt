@@ -23,7 +23,7 @@ use beas_core::{
     Prepared, Query, QueryNode, Refusal,
 };
 use bound_calculator::block_bound;
-use catalogue::Catalogue;
+use catalogue::{Catalogue, recall_soundness};
 use normal_form::normalise;
 use std::alloc::Global;
 
@@ -562,7 +562,7 @@ pub fn prepare(alloc: Global, catalogue: &Catalogue, query: Query) -> Result<Pre
     ensures fits { IfOk result (λ prepared. (rows : TableRows) → RowsAreWide catalogue.now rows
         → Fits catalogue.now.accesses rows prepared) }
 {
-    // Read for what it shows: no id stands twice among the live constraints.
-    let _live = catalogue.accesses();
+    // No id stands twice among the live constraints.
+    recall_soundness(catalogue);
     prepare_over(alloc, catalogue, &List::new(alloc), query)
 }

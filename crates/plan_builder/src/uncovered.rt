@@ -15,9 +15,9 @@ use catalogue::Catalogue;
 use normal_form::normalise;
 use std::alloc::Global;
 
-/// Why some constraints don't cover a block: from the classes of its constants where it has no guide or is covered by
-/// itself, and else from those of its output too. Nothing where they do.
-pub fn block_reason(
+// Why some constraints don't cover a block: from the classes of its constants where it has no guide or is covered by
+// itself, and else from those of its output too. Nothing where they do.
+fn block_reason(
     alloc: Global,
     accesses: &List<Access>,
     normal: &Normal,

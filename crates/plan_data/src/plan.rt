@@ -14,9 +14,9 @@ use crate::as_json::{AsJson, write_list, write_member};
 use crate::json_text::JsonText;
 use beas_core::{
     Access, AccessId, Atom, Column, ColumnId, DStep, Derivation, Name, NoMemory, Normal, Prepared,
-    Query, QueryNode, Text,
+    Query, QueryNode, Text, recall_length,
 };
-use catalogue::Catalogue;
+use catalogue::{Catalogue, recall_soundness};
 use std::alloc::Global;
 
 /// A prepared query as a JSON text. The names of `header` are those of its answer's columns, and its steps use live constraints
@@ -45,8 +45,8 @@ fn write_plan(
     requires { PlanFits catalogue.now.accesses prepared.now }
     ensures { OnOk result (out.new ≡ out.old ++ json_tokens (plan_value prepared.now header.now catalogue.now)) }
 {
-    // Read for what its type tells: there are fewer blocks than 2^64.
-    let _plans = prepared.derivations.as_slice();
+    // There are as many blocks as derivations, so that their numbers fit.
+    recall_length(prepared.derivations.as_slice());
     out.begin_object()?;
     out.member("bound")?;
     out.digits(prepared.bound)?;
@@ -103,8 +103,8 @@ fn write_blocks(
     ensures { OnOk result (out.new ≡ out.old ++ json_tokens (list_of (map (numbered_value catalogue.now prepared.now)
         (enumerate_from 0 prepared.now.normals)))) }
 {
-    // Read for what it tells: a catalogue is sound, so the tables of the steps are there, and each atom has a step.
-    let _live = catalogue.accesses();
+    // The tables of the live constraints are there. Each atom has a step, so its table is there too.
+    recall_soundness(catalogue);
     let plans = prepared.derivations.as_slice();
     let guided = prepared.guided.as_slice();
     out.begin_array()?;

@@ -5,7 +5,7 @@ ghost use Rattle.beas_core.specs.Full.{full_of};
 ghost use Rattle.beas_core.specs.Queries.{query_reads};
 
 use crate::trees::answer_tree;
-use beas_core::{AccessPort, Answer, NoMemory, Prepared, Steps};
+use beas_core::{AccessPort, Answer, NoMemory, Prepared, Steps, recall_bound};
 use plan_ops::ask_for_all;
 use std::alloc::Global;
 use std::sync::ledger::Ledger;
@@ -29,8 +29,8 @@ pub fn execute<P: AccessPort, L: Ledger>(
         prepared.now.guided prepared.now.derivations prepared.now.query) }
     ensures kept { steps.old ≤ steps.new }
 {
-    // Read for what its type tells: the announced number fits 128 bits, and so do the reads.
-    let _bound = prepared.bound;
+    // The reads are at most the announced number, so that their count fits as well.
+    recall_bound(prepared);
     ask_for_all(port, prepared.derivations.as_slice());
     let mut reads = 0;
     let query = &prepared.query;

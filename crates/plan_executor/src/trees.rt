@@ -56,20 +56,26 @@ pub fn answer_tree<P: AccessPort, L: Ledger>(
             let (found, next) = answer_tree(
                 alloc, port, prepared, left, first, guide, reads, steps,
             )?;
-            let (others, next) = answer_tree(
-                alloc, port, prepared, right, next, guide, reads, steps,
-            )?;
-            Ok((unite(alloc, found, others)?, next))
+            match answer_tree(alloc, port, prepared, right, next, guide, reads, steps) {
+                Ok((others, next)) => Ok((unite(alloc, found, others)?, next)),
+                Err(NoMemory) => {
+                    drop(found);
+                    Err(NoMemory)
+                }
+            }
         }
         QueryNode::Except(left, right) => {
             let (found, next) = answer_tree(
                 alloc, port, prepared, left, first, guide, reads, steps,
             )?;
             let guide = Some(&found);
-            let (others, next) = answer_tree(
-                alloc, port, prepared, right, next, guide, reads, steps,
-            )?;
-            Ok((subtract(alloc, found, others)?, next))
+            match answer_tree(alloc, port, prepared, right, next, guide, reads, steps) {
+                Ok((others, next)) => Ok((subtract(alloc, found, others)?, next)),
+                Err(NoMemory) => {
+                    drop(found);
+                    Err(NoMemory)
+                }
+            }
         }
     }
 }

@@ -5,13 +5,21 @@ ghost use Rattle.plan_ops.specs.Held.{PlanHolds, StepHolds};
 
 use beas_core::{AccessPort, DStep, Derivation};
 
+// Recalls that the constraint of a step holds over the port's rows. A caller knows it only by the clause of a call on the
+// port, so this call is there for its clause and changes nothing.
+fn recall_constraint<P: AccessPort>(port: &P, step: &DStep)
+    requires { IsTrue (is_live (P.accesses port.now) step.now.access) }
+    ensures { StepHolds (P.rows port.now) (P.accesses port.now) step.now }
+{
+    let _access = port.access(step.access);
+}
+
 fn ask_for_steps<P: AccessPort>(port: &P, steps: &[DStep])
     requires { All (λ s. IsTrue (is_live (P.accesses port.now) s.access)) steps.now }
     ensures { All (StepHolds (P.rows port.now) (P.accesses port.now)) steps.now }
 {
     for step in steps {
-        // Asked for what it tells: the constraint holds.
-        let _access = port.access(step.access);
+        recall_constraint(port, step);
     }
 }
 

@@ -2,7 +2,7 @@
 ghost use Rattle.std.specs.Prelude.{◌≡◌, ◌≤◌, filter, length, pos, slice_index_or, All};
 ghost use Rattle.beas_core.specs.declared.value.Value.TheVariants.{Int};
 ghost use Rattle.beas_core.specs.Order.{value_cmp};
-ghost use Rattle.beas_core.specs.Full.{sign_holds as holds_of};
+ghost use Rattle.beas_core.specs.Full.{sign_holds};
 ghost use Rattle.beas_core.specs.Coverage.{place_class};
 ghost use Rattle.beas_core.specs.Valuations.{as_bindings, classes_in, comparison_is_met};
 ghost use Rattle.beas_core.specs.Extensions.{keep_met};
@@ -11,28 +11,15 @@ ghost use Rattle.plan_ops.specs.Places.{place_of};
 
 use crate::places::position_in;
 use crate::valuations::Valuations;
-use beas_core::{Comparison, List, Normal, Operand, Place, Row, Sign, Value, class_at, compare};
+use beas_core::{
+    Comparison, List, Normal, Operand, Place, Row, Sign, Value, class_at, compare, sign_holds,
+};
 use place_chains::value_or;
-use std::cmp::Ordering;
-
-/// Whether an order of two values is what the sign asks. It takes no memory.
-pub fn sign_holds(sign: Sign, order: Ordering) -> bool
-    ensures { result ≡ holds_of sign order }
-{
-    match sign {
-        Sign::Equal => order.is_eq(),
-        Sign::Differs => order.is_ne(),
-        Sign::Less => order.is_lt(),
-        Sign::AtMost => order.is_le(),
-        Sign::More => order.is_gt(),
-        Sign::AtLeast => order.is_ge(),
-    }
-}
 
 // Drops the rows whose value at a place doesn't compare so with a fixed one.
 fn keep_fixed(rows: &mut List<Row>, left: usize, sign: Sign, right: &Value, zero: &Value)
     ensures { rows.new
-        ≡ filter (λ row. holds_of sign (value_cmp (slice_index_or row left zero.now) right.now)) rows.old }
+        ≡ filter (λ row. sign_holds sign (value_cmp (slice_index_or row left zero.now) right.now)) rows.old }
 {
     rows.retain(|row| sign_holds(sign, compare(value_or(row.as_slice(), left, zero), right)));
 }
@@ -41,7 +28,7 @@ fn keep_fixed(rows: &mut List<Row>, left: usize, sign: Sign, right: &Value, zero
 fn keep_pair(rows: &mut List<Row>, left: usize, sign: Sign, right: usize, zero: &Value)
     ensures { rows.new
         ≡ filter
-        (λ row. holds_of sign (value_cmp (slice_index_or row left zero.now) (slice_index_or row right zero.now)))
+        (λ row. sign_holds sign (value_cmp (slice_index_or row left zero.now) (slice_index_or row right zero.now)))
         rows.old }
 {
     rows.retain(|row| {

@@ -31,7 +31,7 @@ pub use asking::ask_for_all;
 pub use copying::push_copy;
 pub use extending::extend;
 pub use joining::Join;
-pub use keeping::{keep, sign_holds};
+pub use keeping::keep;
 pub use projecting::project;
 pub use sets::{subtract, unite};
 pub use shared::Shared;

@@ -7,7 +7,7 @@ ghost use Rattle.beas_core.specs.Valuations.{classes_in};
 ghost use Rattle.plan_ops.specs.Over.{set_of};
 ghost use Rattle.plan_ops.specs.Places.{column_of, place_of};
 
-use beas_core::{ColumnId, NoMemory, Normal, Place, class_at};
+use beas_core::{ColumnId, NoMemory, Normal, Place, class_at, recall_classes};
 use std::alloc::Global;
 
 /// Where a class stands among ascending ones, or their number where it stands nowhere. It takes no memory.
@@ -26,8 +26,8 @@ fn column_in(block: &Normal, classes: &[u16], class: u16) -> ColumnId
     requires { classes.now ≡ classes_in (set_of block.now classes.now) }
     ensures { result ≡ column_of classes.now class }
 {
-    // Read for what its type tells: there are fewer than 2^16 classes, so that each place has a column's number.
-    let _count = block.count;
+    // A position is at most the number of classes, so that it fits a column's number.
+    recall_classes(block);
     ColumnId(position_in(classes, class) as u16)
 }
 

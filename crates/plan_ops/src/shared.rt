@@ -59,7 +59,7 @@ fn push_tuple_places(
 
 impl Shared {
     /// The places of a valuation of a width, and those of a tuple, that checks compare.
-    pub fn of_checks(
+    pub(crate) fn of_checks(
         alloc: Global,
         checks: &[(usize, usize)],
         width: usize,

@@ -12,13 +12,13 @@ ghost use Rattle.plan_ops.specs.Stages.{IsPair, IsStage, bound_with, joined_row,
 
 use crate::comparing::{Sides, all_sides};
 use crate::joining::{Join, join_of};
-use crate::keeping::sign_holds;
 use crate::pairs::{pair_fits, push_pair, value_in_pair};
 use crate::picking::{push_values, values_in};
 use crate::places::{are_bound, columns_at};
 use crate::sieving::{Sieve, sieve_of};
 use beas_core::{
     Access, ColumnId, Comparison, Duplicate, List, NoMemory, Normal, Operand, Row, Value, compare,
+    sign_holds,
 };
 use std::alloc::Global;
 use std::snapshot::Snapshot;

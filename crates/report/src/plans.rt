@@ -13,6 +13,7 @@ use crate::decimal::Decimal;
 use crate::texts::text;
 use beas_core::{
     Access, AccessId, DStep, Derivation, List, NoMemory, Prepared, Query, QueryNode, Text,
+    recall_bound,
 };
 use catalogue::Catalogue;
 use itoa::Buffer;
@@ -97,8 +98,8 @@ fn push_plan(
     ensures { OnOk result (text.new ≡ text.old
         ++ plan_lines catalogue.now (catalogue.now.accesses ++ scans.now) prepared.now) }
 {
-    // Read for what its type tells: the announced number fits 128 bits, and so do the numbers of the steps.
-    let _bound = prepared.bound;
+    // The announced number fits 128 bits, and so do the numbers of the steps, which are written.
+    recall_bound(prepared);
     let derivations = prepared.derivations.as_slice();
     let guided = prepared.guided.as_slice();
     let no_guide = GuideNote {

@@ -8,7 +8,7 @@ mod writer;
 
 pub use grouping::grouped_over;
 pub use printing::print;
-pub use sql_tokens::{Piece, Token, TokenKind, lex, lex_piece, push_quoted, split};
+pub use sql_tokens::{Piece, Token, TokenKind, lex, split};
 pub use tree::{
     BlockTree, ColumnRef, Cond, FromItem, GroupItem, Literal, SelectNode, SelectTree, Side,
     Statement,

@@ -8,7 +8,7 @@ mod quoting;
 mod runs;
 mod token;
 
-pub use lexer::lex;
+pub use lexer::{LONGEST_SCRIPT, lex};
 pub use piece_lexer::lex_piece;
 pub use pieces::split;
 pub use quoting::push_quoted;

@@ -5,8 +5,7 @@ ghost use Rattle.beas_core.specs.Full.{same_value, choice_value, comparison_hold
 ghost use Rattle.catalogue.specs.Database.{block_table};
 ghost use Rattle.update_guard.specs.Filtering.{PlaceFits, OperandFits, BlockFits};
 
-use beas_core::{Block, Comparison, Operand, Place, Row, Sign, TableId, Value, compare};
-use std::cmp::Ordering;
+use beas_core::{Block, Comparison, Operand, Place, Row, TableId, Value, compare, sign_holds};
 
 /// The value of a row at a place of the one atom.
 fn value_at<'a>(row: &'a Row, place: &Place) -> &'a Value
@@ -14,19 +13,6 @@ fn value_at<'a>(row: &'a Row, place: &Place) -> &'a Value
     ensures { result.now ≡ choice_value (row.now ∷ []) place.now }
 {
     &row.as_slice()[place.column.0 as usize]
-}
-
-fn sign_holds(sign: Sign, order: Ordering) -> bool
-    ensures { result ≡ sign_holds sign order }
-{
-    match sign {
-        Sign::Equal => order.is_eq(),
-        Sign::Differs => order.is_ne(),
-        Sign::Less => order.is_lt(),
-        Sign::AtMost => order.is_le(),
-        Sign::More => order.is_gt(),
-        Sign::AtLeast => order.is_ge(),
-    }
 }
 
 fn comparison_holds(row: &Row, comparison: &Comparison) -> bool

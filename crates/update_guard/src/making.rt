@@ -3,7 +3,7 @@ ghost use Rattle.std.specs.Prelude.{◌≡◌, ◌≢◌, ◌+◌, ◌<◌, ◌�
 ghost use Rattle.beas_core.specs.Shapes.{AccessIsWellFormed};
 ghost use Rattle.std.specs.Option.{is_none, option_or};
 ghost use Rattle.access_index.specs.Index.{Index};
-ghost use Rattle.catalogue.specs.Schema.{has_access, schema_with_table, schema_with_access, schema_without_access};
+ghost use Rattle.catalogue.specs.Schema.{columns_at, has_access, schema_with_table, schema_with_access, schema_without_access};
 ghost use Rattle.catalogue.specs.Refusing.{add_table_refusal, admit_refusal, already_broken, new_access, drop_access_refusal};
 ghost use Rattle.beas_core.specs.Results.{IsRefusedAs};
 ghost use Rattle.catalogue.specs.Database.{schema_of, with_table};
@@ -125,6 +125,14 @@ fn put_access<I: Indexes>(
     }
 }
 
+/// Recalls that a table has at most 64 columns. The call is there for its clause and changes nothing.
+fn recall_few_columns(catalogue: &Catalogue, table: TableId)
+    requires { table.0 < length catalogue.now.tables }
+    ensures { length (columns_at catalogue.now table) ≤ 64 }
+{
+    let _columns = catalogue.columns(table);
+}
+
 /// Makes a constraint that holds over its table's rows, with its index.
 pub fn make_access<I: Indexes, L: Ledger>(
     alloc: Global,
@@ -155,8 +163,8 @@ pub fn make_access<I: Indexes, L: Ledger>(
     ensures no_fewer { steps.old ≤ steps.new }
 {
     let access = catalogue.admit(alloc, limits, spec)?;
-    // Read for what it tells: a table has at most 64 columns.
-    let _few = catalogue.columns(access.table);
+    // A constraint over so few columns may have an index.
+    recall_few_columns(catalogue, access.table);
     let table = access.table.0 as usize;
     match put_index(alloc, access, &rows.as_slice()[table], indexes, steps) {
         Ok(()) => put_access(alloc, catalogue, indexes, limits, spec),

@@ -23,7 +23,7 @@ prepare_over-requires-clause-ids c =
     let sizes = sizes_of_tables tables in
     let query = c.args.query in
     let shape = c.requires.well_formed in
-    let sound = c.accesses-live.ensures.sound in
+    let sound = c.recall_soundness.ensures in
     let same : c.in_ok-lists.lists ≡ scan_lists schema sizes query =
     c.in_ok-lists.ensures ∙ ap (λ ts. scan_lists schema (sizes_of_tables ts) query) c.as_slice.ensures in
     let listed = scans_listed schema sound tables c.requires.rows query shape c.requires.over in
@@ -37,7 +37,7 @@ prepare_over-requires-clause-extra c =
     let sizes = sizes_of_tables tables in
     let query = c.args.query in
     let shape = c.requires.well_formed in
-    let sound = c.accesses-live.ensures.sound in
+    let sound = c.recall_soundness.ensures in
     let same : c.in_ok-lists.lists ≡ scan_lists schema sizes query =
     c.in_ok-lists.ensures ∙ ap (λ ts. scan_lists schema (sizes_of_tables ts) query) c.as_slice.ensures in
     let listed = scans_listed schema sound tables c.requires.rows query shape c.requires.over in
@@ -51,7 +51,7 @@ returns-in_err-prepared-clause-prepared c =
     let sizes = sizes_of_tables tables in
     let query = c.args.query in
     let shape = c.requires.well_formed in
-    let sound = c.accesses-live.ensures.sound in
+    let sound = c.recall_soundness.ensures in
     let same : c.in_ok-lists.lists ≡ scan_lists schema sizes query =
     c.in_ok-lists.ensures ∙ ap (λ ts. scan_lists schema (sizes_of_tables ts) query) c.as_slice.ensures in
     let p = err_from_is_err_and c.from_residual-in_err-prepared.result c.from_residual-in_err-prepared.ensures.1 in
@@ -64,7 +64,7 @@ plan_over_lists-requires c =
     let sizes = sizes_of_tables tables in
     let query = c.args.query in
     let shape = c.requires.well_formed in
-    let sound = c.accesses-live.ensures.sound in
+    let sound = c.recall_soundness.ensures in
     let same : c.in_ok-lists.lists ≡ scan_lists schema sizes query =
     c.in_ok-lists.ensures ∙ ap (λ ts. scan_lists schema (sizes_of_tables ts) query) c.as_slice.ensures in
     let plans = c.in_ok-prepared.prepared.derivations in
@@ -100,5 +100,5 @@ returns-clause-fits c =
     let prepared = c.in_ok-prepared.prepared in
     let fits = subst (λ lists. (rows : TableRows) → RowsAreWide schema rows → Fits (with_lists schema.accesses lists) rows prepared) (same at)
     c.in_ok-prepared.ensures.fits in
-    fits_given schema c.accesses-live.ensures.sound c.args.rows.now c.requires.rows c.args.query c.requires.well_formed c.requires.over prepared
+    fits_given schema c.recall_soundness.ensures c.args.rows.now c.requires.rows c.args.query c.requires.well_formed c.requires.over prepared
     c.plan_over_lists.result (given at) fits

@@ -42,6 +42,6 @@ loop-next-preserved c =
 pub returns-clause-best : goal.returns-clause-best
 returns-clause-best c =
     let same = c.in_default.ensures.unchanged in
-    let none = ap length (sym same.0 ∙ sym c.as_slice-left.ensures.value) ∙ c.as_slice-left.ensures.len ∙ same.1 ∙ c.in_default.ensures.none in
+    let none = ap length (sym same.0) ∙ c.recall_items.ensures ∙ same.1 ∙ c.in_default.ensures.none in
     sym (none_waiting c.args.block.now (map as_use c.args.uses.now) c.args.set.now (heap_items c.loop-next.waiting)
     (empty (heap_items c.loop-next.waiting) none) c.loop-next.invariant)

@@ -26,4 +26,4 @@ write_block-requires c =
     ∙ get_or_default prepared.derivations n plan no_plan (omega (arith, below, c.requires.well_formed.derivations)) in
     subst (λ x. BlockIsNamed schema x plan) (sym normal_is)
     (subst (BlockIsNamed schema (get_or prepared.normals n normal)) (sym plan_is)
-    (named schema prepared c.accesses-live.ensures.sound c.requires n normal below))
+    (named schema prepared c.recall_soundness.ensures c.requires n normal below))

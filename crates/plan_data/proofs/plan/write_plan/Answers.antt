@@ -1,4 +1,4 @@
-use Rattle.std.proofs.Common.{rules, ◌<◌, ◌^◌, ap, arith, length}
+use Rattle.std.proofs.Common.{ap, arith, length}
 use Rattle.std.proofs.lemmas.Result.{on_ok_weaker}
 use Rattle.plan_data.proofs.NamedFacts.{blocks_counted}
 use Rattle.plan_data.proofs.Tokens.{added}
@@ -6,8 +6,8 @@ use Rattle.plan_data.proofs.plan.write_plan.Goals as goal
 
 pub write_query-requires : goal.write_query-requires
 write_query-requires c =
-    let below : length c.as_slice-plans.result.now < 2 ^ 64 = search rules in
-    let same = ap length c.as_slice-plans.ensures in
+    let below = c.recall_length.ensures in
+    let same = ap length c.as_slice.ensures in
     let counted = blocks_counted c.args.catalogue.now.accesses c.args.prepared.now c.requires in
     omega (arith, below, same, counted)
 

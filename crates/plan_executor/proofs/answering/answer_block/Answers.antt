@@ -5,7 +5,6 @@ use Rattle.std.proofs.lemmas.Result.{err_from_is_err_and}
 use Rattle.beas_core.specs.declared.plan.DStep.{DStep}
 use Rattle.beas_core.specs.Order.{row_cmp}
 use Rattle.beas_core.specs.Sets.{distinct}
-use Rattle.beas_core.specs.Reads.{reads_of}
 use Rattle.beas_core.specs.Valuations.{output_row, answers_of}
 use Rattle.plan_ops.specs.Over.{Counts, bound_set}
 use Rattle.plan_ops.proofs.FrontFacts.{Front, front_none, nothing_read, answered, is_next, front_more, last_over, last_answers, at_error}

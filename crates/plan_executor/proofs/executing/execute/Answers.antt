@@ -1,4 +1,4 @@
-use Rattle.std.proofs.Common.{rules, ◌≡◌, ◌<◌, ◌^◌, ◌∙◌, true, All, sym, subst, arith}
+use Rattle.std.proofs.Common.{◌≡◌, ◌∙◌, true, All, sym, subst, arith}
 use Rattle.beas_core.specs.declared.plan.Derivation.{Derivation}
 use Rattle.beas_core.specs.Derivations.{is_live}
 use Rattle.beas_core.proofs.GuidedLaw.{guided_answers_are_full}
@@ -16,8 +16,7 @@ ask_for_all-requires g c =
 
 pub answer_tree-requires-clause-fits : goal.answer_tree-requires-clause-fits
 answer_tree-requires-clause-fits g c =
-    let small : c.args.prepared.now.bound < 2 ^ 128 = search rules in
-    whole_fits (g.P.AccessPort.rows c.args.port.now) (g.P.AccessPort.accesses c.args.port.now) c.args.prepared.now c.requires small
+    whole_fits (g.P.AccessPort.rows c.args.port.now) (g.P.AccessPort.accesses c.args.port.now) c.args.prepared.now c.requires c.recall_bound.ensures
 
 pub answer_tree-requires-clause-holds : goal.answer_tree-requires-clause-holds
 answer_tree-requires-clause-holds g c =

@@ -87,7 +87,7 @@ unite-requires-clause-left g t c =
 
 pub unite-requires-clause-right : goal.unite-requires-clause-right
 unite-requires-clause-right g t c =
-    subst (IsInOrder row_cmp) (sym c.in_ok-others-in-Union.ensures.rows)
+    subst (IsInOrder row_cmp) (sym c.in-Ok.ensures.rows)
     (answers_in_order (g.P.AccessPort.rows c.args.port.now) c.args.prepared.now.guided c.in_ok-found-in-Union.next (option_copied c.args.guide) c.deref-in-Union.result.now)
 
 pub answer_tree-requires-in-Except : goal.answer_tree-requires-in-Except
@@ -110,5 +110,5 @@ subtract-requires-clause-left g t c =
 
 pub subtract-requires-clause-right : goal.subtract-requires-clause-right
 subtract-requires-clause-right g t c =
-    subst (IsInOrder row_cmp) (sym c.in_ok-others-in-Except.ensures.rows)
+    subst (IsInOrder row_cmp) (sym c.in-Ok-answer_tree.ensures.rows)
     (answers_in_order (g.P.AccessPort.rows c.args.port.now) c.args.prepared.now.guided c.in_ok-found-in-Except.next (Some c.in_ok-found-in-Except.found) c.deref-in-Except-2.result.now)

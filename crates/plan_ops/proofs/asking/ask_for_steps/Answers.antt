@@ -1,9 +1,8 @@
-use Rattle.std.proofs.Common.{All, false, get_or, subst}
+use Rattle.std.proofs.Common.{All, false, subst}
 use Rattle.std.proofs.lemmas.List.{take_all}
 use Rattle.std.proofs.lemmas.List.Elements.{All-more}
 use Rattle.beas_core.specs.declared.plan.DStep.{DStep}
 use Rattle.plan_ops.specs.Held.{StepHolds}
-use Rattle.plan_ops.proofs.HeldFacts.{step_holds}
 use Rattle.plan_ops.proofs.asking.ask_for_steps.Goals as goal
 
 pub loop-step-preserved : goal.loop-step-preserved
@@ -11,9 +10,8 @@ loop-step-preserved g c =
     let rows = g.P.AccessPort.rows c.args.port.now in
     let accesses = g.P.AccessPort.accesses c.args.port.now in
     let none : DStep = record { atom = 0; access = record { 0 = 0 }; adds = false } in
-    let asked = c.access-access.ensures in
     All-more (StepHolds rows accesses) c.args.steps.now c.loop-step.step-index none c.loop-step-test.true c.loop-step.invariant
-    (step_holds rows accesses (get_or c.args.steps.now c.loop-step.step-index none) c.access-access.result.now asked.access asked.holds asked.bound)
+    c.recall_constraint.ensures
 
 pub returns : goal.returns
 returns g c =

@@ -16,4 +16,5 @@ overflow_cast-result c =
     let are = ap length c.requires in
     let le = place-le c.args.classes.now c.args.class in
     let is = c.position_in.ensures in
-    omega (arith, few, count, are, le, is)
+    let classes = c.recall_classes.ensures in
+    omega (arith, few, count, are, le, is, classes)

@@ -19,8 +19,8 @@ use Rattle.update_guard.proofs.making.make_access.Given as given
 use Rattle.update_guard.proofs.making.make_access.Goals.{After-put_index}
 use Rattle.update_guard.proofs.making.make_access.Goals as goal
 
-pub columns-few-requires : goal.columns-few-requires
-columns-few-requires g c =
+pub recall_few_columns-requires : goal.recall_few_columns-requires
+recall_few_columns-requires g c =
     let may = may_make_access c.args.limits.now c.args.catalogue.now c.args.spec.now c.in_ok-access.ensures.refused c.requires.fetches
     c.args.limits.now.constraints_in_range.1 in
     subst (λ (x : Access). x.table.0 < length c.args.catalogue.now.tables) (sym c.in_ok-access.ensures.admitted) may.table
@@ -30,7 +30,7 @@ put_index-requires g c =
     let may = may_make_access c.args.limits.now c.args.catalogue.now c.args.spec.now c.in_ok-access.ensures.refused c.requires.fetches
     c.args.limits.now.constraints_in_range.1 in
     let a = c.in_ok-access.access in
-    widened (length (columns_at c.args.catalogue.now a.table)) a c.columns-few.ensures.sound.few_columns
+    widened (length (columns_at c.args.catalogue.now a.table)) a c.recall_few_columns.ensures
     (subst (λ (x : Access). AccessIsWellFormed (length (columns_at c.args.catalogue.now x.table)) x) (sym c.in_ok-access.ensures.admitted) may.form)
 
 -- the constraint that is admitted, over the rows of its table
