@@ -18,7 +18,7 @@ pub struct Database {
 
 impl Database {
     /// Takes out what an open database holds, and closes it.
-    pub fn take(&mut self, alloc: Global) -> Option<Box<Held>>
+    pub(crate) fn take(&mut self, alloc: Global) -> Option<Box<Held>>
         ensures held { option_map (λ b. b.value) result ≡ self.old.seat.value }
         ensures left { self.new.seat.value ≡ None }
     {
@@ -30,7 +30,7 @@ impl Database {
     }
 
     /// Opens a closed database.
-    pub fn put(&mut self, held: Box<Held>)
+    pub(crate) fn put(&mut self, held: Box<Held>)
         requires { self.old.seat.value ≡ None }
         ensures { self.new.seat.value ≡ Some held.value }
     {

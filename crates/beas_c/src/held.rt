@@ -14,7 +14,7 @@ pub struct Held {
 
 impl Held {
     /// An engine without tables.
-    pub fn new(
+    pub(crate) fn new(
         alloc: Global,
         limits: Limits,
         budget: Option<u64>,

@@ -112,7 +112,7 @@ pub extern "C" fn beas_refusal_text(
     match db.take(alloc) {
         Some(held) => {
             let status = match held.engine.refusal_text(alloc) {
-                Ok(Some(words)) => copy_bytes(words.as_slice(), into, len),
+                Ok(Some(wording)) => copy_bytes(wording.as_slice(), into, len),
                 Ok(None) => ABSENT,
                 Err(NoMemory) => NO_MEMORY,
             };

@@ -23,7 +23,7 @@ impl Model for Seat {
 
 impl Seat {
     /// Puts a box into a seat that has none.
-    pub fn put(&mut self, held: Box<Held>)
+    pub(crate) fn put(&mut self, held: Box<Held>)
         requires { self.old.value ≡ None }
         ensures { self.new.value ≡ Some held.value }
     {
@@ -31,7 +31,7 @@ impl Seat {
     }
 
     /// Takes the box out.
-    pub fn take(&mut self, alloc: Global) -> Box<Held>
+    pub(crate) fn take(&mut self, alloc: Global) -> Box<Held>
         requires { IsSome self.old.value }
         ensures held { Some result.value ≡ self.old.value }
         ensures left { self.new.value ≡ None }

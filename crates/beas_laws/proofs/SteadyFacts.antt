@@ -1,8 +1,8 @@
 -- What never fails has no fault.
 use Rattle.std.proofs.Common.{◌≡◌, ℕ, All, List, Option, Some, None, arith, inl, inr, refl}
 use Rattle.std.specs.Prelude.{IsSomeAnd}
-use Rattle.command_words.specs.declared.arguments.Args.{Args}
-use Rattle.command_words.specs.declared.arguments.Args.TheVariants.{Script, Demo}
+use Rattle.command_line.specs.declared.arguments.Args.{Args}
+use Rattle.command_line.specs.declared.arguments.Args.TheVariants.{Script, Demo}
 use Rattle.outside.specs.Counts.{Rose, RoseBy}
 use Rattle.outside.specs.Seen.{Seen}
 use Rattle.session.specs.Effects.{Settings}
@@ -25,27 +25,27 @@ no_fault None h = h
 no_fault (Some n) h = none_rose h
 
 -- over files and an output whose counts stand at 0, no run ends with a fault
-pub never_unread : (words : List (List ℕ)) (status : ℕ) (script : List ℕ) (begun : Seen) (before after : Standing)
-    → Ended words status script begun before after
-    → (IsSomeAnd (script_name words) (λ name. Rose (before.moment.files.faults name) (after.moment.files.faults name)) → ⊥) → status ≡ 3 → ⊥
-never_unread words status script begun before after (inl (below, _)) quiet three = omega arith
-never_unread words status script begun before after (inr (inl (two, _))) quiet three = omega arith
-never_unread words status script begun before after (inr (inr (inl (_, unread)))) quiet three = quiet unread.fault
-never_unread words status script begun before after (inr (inr (inr (inl (four, _))))) quiet three = omega arith
-never_unread words status script begun before after (inr (inr (inr (inr (inl (five, _)))))) quiet three = omega arith
-never_unread words status script begun before after (inr (inr (inr (inr (inr (inl (six, _))))))) quiet three = omega arith
-never_unread words status script begun before after (inr (inr (inr (inr (inr (inr (seven, _))))))) quiet three = omega arith
+pub never_unread : (arguments : List (List ℕ)) (status : ℕ) (script : List ℕ) (begun : Seen) (before after : Standing)
+    → Ended arguments status script begun before after
+    → (IsSomeAnd (script_name arguments) (λ name. Rose (before.moment.files.faults name) (after.moment.files.faults name)) → ⊥) → status ≡ 3 → ⊥
+never_unread arguments status script begun before after (inl (below, _)) quiet three = omega arith
+never_unread arguments status script begun before after (inr (inl (two, _))) quiet three = omega arith
+never_unread arguments status script begun before after (inr (inr (inl (_, unread)))) quiet three = quiet unread.fault
+never_unread arguments status script begun before after (inr (inr (inr (inl (four, _))))) quiet three = omega arith
+never_unread arguments status script begun before after (inr (inr (inr (inr (inl (five, _)))))) quiet three = omega arith
+never_unread arguments status script begun before after (inr (inr (inr (inr (inr (inl (six, _))))))) quiet three = omega arith
+never_unread arguments status script begun before after (inr (inr (inr (inr (inr (inr (seven, _))))))) quiet three = omega arith
 
-pub never_failed : (words : List (List ℕ)) (status : ℕ) (script : List ℕ) (begun : Seen) (before after : Standing)
-    → Ended words status script begun before after
+pub never_failed : (arguments : List (List ℕ)) (status : ℕ) (script : List ℕ) (begun : Seen) (before after : Standing)
+    → Ended arguments status script begun before after
     → (Rose before.moment.out.faults after.moment.out.faults → ⊥) → status ≡ 4 → ⊥
-never_failed words status script begun before after (inl (below, _)) quiet four = omega arith
-never_failed words status script begun before after (inr (inl (two, _))) quiet four = omega arith
-never_failed words status script begun before after (inr (inr (inl (three, _)))) quiet four = omega arith
-never_failed words status script begun before after (inr (inr (inr (inl (_, failed))))) quiet four = quiet failed.fault
-never_failed words status script begun before after (inr (inr (inr (inr (inl (five, _)))))) quiet four = omega arith
-never_failed words status script begun before after (inr (inr (inr (inr (inr (inl (six, _))))))) quiet four = omega arith
-never_failed words status script begun before after (inr (inr (inr (inr (inr (inr (seven, _))))))) quiet four = omega arith
+never_failed arguments status script begun before after (inl (below, _)) quiet four = omega arith
+never_failed arguments status script begun before after (inr (inl (two, _))) quiet four = omega arith
+never_failed arguments status script begun before after (inr (inr (inl (three, _)))) quiet four = omega arith
+never_failed arguments status script begun before after (inr (inr (inr (inl (_, failed))))) quiet four = quiet failed.fault
+never_failed arguments status script begun before after (inr (inr (inr (inr (inl (five, _)))))) quiet four = omega arith
+never_failed arguments status script begun before after (inr (inr (inr (inr (inr (inl (six, _))))))) quiet four = omega arith
+never_failed arguments status script begun before after (inr (inr (inr (inr (inr (inr (seven, _))))))) quiet four = omega arith
 
 none_rose_by : (n before now : ℕ) → now ≡ 0 → RoseBy n before now → n ≡ 0
 none_rose_by n before now zero h = omega arith

@@ -19,21 +19,22 @@ use std::sync::ledger::Ledger;
 pub fn run_steady<L: Ledger>(
     alloc: Global,
     session: &mut Session,
-    words: &[String],
+    arguments: &[String],
     files: &mut SteadyFiles,
     out: &mut SteadySink,
     steps: &mut Steps<L>,
 ) -> u8
     ensures read { result ≡ 3 → ⊥ }
     ensures sent { result ≡ 4 → ⊥ }
-    ensures complete { (name : List ℕ) → script_name (map string_bytes words.now) ≡ Some name
+    ensures complete { (name : List ℕ) → script_name (map string_bytes arguments.now) ≡ Some name
         → Completes (unwrap_or (content_of files.old.shelf name) []) result }
-    ensures complete_without { (name : List ℕ) → script_name (map string_bytes words.now) ≡ Some name
+    ensures complete_without { (name : List ℕ) → script_name (map string_bytes arguments.now) ≡ Some name
         → CompletesWithout (unwrap_or (content_of files.old.shelf name) []) result }
-    ensures loads { NoneFailed (map string_bytes words.now) result (settings_of session.old) (settings_of session.new)
+    ensures loads { NoneFailed (map string_bytes arguments.now) result
+        (settings_of session.old) (settings_of session.new)
         (moment session.old steps.old (steady_out out.old) (steady files.old))
         (moment session.new steps.new (steady_out out.new) (steady files.new)) }
 {
     let mut err = SteadySink::new(alloc);
-    run(alloc, session, words, files, out, &mut err, steps)
+    run(alloc, session, arguments, files, out, &mut err, steps)
 }

@@ -1,4 +1,4 @@
--- Where the words of a refusal stand in the line that reports it.
+-- Where the wording of a refusal stands in the line that reports it.
 use Rattle.std.proofs.Common.{◌≡◌, ◌<◌, ◌+◌, ◌-◌, ◌++◌, ◌∙◌, ap, subst, sym, ℕ, List, length, arith, take, drop}
 use Rattle.std.specs.Prelude.{codes, decimal, slice_range}
 use Rattle.std.proofs.lemmas.List.{append_assoc, length-append}
@@ -11,7 +11,7 @@ use Rattle.report.specs.Reports.{report_text}
 use Rattle.report.specs.Texts.{refusal_text}
 use Rattle.beas_library.specs.Refusals.{IsRefusalOf, IsTextOf}
 
--- what stands before the words in the report of statement k
+-- what stands before the wording in the report of statement k
 abbrev pub front : ℕ → ℕ → List ℕ
 front k number = decimal k ++ (codes " refused " ++ (decimal number ++ codes " "))
 
@@ -22,22 +22,22 @@ line_is k why =
     ap (λ l. decimal k ++ (codes " refused " ++ l)) (sym (append_assoc (decimal (number_of why)) (codes " ") last))
     ∙ sym (append_assoc (decimal k) (codes " refused " ++ (decimal (number_of why) ++ codes " ")) last)
 
-module _ (before words : List ℕ) where
+module _ (before wording : List ℕ) where
   abbrev whole : List ℕ
-  whole = before ++ (words ++ codes "\n")
+  whole = before ++ (wording ++ codes "\n")
 
-  count : length whole ≡ length before + (length words + 1)
-  count = length-append before (words ++ codes "\n") ∙ ap (λ n. length before + n) (length-append words (codes "\n"))
+  count : length whole ≡ length before + (length wording + 1)
+  count = length-append before (wording ++ codes "\n") ∙ ap (λ n. length before + n) (length-append wording (codes "\n"))
 
   long : length before < length whole
   long = let c = count in omega (arith, c)
 
-  middle : slice_range whole (length before) (length whole - 1) ≡ words
+  middle : slice_range whole (length before) (length whole - 1) ≡ wording
   middle =
       let c = count in
-      let n : length whole - 1 - length before ≡ length words = omega (arith, c) in
-      ap (λ k. take k (drop (length before) whole)) n ∙ ap (take (length words)) (drop-append_seam before (words ++ codes "\n"))
-      ∙ take-append_seam words (codes "\n")
+      let n : length whole - 1 - length before ≡ length wording = omega (arith, c) in
+      ap (λ k. take k (drop (length before) whole)) n ∙ ap (take (length wording)) (drop-append_seam before (wording ++ codes "\n"))
+      ∙ take-append_seam wording (codes "\n")
 
 module _ (k number : ℕ) (report : Report) (before line : List ℕ) (refusal : IsRefusalOf number report) (before_is : before ≡ front k number)
     (line_here : line ≡ report_text k report) where
@@ -47,12 +47,12 @@ module _ (k number : ℕ) (report : Report) (before line : List ℕ) (refusal : 
       ∙ ap (λ n. front k n ++ (refusal_text refusal.why ++ codes "\n")) (sym refusal.number_is)
       ∙ ap (λ b. b ++ (refusal_text refusal.why ++ codes "\n")) (sym before_is)
 
-  pub has_words : length before < length line
-  has_words = subst (λ l. length before < length l) (sym line_whole) (long before (refusal_text refusal.why))
+  pub has_wording : length before < length line
+  has_wording = subst (λ l. length before < length l) (sym line_whole) (long before (refusal_text refusal.why))
 
-  pub words_there : (words : List ℕ) → words ≡ slice_range line (length before) (length line - 1) → IsTextOf words report
-  words_there words are = record {
+  pub wording_there : (wording : List ℕ) → wording ≡ slice_range line (length before) (length line - 1) → IsTextOf wording report
+  wording_there wording are = record {
     why = refusal.why;
     is = refusal.is;
-    words_are = are ∙ ap (λ l. slice_range l (length before) (length l - 1)) line_whole ∙ middle before (refusal_text refusal.why);
+    wording_is = are ∙ ap (λ l. slice_range l (length before) (length l - 1)) line_whole ∙ middle before (refusal_text refusal.why);
   }

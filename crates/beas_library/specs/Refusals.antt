@@ -1,6 +1,6 @@
 -- Reports of refusals.
 --     IsRefusalOf number report      it reports a refusal with this number
---     IsTextOf words report          and these are the words of the refusal
+--     IsTextOf wording report        and this is the wording of the refusal
 use Rattle.std.specs.Prelude.{◌≡◌, ℕ, List}
 use Rattle.beas_core.specs.declared.refusal.Refusal.{Refusal}
 use Rattle.beas_core.specs.Refusals.{number_of}
@@ -13,7 +13,7 @@ pub record IsRefusalOf (number : ℕ) (report : Report) : Type 0 where
   pub is : report ≡ Refused why
   pub number_is : number ≡ number_of why
 
-pub record IsTextOf (words : List ℕ) (report : Report) : Type 0 where
+pub record IsTextOf (wording : List ℕ) (report : Report) : Type 0 where
   pub why : Refusal
   pub is : report ≡ Refused why
-  pub words_are : words ≡ refusal_text why
+  pub wording_is : wording ≡ refusal_text why

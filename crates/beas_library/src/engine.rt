@@ -13,14 +13,12 @@ use crate::handed_files::HandedFiles;
 use crate::pieces::{OnePiece, Why, one_piece};
 use beas_core::{Bytes, Limits, NoMemory, Refusal, Steps, Text};
 use beas_run::{Unpriced, planned, priced, report_on};
+use piece_reader::UNNAMED;
 use report::{Report, text};
 use session::Session;
 use std::alloc::Global;
 use std::sync::ledger::Ledger;
 use version_store::Desk;
-
-/// The session of the statements that name none.
-const UNNAMED: u32 = 0;
 
 /// Tables and constraints, the queries that sessions have open over them, the files that LOAD may read, and the report of the
 /// last statement.
@@ -179,14 +177,14 @@ impl Engine {
 
     /// The text of the refusal, if the last statement was refused.
     pub fn refusal_text(&self, alloc: Global) -> Result<Option<Bytes>, NoMemory>
-        ensures words { IfOk result (λ words. words ≡ option_map refusal_text (refusal_told self.now.report)) }
+        ensures wording { IfOk result (λ wording. wording ≡ option_map refusal_text (refusal_told self.now.report)) }
         ensures err { OnErr result (IsSome (refusal_told self.now.report)) }
     {
         match &self.report {
             Some(report) => match report {
                 Report::Refused { why } => {
-                    let words = refusal_words(alloc, self.number, report, why.number())?;
-                    Ok(Some(words))
+                    let wording = refusal_wording(alloc, self.number, report, why.number())?;
+                    Ok(Some(wording))
                 }
                 _ => Ok(None),
             },
@@ -196,16 +194,16 @@ impl Engine {
 }
 
 /// What stands behind the number in the report of a refusal.
-fn refusal_words(alloc: Global, k: u32, report: &Report, number: u32) -> Result<Bytes, NoMemory>
+fn refusal_wording(alloc: Global, k: u32, report: &Report, number: u32) -> Result<Bytes, NoMemory>
     requires { IsRefusalOf number report.now }
-    ensures { IfOk result (λ words. IsTextOf words report.now) }
+    ensures { IfOk result (λ wording. IsTextOf wording report.now) }
 {
     let line = text(alloc, k, report)?;
     let before = format!(in alloc; "{k} refused {number} ")?;
     let bytes = line.as_str().as_bytes();
     let front = before.as_str();
-    let words = but_last(bytes, front.len());
-    let copy = copy_of(alloc, words)?;
+    let wording = but_last(bytes, front.len());
+    let copy = copy_of(alloc, wording)?;
     Ok(copy)
 }
 

@@ -10,7 +10,6 @@ mod pieces;
 mod told;
 
 pub use engine::Engine;
-pub use handed_files::HandedFiles;
 pub use laws::law_says_as_run;
 pub use pieces::Why;
 pub use told::Shown;

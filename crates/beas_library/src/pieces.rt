@@ -5,13 +5,10 @@ ghost use Rattle.beas_library.specs.OnePiece.{IsRefusedFor, IsStatementIn, holds
 ghost use Rattle.beas_library.specs.declared.pieces.Why.TheVariants.{NoMemory as Want};
 
 use beas_core::{List, NoMemory};
-use sql_tokens::{Piece, Token, lex, split};
+use sql_tokens::{LONGEST_SCRIPT, Piece, Token, lex, split};
 use std::alloc::Global;
 use std::marker::Model;
 use std::str;
-
-/// The most bytes of a text.
-const LONGEST_TEXT: usize = 16_777_216;
 
 /// Why a text has no report.
 #[derive(Clone, Copy, Debug, PartialEq, Eq)]
@@ -72,7 +69,7 @@ pub fn one_piece(alloc: Global, text: &[u8]) -> Result<OnePiece, Why>
     ensures one { IfOk result (IsStatementIn text.now) }
     ensures why { IfErr result (λ why. IsRefusedFor why text.now) }
 {
-    if LONGEST_TEXT < text.len() {
+    if LONGEST_SCRIPT < text.len() {
         return Err(Why::TooLong);
     }
     match str::from_utf8(text) {
@@ -83,7 +80,7 @@ pub fn one_piece(alloc: Global, text: &[u8]) -> Result<OnePiece, Why>
 
 /// The same of UTF-8.
 fn piece_in(alloc: Global, text: &str) -> Result<OnePiece, Why>
-    requires { length text.now ≤ LONGEST_TEXT }
+    requires { length text.now ≤ LONGEST_SCRIPT }
     ensures one { IfOk result (λ found. pieces text.now ≡ found ∷ []) }
     ensures why { IfErr result (λ why. holds why text.now) }
 {

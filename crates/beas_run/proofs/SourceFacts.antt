@@ -1,9 +1,9 @@
--- What a run does with what the words ask for, and what it says where there is no text.
+-- What a run does with what the arguments ask for, and what it says where there is no text.
 use Rattle.std.proofs.Common.{◌≡◌, ◌≤◌, ◌<◌, ◌⊎◌, ◌∙◌, ap, sym, subst, refl, inl, inr, ℕ, Bool, List, Option, Some, None, false, length, arith}
 use Rattle.std.specs.Prelude.{option_and_then}
 use Rattle.beas_core.specs.declared.limits.Limits.{Limits}
-use Rattle.command_words.specs.declared.arguments.Args.{Args}
-use Rattle.command_words.specs.declared.arguments.Args.TheVariants.{Script, Demo}
+use Rattle.command_line.specs.declared.arguments.Args.{Args}
+use Rattle.command_line.specs.declared.arguments.Args.TheVariants.{Script, Demo}
 use Rattle.demo_gen.specs.Demo.{demo_text}
 use Rattle.outside.specs.Counts.{Rose, raised}
 use Rattle.session.specs.Effects.{Settings}
@@ -42,8 +42,8 @@ no_memory_left asked files = record {
   later = same_later files;
 }
 
-pub words_refused : (asked : Option Args) (files : Seen) → asked ≡ None → HasNoScript asked Arguments files files
-words_refused asked files none = record {
+pub arguments_refused : (asked : Option Args) (files : Seen) → asked ≡ None → HasNoScript asked Arguments files files
+arguments_refused asked files none = record {
   arguments = λ _. inl refl;
   arguments_alone = λ _. none;
   unread = λ e. absurd (let bad : Arguments ≡ Unread = e in cc);
@@ -94,7 +94,7 @@ made_names_none args seed budget explain text asked made =
 pub names_a_file : (args : Args) (path : List ℕ) (budget : Option ℕ) (explain : Bool) → args ≡ Script path budget explain → path_of args ≡ None → ⊥
 names_a_file args path budget explain e none = some≢none path (sym (ap path_of e) ∙ none)
 
--- what is asked for names no file where the words name none
+-- what is asked for names no file where the arguments name none
 pub none_named : (asked : Option Args) (args : Args) → asked ≡ Some args → option_and_then path_of asked ≡ None → path_of args ≡ None
 none_named asked args e none = sym (ap (option_and_then path_of) e) ∙ none
 

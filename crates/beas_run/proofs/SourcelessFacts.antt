@@ -5,9 +5,9 @@ use Rattle.std.specs.Option.{option_map_or}
 use Rattle.std.specs.Str.{IsUtf8}
 use Rattle.std.proofs.lemmas.Str.{IsUtf8-nil}
 use Rattle.beas_core.specs.declared.limits.Limits.{Limits}
-use Rattle.command_words.specs.declared.arguments.Args.{Args}
-use Rattle.command_words.specs.declared.arguments.Args.TheVariants.{Script, Demo}
-use Rattle.command_words.specs.Words.{args_of}
+use Rattle.command_line.specs.declared.arguments.Args.{Args}
+use Rattle.command_line.specs.declared.arguments.Args.TheVariants.{Script, Demo}
+use Rattle.command_line.specs.Arguments.{args_of}
 use Rattle.demo_gen.specs.Demo.{demo_text}
 use Rattle.demo_gen.proofs.Lengths.{length-demo}
 use Rattle.outside.specs.Counts.{Rose}
@@ -20,7 +20,7 @@ use Rattle.beas_run.specs.Readings.{Readings, readings_of}
 use Rattle.beas_run.specs.declared.no_script.NoScript.{NoScript}
 use Rattle.beas_run.specs.declared.no_script.NoScript.TheVariants.{Arguments, Unread, TooLong, NotText, NoMemory}
 use Rattle.beas_run.specs.NoScripts.{status_of, IsSaid, IsSaidWhole}
-use Rattle.beas_run.specs.Runs.{seed_of, settings_for, settings_of_words, with_files, Ended, HadNoScript, HadScript, HasLoaded, HasRun, IsScriptOf, Says, SaysNothing, Standing, WalkedFor, longest_script}
+use Rattle.beas_run.specs.Runs.{seed_of, settings_for, settings_of_arguments, with_files, Ended, HadNoScript, HadScript, HasLoaded, HasRun, IsScriptOf, Says, SaysNothing, Standing, WalkedFor, longest_script}
 use Rattle.beas_run.specs.Sources.{HasNoScript, LoadsScript, RanOver}
 use Rattle.beas_run.specs.Demonstrations.{Demonstrated, empty_files, summary_of, without_outside}
 use Rattle.beas_run.specs.Walks.{Moment, Walked}
@@ -103,24 +103,24 @@ none_done line before files said says = record {
   says = says;
 }
 
-ended_whole : (words : List (List ℕ)) (why : NoScript) (status : ℕ) (before : Standing) (files : Seen) (said : Sent)
-    → IsSaidWhole why status before.said said → HasNoScript (args_of words) why before.moment.files files
-    → Ended words status [] files before (left before files said)
-ended_whole words Arguments status before files said whole none =
+ended_whole : (arguments : List (List ℕ)) (why : NoScript) (status : ℕ) (before : Standing) (files : Seen) (said : Sent)
+    → IsSaidWhole why status before.said said → HasNoScript (args_of arguments) why before.moment.files files
+    → Ended arguments status [] files before (left before files said)
+ended_whole arguments Arguments status before files said whole none =
     inr (inl (whole.status_is, record { refused = none.arguments_alone refl; had = none_done _ before files said whole.says }))
-ended_whole words Unread status before files said whole none =
+ended_whole arguments Unread status before files said whole none =
     inr (inr (inl (whole.status_is, record { fault = none.unread refl; had = none_done _ before files said whole.says })))
-ended_whole words TooLong status before files said whole none =
+ended_whole arguments TooLong status before files said whole none =
     inr (inr (inr (inr (inr (inl (whole.status_is, record { longer = none.too_long refl; had = none_done _ before files said whole.says }))))))
-ended_whole words NotText status before files said whole none =
+ended_whole arguments NotText status before files said whole none =
     inr (inr (inr (inr (inr (inr (whole.status_is, record { no_text = none.not_text refl; had = none_done _ before files said whole.says }))))))
-ended_whole words NoMemory status before files said whole none = absurd (whole.in_memory refl)
+ended_whole arguments NoMemory status before files said whole none = absurd (whole.in_memory refl)
 
-ended_early : (words : List (List ℕ)) (why : NoScript) (status : ℕ) (before : Standing) (files : Seen) (said : Sent)
-    → IsSaid why status before.said said → HasNoScript (args_of words) why before.moment.files files
-    → Ended words status [] files before (left before files said)
-ended_early words why status before files said (inl whole) none = ended_whole words why status before files said whole none
-ended_early words why status before files said (inr (five, nothing)) none = inr (inr (inr (inr (inl (
+ended_early : (arguments : List (List ℕ)) (why : NoScript) (status : ℕ) (before : Standing) (files : Seen) (said : Sent)
+    → IsSaid why status before.said said → HasNoScript (args_of arguments) why before.moment.files files
+    → Ended arguments status [] files before (left before files said)
+ended_early arguments why status before files said (inl whole) none = ended_whole arguments why status before files said whole none
+ended_early arguments why status before files said (inr (five, nothing)) none = inr (inr (inr (inr (inl (
   five,
   record {
     asked = inl refl;
@@ -140,10 +140,10 @@ seedless why status none said (inl is) = inl is
 seedless why status none (inl said) (inr e) = inr (said ∙ ap status_of e)
 seedless why status none (inr five) (inr e) = inr five
 
-pub ran_nothing : (words : List (List ℕ)) (why : NoScript) (status : ℕ) (before : Standing) (files : Seen) (said : Sent)
-    → IsSaid why status before.said said → HasNoScript (args_of words) why before.moment.files files
-    → HasRun words status before (left before files said)
-ran_nothing words why status before files said told none =
+pub ran_nothing : (arguments : List (List ℕ)) (why : NoScript) (status : ℕ) (before : Standing) (files : Seen) (said : Sent)
+    → IsSaid why status before.said said → HasNoScript (args_of arguments) why before.moment.files files
+    → HasRun arguments status before (left before files said)
+ran_nothing arguments why status before files said told none =
     let is = status_said why status before.said said told in
     let early = early_said why status is in
     record {
@@ -153,14 +153,14 @@ ran_nothing words why status before files said told none =
       is_text = IsUtf8-nil;
       read_as = no_readings;
       begun = files;
-      loaded = loaded_said (args_of words) why status before.moment.files files is none.loaded;
+      loaded = loaded_said (args_of arguments) why status before.moment.files files is none.loaded;
       later = none.later;
-      walked = idle (args_of words) (settings_of_words before.settings.limits words) (with_files before.moment files) (with_files before.moment files)
-          status (λ _. refl) refl refl refl refl (same_later files) early.0 early.1 (seedless why status _ is none.seedless);
+      walked = idle (args_of arguments) (settings_of_arguments before.settings.limits arguments)
+          (with_files before.moment files) (with_files before.moment files) status (λ _. refl) refl refl refl refl (same_later files) early.0 early.1 (seedless why status _ is none.seedless);
       silent = λ _ _. refl;
       files = none.later;
       out = sink_later _;
-      ended = ended_early words why status before files said told none;
+      ended = ended_early arguments why status before files said told none;
     }
 
 -- ---- a script of no text has no statements, so nothing is sent for it
@@ -202,38 +202,38 @@ has_loaded (Demo seed budget explain) status before after same = ap (λ (s : See
 
 -- ---- how a run over a script ended
 
-no_words : (asked : Option Args) (files : Seen) (script : List ℕ) → asked ≡ None → IsScriptOf asked files script → ⊥
-no_words None files script e is = is
-no_words (Some args) files script e is = cc
+no_arguments : (asked : Option Args) (files : Seen) (script : List ℕ) → asked ≡ None → IsScriptOf asked files script → ⊥
+no_arguments None files script e is = is
+no_arguments (Some args) files script e is = cc
 
 nothing_said : (before after : Sent) → after ≡ before → SaysNothing before after
 nothing_said before after same = rw same (record { unsaid = λ _. refl; no_fault = refl; puts = inr refl; later = sink_later before })
 
-ended_over : (words : List (List ℕ)) (status : ℕ) (script : List ℕ) (begun : Seen) (before after : Standing)
-    → HadScript words script before after → (status < 2) ⊎ (status ≡ 4) ⊎ (status ≡ 5)
+ended_over : (arguments : List (List ℕ)) (status : ℕ) (script : List ℕ) (begun : Seen) (before after : Standing)
+    → HadScript arguments script before after → (status < 2) ⊎ (status ≡ 4) ⊎ (status ≡ 5)
     → (status ≢ 4 → after.moment.out.faults ≡ before.moment.out.faults) → (status ≡ 4 → Rose before.moment.out.faults after.moment.out.faults)
-    → Ended words status script begun before after
-ended_over words status script begun before after had (inl below) quiet fault =
+    → Ended arguments status script begun before after
+ended_over arguments status script begun before after had (inl below) quiet fault =
     inl (below, record { had = had; no_fault = quiet (λ four. omega arith) })
-ended_over words status script begun before after had (inr (inl four)) quiet fault = inr (inr (inr (inl (four, record { had = had; fault = fault four }))))
-ended_over words status script begun before after had (inr (inr five)) quiet fault = inr (inr (inr (inr (inl (
+ended_over arguments status script begun before after had (inr (inl four)) quiet fault = inr (inr (inr (inl (four, record { had = had; fault = fault four }))))
+ended_over arguments status script begun before after had (inr (inr five)) quiet fault = inr (inr (inr (inr (inl (
   five,
   record {
     asked = inr had.asked;
     no_fault = quiet (λ four. omega arith);
     settings = inr had.settings;
-    unasked = λ none. absurd (no_words (args_of words) _ _ none had.asked);
+    unasked = λ none. absurd (no_arguments (args_of arguments) _ _ none had.asked);
     says = nothing_said _ _ had.said;
   },
 )))))
 
--- a run over the script that its words ask for, where this was loaded, or made
-pub ran_script : (words : List (List ℕ)) (asked : Args) (script : List ℕ) (status : ℕ) (before after : Standing) (begun : Seen)
-    → args_of words ≡ Some asked → length script ≤ longest_script → IsUtf8 script → IsScriptOf (Some asked) before.moment.files script
+-- a run over the script that its arguments ask for, where this was loaded, or made
+pub ran_script : (arguments : List (List ℕ)) (asked : Args) (script : List ℕ) (status : ℕ) (before after : Standing) (begun : Seen)
+    → args_of arguments ≡ Some asked → length script ≤ longest_script → IsUtf8 script → IsScriptOf (Some asked) before.moment.files script
     → LoadsScript asked before.moment.files begun → IsLater before.moment.files begun → after.said ≡ before.said
     → RanOver asked script before.settings.limits status after.settings (with_files before.moment begun) after.moment
-    → HasRun words status before after
-ran_script words asked script status before after begun e fits text is loaded later said ran =
+    → HasRun arguments status before after
+ran_script arguments asked script status before after begun e fits text is loaded later said ran =
     let none : Settings = record { limits = before.settings.limits; budget = None; explain = false } in
     let P : Option Args → Type 0 =
     λ o. WalkedFor o (option_map_or (settings_for before.settings.limits) o none) (readings_of script) status (with_files before.moment begun) after.moment in
@@ -250,7 +250,7 @@ ran_script words asked script status before after begun e fits text is loaded la
       silent = silent_for asked (settings_for before.settings.limits asked) before.moment.files script status (with_files before.moment begun) after.moment is ran.walked;
       files = later_twice _ _ _ later ran.files;
       out = ran.out;
-      ended = ended_over words status script begun before after
+      ended = ended_over arguments status script begun before after
           (record {
             asked = subst (λ o. IsScriptOf o before.moment.files script) (sym e) is;
             settings = ran.settings_are ∙ ap (λ a. option_map_or (settings_for before.settings.limits) a none) (sym e);

@@ -3,7 +3,7 @@
 --     line_of why           the line that is said on `err`
 --     IsSaid why status ..  the line was put, or memory ran out and nothing was said
 use Rattle.std.specs.Prelude.{◌≡◌, ◌≢◌, ◌⊎◌, ℕ, List, []}
-use Rattle.command_words.specs.Words.{usage_line}
+use Rattle.command_line.specs.Arguments.{usage_line}
 use Rattle.outside.specs.Seen.{Sent}
 use Rattle.beas_run.specs.declared.no_script.NoScript.{NoScript}
 use Rattle.beas_run.specs.declared.no_script.NoScript.TheVariants.{Arguments, Unread, TooLong, NotText, NoMemory}

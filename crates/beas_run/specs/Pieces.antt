@@ -3,7 +3,6 @@
 --     moment_of scene                   what a run comes to that ends there
 --     answered_from first               the effect of going on, to its answer, with a query of session 0 that was opened
 --     is_opened report                  the event opened a query, by its report; has_probed result: it made a probe
---     IsTaken event result ..           what a desk tells of an event that was to be done there
 --     Reaches last report ..            what was done came to this effect
 --     IsTurn settings reading turn ..   the piece was carried out in this turn
 --     IsDone settings reading report .. it was carried out, with this report
@@ -16,12 +15,12 @@
 --     MayTakeUnnamed statement before ..      how many reads a statement that names no session may have counted before memory ran out
 --     LeavesDesk reading before after ..      what is left of the desk there, with the reads that may have been counted
 --     GoesOnBy reading report ..        what becomes of the probes and the shares
-use Rattle.std.specs.Prelude.{◌≡◌, ◌≤◌, ◌+◌, ◌++◌, ◌⊎◌, ℕ, zero, suc, Bool, true, false, List, [], ◌∷◌, length, sum, Option, None, Some, Result, Ok, Err, IfOk, OnErr}
+use Rattle.std.specs.Prelude.{◌≡◌, ◌≤◌, ◌+◌, ◌++◌, ◌⊎◌, ℕ, zero, suc, Bool, true, false, List, [], ◌∷◌, length, sum, Option, None, Some, Result, Ok, Err}
 use Rattle.std.specs.Option.{option_map_or}
 use Rattle.beas_core.specs.declared.errors.NoMemory.{NoMemory}
 use Rattle.outside.specs.Counts.{raised}
 use Rattle.outside.specs.Parts.{SentPart}
-use Rattle.outside.specs.Seen.{IsLater, Seen, Sent}
+use Rattle.outside.specs.Seen.{Seen, Sent}
 use Rattle.report.specs.declared.reports.Report.{Report}
 use Rattle.report.specs.declared.reports.Report.TheVariants.{Opened, Probed}
 use Rattle.report.specs.Reports.{report_text}
@@ -29,13 +28,12 @@ use Rattle.session.specs.declared.loading.LoadOutcome.{LoadOutcome}
 use Rattle.session.specs.Effects.{Settings}
 use Rattle.session.specs.Ties.{AreTied}
 use Rattle.session.specs.Turns.{loads_of, is_refusal, IsWithin}
-use Rattle.piece_reader.specs.declared.event.Event.{Event}
 use Rattle.piece_reader.specs.declared.event.Event.TheVariants.{Said, Stepped}
 use Rattle.sql_text.specs.declared.tree.Statement.{Statement}
-use Rattle.desk_model.specs.Desks.{DeskEffect, State, action_of_event, query_of, said_action}
+use Rattle.desk_model.specs.Desks.{DeskEffect, State, query_of, said_action}
 use Rattle.desk_model.specs.Pieces.{DeskTurn, Next, and_steps, next, piece_action, probes_due, seen_turn, with_answer}
 use Rattle.piece_reader.specs.Sayings.{Reading}
-use Rattle.version_store.specs.Desks.{GoesOn, IsDesk, MayCost, MayLoad, MayTake, Seen as DeskSeen, Stays, TakesSome, desk_wanting, without_query_of}
+use Rattle.version_store.specs.Desks.{GoesOn, MayCost, MayTake, Seen as DeskSeen, Stays, desk_wanting, without_query_of}
 use Rattle.beas_run.specs.declared.ending.Ending.{Ending}
 use Rattle.beas_run.specs.declared.ending.Ending.TheVariants.{NoMemory as Want}
 use Rattle.beas_run.specs.Shares.{AreShares, open_reads}
@@ -65,21 +63,6 @@ is_opened _ = false
 abbrev pub has_probed : Result Report NoMemory → Bool
 has_probed (Ok (Probed session)) = true
 has_probed _ = false
-
--- what a desk tells of an event, whatever it answers
-pub record IsTaken (event : Event) (result : Result Report NoMemory) (before after : DeskSeen) (steps_before steps_after : ℕ)
-    (files_before files_after : Seen) : Type 0 where
-  pub did : IfOk result (λ report. TakesSome before.settings.limits.file (action_of_event before.settings before.state event) report before after
-      steps_before steps_after files_before files_after)
-  pub goes_on : IfOk result (λ report. GoesOn event report before after steps_before steps_after)
-  pub within : IfOk result IsWithin
-  pub is_desk : IsDesk before × IsDesk after
-  pub settings : after.settings ≡ before.settings
-  pub err : OnErr result (after ≡ desk_wanting event before)
-  pub at_most : OnErr result (MayTake event before steps_before steps_after)
-  pub no_fewer : steps_before ≤ steps_after
-  pub loaded : MayLoad (action_of_event before.settings before.state event) files_before files_after
-  pub later : IsLater files_before files_after
 
 pub record Reaches (last : DeskEffect) (report : Report) (before after : DeskSeen) (steps_before steps_after : ℕ) : Type 0 where
   pub report_is : report ≡ last.report

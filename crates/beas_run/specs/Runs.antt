@@ -1,21 +1,21 @@
 -- What a run does, at each of its statuses.
---     script_name words      the name of the script that the words ask for, if they ask for one
---     demo_seed words        the seed of the demonstration, if they ask for one
---     settings_of_words ..   what the statements are then decided by
---     WalkedFor ..           the turns of a file's script, or of a demonstration's, were done, or as far as the run came
---     HasLoaded ..           whether it loaded the file of its script
---     outcomes_in ..         what the loads of its files gave
---     Standing               what a run finds, and what it leaves
---     Ended ..               how it ended: a case for each status
---     HasRun ..              what it did: its script's turns, or as far as it came, and how it ended
---     IsComplete ..          which statuses are left where nothing stands in the way of a script
+--     script_name arguments      the name of the script that the arguments ask for, if they ask for one
+--     demo_seed arguments        the seed of the demonstration, if they ask for one
+--     settings_of_arguments ..   what the statements are then decided by
+--     WalkedFor ..               the turns of a file's script, or of a demonstration's, were done, or as far as the run came
+--     HasLoaded ..               whether it loaded the file of its script
+--     outcomes_in ..             what the loads of its files gave
+--     Standing                   what a run finds, and what it leaves
+--     Ended ..                   how it ended: a case for each status
+--     HasRun ..                  what it did: its script's turns, or as far as it came, and how it ended
+--     IsComplete ..              which statuses are left where nothing stands in the way of a script
 use Rattle.std.specs.Prelude.{◌≡◌, ◌≢◌, ◌<◌, ◌≤◌, ◌+◌, ◌++◌, ◌⊎◌, ℕ, true, false, List, [], length, codes, Option, Some, None, option_and_then, IsSomeAnd}
 use Rattle.std.specs.Option.{option_map_or}
 use Rattle.std.specs.Str.{IsUtf8}
 use Rattle.beas_core.specs.declared.limits.Limits.{Limits}
-use Rattle.command_words.specs.declared.arguments.Args.{Args}
-use Rattle.command_words.specs.declared.arguments.Args.TheVariants.{Script, Demo}
-use Rattle.command_words.specs.Words.{args_of, usage_line}
+use Rattle.command_line.specs.declared.arguments.Args.{Args}
+use Rattle.command_line.specs.declared.arguments.Args.TheVariants.{Script, Demo}
+use Rattle.command_line.specs.Arguments.{args_of, usage_line}
 use Rattle.demo_gen.specs.Demo.{demo_text}
 use Rattle.outside.specs.Counts.{Rose, RoseBy, raised}
 use Rattle.outside.specs.Parts.{SentPart}
@@ -38,10 +38,10 @@ seed_of (Script path budget explain) = None
 seed_of (Demo seed budget explain) = Some seed
 
 abbrev pub script_name : List (List ℕ) → Option (List ℕ)
-script_name words = option_and_then path_of (args_of words)
+script_name arguments = option_and_then path_of (args_of arguments)
 
 abbrev pub demo_seed : List (List ℕ) → Option ℕ
-demo_seed words = option_and_then seed_of (args_of words)
+demo_seed arguments = option_and_then seed_of (args_of arguments)
 
 abbrev pub settings_for : Limits → Args → Settings
 settings_for limits (Script path budget explain) = record { limits = limits; budget = budget; explain = explain }
@@ -70,10 +70,10 @@ IsScriptOf None files script = ⊥
 IsScriptOf (Some (Script path budget explain)) files script = IsContent files script path
 IsScriptOf (Some (Demo seed budget explain)) files script = script ≡ demo_text seed
 
--- where the words ask for nothing there are no statements
-abbrev pub settings_of_words : Limits → List (List ℕ) → Settings
-settings_of_words limits words =
-    option_map_or (settings_for limits) (args_of words) (record { limits = limits; budget = None; explain = false })
+-- where the arguments ask for nothing there are no statements
+abbrev pub settings_of_arguments : Limits → List (List ℕ) → Settings
+settings_of_arguments limits arguments =
+    option_map_or (settings_for limits) (args_of arguments) (record { limits = limits; budget = None; explain = false })
 
 -- the reports of a file's script are written, and of a demonstration's the line of their totals
 abbrev pub WalkedFor : Option Args → Settings → List Reading → ℕ → Moment → Moment → Type 0
@@ -141,10 +141,10 @@ pub record SaysNothing (before after : Sent) : Type 0 where
 
 -- ---- how a run ended
 
--- it had the script that the words ask for: the session has their settings, and nothing was said
-pub record HadScript (words : List (List ℕ)) (script : List ℕ) (before after : Standing) : Type 0 where
-  pub asked : IsScriptOf (args_of words) before.moment.files script
-  pub settings : after.settings ≡ settings_of_words before.settings.limits words
+-- it had the script that the arguments ask for: the session has their settings, and nothing was said
+pub record HadScript (arguments : List (List ℕ)) (script : List ℕ) (before after : Standing) : Type 0 where
+  pub asked : IsScriptOf (args_of arguments) before.moment.files script
+  pub settings : after.settings ≡ settings_of_arguments before.settings.limits arguments
   pub said : after.said ≡ before.said
 
 -- it had none: nothing was sent, read or changed, and this line was said
@@ -160,60 +160,60 @@ pub record HadNoScript (line script : List ℕ) (begun : Seen) (before after : S
   pub says : Says line before.said after.said
 
 -- 0 and 1: all pieces were carried out, and the output took all
-pub record CarriedOut (words : List (List ℕ)) (script : List ℕ) (before after : Standing) : Type 0 where
-  pub had : HadScript words script before after
+pub record CarriedOut (arguments : List (List ℕ)) (script : List ℕ) (before after : Standing) : Type 0 where
+  pub had : HadScript arguments script before after
   pub no_fault : after.moment.out.faults ≡ before.moment.out.faults
 
--- 2: the words are refused
-pub record WordsRefused (words : List (List ℕ)) (script : List ℕ) (begun : Seen) (before after : Standing) : Type 0 where
-  pub refused : args_of words ≡ None
+-- 2: the arguments are refused
+pub record ArgumentsRefused (arguments : List (List ℕ)) (script : List ℕ) (begun : Seen) (before after : Standing) : Type 0 where
+  pub refused : args_of arguments ≡ None
   pub had : HadNoScript usage_line script begun before after
 
--- 3: the file that the words name failed
-pub record ScriptUnread (words : List (List ℕ)) (script : List ℕ) (begun : Seen) (before after : Standing) : Type 0 where
-  pub fault : IsSomeAnd (script_name words)
+-- 3: the file that the arguments name failed
+pub record ScriptUnread (arguments : List (List ℕ)) (script : List ℕ) (begun : Seen) (before after : Standing) : Type 0 where
+  pub fault : IsSomeAnd (script_name arguments)
       (λ name. Rose (before.moment.files.faults name) (after.moment.files.faults name))
   pub had : HadNoScript unread_line script begun before after
 
 -- 4: the output failed
-pub record OutputFailed (words : List (List ℕ)) (script : List ℕ) (before after : Standing) : Type 0 where
-  pub had : HadScript words script before after
+pub record OutputFailed (arguments : List (List ℕ)) (script : List ℕ) (before after : Standing) : Type 0 where
+  pub had : HadScript arguments script before after
   pub fault : Rose before.moment.out.faults after.moment.out.faults
 
 -- 5: memory ran out, perhaps before there was a script
-pub record OutOfMemory (words : List (List ℕ)) (script : List ℕ) (before after : Standing) : Type 0 where
-  pub asked : (script ≡ []) ⊎ IsScriptOf (args_of words) before.moment.files script
+pub record OutOfMemory (arguments : List (List ℕ)) (script : List ℕ) (before after : Standing) : Type 0 where
+  pub asked : (script ≡ []) ⊎ IsScriptOf (args_of arguments) before.moment.files script
   pub no_fault : after.moment.out.faults ≡ before.moment.out.faults
   pub settings : (after.settings ≡ before.settings)
-      ⊎ (after.settings ≡ settings_of_words before.settings.limits words)
-  -- words that are refused leave them
-  pub unasked : args_of words ≡ None → after.settings ≡ before.settings
+      ⊎ (after.settings ≡ settings_of_arguments before.settings.limits arguments)
+  -- arguments that are refused leave them
+  pub unasked : args_of arguments ≡ None → after.settings ≡ before.settings
   pub says : SaysNothing before.said after.said
 
 -- 6: the file has more bytes than a script may have
-pub record ScriptTooLong (words : List (List ℕ)) (script : List ℕ) (begun : Seen) (before after : Standing) : Type 0 where
-  pub longer : IsSomeAnd (script_name words) (IsTooLong before.moment.files after.moment.files)
+pub record ScriptTooLong (arguments : List (List ℕ)) (script : List ℕ) (begun : Seen) (before after : Standing) : Type 0 where
+  pub longer : IsSomeAnd (script_name arguments) (IsTooLong before.moment.files after.moment.files)
   pub had : HadNoScript too_long_line script begun before after
 
 -- 7: its bytes are no text
-pub record ScriptNoText (words : List (List ℕ)) (script : List ℕ) (begun : Seen) (before after : Standing) : Type 0 where
-  pub no_text : IsSomeAnd (script_name words) (IsNoText before.moment.files)
+pub record ScriptNoText (arguments : List (List ℕ)) (script : List ℕ) (begun : Seen) (before after : Standing) : Type 0 where
+  pub no_text : IsSomeAnd (script_name arguments) (IsNoText before.moment.files)
   pub had : HadNoScript no_text_line script begun before after
 
 -- there is no other status
 abbrev pub Ended : List (List ℕ) → ℕ → List ℕ → Seen → Standing → Standing → Type 0
-Ended words status script begun before after =
-    ((status < 2) × CarriedOut words script before after)
-    ⊎ ((status ≡ 2) × WordsRefused words script begun before after)
-    ⊎ ((status ≡ 3) × ScriptUnread words script begun before after)
-    ⊎ ((status ≡ 4) × OutputFailed words script before after)
-    ⊎ ((status ≡ 5) × OutOfMemory words script before after)
-    ⊎ ((status ≡ 6) × ScriptTooLong words script begun before after)
-    ⊎ ((status ≡ 7) × ScriptNoText words script begun before after)
+Ended arguments status script begun before after =
+    ((status < 2) × CarriedOut arguments script before after)
+    ⊎ ((status ≡ 2) × ArgumentsRefused arguments script begun before after)
+    ⊎ ((status ≡ 3) × ScriptUnread arguments script begun before after)
+    ⊎ ((status ≡ 4) × OutputFailed arguments script before after)
+    ⊎ ((status ≡ 5) × OutOfMemory arguments script before after)
+    ⊎ ((status ≡ 6) × ScriptTooLong arguments script begun before after)
+    ⊎ ((status ≡ 7) × ScriptNoText arguments script begun before after)
 
 -- ---- what a run did
 
-pub record HasRun (words : List (List ℕ)) (status : ℕ) (before after : Standing) : Type 0 where
+pub record HasRun (arguments : List (List ℕ)) (status : ℕ) (before after : Standing) : Type 0 where
   -- its script, or no text where it ended before it had one
   pub script : List ℕ
   pub readings : List Reading
@@ -222,17 +222,17 @@ pub record HasRun (words : List (List ℕ)) (status : ℕ) (before after : Stand
   pub read_as : Readings script readings
   -- the files where the script is there, before its first statement; they tell the contents that the files told before
   pub begun : Seen
-  pub loaded : HasLoaded (args_of words) status before.moment.files begun
+  pub loaded : HasLoaded (args_of arguments) status before.moment.files begun
   pub later : IsLater before.moment.files begun
   -- the turns of its statements were done, or as far as it came
-  pub walked : WalkedFor (args_of words) (settings_of_words before.settings.limits words) readings status
+  pub walked : WalkedFor (args_of arguments) (settings_of_arguments before.settings.limits arguments) readings status
       (with_files before.moment begun) after.moment
   -- without a text not even the totals of no statements were sent
   pub silent : script ≡ [] → before.moment.out.told ≡ true → after.moment.out.bytes ≡ before.moment.out.bytes
   -- what files and output tell stays, and no count falls
   pub files : IsLater before.moment.files after.moment.files
   pub out : IsLaterSink before.moment.out after.moment.out
-  pub ended : Ended words status script begun before after
+  pub ended : Ended arguments status script begun before after
 
 -- ---- which status a script has that can be read
 
@@ -252,16 +252,16 @@ pub record IsReadable (name script : List ℕ) (before after : Seen) : Type 0 wh
   pub no_fault : Rose (before.faults name) (after.faults name) → ⊥
 
 -- nothing but its own length and bytes, memory and the output keeps a script from being run
-pub record IsComplete (words : List (List ℕ)) (status : ℕ) (before after : Standing) : Type 0 where
+pub record IsComplete (arguments : List (List ℕ)) (status : ℕ) (before after : Standing) : Type 0 where
   -- a text that isn't too long is run whole, unless memory runs out
-  pub complete : (name script : List ℕ) → script_name words ≡ Some name
+  pub complete : (name script : List ℕ) → script_name arguments ≡ Some name
       → IsReadable name script before.moment.files after.moment.files
       → (Rose before.moment.out.faults after.moment.out.faults → ⊥) → Completes script status
   -- one that is too long, or is no text, has its own status
-  pub complete_without : (name script : List ℕ) → script_name words ≡ Some name
+  pub complete_without : (name script : List ℕ) → script_name arguments ≡ Some name
       → IsReadable name script before.moment.files after.moment.files → CompletesWithout script status
   -- a demonstration needs no file
-  pub complete_demo : (seed : ℕ) → demo_seed words ≡ Some seed
+  pub complete_demo : (seed : ℕ) → demo_seed arguments ≡ Some seed
       → (Rose before.moment.out.faults after.moment.out.faults → ⊥) → (status < 2) ⊎ (status ≡ 5)
-  -- words that are refused have theirs
-  pub complete_refused : args_of words ≡ None → (status ≡ 2) ⊎ (status ≡ 5)
+  -- arguments that are refused have theirs
+  pub complete_refused : args_of arguments ≡ None → (status ≡ 2) ⊎ (status ≡ 5)

@@ -6,8 +6,8 @@
 --     RanOver args text ..           the pieces of the text were carried out, or as far as the run came
 use Rattle.std.specs.Prelude.{◌≡◌, ◌≢◌, ◌<◌, ◌≤◌, ◌⊎◌, ℕ, List, length, Option, Some, None, option_and_then, IsSomeAnd}
 use Rattle.beas_core.specs.declared.limits.Limits.{Limits}
-use Rattle.command_words.specs.declared.arguments.Args.{Args}
-use Rattle.command_words.specs.declared.arguments.Args.TheVariants.{Script, Demo}
+use Rattle.command_line.specs.declared.arguments.Args.{Args}
+use Rattle.command_line.specs.declared.arguments.Args.TheVariants.{Script, Demo}
 use Rattle.demo_gen.specs.Demo.{demo_text}
 use Rattle.outside.specs.Counts.{Rose, raised}
 use Rattle.outside.specs.Seen.{IsLater, IsLaterSink, Seen}

@@ -14,6 +14,7 @@ ghost use Rattle.beas_run.specs.Walks.{moment};
 use crate::audience::Counter;
 use crate::script::walk;
 use beas_core::{Bytes, Steps};
+use catalogue::recall_soundness;
 use demo_gen::Summary;
 use outside::{Files, FilesError, Sink, SinkError};
 use session::Session;
@@ -76,8 +77,8 @@ pub fn write_totals<O: Sink, L: Ledger>(
     ensures no_fault { result ≢ 4 → (O.seen out.new).faults ≡ (O.seen out.old).faults }
     ensures fault { result ≡ 4 → Rose (O.seen out.old).faults (O.seen out.new).faults }
 {
-    // The constraints aren't used: the call's own clauses tell that the catalogue is sound.
-    let _accesses = session.guarded.catalogue.accesses();
+    // With a sound schema, what a script without sessions reads is the sum of what its statements read.
+    recall_soundness(&session.guarded.catalogue);
     let mut counter = Counter {
         summary: Summary::new(),
     };

@@ -14,7 +14,7 @@ mod script;
 mod script_source;
 mod whole_run;
 
-pub use command_words::{Args, Usage, args};
+pub use command_line::{Args, Usage, args};
 pub use laws::law_no_sessions;
 pub use pieces::report_on;
 pub use planning::planned;

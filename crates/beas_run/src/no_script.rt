@@ -2,7 +2,7 @@
 ghost use Rattle.std.specs.Prelude.{◌≡◌};
 ghost use Rattle.beas_run.specs.NoScripts.{line_of, status_of, IsSaid};
 
-use command_words::usage_line;
+use command_line::usage_line;
 use outside::{Sink, SinkError};
 
 /// Why a run has no script.

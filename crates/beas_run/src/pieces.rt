@@ -6,22 +6,19 @@ ghost use Rattle.desk_model.specs.Desks.{DeskEffect, query_of};
 ghost use Rattle.piece_reader.specs.Sayings.{reading_of};
 ghost use Rattle.session.specs.Statements.{StatementIsWellFormed};
 ghost use Rattle.session.specs.Turns.{IsWithin};
-ghost use Rattle.beas_run.specs.Pieces.{GoesOnBy, IsDone, IsLeft, IsTaken, LeavesDesk, Reaches, answered_from, has_probed, is_opened};
+ghost use Rattle.beas_run.specs.Pieces.{GoesOnBy, IsDone, IsLeft, LeavesDesk, Reaches, answered_from, has_probed, is_opened};
 ghost use Rattle.beas_run.specs.Shares.{open_reads};
-ghost use Rattle.version_store.specs.Desks.{EventIsWellFormed, session_in, share_at, without_query_of};
+ghost use Rattle.version_store.specs.Desks.{EventIsWellFormed, IsTaken, session_in, share_at, without_query_of};
 
 use beas_core::{Fail, NoMemory, Steps};
 use outside::Files;
-use piece_reader::{Event, read_piece};
+use piece_reader::{Event, UNNAMED, read_piece};
 use report::Report;
 use sql_text::Statement;
 use sql_tokens::Token;
 use std::alloc::Global;
 use std::sync::ledger::Ledger;
 use version_store::Desk;
-
-/// The session of the pieces that name none.
-const UNNAMED: u32 = 0;
 
 /// Does what a session says.
 fn say<F: Files, L: Ledger>(

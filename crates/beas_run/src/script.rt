@@ -103,8 +103,8 @@ fn carry_out_all<A: Audience, F: Files, O: Sink, L: Ledger>(
             continue;
         }
         number += 1;
-        let words = tokens.as_slice();
-        refused |= carry_out(alloc, desk, words, number, audience, files, out, steps)?;
+        let piece = tokens.as_slice();
+        refused |= carry_out(alloc, desk, piece, number, audience, files, out, steps)?;
     }
     Ok(refused)
 }

@@ -1,8 +1,8 @@
-// What the pieces of a run come from: the words, and the text that they ask for.
+// What the pieces of a run come from: the arguments, and the text that they ask for.
 ghost use Rattle.std.specs.Prelude.{◌≡◌, ◌≤◌, None, Some, length, map, IfOk, IfErr, IsErrOf};
 ghost use Rattle.std.specs.Str.{IsUtf8};
 ghost use Rattle.std.specs.String.{string_bytes};
-ghost use Rattle.command_words.specs.Words.{args_of};
+ghost use Rattle.command_line.specs.Arguments.{args_of};
 ghost use Rattle.outside.specs.Counts.{Rose, raised};
 ghost use Rattle.outside.specs.Seen.{IsLater};
 ghost use Rattle.beas_run.specs.Runs.{longest_script, path_of, script_name, IsContent, IsNoText, IsScriptOf, IsTooLong};
@@ -10,15 +10,13 @@ ghost use Rattle.beas_run.specs.Sources.{HasNoScript, IsSource, LoadsScript};
 
 use crate::no_script::NoScript;
 use beas_core::{Bytes, NoMemory, Text};
-use command_words::{Args, Usage, args};
+use command_line::{Args, Usage, args};
 use demo_gen::demo;
 use outside::{Files, FilesError};
+use sql_tokens::LONGEST_SCRIPT;
 use std::alloc::Global;
 
-/// How many bytes a script may have.
-const LONGEST_SCRIPT: u64 = 16_777_216;
-
-/// What the words ask for, and the text of its pieces.
+/// What the arguments ask for, and the text of its pieces.
 #[derive(Debug, Drop)]
 pub struct Source {
     pub args: Args,
@@ -40,7 +38,7 @@ fn load_named<F: Files>(alloc: Global, name: &str, files: &mut F) -> Result<Text
     ensures loaded { (F.seen files.new).loads ≡ raised 1 (F.seen files.old).loads }
     ensures later { IsLater (F.seen files.old) (F.seen files.new) }
 {
-    match files.read(alloc, name, LONGEST_SCRIPT) {
+    match files.read(alloc, name, LONGEST_SCRIPT as u64) {
         Ok(bytes) => require_text(bytes),
         Err(FilesError::Failed) => Err(NoScript::Unread),
         Err(FilesError::TooLong { .. }) => Err(NoScript::TooLong),
@@ -92,19 +90,19 @@ fn source_for<F: Files>(alloc: Global, args: Args, files: &mut F) -> Result<Sour
     }
 }
 
-/// What the words ask for, with its text.
+/// What the arguments ask for, with its text.
 pub fn source_of<F: Files>(
     alloc: Global,
-    words: &[String],
+    arguments: &[String],
     files: &mut F,
 ) -> Result<Source, NoScript>
-    ensures source { IfOk result (IsSource (args_of (map string_bytes words.now))
+    ensures source { IfOk result (IsSource (args_of (map string_bytes arguments.now))
         (F.seen files.old) (F.seen files.new)) }
-    ensures none { IfErr result (λ why. HasNoScript (args_of (map string_bytes words.now)) why
+    ensures none { IfErr result (λ why. HasNoScript (args_of (map string_bytes arguments.now)) why
         (F.seen files.old) (F.seen files.new)) }
-    ensures unused { script_name (map string_bytes words.now) ≡ None → files.new ≡ files.old }
+    ensures unused { script_name (map string_bytes arguments.now) ≡ None → files.new ≡ files.old }
 {
-    match args(alloc, words) {
+    match args(alloc, arguments) {
         Ok(args) => source_for(alloc, args, files),
         Err(Usage::Refused) => Err(NoScript::Arguments),
         Err(Usage::NoMemory) => Err(NoScript::NoMemory),

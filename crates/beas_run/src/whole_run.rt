@@ -1,4 +1,4 @@
-// The whole run: from the words to the status of the program.
+// The whole run: from the arguments to the status of the program.
 ghost use Rattle.std.specs.Prelude.{◌≡◌, ◌<◌, ◌≤◌, ◌⊎◌, None, length, map};
 ghost use Rattle.std.specs.String.{string_bytes};
 ghost use Rattle.session.specs.Applying.{settings_of};
@@ -11,7 +11,7 @@ use crate::no_script::say;
 use crate::script::write_reports;
 use crate::script_source::source_of;
 use beas_core::Steps;
-use command_words::Args;
+use command_line::Args;
 use outside::{Files, Sink};
 use session::Session;
 use std::alloc::Global;
@@ -56,10 +56,11 @@ fn run_over<F: Files, O: Sink, L: Ledger>(
     }
 }
 
-/// Runs what the words ask for over a session, and gives the status of the program: 0 and 1 where the script was
-/// carried out whole, without a refusal and with one; 2 where the words are refused; 3 where the script can't be
-/// read; 4 where `out` failed; 5 where memory ran out; 6 where the script is longer than 16,777,216 bytes; 7 where it
-/// is not UTF-8. Each report is put to `out` before the next piece; of a demonstration one line of totals at its end.
+/// Runs what `words`, the arguments after the program's name, ask for over a session, and gives the status of the
+/// program: 0 and 1 where the script was carried out whole, without a refusal and with one; 2 where the arguments are
+/// refused; 3 where the script can't be read; 4 where `out` failed; 5 where memory ran out; 6 where the script is
+/// longer than 16,777,216 bytes; 7 where it is not UTF-8. Each report is put to `out` before the next piece; of a
+/// demonstration one line of totals at its end.
 ///
 /// A piece may name a session, as in `@2 SELECT ..` or `@2 STEP`. Its query is then opened, and goes on by one probe a
 /// step, over the rows of its opening; all others are carried out whole. Queries that are open at the end are dropped.
@@ -83,8 +84,8 @@ pub fn run<F: Files, O: Sink, E: Sink, L: Ledger>(
         let after = standing session.new steps.new (O.seen out.new) (E.seen err.new) (F.seen files.new) in
         IsComplete (map string_bytes words.now) result before after }
 
-    // A run with a script puts nothing to `err`, and one without puts nothing to `out`. Where the words name no file, none is
-    // loaded.
+    // A run with a script puts nothing to `err`, and one without puts nothing to `out`. Where the arguments name no file,
+    // none is loaded.
     ensures err_unused { (result < 2) ⊎ (result ≡ 4) → err.new ≡ err.old }
     ensures out_unused { (result ≡ 2) ⊎ (result ≡ 3) ⊎ (result ≡ 6) ⊎ (result ≡ 7) → out.new ≡ out.old }
     ensures files_unused { script_name (map string_bytes words.now) ≡ None → files.new ≡ files.old }

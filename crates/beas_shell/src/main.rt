@@ -14,26 +14,26 @@ use std::process::ExitCode;
 use std::random::RandomSource;
 use std::sync::ledger::{Blank, Ledger};
 
-/// The status where memory runs out for the words.
+/// The status where memory runs out for the arguments.
 const NO_MEMORY: u8 = 5;
 
-/// The status where the system doesn't give the words, since one isn't UTF-8.
-const NO_WORDS: u8 = 8;
+/// The status where the system doesn't give the arguments, since one isn't UTF-8.
+const NO_ARGUMENTS: u8 = 8;
 
-/// The words of the command line, the program's name first. The system doesn't give them where one isn't UTF-8.
-fn words_of(rt: &HostRuntime) -> io::Result<Vec<String>> {
-    let mut words = Vec::new(rt.alloc());
-    for word in env::args(rt)? {
-        words.push(word)?;
+/// The arguments of the command line, the program's name first. The system doesn't give them where one isn't UTF-8.
+fn arguments_of(rt: &HostRuntime) -> io::Result<Vec<String>> {
+    let mut arguments = Vec::new(rt.alloc());
+    for argument in env::args(rt)? {
+        arguments.push(argument)?;
     }
-    Ok(words)
+    Ok(arguments)
 }
 
-/// The words after the program's name.
-fn after_first(words: &[String]) -> &[String] {
-    match words {
+/// The arguments after the program's name.
+fn after_first(arguments: &[String]) -> &[String] {
+    match arguments {
         [_, named @ ..] => named,
-        [] => words,
+        [] => arguments,
     }
 }
 
@@ -47,8 +47,8 @@ fn seed_of(rt: &HostRuntime) -> u64 {
     }
 }
 
-/// Runs what the words ask for, over a session without tables and the system's files and streams.
-fn run_words<L: Ledger>(rt: &HostRuntime, words: &[String], steps: &mut Steps<L>) -> u8 {
+/// Runs what the arguments ask for, over a session without tables and the system's files and streams.
+fn run_asked<L: Ledger>(rt: &HostRuntime, arguments: &[String], steps: &mut Steps<L>) -> u8 {
     let mut session = Session::seeded(rt.alloc(), Limits::standard(), None, false, seed_of(rt));
     let mut files = RealFiles::new(rt);
     let mut out = RealSink::new(rt.stdout());
@@ -56,7 +56,7 @@ fn run_words<L: Ledger>(rt: &HostRuntime, words: &[String], steps: &mut Steps<L>
     let status = run(
         rt.alloc(),
         &mut session,
-        words,
+        arguments,
         &mut files,
         &mut out,
         &mut err,
@@ -66,17 +66,17 @@ fn run_words<L: Ledger>(rt: &HostRuntime, words: &[String], steps: &mut Steps<L>
     status
 }
 
-/// Runs what the words of the command line ask for, with one counter of reads.
+/// Runs what the arguments of the command line ask for, with one counter of reads.
 fn start<L: Ledger>(rt: &HostRuntime, blank: Blank) -> u8
     requires name { blank.name ≡ L.name }
     requires parts { blank.parts ≡ L.parts }
     requires some { 0 < blank.parts }
 {
     let mut steps = Steps::<L>::start(blank);
-    match words_of(rt) {
-        Ok(words) => run_words(rt, after_first(words.as_slice()), &mut steps),
+    match arguments_of(rt) {
+        Ok(arguments) => run_asked(rt, after_first(arguments.as_slice()), &mut steps),
         Err(why) if why.kind() == ErrorKind::OutOfMemory => NO_MEMORY,
-        Err(_) => NO_WORDS,
+        Err(_) => NO_ARGUMENTS,
     }
 }
 

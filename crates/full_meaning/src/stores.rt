@@ -6,8 +6,8 @@ use crate::copies::copied_rows;
 use beas_core::{
     Column, Counted, Duplicate, Fail, Limits, List, Name, NoMemory, Refusal, Row, Steps, TableId,
 };
-use catalogue::Catalogue;
-use row_store::Rows;
+use catalogue::{Catalogue, recall_soundness};
+use row_store::{Rows, recall_few_rows};
 use std::alloc::Global;
 use std::sync::ledger::Ledger;
 use update_guard::Guarded;
@@ -49,7 +49,8 @@ fn add_rows<L: Ledger>(
 ) -> Result<(), Fail>
     requires { table.0 < length (database_in plain.old).tables }
 {
-    let _count = rows.len();
+    // There are fewer than 2^32 rows, as an insert asks.
+    recall_few_rows(rows);
     let copies = copied_rows(alloc, rows, steps)?;
     if !are_short(copies.as_slice()) {
         return Err(too_many_columns());
@@ -103,8 +104,8 @@ fn copy_tables<L: Ledger>(
 ) -> Result<(), Fail>
     requires { length rows.now ≡ length catalogue.now.tables }
 {
-    // Read for what its type tells: there are few tables.
-    let _accesses = catalogue.accesses();
+    // There are so few tables that each place fits a `TableId`.
+    recall_soundness(catalogue);
     for (place, table) in rows.iter().enumerate() {
         let id = TableId(place as u32);
         copy_table(alloc, plain, catalogue, id, table, steps)?;

@@ -159,7 +159,7 @@ impl ReadCounts {
     }
 
     /// All bytes of a reader that was opened, of which there are at most `limit`. One that wasn't opened gives none.
-    pub fn read_opened<S: Read + Drop>(
+    fn read_opened<S: Read + Drop>(
         &mut self,
         alloc: Global,
         opened: io::Result<S>,

@@ -29,11 +29,13 @@ and_then (Err why) next = Err why
 abbrev pub binding : Limits → Schema → Tree → Result QueryTree Refusal
 binding limits schema tree = unless_refused (refusals limits schema tree) (bound_query schema tree)
 
--- a query whose number is above the budget is refused
+-- what is announced with this number; a number above the budget is refused
+abbrev pub unless_above : {A : Type 0} → Option ℕ → ℕ → A → Result A Refusal
+unless_above None bound announced = Ok announced
+unless_above (Some budget) bound announced = if nat_le bound budget then Ok announced else Err (OverBudget bound budget)
+
 abbrev pub within_budget : Option ℕ → Prepared → Result Prepared Refusal
-within_budget None prepared = Ok prepared
-within_budget (Some budget) prepared =
-    if nat_le prepared.bound budget then Ok prepared else Err (OverBudget prepared.bound budget)
+within_budget budget prepared = unless_above budget prepared.bound prepared
 
 unfoldable pub announcement : Limits → Option ℕ → Schema → Tree → Result Prepared Refusal
 announcement limits budget schema tree =
@@ -42,8 +44,7 @@ announcement limits budget schema tree =
 -- ---- where tables may be scanned
 
 abbrev pub scans_within_budget : Option ℕ → ScanPlan → Result ScanPlan Refusal
-scans_within_budget None plan = Ok plan
-scans_within_budget (Some budget) plan = if nat_le plan.bound budget then Ok plan else Err (OverBudget plan.bound budget)
+scans_within_budget budget plan = unless_above budget plan.bound plan
 
 unfoldable pub scan_announcement : Limits → Option ℕ → Schema → TableSizes → Tree → Result ScanPlan Refusal
 scan_announcement limits budget schema sizes tree =

@@ -25,14 +25,21 @@ use crate::specialising::first_block;
 use crate::stored::Store;
 use aggregate::{Cell, Fold, fold_rows};
 use beas_core::{
-    Block, ColType, Duplicate, Fail, List, Name, NoMemory, Place, Prepared, Refusal, Row, Steps,
-    Text,
+    Block, ColType, Duplicate, Fail, Limits, List, Name, NoMemory, Place, Prepared, Refusal, Row,
+    Steps, Text,
 };
 use catalogue::Catalogue;
 use report::Report;
 use sql_text::{ColumnRef, GroupItem, SelectTree};
 use std::alloc::Global;
 use std::sync::ledger::Ledger;
+
+/// Recalls that limits allow at most 1,024 outputs of a block. It changes nothing.
+fn recall_few_outputs(limits: &Limits)
+    ensures { limits.now.outputs ≤ 1024 }
+{
+    let _outputs = limits.outputs;
+}
 
 /// The query of the keys and of the columns of the items, as it is announced over the store.
 fn inner_query(
@@ -51,8 +58,8 @@ fn inner_query(
     ensures over { IfOk result (λ prepared. BlockIsOver store.now.catalogue (first_block prepared.query)) }
     ensures outputs { IfOk result (λ prepared. HasOutputs (length keys.now) (length items.now) prepared.query) }
 {
-    // Read for what its type tells: there are few outputs.
-    let _outputs = settings.limits.outputs;
+    // So the keys and the items are few enough to be counted in 16 bits.
+    recall_few_outputs(settings.limits);
     prepared_over(alloc, store, settings, inner)
 }
 

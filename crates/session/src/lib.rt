@@ -13,7 +13,7 @@ mod specialising;
 mod stored;
 mod tables;
 
-pub use loading::{LoadOutcome, load_file};
+pub use loading::LoadOutcome;
 pub use queries::plan_shown;
 pub use session::Session;
 pub use stored::Store;

@@ -9,16 +9,16 @@ ghost use Rattle.catalogue.specs.Queries.{QueryIsOver, RowsAreWide};
 ghost use Rattle.report.specs.declared.reports.Report.TheVariants.{Answered};
 ghost use Rattle.report.specs.Plans.{plan_text};
 ghost use Rattle.session.specs.Stores.{database_in};
-ghost use Rattle.session.specs.Announced.{announcement, binding, within_budget};
+ghost use Rattle.session.specs.Announced.{announcement};
 ghost use Rattle.session.specs.Applying.{settings_in};
 ghost use Rattle.session.specs.Carrying.{CarriesOut};
 ghost use Rattle.session.specs.Effects.{answer_effect, explain_effect, plan_shown, reads_in, select_effect};
 ghost use Rattle.session.specs.Statements.{TreeIsWellFormed};
 ghost use Rattle.session.specs.Turns.{IsWithin};
 
-use crate::settings::Settings;
+use crate::settings::{Settings, refuse_above};
 use crate::stored::Store;
-use beas_core::{Answer, Duplicate, Fail, List, Name, NoMemory, Prepared, Refusal, Steps, Text};
+use beas_core::{Answer, Duplicate, Fail, List, Name, NoMemory, Prepared, Steps, Text};
 use binder::bind;
 use catalogue::Catalogue;
 use cursor_executor::{Cursor, Turn};
@@ -28,20 +28,6 @@ use report::{Report, plan_text};
 use sql_text::SelectTree;
 use std::alloc::Global;
 use std::sync::ledger::Ledger;
-
-/// Refuses a query whose number is above the budget.
-fn refuse_above(budget: Option<u64>, prepared: Prepared) -> Result<Prepared, Refusal>
-    ensures { result ≡ within_budget budget prepared }
-{
-    match budget {
-        Some(budget) if prepared.bound > u128::from(budget) => {
-            let bound = prepared.bound;
-            drop(prepared);
-            Err(Refusal::OverBudget { bound, budget })
-        }
-        _ => Ok(prepared),
-    }
-}
 
 /// What is announced of a query. It is handed no rows.
 pub fn announcement(
@@ -60,7 +46,7 @@ pub fn announcement(
 {
     let query = bind(alloc, catalogue, settings.limits, tree)?;
     let prepared = prepare(alloc, catalogue, query)?;
-    Ok(refuse_above(settings.budget, prepared)?)
+    Ok(refuse_above(settings.budget, prepared.bound, prepared)?)
 }
 
 /// What is announced of a query over the store, whose rows it fits.

@@ -10,7 +10,7 @@ ghost use Rattle.catalogue.specs.Database.{rows_at, schema_of};
 ghost use Rattle.catalogue.specs.Queries.{QueryIsOver, RowsAreWide};
 ghost use Rattle.partial_plan.specs.ScanPlans.{ScanPlanFits};
 ghost use Rattle.partial_plan.specs.Scans.{rows_of_tables, sizes_of_tables};
-ghost use Rattle.session.specs.Announced.{binding, scan_announcement, scans_within_budget};
+ghost use Rattle.session.specs.Announced.{binding, scan_announcement};
 ghost use Rattle.session.specs.Applying.{settings_in};
 ghost use Rattle.session.specs.Carrying.{CarriesOut};
 ghost use Rattle.session.specs.Effects.{scan_answer_effect, scan_effect, scan_reads_in, scans_shown, sizes_in};
@@ -18,9 +18,9 @@ ghost use Rattle.session.specs.Statements.{TreeIsWellFormed};
 ghost use Rattle.session.specs.Stores.{database_in};
 ghost use Rattle.session.specs.Turns.{IsWithin};
 
-use crate::settings::Settings;
+use crate::settings::{Settings, refuse_above};
 use crate::stored::Store;
-use beas_core::{Answer, Fail, Limits, List, Name, NoMemory, Query, Refusal, Steps, Text};
+use beas_core::{Answer, Fail, Limits, List, Name, NoMemory, Query, Steps, Text};
 use binder::bind;
 use catalogue::Catalogue;
 use partial_plan::{ScanPlan, scan_execute, scan_prepare};
@@ -30,18 +30,11 @@ use sql_text::SelectTree;
 use std::alloc::Global;
 use std::sync::ledger::Ledger;
 
-/// Refuses a query whose number is above the budget.
-fn refuse_above(budget: Option<u64>, plan: ScanPlan) -> Result<ScanPlan, Refusal>
-    ensures { result ≡ scans_within_budget budget plan }
+/// Recalls that limits allow at most 64 blocks of a query. It changes nothing.
+fn recall_few_blocks(limits: &Limits)
+    ensures { limits.now.blocks ≤ 64 }
 {
-    match budget {
-        Some(budget) if plan.bound > u128::from(budget) => {
-            let bound = plan.bound;
-            drop(plan);
-            Err(Refusal::OverBudget { bound, budget })
-        }
-        _ => Ok(plan),
-    }
+    let _blocks = limits.blocks;
 }
 
 /// The query of a tree, which has few blocks.
@@ -57,8 +50,8 @@ fn bound_query(
     ensures over { IfOk result (QueryIsOver catalogue.now) }
     ensures few { IfOk result (λ query. length (blocks_of query) < 2 ^ 27) }
 {
-    // Read for what its type tells: there are few blocks.
-    let _blocks = limits.blocks;
+    // A plan that scans is made of few blocks.
+    recall_few_blocks(limits);
     bind(alloc, catalogue, limits, tree)
 }
 
@@ -80,7 +73,7 @@ pub fn scan_announcement(
 {
     let query = bound_query(alloc, catalogue, settings.limits, tree)?;
     let plan = scan_prepare(alloc, catalogue, tables, query)?;
-    Ok(refuse_above(settings.budget, plan)?)
+    Ok(refuse_above(settings.budget, plan.bound, plan)?)
 }
 
 /// What is announced over the store, whose rows it fits.

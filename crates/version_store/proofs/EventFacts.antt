@@ -21,14 +21,13 @@ use Rattle.session.proofs.AppliedFacts.{later_same}
 use Rattle.session.proofs.TieFacts.{tied_none}
 use Rattle.sql_text.specs.declared.tree.Statement.{Statement}
 use Rattle.sql_text.specs.declared.tree.Statement.TheVariants.{CreateTable, CreateAccess, DropAccess, Load, Insert, Delete, DiscoverGroup, DiscoverPairs, Select, Explain, ScanOk, Grouped, Specialise}
-use Rattle.sql_text.specs.Trees.{Tree}
 use Rattle.desk_model.specs.OpenQueries.{OpenQuery, probes_of, share_of}
 use Rattle.version_store.specs.Held.{cursor_of}
 use Rattle.version_store.proofs.WorldFacts.{probes_are}
 use Rattle.piece_reader.specs.declared.event.Event.TheVariants.{Said}
 use Rattle.desk_model.specs.Desks.{AtOnce, DeskEffect, State, at_desk, is_of, query_of, refused, said_action, statement_action}
 use Rattle.version_store.specs.Desks.{GoesOn, IsDesk, MayCost as MayTakeOf, MayLoad as MayLoadOf, ProbesFit, Seen, Stays, Takes, TakesSome, waits_for_file}
-use Rattle.version_store.specs.Events.{Happens, HappensSome}
+use Rattle.version_store.specs.Events.{Happens, HappensSome, IsNoSelect}
 use Rattle.version_store.specs.Stored.{AreCounted, AreKept, IsOpenAt, Open, held_at, probes_in, seen_in, share_in, state_in, world_at}
 use Rattle.version_store.proofs.Places.{place_is_found, position-map}
 use Rattle.version_store.proofs.CountFacts.{going, going_probes, going_share, has_failed, lost_probes, lost_share, one_each, shares_are}
@@ -115,10 +114,7 @@ module _ (state : State) (action : Action) where
 
 -- ---- a statement that isn't a SELECT
 
-abbrev pub NotSelected : Statement → Type 0
-NotSelected statement = (tree : Tree) → statement ≡ Select tree → ⊥
-
-pub at_desk_is : (s : Settings) (state : State) (k : ℕ) (statement : Statement) → NotSelected statement
+pub at_desk_is : (s : Settings) (state : State) (k : ℕ) (statement : Statement) → IsNoSelect statement
     → statement_action s state k statement ≡ at_desk state (action_of s state.db statement)
 at_desk_is s state k (Select tree) other = absurd (other tree refl)
 at_desk_is s state k (CreateTable name columns) other = refl
@@ -134,7 +130,7 @@ at_desk_is s state k (ScanOk tree) other = refl
 at_desk_is s state k (Grouped items keys inner) other = refl
 at_desk_is s state k (Specialise tree) other = refl
 
-pub stays_there : (k : ℕ) (statement : Statement) → NotSelected statement → (report : Report) (before after : Seen) (s t : ℕ) → Stays before after
+pub stays_there : (k : ℕ) (statement : Statement) → IsNoSelect statement → (report : Report) (before after : Seen) (s t : ℕ) → Stays before after
     → GoesOn (Said k statement) report before after s t
 stays_there k (Select tree) other report before after s t h = absurd (other tree refl)
 stays_there k (CreateTable name columns) other report before after s t h = h

@@ -5,6 +5,7 @@ pub mod GoingFacts
 pub mod OpeningFacts
 pub mod SayingFacts
 pub mod EventFacts
+pub mod TakenFacts
 pub mod ChangedFacts
 pub mod WorldFacts
 pub mod TurnFacts

@@ -18,9 +18,11 @@
 --     MayCost, MayTake event seen ..        how many reads may have been counted before memory ran out
 --     waits_for_file action, MayLoad action ..      whether the action waits for a file; how many files may have been loaded
 --     EventIsWellFormed event, session_in event     its statement is well formed; its session
-use Rattle.std.specs.Prelude.{◌≡◌, ◌+◌, ◌<◌, ◌≤◌, ◌⊎◌, ◌++◌, ℕ, Bool, true, false, List, [], ◌∷◌, length, sum, sum_by, remove, slice_index_or, slice_set, Contains, Option, Some, None}
+--     IsTaken event result before after ..    what a desk tells of an event that was to be done there, whatever it answers
+use Rattle.std.specs.Prelude.{◌≡◌, ◌+◌, ◌<◌, ◌≤◌, ◌⊎◌, ◌++◌, ℕ, Bool, true, false, List, [], ◌∷◌, length, sum, sum_by, remove, slice_index_or, slice_set, Contains, Option, Some, None, Result, IfOk, OnErr}
+use Rattle.beas_core.specs.declared.errors.NoMemory.{NoMemory}
 use Rattle.outside.specs.Counts.{raised}
-use Rattle.outside.specs.Seen.{Seen as Files}
+use Rattle.outside.specs.Seen.{IsLater, Seen as Files}
 use Rattle.beas_core.specs.Queries.{BlockProbe}
 use Rattle.block_walk.specs.Turns.{Fetches}
 use Rattle.catalogue.specs.Database.{schema_of}
@@ -32,12 +34,12 @@ use Rattle.session.specs.declared.loading.LoadOutcome.{LoadOutcome}
 use Rattle.session.specs.Effects.{Settings}
 use Rattle.session.specs.Statements.{StatementIsWellFormed}
 use Rattle.session.specs.Ties.{AreTied}
-use Rattle.session.specs.Turns.{FileLoad}
+use Rattle.session.specs.Turns.{FileLoad, IsWithin}
 use Rattle.desk_model.specs.OpenQueries.{OpenQuery, probes_of, reads_of, share_of}
 use Rattle.piece_reader.specs.declared.event.Event.{Event}
 use Rattle.piece_reader.specs.declared.event.Event.TheVariants.{Said, Stepped}
 use Rattle.desk_model.specs.Answers.{effect_by}
-use Rattle.desk_model.specs.Desks.{DeskAction, AtOnce, ByLoad, OneEach, State, lost, place_of, query_of, said_action, without_query}
+use Rattle.desk_model.specs.Desks.{DeskAction, AtOnce, ByLoad, OneEach, State, action_of_event, lost, place_of, query_of, said_action, without_query}
 
 -- `shares` and `probes` are in the order of the open queries. Of a query that memory ran out for they are 0 and none
 pub record Seen : Type 0 where
@@ -207,3 +209,21 @@ EventIsWellFormed (Stepped session) = Unit {0}
 abbrev pub session_in : Event → ℕ
 session_in (Said session statement) = session
 session_in (Stepped session) = session
+
+-- ---- what a desk tells of an event
+
+pub record IsTaken (event : Event) (result : Result Report NoMemory) (before after : Seen) (s t : ℕ) (files_before files_after : Files) : Type 0 where
+  pub did : IfOk result (λ report. TakesSome before.settings.limits.file (action_of_event before.settings before.state event) report before after
+      s t files_before files_after)
+  pub goes_on : IfOk result (λ report. GoesOn event report before after s t)
+  pub within : IfOk result IsWithin
+  pub told : IsDesk before × IsDesk after
+  pub settings : after.settings ≡ before.settings
+  -- out of memory
+  pub err : OnErr result (after ≡ desk_wanting event before)
+  pub at_most : OnErr result (MayTake event before s t)
+  -- whatever it answers
+  pub no_fewer : s ≤ t
+  -- the files
+  pub loaded : MayLoad (action_of_event before.settings before.state event) files_before files_after
+  pub later : IsLater files_before files_after

@@ -1,16 +1,14 @@
 // A desk.
-ghost use Rattle.std.specs.Prelude.{◌≡◌, ◌≤◌, [], None, false, IfOk, OnErr};
+ghost use Rattle.std.specs.Prelude.{◌≡◌, ◌≤◌, [], None, false, IfOk};
 ghost use Rattle.beas_core.specs.Fits.{PlanFits};
 ghost use Rattle.beas_core.specs.Results.{Gives};
 ghost use Rattle.catalogue.specs.Database.{schema_of};
-ghost use Rattle.outside.specs.Seen.{IsLater};
 ghost use Rattle.desk_model.specs.Desks.{action_of_event, query_of};
 ghost use Rattle.session.specs.Announced.{announcement};
 ghost use Rattle.session.specs.Effects.{explain_effect};
 ghost use Rattle.session.specs.Statements.{TreeIsWellFormed};
 ghost use Rattle.session.specs.Applying.{database_of, settings_of};
-ghost use Rattle.session.specs.Turns.{IsWithin};
-ghost use Rattle.version_store.specs.Desks.{EventIsWellFormed, GoesOn, IsDesk, MayLoad, MayTake, TakesSome, desk_wanting, session_in, waits_for_file, without_query_of};
+ghost use Rattle.version_store.specs.Desks.{EventIsWellFormed, IsTaken, session_in, waits_for_file, without_query_of};
 
 use crate::going::{drop_query, step};
 use crate::open::OpenQuery;
@@ -18,7 +16,7 @@ use crate::pricing::{prepared, price};
 use crate::saying::say;
 use crate::store::KeptTable;
 use beas_core::{Fail, NoMemory, Prepared, Steps};
-use catalogue::Catalogue;
+use catalogue::{Catalogue, recall_soundness};
 use outside::Files;
 use piece_reader::Event;
 use report::Report;
@@ -65,8 +63,8 @@ impl Desk {
           probes = [];
         } }
     {
-        // The constraints aren't used: the call's own clauses tell that the catalogue is sound.
-        let _accesses = session.guarded.catalogue.accesses();
+        // The schema of a desk is sound.
+        recall_soundness(&session.guarded.catalogue);
         Desk {
             session,
             queries: Vec::new(alloc),
@@ -89,25 +87,10 @@ impl Desk {
     ) -> Result<Report, NoMemory>
         requires session { session_in event.now ≤ 64 }
         requires well_formed { EventIsWellFormed event.now }
-        ensures did { IfOk result (λ report. TakesSome self.old.settings.limits.file
-            (action_of_event self.old.settings self.old.state event.now)
-            report self.old self.new steps.old steps.new (F.seen files.old) (F.seen files.new)) }
-        ensures goes_on { IfOk result (λ report. GoesOn event.now report self.old self.new steps.old steps.new) }
-        ensures within { IfOk result IsWithin }
-        ensures told { IsDesk self.old × IsDesk self.new }
-        ensures settings { self.new.settings ≡ self.old.settings }
-
-        // Out of memory.
-        ensures err { OnErr result (self.new ≡ desk_wanting event.now self.old) }
-        ensures at_most { OnErr result (MayTake event.now self.old steps.old steps.new) }
-        ensures no_fewer { steps.old ≤ steps.new }
-
-        // The files.
+        ensures taken { IsTaken event.now result self.old self.new steps.old steps.new
+            (F.seen files.old) (F.seen files.new) }
         ensures unread { waits_for_file (action_of_event self.old.settings self.old.state event.now) ≡ false
             → files.new ≡ files.old }
-        ensures loaded { MayLoad (action_of_event self.old.settings self.old.state event.now)
-            (F.seen files.old) (F.seen files.new) }
-        ensures later { IsLater (F.seen files.old) (F.seen files.new) }
     {
         match event {
             Event::Said { session, statement } => say(

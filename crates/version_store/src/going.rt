@@ -1,21 +1,20 @@
 // How an open query goes on: by one probe, or by its answer.
-ghost use Rattle.std.specs.Prelude.{◌≡◌, ◌<◌, ◌≤◌, ◌==◌, true, IfOk, IsErr, IsTrue, List, None, OnErr, Some, is_some, length, position, remove, slice_index_or};
+ghost use Rattle.std.specs.Prelude.{◌≡◌, ◌<◌, ◌==◌, true, IfOk, IsErr, IsTrue, List, None, OnErr, Some, is_some, length, position, remove, slice_index_or};
 ghost use Rattle.beas_core.specs.Types.{Row as Values};
 ghost use Rattle.cursor_executor.specs.Turns.{QuerySpent, TurnIs};
-ghost use Rattle.desk_model.specs.Desks.{query_of, stepped_effect};
+ghost use Rattle.outside.specs.Seen.{Seen};
 ghost use Rattle.piece_reader.specs.declared.event.Event.TheVariants.{Stepped};
 ghost use Rattle.version_store.specs.Turns.{Goes};
 ghost use Rattle.report.specs.declared.reports.Report.TheVariants.{Answered};
 ghost use Rattle.session.specs.Applying.{database_of};
-ghost use Rattle.session.specs.Turns.{IsWithin};
-ghost use Rattle.version_store.specs.Desks.{GoesOn, MayTake, desk_wanting, without_query_of};
-ghost use Rattle.version_store.specs.Events.{HappensSome};
-ghost use Rattle.version_store.specs.Stored.{AreKept, IsOpenAt, Open, held_at, seen_in, state_in, world_at};
+ghost use Rattle.version_store.specs.Desks.{IsTaken, without_query_of};
+ghost use Rattle.version_store.specs.Stored.{AreKept, IsOpenAt, Open, held_at, seen_in, world_at};
 
 use crate::open::OpenQuery;
 use crate::store::{CurrentStore, KeptTable};
 use crate::turns::turn;
 use beas_core::{NoMemory, Refusal, Steps};
+use catalogue::recall_soundness;
 use cursor_executor::Turn;
 use report::Report;
 use session::Session;
@@ -49,8 +48,8 @@ fn turn_over<L: Ledger>(
         query.old.cursor.prepared query.old.cursor.fetched steps.old steps.new) }
     ensures failed_before { query.old.cursor.failed ≡ true → IsErr result × (steps.new ≡ steps.old) }
 {
-    // The constraints aren't used: the call's own clauses tell that the catalogue is sound.
-    let _accesses = session.guarded.catalogue.accesses();
+    // A query is open over a schema that is sound.
+    recall_soundness(&session.guarded.catalogue);
     let store = CurrentStore {
         store: &session.guarded,
     };
@@ -94,18 +93,9 @@ pub fn step<L: Ledger>(
 ) -> Result<Report, NoMemory>
     requires kept { AreKept (database_of session.now) queries.old.items }
     ensures kept { AreKept (database_of session.now) queries.new.items }
-    ensures did { IfOk result (λ report. HappensSome
-        (stepped_effect (state_in session.now queries.old.items) number
-        (query_of number (state_in session.now queries.old.items)))
-        report (seen_in session.now queries.old.items) (seen_in session.now queries.new.items) steps.old steps.new) }
-    ensures goes_on { IfOk result (λ report. GoesOn (Stepped number) report
-        (seen_in session.now queries.old.items) (seen_in session.now queries.new.items) steps.old steps.new) }
-    ensures within { IfOk result IsWithin }
-    ensures err { OnErr result (seen_in session.now queries.new.items
-        ≡ desk_wanting (Stepped number) (seen_in session.now queries.old.items)) }
-    ensures at_most { OnErr result (MayTake (Stepped number) (seen_in session.now queries.old.items)
-        steps.old steps.new) }
-    ensures no_fewer { steps.old ≤ steps.new }
+    ensures taken { (files : Seen) → IsTaken (Stepped number) result
+        (seen_in session.now queries.old.items) (seen_in session.now queries.new.items)
+        steps.old steps.new files files }
 {
     let Some(place) = position_of(queries.as_slice(), number) else {
         return Ok(Report::Refused {

@@ -8,7 +8,7 @@ ghost use Rattle.piece_reader.specs.declared.event.Event.TheVariants.{Said};
 ghost use Rattle.session.specs.Announced.{announcement};
 ghost use Rattle.session.specs.Applying.{database_of};
 ghost use Rattle.session.specs.Carrying.{reported};
-ghost use Rattle.session.specs.Effects.{reads_in};
+ghost use Rattle.session.specs.Effects.{plan_shown, reads_in};
 ghost use Rattle.session.specs.Statements.{TreeIsWellFormed};
 ghost use Rattle.session.specs.Turns.{IsWithin};
 ghost use Rattle.sql_text.specs.declared.tree.Statement.TheVariants.{Select};
@@ -18,13 +18,28 @@ ghost use Rattle.version_store.specs.Stored.{AreKept, IsNew, Opens, seen_in, sta
 
 use crate::open::OpenQuery;
 use crate::store::KeptTable;
-use beas_core::{Duplicate, Fail, NoMemory, Prepared};
+use beas_core::{Duplicate, Fail, List, Name, NoMemory, Prepared, Text};
 use cursor_executor::Cursor;
 use plan_ops::ask_for_all;
 use report::Report;
 use session::{Session, plan_shown};
 use sql_text::SelectTree;
 use std::alloc::Global;
+
+// The plan lines and the header of a query that is announced.
+fn shown(
+    alloc: Global,
+    session: &Session,
+    prepared: &Prepared,
+) -> Result<(Text, List<Name>), NoMemory>
+    requires { Fits (database_of session.now).accesses (rows_at (database_of session.now)) prepared.now }
+    ensures { IfOk result (λ shown. (shown.0 ≡ plan_shown session.now.explain (database_of session.now) prepared.now)
+        × (shown.1 ≡ prepared.now.header)) }
+{
+    let plan = plan_shown(alloc, &session.guarded, prepared, session.explain)?;
+    let header = prepared.header.copy(alloc)?;
+    Ok((plan, header))
+}
 
 // A query that is announced, before its first turn.
 fn begin(
@@ -36,16 +51,26 @@ fn begin(
     requires { Fits (database_of session.now).accesses (rows_at (database_of session.now)) prepared }
     ensures { IfOk result (IsNew session.now number prepared) }
 {
-    let plan = plan_shown(alloc, &session.guarded, &prepared, session.explain)?;
-    let header = prepared.header.copy(alloc)?;
-    let cursor = Cursor::begin(alloc, prepared)?;
-    Ok(OpenQuery {
-        session: number,
-        cursor,
-        header,
-        plan,
-        parts: Vec::new(alloc),
-    })
+    match shown(alloc, session, &prepared) {
+        Ok((plan, header)) => match Cursor::begin(alloc, prepared) {
+            Ok(cursor) => Ok(OpenQuery {
+                session: number,
+                cursor,
+                header,
+                plan,
+                parts: Vec::new(alloc),
+            }),
+            Err(why) => {
+                drop(header);
+                drop(plan);
+                Err(why)
+            }
+        },
+        Err(why) => {
+            drop(prepared);
+            Err(why)
+        }
+    }
 }
 
 // Asks for the constraints of a query's derivations, and so learns that they hold, which bounds its reads.

@@ -1,18 +1,16 @@
 // What a session says.
-ghost use Rattle.std.specs.Prelude.{◌≡◌, ◌<◌, ◌≤◌, false, true, All, IfOk, IfSome, OnErr, OnOk, Some, length, map};
+ghost use Rattle.std.specs.Prelude.{◌≡◌, ◌<◌, ℕ, false, true, All, IfSome, None, OnOk, length, map};
 ghost use Rattle.beas_core.specs.declared.schema.TableId.{TableId as Number};
 ghost use Rattle.catalogue.specs.Database.{schema_of};
 ghost use Rattle.desk_model.specs.Changes.{changes};
-ghost use Rattle.desk_model.specs.Desks.{query_of, said_action, statement_action};
+ghost use Rattle.desk_model.specs.Desks.{action_of_event, query_of};
 ghost use Rattle.piece_reader.specs.declared.event.Event.TheVariants.{Said};
 ghost use Rattle.version_store.specs.Held.{HasPart, cursor_of};
-ghost use Rattle.outside.specs.Seen.{IsLater};
-ghost use Rattle.session.specs.Applying.{IsApplied, MayCost, MayLoad, database_of, settings_of};
+ghost use Rattle.session.specs.Applying.{database_of, settings_of};
 ghost use Rattle.session.specs.Effects.{Does, Effect, action_of};
 ghost use Rattle.session.specs.Statements.{StatementIsWellFormed};
-ghost use Rattle.session.specs.Turns.{IsWithin};
-ghost use Rattle.version_store.specs.Desks.{GoesOn, MayCost as MayTakeOf, MayLoad as MayLoadOf, Takes, waits_for_file};
-ghost use Rattle.version_store.specs.Events.{changed_table, table_of_named};
+ghost use Rattle.version_store.specs.Desks.{IsTaken, waits_for_file};
+ghost use Rattle.version_store.specs.Events.{IsNoSelect, changed_table, table_of_named};
 ghost use Rattle.version_store.specs.Stored.{AreKept, IsOpenAt, held_at, seen_in, state_in, table_in};
 
 use crate::freezing::freeze_for;
@@ -21,7 +19,7 @@ use crate::open::OpenQuery;
 use crate::opening::open;
 use crate::store::{CurrentStore, KeptTable};
 use beas_core::{Name, NoMemory, Refusal, Steps, TableId};
-use catalogue::Catalogue;
+use catalogue::{Catalogue, recall_soundness};
 use outside::Files;
 use report::Report;
 use session::Session;
@@ -34,8 +32,8 @@ fn table_of_named(catalogue: &Catalogue, name: &Name) -> Option<TableId>
     ensures table { result ≡ table_of_named catalogue.now.accesses name.now }
     ensures there { IfSome result (λ t. t.0 < length catalogue.now.tables) }
 {
-    // The constraints aren't used: the call's own clauses tell that no two have one id.
-    let _accesses = catalogue.accesses();
+    // No two constraints have one id, and each is on a table that is there.
+    recall_soundness(catalogue);
     let id = catalogue.access_named(name)?;
     Some(catalogue.access(id).table)
 }
@@ -69,8 +67,8 @@ fn keep(
     ensures cursors { map cursor_of queries.new.items ≡ map cursor_of queries.old.items }
     ensures frozen { OnOk result (All (HasPart table_in table) queries.new.items) }
 {
-    // The constraints aren't used: the call's own clauses tell that the catalogue is sound.
-    let _accesses = session.guarded.catalogue.accesses();
+    // What is kept is kept over a schema that is sound.
+    recall_soundness(&session.guarded.catalogue);
     let store = CurrentStore {
         store: &session.guarded,
     };
@@ -92,15 +90,16 @@ fn keep_changed(
     ensures frozen { OnOk result ((t : Number) → changes (schema_of (database_of session.now)) statement.now t ≡ true
         → All (HasPart table_in t) queries.new.items) }
 {
-    // The constraints aren't used: the call's own clauses tell that no two have one name.
-    let _accesses = session.guarded.catalogue.accesses();
+    // No two tables and no two constraints have one name, so a statement changes one table at most.
+    recall_soundness(&session.guarded.catalogue);
     match changed_table(&session.guarded.catalogue, statement) {
         Some(table) => keep(alloc, session, queries, table),
         None => Ok(()),
     }
 }
 
-// Carries out a statement. The tables that it may change are kept before for the open queries, for which nothing changes.
+// Carries out a statement other than SELECT, said by any session that has no open query. The tables that it may change are
+// kept before for the open queries, for which nothing changes.
 fn carry_out<F: Files, L: Ledger>(
     alloc: Global,
     session: &mut Session,
@@ -110,26 +109,16 @@ fn carry_out<F: Files, L: Ledger>(
     steps: &mut Steps<L>,
 ) -> Result<Report, NoMemory>
     requires well_formed { StatementIsWellFormed statement.now }
+    requires other { IsNoSelect statement.now }
     requires kept { AreKept (database_of session.old) queries.old.items }
     ensures kept { AreKept (database_of session.new) queries.new.items }
-    ensures held { map (held_at (database_of session.new)) queries.new.items
-        ≡ map (held_at (database_of session.old)) queries.old.items }
-    ensures cursors { map cursor_of queries.new.items ≡ map cursor_of queries.old.items }
-    ensures applied { IfOk result (λ report. IsApplied session.old.limits.file
-        (action_of (settings_of session.old) (database_of session.old) statement.now)
-        report (database_of session.new) steps.old steps.new (F.seen files.old) (F.seen files.new)) }
-    ensures within { IfOk result IsWithin }
-    ensures settings { settings_of session.new ≡ settings_of session.old }
-    ensures unchanged { OnErr result (database_of session.new ≡ database_of session.old) }
-    ensures at_most { MayCost (action_of (settings_of session.old) (database_of session.old) statement.now)
-        steps.old steps.new }
-    ensures no_fewer { steps.old ≤ steps.new }
+    ensures taken { (number : ℕ) → query_of number (state_in session.old queries.old.items) ≡ None
+        → IsTaken (Said number statement.now) result
+        (seen_in session.old queries.old.items) (seen_in session.new queries.new.items)
+        steps.old steps.new (F.seen files.old) (F.seen files.new) }
     ensures unread { (effect : Effect)
         → action_of (settings_of session.old) (database_of session.old) statement.now ≡ Does effect
         → files.new ≡ files.old }
-    ensures loaded { MayLoad (action_of (settings_of session.old) (database_of session.old) statement.now)
-        (F.seen files.old) (F.seen files.new) }
-    ensures later { IsLater (F.seen files.old) (F.seen files.new) }
 {
     keep_changed(alloc, session, queries, statement)?;
     session.apply(alloc, files, statement, steps)
@@ -149,26 +138,11 @@ fn say_idle<F: Files, L: Ledger>(
     requires kept { AreKept (database_of session.old) queries.old.items }
     requires idle { query_of number (state_in session.old queries.old.items) ≡ None }
     ensures kept { AreKept (database_of session.new) queries.new.items }
-    ensures did { IfOk result (λ report. Takes session.old.limits.file
-        (statement_action (settings_of session.old) (state_in session.old queries.old.items) number statement.now)
-        report (seen_in session.old queries.old.items) (seen_in session.new queries.new.items)
-        steps.old steps.new (F.seen files.old) (F.seen files.new)) }
-    ensures goes_on { IfOk result (λ report. GoesOn (Said number statement.now) report
-        (seen_in session.old queries.old.items) (seen_in session.new queries.new.items) steps.old steps.new) }
-    ensures within { IfOk result IsWithin }
-    ensures settings { settings_of session.new ≡ settings_of session.old }
-    ensures err { OnErr result (seen_in session.new queries.new.items ≡ seen_in session.old queries.old.items) }
-    ensures at_most { MayTakeOf
-        (statement_action (settings_of session.old) (state_in session.old queries.old.items) number statement.now)
-        steps.old steps.new }
-    ensures no_fewer { steps.old ≤ steps.new }
-    ensures unread { waits_for_file (Some
-        (statement_action (settings_of session.old) (state_in session.old queries.old.items) number statement.now)) ≡ false
-        → files.new ≡ files.old }
-    ensures loaded { MayLoadOf (Some
-        (statement_action (settings_of session.old) (state_in session.old queries.old.items) number statement.now))
-        (F.seen files.old) (F.seen files.new) }
-    ensures later { IsLater (F.seen files.old) (F.seen files.new) }
+    ensures taken { IsTaken (Said number statement.now) result
+        (seen_in session.old queries.old.items) (seen_in session.new queries.new.items)
+        steps.old steps.new (F.seen files.old) (F.seen files.new) }
+    ensures unread { waits_for_file (action_of_event (settings_of session.old) (state_in session.old queries.old.items)
+        (Said number statement.now)) ≡ false → files.new ≡ files.old }
 {
     match statement {
         Statement::Select { tree } => open(alloc, session, queries, number, tree),
@@ -189,28 +163,11 @@ pub fn say<F: Files, L: Ledger>(
     requires well_formed { StatementIsWellFormed statement.now }
     requires kept { AreKept (database_of session.old) queries.old.items }
     ensures kept { AreKept (database_of session.new) queries.new.items }
-    ensures did { IfOk result (λ report. Takes session.old.limits.file
-        (said_action (settings_of session.old) (state_in session.old queries.old.items) number
-        (query_of number (state_in session.old queries.old.items)) statement.now)
-        report (seen_in session.old queries.old.items) (seen_in session.new queries.new.items)
-        steps.old steps.new (F.seen files.old) (F.seen files.new)) }
-    ensures goes_on { IfOk result (λ report. GoesOn (Said number statement.now) report
-        (seen_in session.old queries.old.items) (seen_in session.new queries.new.items) steps.old steps.new) }
-    ensures within { IfOk result IsWithin }
-    ensures settings { settings_of session.new ≡ settings_of session.old }
-    ensures err { OnErr result (seen_in session.new queries.new.items ≡ seen_in session.old queries.old.items) }
-    ensures at_most { MayTakeOf
-        (said_action (settings_of session.old) (state_in session.old queries.old.items) number
-        (query_of number (state_in session.old queries.old.items)) statement.now) steps.old steps.new }
-    ensures no_fewer { steps.old ≤ steps.new }
-    ensures unread { waits_for_file (Some
-        (said_action (settings_of session.old) (state_in session.old queries.old.items) number
-        (query_of number (state_in session.old queries.old.items)) statement.now)) ≡ false → files.new ≡ files.old }
-    ensures loaded { MayLoadOf (Some
-        (said_action (settings_of session.old) (state_in session.old queries.old.items) number
-        (query_of number (state_in session.old queries.old.items)) statement.now))
-        (F.seen files.old) (F.seen files.new) }
-    ensures later { IsLater (F.seen files.old) (F.seen files.new) }
+    ensures taken { IsTaken (Said number statement.now) result
+        (seen_in session.old queries.old.items) (seen_in session.new queries.new.items)
+        steps.old steps.new (F.seen files.old) (F.seen files.new) }
+    ensures unread { waits_for_file (action_of_event (settings_of session.old) (state_in session.old queries.old.items)
+        (Said number statement.now)) ≡ false → files.new ≡ files.old }
 {
     if position_of(queries.as_slice(), number).is_some() {
         return Ok(Report::Refused {

@@ -14,7 +14,7 @@ returns-in-Ok-clause-demonstrated g c = λ files.
     let e = c.put_summary.ensures in
     let session = c.args.session.now in
     let before = moment session c.args.steps.now (g.O.Sink.seen c.args.out.now) files in
-    let sound = subst SchemaIsSound (sym (schema_is_catalogue session.guarded)) c.accesses-accesses.ensures.sound in
+    let sound = subst SchemaIsSound (sym (schema_is_catalogue session.guarded)) c.recall_soundness.ensures in
     let put : IsPut c.put_summary.result c.walk.new.audience.summary (g.O.Sink.seen c.walk.new.out) (g.O.Sink.seen c.put_summary.new.out) =
     record { whole = e.whole; part = e.part; unsent = e.unsent; puts = e.puts } in
     demonstrated _ _ _ before _
@@ -27,7 +27,7 @@ pub returns-in-Err-clause-demonstrated : goal.returns-in-Err-clause-demonstrated
 returns-in-Err-clause-demonstrated g c = λ files.
     let session = c.args.session.now in
     let before = moment session c.args.steps.now (g.O.Sink.seen c.args.out.now) files in
-    let sound = subst SchemaIsSound (sym (schema_is_catalogue session.guarded)) c.accesses-accesses.ensures.sound in
+    let sound = subst SchemaIsSound (sym (schema_is_catalogue session.guarded)) c.recall_soundness.ensures in
     let same = ap g.O.Sink.seen (c.walk.ensures.unused (λ _. refl)) in
     unfinished _ _ c.walk.new.audience.summary before _
     (reads_alone (settings_of session) (without_outside before) c.args.script.now sound refl c.requires.short c.requires.plain)

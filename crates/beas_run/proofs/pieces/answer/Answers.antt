@@ -15,51 +15,51 @@ event-report-requires-clause-well_formed g c = subst EventIsWellFormed (sym c.pr
 pub probes-preserved : goal.probes-preserved
 probes-preserved g c =
     let i = c.probes.invariant in
-    let e = c.event-report.ensures in
+    let e = c.event-report.ensures.taken in
     record {
       way = on_by _ i.is _ _ _ _ _ _ _ _ i.way c.event-report.result (sym c.has_probed.ensures ∙ c.if-not-has_probed.false) e.did
           e.goes_on e.settings e.no_fewer;
       is = i.is;
-      unread = e.unread (none_waits _ i.is c.probes.desk.settings c.probes.desk.state) ∙ i.unread;
+      unread = c.event-report.ensures.unread (none_waits _ i.is c.probes.desk.settings c.probes.desk.state) ∙ i.unread;
     }
 
 pub probes-smaller : goal.probes-smaller
 probes-smaller g c =
     let i = c.probes.invariant in
-    fewer_by _ i.is _ _ _ _ _ _ _ _ i.way c.event-report.result (sym c.has_probed.ensures ∙ c.if-not-has_probed.false) c.event-report.ensures.did
+    fewer_by _ i.is _ _ _ _ _ _ _ _ i.way c.event-report.result (sym c.has_probed.ensures ∙ c.if-not-has_probed.false) c.event-report.ensures.taken.did
 
 pub returns-then-not-has_probed-clause-answered : goal.returns-then-not-has_probed-clause-answered
 returns-then-not-has_probed-clause-answered g c =
     let i = c.probes.invariant in
-    let e = c.event-report.ensures in
+    let e = c.event-report.ensures.taken in
     answered_by _ i.is _ _ _ _ _ _ _ _ i.way c.event-report.result (sym c.has_probed.ensures ∙ c.if-not-has_probed.true) c.requires e.told.1 e.did
 
 pub returns-then-not-has_probed-clause-closed : goal.returns-then-not-has_probed-clause-closed
 returns-then-not-has_probed-clause-closed g c =
     let i = c.probes.invariant in
-    let e = c.event-report.ensures in
+    let e = c.event-report.ensures.taken in
     closed_by _ i.is _ _ _ _ _ _ _ _ i.way c.event-report.result (sym c.has_probed.ensures ∙ c.if-not-has_probed.true) e.did e.goes_on e.settings
 
 pub returns-then-not-has_probed-clause-db : goal.returns-then-not-has_probed-clause-db
 returns-then-not-has_probed-clause-db g c =
     let i = c.probes.invariant in
-    lost_db_by _ i.is _ _ _ _ i.way _ c.event-report.result c.event-report.ensures.err
+    lost_db_by _ i.is _ _ _ _ i.way _ c.event-report.result c.event-report.ensures.taken.err
 
 pub returns-then-not-has_probed-clause-others : goal.returns-then-not-has_probed-clause-others
 returns-then-not-has_probed-clause-others g c =
     let i = c.probes.invariant in
-    lost_others_by _ i.is _ _ _ _ i.way _ c.event-report.result c.event-report.ensures.err
+    lost_others_by _ i.is _ _ _ _ i.way _ c.event-report.result c.event-report.ensures.taken.err
 
 pub returns-then-not-has_probed-clause-at_most : goal.returns-then-not-has_probed-clause-at_most
 returns-then-not-has_probed-clause-at_most g c =
     let i = c.probes.invariant in
-    let e = c.event-report.ensures in
+    let e = c.event-report.ensures.taken in
     lost_reads_by _ i.is _ _ _ _ i.way _ c.event-report.result e.told.0 e.at_most
 
 pub returns-then-not-has_probed-clause-own_reads : goal.returns-then-not-has_probed-clause-own_reads
 returns-then-not-has_probed-clause-own_reads g c =
     let i = c.probes.invariant in
-    let e = c.event-report.ensures in
+    let e = c.event-report.ensures.taken in
     lost_own_by _ i.is _ _ _ _ i.way _ c.event-report.result e.told.0 e.at_most
 
 pub returns-then-not-has_probed-clause-unread : goal.returns-then-not-has_probed-clause-unread

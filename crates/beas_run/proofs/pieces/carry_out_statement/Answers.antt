@@ -10,7 +10,7 @@ returns-in_err-report-clause-left g c =
     let e = c.in_err-report.ensures in
     let s = c.args.desk.now.settings in
     on_error c.from_residual.result
-    (left_unnamed s c.args.statement _ _ _ _ _ _ (left_by_statement s 0 c.args.statement _ _ _ _ _ _ refl e.is_desk.0 e.err e.at_most e.no_fewer e.loaded))
+    (left_unnamed s c.args.statement _ _ _ _ _ _ (left_by_statement s 0 c.args.statement _ _ _ _ _ _ refl e.told.0 e.err e.at_most e.no_fewer e.loaded))
 
 pub returns-in_err-report-clause-desk : goal.returns-in_err-report-clause-desk
 returns-in_err-report-clause-desk g c =
@@ -33,7 +33,7 @@ returns-then-is_opened-clause-done g c =
     has_opened c.args.desk.now.settings c.args.statement c.args.desk.now c.say.new.desk _ _ _ _ _ e.did
     (sym c.is_opened.ensures ∙ c.if-is_opened.true) in
     rw a.unread
-    (answer_done c.args.desk.now.settings c.args.statement _ _ _ _ opened _ _ _ _ _ c.in_ok-report.report c.answer.result e.did e.is_desk.1 a.within
+    (answer_done c.args.desk.now.settings c.args.statement _ _ _ _ opened _ _ _ _ _ c.in_ok-report.report c.answer.result e.did e.told.1 a.within
     a.answered)
 
 pub returns-then-is_opened-clause-left : goal.returns-then-is_opened-clause-left
@@ -55,7 +55,7 @@ returns-then-is_opened-clause-desk g c =
     (sym c.is_opened.ensures ∙ c.if-is_opened.true) in
     let spared : without_query_of 0 c.say.new.desk ≡ without_query_of 0 c.args.desk.now =
     opened_spared c.args.desk.now.settings c.args.statement c.in_ok-report.report c.args.desk.now c.say.new.desk c.args.steps.now c.say.new.steps
-    opened e.is_desk.0 e.is_desk.1 e.settings e.goes_on in
+    opened e.told.0 e.told.1 e.settings e.goes_on in
     answer_spared c.args.statement c.args.desk.now c.say.new.desk c.answer.new.desk c.answer.result c.args.steps.now c.answer.new.steps
     spared c.answer.ensures.others
     (answer_take c.args.desk.now.settings c.args.statement _ _ c.answer.new.desk _ opened _ _ _ _ _ c.in_ok-report.report c.answer.result e.did spared
@@ -64,7 +64,7 @@ returns-then-is_opened-clause-desk g c =
 pub returns-else-is_opened-clause-done : goal.returns-else-is_opened-clause-done
 returns-else-is_opened-clause-done g c =
     let e = c.in_ok-report.ensures in
-    done_unopened c.args.desk.now.settings c.args.statement _ c.in_ok-report.report _ _ _ _ _ (sym c.is_opened.ensures ∙ c.if-is_opened.false) e.is_desk.1
+    done_unopened c.args.desk.now.settings c.args.statement _ c.in_ok-report.report _ _ _ _ _ (sym c.is_opened.ensures ∙ c.if-is_opened.false) e.told.1
     e.within e.did
 
 pub returns-then-is_opened-clause-goes_on : goal.returns-then-is_opened-clause-goes_on
@@ -73,10 +73,10 @@ returns-then-is_opened-clause-goes_on g c =
     let opened : HasOpened c.args.desk.now.settings c.args.statement c.in_ok-report.report c.args.desk.now c.say.new.desk =
     has_opened c.args.desk.now.settings c.args.statement c.args.desk.now c.say.new.desk _ _ _ _ _ e.did
     (sym c.is_opened.ensures ∙ c.if-is_opened.true) in
-    answer_stays c.args.statement c.args.desk.now c.say.new.desk c.answer.new.desk c.answer.result c.args.steps.now c.answer.new.steps e.is_desk.0
+    answer_stays c.args.statement c.args.desk.now c.say.new.desk c.answer.new.desk c.answer.result c.args.steps.now c.answer.new.steps e.told.0
     opened.idle
     (opened_spared c.args.desk.now.settings c.args.statement c.in_ok-report.report c.args.desk.now c.say.new.desk c.args.steps.now c.say.new.steps
-    opened e.is_desk.0 e.is_desk.1 e.settings e.goes_on)
+    opened e.told.0 e.told.1 e.settings e.goes_on)
     c.answer.ensures.closed
 
 pub returns-else-is_opened-clause-goes_on : goal.returns-else-is_opened-clause-goes_on

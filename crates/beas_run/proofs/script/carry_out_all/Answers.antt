@@ -29,13 +29,13 @@ whole_status_is true = refl
 whole_status_is false = refl
 
 -- the next piece, and those after it
-at_piece : (took : List Report → Type 0) (s : Settings) (script : List ℕ) (at next : ℕ) (tokens words : List Token) (place : ℕ) (refused : Bool)
+at_piece : (took : List Report → Type 0) (s : Settings) (script : List ℕ) (at next : ℕ) (tokens piece : List Token) (place : ℕ) (refused : Bool)
     (before : Moment) (now : Scene)
-    → statements_of (tokens_past at script) ≡ tokens ∷ statements_of (tokens_past next script) → words ≡ tokens
+    → statements_of (tokens_past at script) ≡ tokens ∷ statements_of (tokens_past next script) → piece ≡ tokens
     → Walking took s (readings_of script) (readings_past at script) place refused before now
-    → Walking took s (readings_of script) (reading_of words ∷ readings_past next script) place refused before now
-at_piece took s script at next tokens words place refused before now one same walking =
-    left_as took s (readings_of script) (readings_past at script) (reading_of words ∷ readings_past next script) place refused before now
+    → Walking took s (readings_of script) (reading_of piece ∷ readings_past next script) place refused before now
+at_piece took s script at next tokens piece place refused before now one same walking =
+    left_as took s (readings_of script) (readings_past at script) (reading_of piece ∷ readings_past next script) place refused before now
     (past_one script at next tokens one ∙ ap (λ (ts : List Token). reading_of ts ∷ readings_past next script) (sym same)) walking
 
 holds_some : (tokens : List Token) (none : Bool) → none ≡ false → (tokens ≡ [] → none ≡ true) → 0 < length tokens
@@ -86,8 +86,8 @@ returns-in_err-refused-clause-walked g c =
     let exit = err_from_is_err_and _ c.from_residual-in_err-refused.ensures.1 in
     let some = holds_some c.lex_piece.new.tokens c.is_empty.result c.if-is_empty.false c.is_empty.ensures.1 in
     walk_stopped _ _ _ _ _ _ _ _ _ _ _ _ _ c.in_err-refused.field-0.0
-    (at_piece _ _ c.args.script.now c.pieces.at c.in_ok-at.at c.lex_piece.new.tokens c.as_slice-words.result.now _ _ _ _ (c.in_ok-at.ensures.some some)
-    c.as_slice-words.ensures i.walking)
+    (at_piece _ _ c.args.script.now c.pieces.at c.in_ok-at.at c.lex_piece.new.tokens c.as_slice-piece.result.now _ _ _ _ (c.in_ok-at.ensures.some some)
+    c.as_slice-piece.ensures i.walking)
     i.settings (exit.1 ∙ ap Err exit.2) e.stopped e.files
 
 pub pieces-preserved : goal.pieces-preserved
@@ -101,8 +101,8 @@ pieces-preserved g c =
     record {
       walking =
           walk_more _ _ _ _ _ _ _ _ _ _ _ _ _
-          (at_piece _ _ script c.pieces.at c.in_ok-at.at c.lex_piece.new.tokens c.as_slice-words.result.now _ _ _ _ (c.in_ok-at.ensures.some some)
-          c.as_slice-words.ensures i.walking)
+          (at_piece _ _ script c.pieces.at c.in_ok-at.at c.lex_piece.new.tokens c.as_slice-piece.result.now _ _ _ _ (c.in_ok-at.ensures.some some)
+          c.as_slice-piece.ensures i.walking)
           i.settings e.reported e.files e.out.later.told;
       within = piece.within;
       cut = piece.cut;

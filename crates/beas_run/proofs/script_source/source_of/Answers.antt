@@ -1,5 +1,5 @@
 use Rattle.std.proofs.Common.{ap, Err, ◌∙◌}
-use Rattle.beas_run.proofs.SourceFacts.{no_memory_left, none_named, words_refused}
+use Rattle.beas_run.proofs.SourceFacts.{no_memory_left, none_named, arguments_refused}
 use Rattle.beas_run.proofs.script_source.source_of.Goals as goal
 
 pub returns-in-Ok-clause-source : goal.returns-in-Ok-clause-source
@@ -12,7 +12,7 @@ pub returns-in-Ok-clause-unused : goal.returns-in-Ok-clause-unused
 returns-in-Ok-clause-unused g c = λ none. c.source_for.ensures.unused (none_named _ _ c.in-Ok.ensures.taken none)
 
 pub returns-in-Err-Refused-clause-none : goal.returns-in-Err-Refused-clause-none
-returns-in-Err-Refused-clause-none g c = words_refused _ _ (c.args-2.ensures.refused (c.in-Err-Refused.is ∙ ap Err c.in-Err-Refused.field-0-is))
+returns-in-Err-Refused-clause-none g c = arguments_refused _ _ (c.args-2.ensures.refused (c.in-Err-Refused.is ∙ ap Err c.in-Err-Refused.field-0-is))
 
 pub returns-in-Err-NoMemory-clause-none : goal.returns-in-Err-NoMemory-clause-none
 returns-in-Err-NoMemory-clause-none g c = no_memory_left _ _

@@ -22,7 +22,7 @@ returns-in-Some-clause-frozen c =
     let db = database_of c.args.session.now in
     let st = c.args.statement.now in
     let same = schema_is_catalogue store in
-    let sound = subst SchemaIsSound (sym same) c.accesses-accesses.ensures.sound in
+    let sound = subst SchemaIsSound (sym same) c.recall_soundness.ensures in
     let is = ap (λ schema. changed_table schema st) same ∙ sym c.in-Some.ensures.table in
     on_ok c.keep.result (All (HasPart table_in c.in-Some.table) c.keep.new.queries.items)
     ((t : TableId) → changes (schema_of db) st t ≡ true → All (HasPart table_in t) c.keep.new.queries.items)
@@ -32,7 +32,7 @@ returns-in-Some-clause-frozen c =
 pub returns-in-None-clause-frozen : goal.returns-in-None-clause-frozen
 returns-in-None-clause-frozen c =
     let same = schema_is_catalogue c.args.session.now.guarded in
-    λ t changed. absurd (none_changed (schema_of (database_of c.args.session.now)) (subst SchemaIsSound (sym same) c.accesses-accesses.ensures.sound)
+    λ t changed. absurd (none_changed (schema_of (database_of c.args.session.now)) (subst SchemaIsSound (sym same) c.recall_soundness.ensures)
     c.args.statement.now t (ap (λ schema. changed_table schema c.args.statement.now) same ∙ sym c.in-None.ensures.table) changed)
 
 pub keep-requires-clause-kept : goal.keep-requires-clause-kept

@@ -8,10 +8,10 @@ use Rattle.version_store.proofs.saying.table_of_named.Goals as goal
 pub returns-clause-table : goal.returns-clause-table
 returns-clause-table c =
     ap (λ (a : Access). Some a.table) c.access.ensures
-    ∙ table_named_is c.args.catalogue.now.accesses c.args.name.now c.in_ok-id.id (once_in c.args.catalogue.now c.accesses-accesses.ensures.sound)
+    ∙ table_named_is c.args.catalogue.now.accesses c.args.name.now c.in_ok-id.id (once_in c.args.catalogue.now c.recall_soundness.ensures)
     (sym (ap (option_map (λ (x : AccessId). x.0)) c.in_ok-id.was) ∙ c.access_named.ensures.id)
 
 pub returns-clause-there : goal.returns-clause-there
 returns-clause-there c =
     subst (λ (a : Access). a.table.0 < length c.args.catalogue.now.tables) (sym c.access.ensures)
-    (table_there c.args.catalogue.now c.accesses-accesses.ensures.sound c.in_ok-id.id c.in_ok-id.ensures.live)
+    (table_there c.args.catalogue.now c.recall_soundness.ensures c.in_ok-id.id c.in_ok-id.ensures.live)

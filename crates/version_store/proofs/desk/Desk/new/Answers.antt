@@ -9,4 +9,4 @@ use Rattle.version_store.proofs.desk.Desk.new.Goals as goal
 pub invariant_of-result : goal.invariant_of-result
 invariant_of-result c =
     subst (AreKept (database_of c.args.session)) (sym c.new.ensures.items)
-    (none_kept (database_of c.args.session) (subst SchemaIsSound (sym (schema_is_catalogue c.args.session.guarded)) c.accesses-accesses.ensures.sound))
+    (none_kept (database_of c.args.session) (subst SchemaIsSound (sym (schema_is_catalogue c.args.session.guarded)) c.recall_soundness.ensures))
