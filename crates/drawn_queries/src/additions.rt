@@ -4,12 +4,13 @@ ghost use Rattle.catalogue.specs.Database.{rows_at};
 ghost use Rattle.session.specs.Stores.{database_in};
 
 use beas_core::{AccessId, AccessSpec, Fail, Limits, NoMemory, Prepared, Steps};
+use catalogue::recall_soundness;
 use session::Store;
 use std::alloc::Global;
 use std::sync::ledger::Ledger;
 
-/// Whether a constraint was made. It takes the refusal, since each function that lets one go is dear to prove.
-fn is_made(made: Result<AccessId, Fail>) -> Result<bool, NoMemory> {
+/// Whether a constraint was made.
+fn is_made(made: &Result<AccessId, Fail>) -> Result<bool, NoMemory> {
     match made {
         Ok(_) => Ok(true),
         Err(Fail::Refused(_)) => Ok(false),
@@ -33,9 +34,11 @@ fn add_constraint<L: Ledger>(
         return Ok(false);
     }
     let made = guarded.create_access(alloc, &Limits::standard(), spec, steps);
-    // Read for what it tells: no two constraints have one id.
-    let _accesses = guarded.catalogue.accesses();
-    is_made(made)
+    // No two constraints have one id, so those that were there before are the same by their ids.
+    recall_soundness(&guarded.catalogue);
+    let found = is_made(&made);
+    drop(made);
+    found
 }
 
 /// Makes constraints, and says how many were made. A prepared query that fitted the store before fits it after.

@@ -57,11 +57,10 @@ fn executed<L: Ledger>(
     })
 }
 
-/// What came of a query that isn't announced. It takes the refusal, since each function that lets one go is dear to
-/// prove.
-fn failed(why: Fail, wanted: &Planned) -> Result<Tally, NoMemory> {
+/// What came of a query that isn't announced.
+fn failed(why: &Fail, wanted: &Planned) -> Result<Tally, NoMemory> {
     match why {
-        Fail::Refused(why) => Ok(Tally::refused(is_refused_so(&why, wanted, BUDGET))),
+        Fail::Refused(why) => Ok(Tally::refused(is_refused_so(why, wanted, BUDGET))),
         Fail::NoMemory => Err(NoMemory),
     }
 }
@@ -81,7 +80,11 @@ fn try_planned<L: Ledger>(
             let guarded = &mut session.guarded;
             executed(alloc, guarded, specs, tables, &prepared, wanted, steps)
         }
-        Err(why) => failed(why, wanted),
+        Err(why) => {
+            let tally = failed(&why, wanted);
+            drop(why);
+            tally
+        }
     }
 }
 
@@ -91,11 +94,16 @@ fn planned_by(alloc: Global, guarded: &Store, query: &Query) -> Result<Option<Pl
     Ok(Some(plan_query(alloc, accesses, query)?))
 }
 
-/// The plans of a text that spells no query: none.
-fn unplanned(why: Fail) -> Result<Option<Planned>, NoMemory> {
-    match why {
-        Fail::Refused(_) => Ok(None),
-        Fail::NoMemory => Err(NoMemory),
+/// The same for a text that was bound so, and nothing where it spells no query.
+fn planned_where(
+    alloc: Global,
+    guarded: &Store,
+    bound: &Result<Query, Fail>,
+) -> Result<Option<Planned>, NoMemory> {
+    match bound {
+        Ok(query) => planned_by(alloc, guarded, query),
+        Err(Fail::Refused(_)) => Ok(None),
+        Err(Fail::NoMemory) => Err(NoMemory),
     }
 }
 
@@ -105,10 +113,10 @@ fn planned_query(
     guarded: &Store,
     spelled: &str,
 ) -> Result<Option<Planned>, NoMemory> {
-    match bound_query(alloc, &guarded.catalogue, spelled) {
-        Ok(query) => planned_by(alloc, guarded, &query),
-        Err(why) => unplanned(why),
-    }
+    let bound = bound_query(alloc, &guarded.catalogue, spelled);
+    let planned = planned_where(alloc, guarded, &bound);
+    drop(bound);
+    planned
 }
 
 fn try_query<L: Ledger>(

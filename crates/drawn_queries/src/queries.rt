@@ -88,13 +88,8 @@ impl Queries {
         }
     }
 
-    /// Adds the report of a query that is the statement with this number. It takes the report, since each function that
-    /// lets one go is dear to prove.
-    fn add_wanted(&mut self, alloc: Global, number: u32, wanted: Wanted) -> Result<(), NoMemory> {
-        self.add_lent(alloc, number, &wanted)
-    }
-
-    fn add_lent(&mut self, alloc: Global, number: u32, wanted: &Wanted) -> Result<(), NoMemory> {
+    /// Adds the report of a query that is the statement with this number.
+    fn add_wanted(&mut self, alloc: Global, number: u32, wanted: &Wanted) -> Result<(), NoMemory> {
         self.tally = self.tally.with(wanted);
         let report = text(alloc, number, &wanted.report)?;
         self.wanted.push_str(report.as_str())
@@ -112,7 +107,9 @@ impl Queries {
         self.script.push_str(query)?;
         self.script.push_str(";")?;
         let wanted = wanted_of(alloc, scene, query, BUDGET, steps)?;
-        self.add_wanted(alloc, number, wanted)
+        let added = self.add_wanted(alloc, number, &wanted);
+        drop(wanted);
+        added
     }
 
     /// Adds a drawn query.

@@ -84,7 +84,7 @@ pub fn push_conditions(
 
 impl Test {
     /// Whether a row passes.
-    pub fn passes(&self, row: &Fact) -> bool {
+    pub(crate) fn passes(&self, row: &Fact) -> bool {
         let left = row.at(self.left);
         let right = match self.right {
             Some(column) => row.at(column),

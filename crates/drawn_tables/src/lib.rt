@@ -19,11 +19,10 @@ mod scenes;
 mod tables;
 mod updates;
 
-pub use conditions::{Test, push_column, push_conditions};
 pub use draws::Draws;
 pub use plain::{Plain, Rule};
 pub use queries::draw_query;
 pub use refusals::refusal_of_block;
 pub use scenes::{draw_scene, tables_of};
 pub use tables::{Fact, Shape, TABLES, column_name, table_name, value};
-pub use updates::{Batch, Twin, Update, creations, script_of};
+pub use updates::{Batch, Twin, creations, script_of};

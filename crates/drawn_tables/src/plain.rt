@@ -199,7 +199,7 @@ impl Plain {
     }
 
     /// Drops the constraint with a name, and gives the report. Refused is a name that isn't live.
-    pub fn drop_rule(&mut self, alloc: Global, name: &str) -> Result<Text, NoMemory> {
+    pub(crate) fn drop_rule(&mut self, alloc: Global, name: &str) -> Result<Text, NoMemory> {
         let before = self.rules.len();
         self.rules.retain(|other| other.name.as_str() != name);
         if self.rules.len() < before {

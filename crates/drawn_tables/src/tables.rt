@@ -195,7 +195,7 @@ impl Fact {
     }
 
     /// The numbers that stand for the values in some columns.
-    pub fn numbers(&self, alloc: Global, columns: &[u8]) -> Result<Vec<u8>, NoMemory> {
+    pub(crate) fn numbers(&self, alloc: Global, columns: &[u8]) -> Result<Vec<u8>, NoMemory> {
         let mut numbers = Vec::new(alloc);
         for column in columns {
             numbers.push(self.at(*column))?;
@@ -213,7 +213,7 @@ impl Fact {
     }
 
     /// Adds the literals of some columns in parentheses.
-    pub fn push_tuple(
+    pub(crate) fn push_tuple(
         &self,
         alloc: Global,
         text: &mut Text,

@@ -258,7 +258,7 @@ impl Twin {
     }
 
     /// Adds a constraint without a key that fetches all columns of r, and that holds.
-    pub fn create_whole(&mut self, alloc: Global) -> Result<Update, NoMemory> {
+    pub(crate) fn create_whole(&mut self, alloc: Global) -> Result<Update, NoMemory> {
         let mut rule = whole_rule(alloc)?;
         let most = rule.greatest(alloc, &self.plain.rows)?;
         rule.bound = most.saturating_add(usize::from(self.draws.below(3) + 1));

@@ -76,6 +76,14 @@ fn drop_columns(alloc: Global, query: &mut Query) {
     }
 }
 
+/// What comes of a text that can't be bound. Each drawn one can be, so a refusal differs.
+fn outcome_where_unbound(why: &Fail) -> Result<Outcome, NoMemory> {
+    match why {
+        Fail::Refused(_) => Ok(Outcome::Differs),
+        Fail::NoMemory => Err(NoMemory),
+    }
+}
+
 /// What comes of the query that a text spells, without columns.
 fn try_query<L: Ledger>(
     alloc: Global,
@@ -89,8 +97,11 @@ fn try_query<L: Ledger>(
             drop_columns(alloc, &mut query);
             outcome_of(alloc, guarded, tables, query, BUDGET, steps)
         }
-        Err(Fail::Refused(_)) => Ok(Outcome::Differs),
-        Err(Fail::NoMemory) => Err(NoMemory),
+        Err(why) => {
+            let outcome = outcome_where_unbound(&why);
+            drop(why);
+            outcome
+        }
     }
 }
 

@@ -132,12 +132,20 @@ fn outcome_within<L: Ledger>(
     outcome_by_plans(alloc, guarded, tables, prepared, plans, steps)
 }
 
-/// What comes of a query that was refused, and of which the reference programs say this.
+/// What comes of a query that was refused for this reason, and of which the reference programs say this.
 fn outcome_of_refusal(why: &Refusal, wanted: &Planned) -> Outcome {
     match (why, wanted) {
         (Refusal::NotCovered { .. }, Planned::Uncovered(_)) => Outcome::Uncovered,
         (Refusal::TooLarge, Planned::Covered(plans)) if plans.bound.is_none() => Outcome::TooLarge,
         _ => Outcome::Differs,
+    }
+}
+
+/// What comes of a query that couldn't be prepared, and of which the reference programs say this.
+fn outcome_of_failure(why: &Fail, wanted: &Planned) -> Result<Outcome, NoMemory> {
+    match why {
+        Fail::Refused(why) => Ok(outcome_of_refusal(why, wanted)),
+        Fail::NoMemory => Err(NoMemory),
     }
 }
 
@@ -156,9 +164,16 @@ fn outcome_where<L: Ledger>(
     requires few { length (blocks_of query) < 2 ^ 32 }
 {
     match prepared_over(alloc, guarded, query) {
-        Ok(prepared) => outcome_within(alloc, guarded, tables, &prepared, wanted, budget, steps),
-        Err(Fail::Refused(why)) => Ok(outcome_of_refusal(&why, wanted)),
-        Err(Fail::NoMemory) => Err(NoMemory),
+        Ok(prepared) => {
+            let outcome = outcome_within(alloc, guarded, tables, &prepared, wanted, budget, steps);
+            drop(prepared);
+            outcome
+        }
+        Err(why) => {
+            let outcome = outcome_of_failure(&why, wanted);
+            drop(why);
+            outcome
+        }
     }
 }
 

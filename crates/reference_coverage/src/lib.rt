@@ -14,16 +14,15 @@ mod pruning;
 mod sizes;
 mod tasks;
 
-pub use access_uses::{AccessUse, access_with};
-pub use coverage::{covered_set, is_covered, reason};
+pub use access_uses::access_with;
+pub use coverage::covered_set;
 pub use derivations::{bound_after, columns_of, greedy_steps};
 pub use lists::{append, with_first};
 pub use numbers::announced_number;
-pub use pruning::derivation;
 pub use sizes::{
     BlockPlans, is_guided, number_after, query_bound, query_size, size_of, start_size, steps_of,
 };
 pub use tasks::{
     Task, Uncovered, block_tasks, blocks_have_few_places, first_uncovered, guided_flags,
-    is_guided_task, plans_of, task_reason, task_start, task_steps,
+    is_guided_task, plans_of, task_reason, task_start,
 };

@@ -173,7 +173,7 @@ pub fn task_reason(alloc: Global, task: &Task) -> Result<Option<NotCovered>, NoM
 }
 
 /// The canonical derivation of a block from its start, nothing where it isn't covered.
-pub fn task_steps(alloc: Global, task: &Task) -> Result<Option<List<DStep>>, NoMemory>
+fn task_steps(alloc: Global, task: &Task) -> Result<Option<List<DStep>>, NoMemory>
     requires { HasFewAtoms task.now }
     ensures { IfOk result (λ steps. steps ≡ task_steps task.now) }
 {

@@ -12,8 +12,8 @@ use crate::block_on_tables::BlockOnTables;
 use crate::full::sign_holds;
 use crate::rows::{copy_of_value, distinct_rows, rows_of};
 use beas_core::{
-    Access, ColumnId, Comparison, DStep, Duplicate, List, NoMemory, Normal, Operand, Row, TableId,
-    Value, class_at,
+    ColumnId, Comparison, DStep, Duplicate, List, NoMemory, Normal, Operand, Row, TableId, Value,
+    class_at, recall_classes,
 };
 use reference_coverage::{append, bound_after, columns_of, with_first};
 use reference_normal_form::{classes_in, has_class, output_classes, start_classes};
@@ -403,30 +403,10 @@ pub fn valuations_of(
     ensures { IfOk result (λ found. found
         ≡ valuations (rows_in block.now.tables.now) block.now.normal.now block.now.accesses.now guide.now steps.now) }
 {
-    // Read for what its type tells: there are fewer than 65536 classes, as `valued_rows` asks of the set.
-    let _count = block.normal.count;
+    // There are fewer than 65536 classes, as `valued_rows` asks of the set.
+    recall_classes(block.normal);
     let set = classes_after(alloc, block, guide, steps)?;
     let starts = starts(alloc, block.normal, guide)?;
     let found = ways(alloc, block, starts, steps)?;
     valued_rows(alloc, block.normal, set.as_slice(), found.as_slice())
-}
-
-/// The valuations after some steps, over tables: the values of the bound classes, ascending by class.
-pub fn valuations(
-    alloc: Global,
-    tables: &[List<Row>],
-    normal: &Normal,
-    accesses: &[Access],
-    guide: &Option<List<Row>>,
-    steps: &[DStep],
-) -> Result<List<Row>, NoMemory>
-    ensures { IfOk result (λ found. found
-        ≡ valuations (rows_in tables.now) normal.now accesses.now guide.now steps.now) }
-{
-    let block = BlockOnTables {
-        tables,
-        normal,
-        accesses,
-    };
-    valuations_of(alloc, &block, guide, steps)
 }

@@ -22,11 +22,10 @@ mod rows;
 mod running;
 
 pub use answers::query_answers;
-pub use bindings::{Bindings, valuations};
-pub use full::{full_of, full_of_block};
+pub use full::full_of;
 pub use guides::GuidedBlocks;
 pub use planning::{Planned, QueryPlans, plan_query};
 pub use plans_on_tables::PlansOnTables;
-pub use probes::{BlockProbe, StepProbe, query_probes};
+pub use probes::{BlockProbe, query_probes};
 pub use reads::query_reads;
 pub use running::{Run, run_of};

@@ -12,7 +12,9 @@ use crate::bindings::{classes_after, valuations_of};
 use crate::block_on_tables::BlockOnTables;
 use crate::keys::keys_for;
 use crate::plans_on_tables::PlansOnTables;
-use beas_core::{Block, DStep, List, NoMemory, Query, QueryNode, Row};
+use beas_core::{
+    Block, DStep, List, NoMemory, Query, QueryNode, Row, recall_classes, recall_length,
+};
 use reference_coverage::{is_guided, number_after, steps_of};
 use reference_normal_form::normal_of;
 use std::alloc::Global;
@@ -59,8 +61,8 @@ fn keys_after(
     ensures { IfOk result (λ keys. keys ≡ keys_after (rows_in block.now.tables.now) block.now.normal.now
         block.now.accesses.now guide.now done.now step.now) }
 {
-    // Read for what its type tells: there are fewer than 65536 classes, as `keys_for` asks of the set.
-    let _count = block.normal.count;
+    // There are fewer than 65536 classes, as `keys_for` asks of the set.
+    recall_classes(block.normal);
     let set = classes_after(alloc, block, guide, done)?;
     let found = valuations_of(alloc, block, guide, done)?;
     keys_for(alloc, block, step, set.as_slice(), found.as_slice())
@@ -226,8 +228,8 @@ pub fn query_probes(
     ensures { IfOk result (λ found. found ≡ query_probes (rows_in over.now.tables.now) over.now.plans.accesses.now
         over.now.plans.guided.now over.now.plans.derivations.now query.now) }
 {
-    // Read for what its type tells: there are fewer than 2^64 flags, as `push_probes` asks of the blocks.
-    let _count = over.plans.guided.len();
+    // There are fewer than 2^64 flags, as `push_probes` asks of the blocks.
+    recall_length(over.plans.guided);
     let mut all = List::new(alloc);
     push_probes(alloc, &mut all, over, 0, &None, query)?;
     Ok(all)

@@ -15,4 +15,4 @@ pub use classes::{
     with_classes,
 };
 pub use normal::normal_of;
-pub use places::{has_few_places, places_of};
+pub use places::has_few_places;

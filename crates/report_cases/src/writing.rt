@@ -57,10 +57,11 @@ pub fn name(alloc: Global, text: &str) -> Result<Name, Unmade> {
     Name::of(alloc, text)?.ok_or(Unmade::NoName)
 }
 
-/// Writes a report as it stands for statement 7. It takes the report, since each function that lets one go is dear to
-/// prove.
+/// Writes a report as it stands for statement 7. It takes the report, so that one call lets it go.
 pub fn write(rt: &HostRuntime, report: Report) -> Result<(), Stop> {
-    write_lent(rt, &report)
+    let written = write_lent(rt, &report);
+    drop(report);
+    written
 }
 
 fn write_lent(rt: &HostRuntime, report: &Report) -> Result<(), Stop> {

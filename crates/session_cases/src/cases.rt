@@ -95,22 +95,45 @@ fn words_before_of(alloc: Global, files: &[CaseFile]) -> io::Result<Vec<String>>
     Ok(words)
 }
 
+/// A case of some files, of which nothing is said yet.
+fn case_of_files(alloc: Global, name: String, files: Vec<CaseFile>) -> Case {
+    Case {
+        name,
+        files,
+        arguments: Vec::new(alloc),
+        output: Vec::new(alloc),
+        error: Vec::new(alloc),
+        status: 0,
+        is_demonstration: false,
+        failing_read: None,
+        arguments_before: Vec::new(alloc),
+    }
+}
+
+/// Reads what a case's files say of it.
+fn fill(alloc: Global, case: &mut Case) -> io::Result<()> {
+    case.arguments = words_of(alloc, &case.files)?;
+    case.is_demonstration = asks_for_demonstration(&case.arguments);
+    case.output = bytes_of(alloc, &case.files, "output")?;
+    case.error = bytes_of(alloc, &case.files, "error")?;
+    case.status = status_of(alloc, &case.files)?;
+    case.failing_read = failing_read_of(alloc, &case.files)?;
+    case.arguments_before = words_before_of(alloc, &case.files)?;
+    Ok(())
+}
+
 fn case_in(rt: &HostRuntime, folder: &str, name: String) -> io::Result<Case> {
     let alloc = rt.alloc();
     let path = format!(in alloc; "{folder}/{name}")?;
     let files = case_files(rt, path.as_str())?;
-    let words = words_of(alloc, &files)?;
-    Ok(Case {
-        is_demonstration: asks_for_demonstration(&words),
-        output: bytes_of(alloc, &files, "output")?,
-        error: bytes_of(alloc, &files, "error")?,
-        status: status_of(alloc, &files)?,
-        failing_read: failing_read_of(alloc, &files)?,
-        arguments_before: words_before_of(alloc, &files)?,
-        arguments: words,
-        name,
-        files,
-    })
+    let mut case = case_of_files(alloc, name, files);
+    match fill(alloc, &mut case) {
+        Ok(()) => Ok(case),
+        Err(why) => {
+            drop(case);
+            Err(why)
+        }
+    }
 }
 
 /// The cases of a folder, in order of their names.

@@ -1,35 +1,35 @@
 // Command lines and demonstrations, one a line.
 use crate::lines::print_answer;
 use beas_core::NoMemory;
-use command_words::{Args, Usage, args};
+use command_line::{Args, Usage, args};
 use demo_gen::demo;
 use std::alloc::Global;
 use std::{fs, io};
 
 const LONG: u32 = 70_000;
 
-// A word as it is spelled.
-fn word_of(alloc: Global, spelled: &str) -> Result<String, NoMemory> {
+// An argument as it is spelled.
+fn argument_of(alloc: Global, spelled: &str) -> Result<String, NoMemory> {
     if spelled == "*" {
-        return long_word(alloc);
+        return long_argument(alloc);
     }
     Ok(String::from_str(alloc, spelled)?)
 }
 
-fn long_word(alloc: Global) -> Result<String, NoMemory> {
-    let mut word = String::new(alloc);
+fn long_argument(alloc: Global) -> Result<String, NoMemory> {
+    let mut argument = String::new(alloc);
     for _ in 0..LONG {
-        word.push_str("a")?;
+        argument.push_str("a")?;
     }
-    Ok(word)
+    Ok(argument)
 }
 
-fn words_of(alloc: Global, line: &str) -> Result<Vec<String>, NoMemory> {
-    let mut words = Vec::new(alloc);
+fn arguments_of(alloc: Global, line: &str) -> Result<Vec<String>, NoMemory> {
+    let mut arguments = Vec::new(alloc);
     for spelled in line.split('|').skip(1) {
-        words.push(word_of(alloc, spelled)?)?;
+        arguments.push(argument_of(alloc, spelled)?)?;
     }
-    Ok(words)
+    Ok(arguments)
 }
 
 // A path, or its length where it is long.
@@ -87,8 +87,8 @@ fn args_text(alloc: Global, args: &Args) -> Result<String, NoMemory> {
 }
 
 fn answer_to_words(alloc: Global, line: &str) -> Result<String, NoMemory> {
-    let words = words_of(alloc, line)?;
-    match args(alloc, words.as_slice()) {
+    let arguments = arguments_of(alloc, line)?;
+    match args(alloc, arguments.as_slice()) {
         Ok(found) => args_text(alloc, &found),
         Err(Usage::Refused) => Ok(String::from_str(alloc, "refused")?),
         Err(Usage::NoMemory) => Err(NoMemory),

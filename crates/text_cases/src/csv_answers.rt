@@ -58,11 +58,12 @@ fn refusal_text(alloc: Global, why: &Refusal) -> Result<String, NoMemory> {
     }
 }
 
-/// Why there are no rows. It takes the refusal, since each function that lets one go is dear to prove.
-fn fail_text(alloc: Global, why: Fail) -> Result<String, NoMemory> {
-    match why {
-        Fail::Refused(why) => refusal_text(alloc, &why),
-        Fail::NoMemory => Err(NoMemory),
+/// Rows, or why there are none.
+fn outcome_text(alloc: Global, outcome: &Result<List<Row>, Fail>) -> Result<String, NoMemory> {
+    match outcome {
+        Ok(rows) => rows_text(alloc, rows),
+        Err(Fail::Refused(why)) => refusal_text(alloc, why),
+        Err(Fail::NoMemory) => Err(NoMemory),
     }
 }
 
@@ -71,8 +72,8 @@ pub fn answer(alloc: Global, bytes: &[u8], columns: &List<Column>) -> Result<Str
     if bytes.len() > 1_000_000 {
         return Ok(format!(in alloc; "too long")?);
     }
-    match rows_of(alloc, bytes, columns, &Limits::standard()) {
-        Ok(rows) => rows_text(alloc, &rows),
-        Err(why) => fail_text(alloc, why),
-    }
+    let outcome = rows_of(alloc, bytes, columns, &Limits::standard());
+    let said = outcome_text(alloc, &outcome);
+    drop(outcome);
+    said
 }

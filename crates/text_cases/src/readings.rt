@@ -1,11 +1,8 @@
 // What texts are read as, in words.
 use crate::texts::canonical;
-use beas_core::{Fail, Name, NoMemory};
-use sql_tokens::{Piece, Token, lex, split};
+use beas_core::{Fail, Name, NoMemory, Text};
+use sql_tokens::{LONGEST_SCRIPT, Piece, Token, lex, split};
 use std::alloc::Global;
-
-/// The most bytes of a text.
-pub const LONGEST: usize = 16_777_216;
 
 // A refusal that a text alone can have, by its number.
 fn words_of_number(number: u32) -> &'static str {
@@ -17,27 +14,24 @@ fn words_of_number(number: u32) -> &'static str {
     }
 }
 
-// It takes the refusal, since each function that lets one go is dear to prove.
-fn refusal_words(why: Fail) -> Result<&'static str, NoMemory> {
-    match why {
-        Fail::Refused(why) => Ok(words_of_number(why.number())),
-        Fail::NoMemory => Err(NoMemory),
+// What a text was read as, or its refusal.
+fn outcome_words(alloc: Global, outcome: &Result<Text, Fail>) -> Result<String, NoMemory> {
+    match outcome {
+        Ok(text) => Ok(String::from_str(alloc, text.as_str())?),
+        Err(Fail::Refused(why)) => Ok(String::from_str(alloc, words_of_number(why.number()))?),
+        Err(Fail::NoMemory) => Err(NoMemory),
     }
-}
-
-fn refusal_text(alloc: Global, why: Fail) -> Result<String, NoMemory> {
-    Ok(String::from_str(alloc, refusal_words(why)?)?)
 }
 
 // The canonical text of the statement that a text spells, or its refusal. No text here is too long.
 fn canonical_in(alloc: Global, text: &str) -> Result<String, NoMemory> {
-    if text.len() > LONGEST {
+    if text.len() > LONGEST_SCRIPT {
         return Err(NoMemory);
     }
-    match canonical(alloc, text) {
-        Ok(text) => Ok(String::from_str(alloc, text.as_str())?),
-        Err(why) => refusal_text(alloc, why),
-    }
+    let outcome = canonical(alloc, text);
+    let words = outcome_words(alloc, &outcome);
+    drop(outcome);
+    words
 }
 
 // Adds what a canonical text is read as where it isn't itself.
@@ -96,7 +90,7 @@ fn piece_lines(
 
 /// The canonical text or the refusal of each piece of a script, one a line.
 pub fn pieces_in(alloc: Global, script: &str) -> Result<String, NoMemory> {
-    if script.len() > LONGEST {
+    if script.len() > LONGEST_SCRIPT {
         return Err(NoMemory);
     }
     let tokens = lex(alloc, script)?;

@@ -33,7 +33,11 @@ fn canonical_of(alloc: Global, tokens: &[Token]) -> Result<Text, Fail>
     ensures refused { (why : Refusal) → IsErrOf result (Fail.Refused why) → Parses (symbols tokens.now) (Err why) }
 {
     match parse(alloc, tokens) {
-        Ok(statement) => printed(alloc, &statement),
+        Ok(statement) => {
+            let text = printed(alloc, &statement);
+            drop(statement);
+            text
+        }
         Err(why) => Err(why),
     }
 }

@@ -1,7 +1,7 @@
 // The tokens of a script and where its pieces are cut, in words.
-use crate::readings::{LONGEST, lines_or_nothing};
+use crate::readings::lines_or_nothing;
 use beas_core::NoMemory;
-use sql_tokens::{Piece, Token, TokenKind, lex, split};
+use sql_tokens::{LONGEST_SCRIPT, Piece, Token, TokenKind, lex, split};
 use std::alloc::Global;
 
 fn kind_word(kind: TokenKind) -> &'static str {
@@ -40,7 +40,7 @@ fn piece_lines(alloc: Global, pieces: &[Piece]) -> Result<String, NoMemory> {
 
 /// The tokens of a script, one a line.
 pub fn tokens_in(alloc: Global, script: &str) -> Result<String, NoMemory> {
-    if script.len() > LONGEST {
+    if script.len() > LONGEST_SCRIPT {
         return Err(NoMemory);
     }
     token_lines(alloc, lex(alloc, script)?.as_slice())
@@ -48,7 +48,7 @@ pub fn tokens_in(alloc: Global, script: &str) -> Result<String, NoMemory> {
 
 /// The places of the pieces of a script among its tokens, one piece a line.
 pub fn cuts_in(alloc: Global, script: &str) -> Result<String, NoMemory> {
-    if script.len() > LONGEST {
+    if script.len() > LONGEST_SCRIPT {
         return Err(NoMemory);
     }
     let tokens = lex(alloc, script)?;

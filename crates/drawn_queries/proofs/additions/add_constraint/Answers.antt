@@ -9,4 +9,4 @@ returns g c =
     let old = c.args.guarded.now in
     fits_after old c.create_access-made.new.self c.args.prepared.now c.requires c.create_access-made.result
     (new_access (schema_of (database_in old)) c.args.spec.now)
-    c.accesses-accesses.ensures.sound c.create_access-made.ensures.ok c.create_access-made.ensures.err
+    c.recall_soundness.ensures c.create_access-made.ensures.ok c.create_access-made.ensures.err
