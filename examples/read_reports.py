@@ -5,8 +5,8 @@
 
 SCRIPT is the script, OUTPUT a file with what beas wrote for it. A line of CSV comes for each statement: its number, its first and
 its last line in the script, its outcome, its bound, its rows, its reads, and the text of a refusal. The outcome is one of ok, max,
-none, plan (of EXPLAIN), answer, open, probed and refused. Ends with 0 where each statement has its report, with 1 where the output
-is cut short or is another script's, and with 2 where a file can't be read.
+none, plan (of EXPLAIN), answer, open, probed and refused. Ends with 0 if each statement has its report, with 1 if the output is cut
+short or is another script's, and with 2 if a file can't be read.
 
 As a module it needs the standard library alone: statements_in(script) cuts a script, reports_in(output) an output. The rule by which a
 report's end is found stands in docs/language.md, Reading the output. Texts in answers and refusals may hold line feeds, and lines

@@ -1,7 +1,6 @@
 """The scenes, queries and updates of the crate drawn_tables, drawn anew, for the second program.
 
-Tables, r, s and t, have four columns of which two are integers and two are texts there; here all values are numbers from 0 to 5, which
-compare as those do."""
+Tables, r, s and t, have two columns of integers and two of texts there; here all are numbers from 0 to 5, which compare alike."""
 from .second_program.answers import meets_all
 from .second_program.database import Constraint, Database, projected
 from .second_program.scopes import Block, Condition, Place
