@@ -1,4 +1,5 @@
 """Plans are read from a text with strict checks, and have the lines and the bound that the second program has."""
+import ast
 import copy
 import json
 import re
@@ -140,7 +141,8 @@ class OnThePage(Case):
         (text,) = re.findall(r"^```json\n(.*?)^```$", page, re.M | re.S)
         tables = re.findall(r"^CREATE TABLE \w+ \(\w+ INTEGER.*;$", page, re.M)
         accesses = re.findall(r"^\.\.\. +(CREATE ACCESS .*;)$", page, re.M)
-        (question,) = re.findall(r'^>>> question = "(.*)"$', page, re.M)
+        (source,) = re.findall(r"^>>> question = (.*(?:\n\.\.\. .*)*)$", page, re.M)
+        question = ast.literal_eval(source.replace("\n...", "\n"))
         planner = SecondPlanner("\n".join(tables + accesses))
         self.assertEqual(json.loads(planner.text(question.replace("?", "8"))), json.loads(text))
         self.assertEqual((550, 2), (plan_of(text).bound, plan_of(text).round_trips))
